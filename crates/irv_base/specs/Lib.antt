@@ -1,0 +1,7 @@
+pub mod Candidates
+pub mod Names
+pub mod Records
+pub mod Orders
+pub mod Places
+pub mod Tabulation
+pub mod Laws

@@ -1,0 +1,9 @@
+pub mod Members
+pub mod Distinct
+pub mod Sets
+pub mod Orders
+pub mod Bits
+pub mod Tabulated
+pub mod Ranges
+pub mod Padded
+pub mod NameBytes

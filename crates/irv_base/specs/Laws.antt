@@ -1,0 +1,26 @@
+-- The laws of tabulation.
+use Rattle.std.specs.Prelude.{◌≡◌, ◌≤◌, ℕ, List, IsTrue}
+use Rattle.irv_base.specs.Orders.{is_order}
+use Rattle.irv_base.specs.Tabulation.{is_tabulated, is_possible, IsFirstTie}
+
+abbrev pub TabulatedIsPossible : Type 0
+TabulatedIsPossible = (records : List (List ℕ)) (order : List ℕ) → IsTrue (is_tabulated records order) → IsTrue (is_possible records order)
+
+-- the records determine the tabulated order
+abbrev pub TabulatedIsOne : Type 0
+TabulatedIsOne =
+    (n : ℕ) (records : List (List ℕ)) (order other : List ℕ) → IsTrue (is_order n order) → IsTrue (is_tabulated records order) →
+    IsTrue (is_order n other) → IsTrue (is_tabulated records other) → order ≡ other
+
+-- and the first tie
+abbrev pub FirstTieIsOne : Type 0
+FirstTieIsOne =
+    (n : ℕ) (records : List (List ℕ)) (round tied votes round' tied' votes' : ℕ) → 1 ≤ round → 1 ≤ round' →
+    IsFirstTie n records round tied votes → IsFirstTie n records round' tied' votes' →
+    (round ≡ round') × (tied ≡ tied') × (votes ≡ votes')
+
+-- there is never both
+abbrev pub TabulatedOrTie : Type 0
+TabulatedOrTie =
+    (n : ℕ) (records : List (List ℕ)) (order : List ℕ) (round tied votes : ℕ) → IsTrue (is_order n order) → IsTrue (is_tabulated records order) →
+    1 ≤ round → IsFirstTie n records round tied votes → ⊥

@@ -1,0 +1,121 @@
+// Names of contests, candidates and ballots.
+ghost use Rattle.std.specs.Prelude.{◌≡◌, ◌<◌, ◌==◌, IfSome, IfNone, IsTrue, false, length};
+ghost use Rattle.std.proofs.Common.{rules};
+ghost use Rattle.std.specs.Hash as fed;
+ghost use Rattle.std.specs.Cmp.Rules.{comparing, hashing};
+ghost use Rattle.std.specs.Cmp.Lexicographic.{pointwise};
+ghost use Rattle.std.specs.List.{list_all};
+ghost use Rattle.irv_base.specs.Names.{is_name, is_name_byte, has_name_length, touches_space};
+
+use crate::MOST_NAME_BYTES;
+use std::hash::{Hash, Hasher};
+use std::marker::Model;
+
+/// The id of a contest, a candidate or a ballot: 1 to 64 printable ASCII characters, no comma and no double
+/// quote among them, that neither begin nor end with a space.
+///
+/// To a contract a name is its bytes.
+#[derive(Clone, Copy)]
+pub struct Name {
+    len: u8,
+    text: [u8; MOST_NAME_BYTES],
+}
+
+impl Model for Name {
+    ghost use Rattle.std.specs.Prelude.{ℕ, List, ◌≤◌, ◌-◌, ◌≡◌, ◌++◌, take, length, replicate, IsTrue};
+    ghost use Rattle.std.proofs.Common.{ap, sym, ◌∙◌};
+    ghost use Rattle.std.specs.List.{list_all};
+    ghost use Rattle.irv_base.specs.Names.{is_name};
+    ghost use Rattle.irv_base.specs.declared.limits.TheConstants.{MOST_NAME_BYTES};
+
+    ghost Value = { List ℕ };
+
+    ghost view = { λ s. take s.len s.text };
+
+    ghost invariant = { λ s. (s.len ≤ MOST_NAME_BYTES) × (s.text ≡ take s.len s.text ++ replicate (MOST_NAME_BYTES - s.len) 0) × (length (take s.len s.text) ≡ s.len) × IsTrue (is_name (take s.len s.text)) };
+
+    ghost inverse = { λ v. record { len = length v; text = v ++ replicate (MOST_NAME_BYTES - length v) 0 } };
+
+    ghost inverse_ok = { λ a h i. record { len = h.2 i; text = (ap (λ n. take a.len a.text ++ replicate (MOST_NAME_BYTES - n) 0) h.2 ∙ sym h.1) i } };
+}
+
+fn is_name_byte(b: u8) -> bool
+    ensures { result ≡ is_name_byte b }
+{
+    (b' '..=b'~').contains(&b) && b != b'"' && b != b','
+}
+
+fn has_name_length(bytes: &[u8]) -> bool
+    ensures { result ≡ has_name_length bytes.now }
+{
+    !bytes.is_empty() && bytes.len() <= MOST_NAME_BYTES
+}
+
+fn touches_space(bytes: &[u8]) -> bool
+    requires { 0 < length bytes.now }
+    ensures { result ≡ touches_space bytes.now }
+{
+    bytes[0] == b' ' || bytes[bytes.len() - 1] == b' '
+}
+
+fn are_name_bytes(bytes: &[u8]) -> bool
+    ensures { result ≡ list_all is_name_byte bytes.now }
+{
+    bytes.iter().all(|b| is_name_byte(*b))
+}
+
+fn is_name(bytes: &[u8]) -> bool
+    ensures { result ≡ is_name bytes.now }
+{
+    has_name_length(bytes) && !touches_space(bytes) && are_name_bytes(bytes)
+}
+
+impl Name {
+    /// The name with these bytes, if they are one.
+    pub fn read(bytes: &[u8]) -> Option<Name>
+        ensures name { IfSome result (λ name. name ≡ bytes.now) }
+        ensures valid { IfSome result (λ _. IsTrue (is_name bytes.now)) }
+        ensures none { IfNone result (is_name bytes.now ≡ false) }
+    {
+        if !is_name(bytes) {
+            return None;
+        }
+        let mut text = [0; MOST_NAME_BYTES];
+        text[..bytes.len()].copy_from_slice(bytes);
+        Some(Name {
+            len: bytes.len() as u8,
+            text,
+        })
+    }
+
+    pub fn bytes(&self) -> &[u8]
+        ensures same { result.now ≡ self.now }
+        ensures valid { IsTrue (is_name self.now) }
+    {
+        &self.text[..usize::from(self.len)]
+    }
+}
+
+impl PartialEq for Name {
+    ghost eq = { pointwise ◌==◌ };
+
+    ghost laws = { Prim.search (comparing, rules) };
+
+    fn eq(&self, other: &Name) -> bool {
+        self.bytes() == other.bytes()
+    }
+}
+
+impl Eq for Name {
+    ghost laws = { Prim.search (comparing, rules) };
+}
+
+impl Hash for Name {
+    ghost hash_input = { fed.slice fed.u8 };
+
+    ghost respects_eq = { Prim.search (hashing, rules) };
+
+    fn hash<H: Hasher>(&self, state: &mut H) {
+        self.bytes().hash(state);
+    }
+}

@@ -7,3 +7,5 @@ pub mod Tabulated
 pub mod Ranges
 pub mod Padded
 pub mod NameBytes
+pub mod Least
+pub mod Ties

@@ -9,3 +9,4 @@ pub mod Padded
 pub mod NameBytes
 pub mod Least
 pub mod Ties
+pub mod NameText

@@ -1,6 +1,7 @@
--- Names of contests, candidates and ballots.
-use Rattle.std.specs.Prelude.{ℕ, ◌-◌, Bool, not, ◌&&◌, ◌||◌, ◌==◌, nat_le, List, length, slice_index}
-use Rattle.std.specs.List.{list_all}
+-- Names, also called ids, of contests, candidates and ballots.
+use Rattle.std.specs.Prelude.{ℕ, ◌-◌, Bool, true, not, ◌&&◌, ◌||◌, ◌==◌, nat_le, List, [], ◌∷◌, length, slice_index}
+use Rattle.std.specs.List.{list_all, list_any}
+use Rattle.std.specs.Cmp.Lexicographic.{pointwise}
 use Rattle.irv_base.specs.declared.limits.TheConstants.{MOST_NAME_BYTES}
 
 abbrev pub space : ℕ
@@ -29,3 +30,18 @@ touches_space bytes = (slice_index bytes 0 == space) || (slice_index bytes (leng
 -- 1 to 64 such bytes that neither begin nor end with a space
 abbrev pub is_name : List ℕ → Bool
 is_name bytes = has_name_length bytes && not (touches_space bytes) && list_all is_name_byte bytes
+
+-- ---- lists of them
+
+abbrev pub Id : Type 0
+Id = List ℕ
+
+abbrev pub is_same : Id → Id → Bool
+is_same a b = pointwise ◌==◌ a b
+
+abbrev pub is_among : List Id → Id → Bool
+is_among ids id = list_any (λ other. is_same other id) ids
+
+abbrev pub all_differ : List Id → Bool
+all_differ [] = true
+all_differ (id ∷ rest) = not (is_among rest id) && all_differ rest

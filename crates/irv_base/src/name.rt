@@ -94,6 +94,12 @@ impl Name {
     {
         &self.text[..usize::from(self.len)]
     }
+
+    pub fn text(&self) -> &str
+        ensures { result.now ≡ self.now }
+    {
+        str::from_utf8(self.bytes()).unwrap()
+    }
 }
 
 impl PartialEq for Name {

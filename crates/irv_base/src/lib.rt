@@ -9,6 +9,7 @@ mod memory;
 mod name;
 mod order;
 mod ranking;
+mod steps;
 
 pub use cand_set::CandSet;
 pub use candidate::Candidate;
@@ -19,3 +20,4 @@ pub use memory::Memory;
 pub use name::Name;
 pub use order::{BadOrder, Order};
 pub use ranking::Ranking;
+pub use steps::Steps;

@@ -1,0 +1,95 @@
+-- Sequences of draws and their prefixes: `reach` counts the sequences with a prefix within the limit.
+use Rattle.std.proofs.Common.{◌≡◌, ℕ, zero, suc, ◌+◌, ◌*◌, ◌^◌, Bool, true, false, ◌||◌, cond, if◌then◌else◌, List, [], ◌∷◌, ◌++◌, map, length, All, sum_by, count_by, refl, sym, ◌∙◌, ap, arith, append_assoc}
+use Rattle.std.proofs.Math.Bool.{or-false}
+use Rattle.std.proofs.Math.Nat.{zero-add, pow-zero, pow-succ'}
+use Rattle.std.proofs.Math.Path.{fun_ext}
+use Rattle.std.specs.List.{flat_map, list_any}
+use Rattle.std.proofs.lemmas.List.{length-map, append-nil}
+use Rattle.std.proofs.lemmas.List.Elements.{All-nil, All-cons, All-head, All-tail, All-append, All-map, All-weaker}
+use Rattle.std.proofs.lemmas.List.Sums.{sum_by-cons, sum_by-append}
+use Rattle.std.proofs.lemmas.List.Folds.{fold-map}
+use Rattle.std.proofs.lemmas.List.Concat.{flat_map-cons, length-flat_map}
+use Rattle.km_risk.specs.Exact.{is_within}
+use Rattle.km_risk.specs.Reach.{sequences, prefixes, reach}
+use Rattle.km_risk.specs.Laws.{ReachLaw}
+
+sum_by-flat_map : {X : Type 0} (f : X → ℕ) (g : ℕ → List X) (ds : List ℕ) → sum_by f (flat_map g ds) ≡ sum_by (λ d. sum_by f (g d)) ds
+sum_by-flat_map f g [] = refl
+sum_by-flat_map f g (d ∷ ds) =
+    rw (flat_map-cons g d ds, sum_by-append f (g d) (flat_map g ds), sum_by-flat_map f g ds, sum_by-cons (λ x. sum_by f (g x)) d ds) refl
+
+sum_by-constant : {X : Type 0} (k : ℕ) (xs : List X) → sum_by (λ x. k) xs ≡ length xs * k
+sum_by-constant k [] = omega arith
+sum_by-constant k (x ∷ xs) = rw (sum_by-cons (λ y. k) x xs, sum_by-constant k xs) (omega arith)
+
+list_any-map : {X Y : Type 0} (p : Y → Bool) (f : X → Y) (xs : List X) → list_any p (map f xs) ≡ list_any (λ x. p (f x)) xs
+list_any-map p f [] = refl
+list_any-map p f (x ∷ xs) = rw (list_any-map p f xs) refl
+
+-- the count over all sequences that begin with one of the draws
+by_first : (q : List ℕ → Bool) (s : List (List ℕ)) (ds : List ℕ) →
+    count_by q (flat_map (λ d. map (λ more. d ∷ more) s) ds) ≡ sum_by (λ d. count_by (λ more. q (d ∷ more)) s) ds
+by_first q s ds =
+    sum_by-flat_map (λ x. cond (q x) 1 0) (λ d. map (λ more. d ∷ more) s) ds
+    ∙ ap (λ f. sum_by f ds) (fun_ext (λ d. fold-map (λ a x. a + cond (q x) 1 0) (λ more. d ∷ more) 0 s))
+
+length-sequences : (ds : List ℕ) (n : ℕ) → length (sequences ds n) ≡ length ds ^ n
+length-sequences ds zero = sym (pow-zero (length ds))
+length-sequences ds (suc n) =
+    length-flat_map (λ d. map (λ more. d ∷ more) (sequences ds n)) ds
+    ∙ ap (λ f. sum_by f ds) (fun_ext (λ d. length-map (sequences ds n) (λ more. d ∷ more)))
+    ∙ sum_by-constant (length (sequences ds n)) ds
+    ∙ rw (length-sequences ds n, pow-succ' (length ds) n) refl
+
+-- draws h, or some longer prefix of h and then more, pass
+abbrev pub passes : (List ℕ → Bool) → List ℕ → List ℕ → Bool
+passes p h [] = p h
+passes p h (d ∷ more) = p h || passes p (h ++ d ∷ []) more
+
+passes-prefixes : (p : List ℕ → Bool) (h s : List ℕ) → passes p h s ≡ list_any (λ q. p (h ++ q)) (prefixes s)
+passes-prefixes p h [] = rw (append-nil h, or-false (p h)) refl
+passes-prefixes p h (d ∷ more) =
+    rw (append-nil h, list_any-map (λ q. p (h ++ q)) (λ q. d ∷ q) (prefixes more), passes-prefixes p (h ++ d ∷ []) more)
+    (ap (λ f. p h || list_any f (prefixes more)) (fun_ext (λ q. ap p (append_assoc h (d ∷ []) q))))
+
+-- a sequence passes where some prefix does
+pub passes-from_none : (p : List ℕ → Bool) (s : List ℕ) → passes p [] s ≡ list_any p (prefixes s)
+passes-from_none p s = passes-prefixes p [] s
+
+-- all sequences count, or those that get there later
+split : (b : Bool) (q : ℕ → List ℕ → Bool) (s : List (List ℕ)) (ds : List ℕ) (all : ℕ) (r : ℕ → ℕ) →
+    all ≡ length ds * length s → ((d : ℕ) → r d ≡ count_by (q d) s) →
+    (if b then all else sum_by r ds) ≡ sum_by (λ d. count_by (λ more. b || q d more) s) ds
+split true q s ds all r whole later =
+    whole ∙ sym (rw (sum_by-constant {X = List ℕ} 1 s, sum_by-constant (length s * 1) ds) (omega arith))
+split false q s ds all r whole later = ap (λ f. sum_by f ds) (fun_ext later)
+
+module _ (cards margin gamma limit : ℕ) (ds : List ℕ) (count : length ds ≡ cards) where
+  reach-passes : (n : ℕ) (h : List ℕ) →
+      reach cards margin gamma limit ds h n ≡ count_by (passes (is_within cards margin gamma limit) h) (sequences ds n)
+  reach-passes zero h = sym (zero-add (cond (is_within cards margin gamma limit h) 1 0))
+  reach-passes (suc n) h =
+      split (is_within cards margin gamma limit h) (λ d. passes (is_within cards margin gamma limit) (h ++ d ∷ [])) (sequences ds n) ds (cards ^ suc n)
+      (λ d. reach cards margin gamma limit ds (h ++ d ∷ []) n)
+      (rw (length-sequences ds n, count, pow-succ' cards n) refl) (λ d. reach-passes n (h ++ d ∷ []))
+      ∙ sym (by_first (passes (is_within cards margin gamma limit) h) (sequences ds n) ds)
+
+pub reach_law : ReachLaw
+reach_law cards margin gamma limit ds count n =
+    reach-passes cards margin gamma limit ds count n []
+    ∙ ap (λ p. count_by p (sequences ds n)) (fun_ext (λ s. passes-from_none (is_within cards margin gamma limit) s))
+
+All-flat_map : {X Y : Type 0} (P : Y → Type 0) (f : X → List Y) (xs : List X) → All (λ x. All P (f x)) xs → All P (flat_map f xs)
+All-flat_map P f [] h = All-nil P
+All-flat_map P f (x ∷ xs) h =
+    rw (flat_map-cons f x xs)
+    (All-append P (f x) (flat_map f xs) (All-head (λ y. All P (f y)) x xs h) (All-flat_map P f xs (All-tail (λ y. All P (f y)) x xs h)))
+
+-- what holds of each draw holds of each draw of each sequence
+pub All-sequences : (P : ℕ → Type 0) (ds : List ℕ) → All P ds → (n : ℕ) → All (All P) (sequences ds n)
+All-sequences P ds h zero = All-cons (All P) [] [] (All-nil P) (All-nil (All P))
+All-sequences P ds h (suc n) =
+    All-flat_map (All P) (λ d. map (λ more. d ∷ more) (sequences ds n)) ds
+    (All-weaker P (λ d. All (All P) (map (λ more. d ∷ more) (sequences ds n)))
+    (λ d here. All-map (All P) (λ more. d ∷ more) (sequences ds n)
+    (All-weaker (All P) (λ more. All P (d ∷ more)) (λ more rest. All-cons P d more here rest) (sequences ds n) (All-sequences P ds h n))) ds h)

@@ -1,0 +1,18 @@
+use Rattle.std.proofs.Common.{◌∙◌, ap, sym, arith, ◌*◌}
+use Rattle.km_risk.specs.declared.limits.TheConstants.{MILLIONTH}
+use Rattle.km_risk.specs.Counts.{clean}
+use Rattle.km_risk.specs.Printed.{printed_risk, step}
+use Rattle.km_risk.proofs.CleanDraws.{find_behind, printed_risk-clean}
+use Rattle.km_risk.proofs.clean.clean_draws.Goals as goal
+
+pub loop-n-preserved : goal.loop-n-preserved
+loop-n-preserved c = record {
+  value =
+      c.after_draw-now.ensures.value
+      ∙ ap (λ risk. step c.args.cards c.args.margin c.args.gamma risk 2) c.loop-n.invariant.value
+      ∙ sym (printed_risk-clean c.args.cards c.args.margin c.args.gamma c.loop-n.n);
+  at_most_one = c.after_draw-now.ensures.at_most_one;
+  rest =
+      c.loop-n.invariant.rest
+      ∙ find_behind (λ k. printed_risk c.args.cards c.args.margin c.args.gamma (clean k)) (c.args.limit * MILLIONTH) c.loop-n.n _ (omega arith) (omega (arith, c.loop-n.invariant.value));
+}

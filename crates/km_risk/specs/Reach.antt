@@ -1,0 +1,21 @@
+-- How many sequences of draws get to an exact risk within the limit.
+use Rattle.std.specs.Prelude.{ℕ, zero, suc, ◌^◌, if◌then◌else◌, List, [], ◌∷◌, ◌++◌, map, sum_by}
+use Rattle.std.specs.List.{flat_map}
+use Rattle.km_risk.specs.Exact.{is_within}
+
+-- each sequence of n draws from the cards, with replacement
+abbrev pub sequences : {X : Type 0} → List X → ℕ → List (List X)
+sequences cards zero = [] ∷ []
+sequences cards (suc n) = flat_map (λ card. map (λ more. card ∷ more) (sequences cards n)) cards
+
+-- the first draws of a sequence: none, one, two, and so on to all of them
+abbrev pub prefixes : {X : Type 0} → List X → List (List X)
+prefixes [] = [] ∷ []
+prefixes (x ∷ xs) = [] ∷ map (λ more. x ∷ more) (prefixes xs)
+
+module _ (cards margin gamma limit : ℕ) where
+  -- of the sequences that begin with the draws h and go on with n more, how many have a prefix, of h or longer, whose
+  -- exact risk is at most limit millionths; ds has the discrepancy of each card
+  abbrev pub reach : List ℕ → List ℕ → ℕ → ℕ
+  reach ds h zero = if is_within cards margin gamma limit h then 1 else 0
+  reach ds h (suc n) = if is_within cards margin gamma limit h then cards ^ suc n else sum_by (λ d. reach ds (h ++ d ∷ []) n) ds

@@ -1,0 +1,41 @@
+// The risk of numbers of draws.
+ghost use Rattle.std.specs.Prelude.{◌≡◌, ◌≤◌};
+ghost use Rattle.km_risk.specs.Factor.{IsSetting};
+ghost use Rattle.km_risk.specs.declared.limits.TheConstants.{MOST_DRAWS};
+ghost use Rattle.km_risk.specs.Counts.{draws_in};
+ghost use Rattle.km_risk.specs.Printed.{printed_risk};
+
+use crate::limits::ONE;
+use crate::setting::Setting;
+
+/// How many draws have each discrepancy d, from 0 to 4. Without a discrepancy d is 2.
+#[derive(Clone, Copy, Debug, PartialEq, Eq)]
+pub struct Counts {
+    pub n0: u32,
+    pub n1: u32,
+    pub n2: u32,
+    pub n3: u32,
+    pub n4: u32,
+}
+
+/// The printed risk of the draws, in units of 10^-18, for a manifest of `cards` cards, an assertion with a margin
+/// of `margin` votes, and `gamma` thousandths.
+///
+/// The draws with d of 4 are taken first, then those with 3, 2, 1 and 0. Each step is rounded up.
+pub fn risk(c: &Counts, cards: u32, margin: u32, gamma: u32) -> u64
+    requires draws { draws_in c.now ≤ MOST_DRAWS }
+    requires setting { IsSetting cards margin gamma }
+    ensures value { result ≡ printed_risk cards margin gamma c.now }
+    ensures at_most_one { result ≤ ONE }
+{
+    let setting = Setting {
+        cards,
+        margin,
+        gamma,
+    };
+    let after4 = setting.after_draws(ONE, c.n4, 4);
+    let after3 = setting.after_draws(after4, c.n3, 3);
+    let after2 = setting.after_draws(after3, c.n2, 2);
+    let after1 = setting.after_draws(after2, c.n1, 1);
+    setting.after_draws(after1, c.n0, 0)
+}

@@ -1,0 +1,59 @@
+//! Laws of the risk, one for each function: its contract is the law, and its body is empty.
+ghost use Rattle.km_risk.specs.Laws.{FactorLaw, OrderLaw, NotBelowLaw, NotFarAboveLaw, ConfirmedLaw, ReachLaw, CountingLaw, RiskLimitLaw, LeastLaw, MoreDrawsLaw, LargerMarginLaw};
+
+/// A draw with d of 2 to 4 lowers the risk, and a draw with d of 0 or 1 doesn't.
+pub fn factors()
+    ensures { FactorLaw }
+{}
+
+/// The exact risk of draws doesn't depend on their order.
+pub fn any_order()
+    ensures { OrderLaw }
+{}
+
+/// The printed risk is at least the exact one, or one where that is less.
+pub fn not_below()
+    ensures { NotBelowLaw }
+{}
+
+/// The printed risk is above that by at most a unit for each draw, times the factors of the draws with d of 0 or 1.
+pub fn not_far_above()
+    ensures { NotFarAboveLaw }
+{}
+
+/// Draws whose printed risk is within a limit have an exact risk within it.
+pub fn confirmed()
+    ensures { ConfirmedLaw }
+{}
+
+/// What the counting law bounds is a number of sequences of draws.
+pub fn reaching()
+    ensures { ReachLaw }
+{}
+
+/// Where an assertion isn't true of the cards, at most `limit` millionths of all sequences of draws ever have an exact
+/// risk within the limit.
+pub fn counting()
+    ensures { CountingLaw }
+{}
+
+/// Where an assertion isn't true of the cards, at most `limit` millionths of all sequences of draws ever have a printed
+/// risk within the limit.
+pub fn risk_limit()
+    ensures { RiskLimitLaw }
+{}
+
+/// The clean draws of a limit are the least number that is enough.
+pub fn least()
+    ensures { LeastLaw }
+{}
+
+/// The printed risk of clean draws never rises from one draw to the next.
+pub fn more_draws()
+    ensures { MoreDrawsLaw }
+{}
+
+/// A larger margin never needs more clean draws.
+pub fn larger_margin()
+    ensures { LargerMarginLaw }
+{}

@@ -1,0 +1,16 @@
+//! The Kaplan-Markov risk of a ballot-comparison audit, and the draws that a clean audit needs.
+//!
+//! The risk is the Kaplan-Markov value of SHANGRLA (Stark 2020, section 3.2, over the overstatement assorter; the
+//! value itself is that of Stark's "Super-simple simultaneous single-ballot risk-limiting audits") for draws with
+//! replacement. It is printed as a whole number of units of 10^-18, and is never too small.
+#![tactic(auto)]
+
+mod clean;
+mod draws;
+pub mod laws;
+mod limits;
+mod setting;
+
+pub use clean::clean_draws;
+pub use draws::{Counts, risk};
+pub use limits::{GREATEST_GAMMA, GREATEST_LIMIT, MILLIONTH, MOST_CARDS, MOST_DRAWS, ONE};

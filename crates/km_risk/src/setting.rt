@@ -1,0 +1,47 @@
+// What the factors of the draws come from, and the steps of the chain.
+ghost use Rattle.std.specs.Prelude.{◌≡◌, ◌≤◌, fold, replicate};
+ghost use Rattle.km_risk.specs.Factor.{IsSetting};
+
+use crate::limits::ONE;
+
+/// The cards of the manifest, the margin of the assertion in votes, and gamma in thousandths.
+#[derive(Clone, Copy)]
+pub struct Setting {
+    pub cards: u32,
+    pub margin: u32,
+    pub gamma: u32,
+    ghost within_limits: { IsSetting cards margin gamma },
+}
+
+impl Setting {
+    ghost use Rattle.km_risk.specs.Printed.{step};
+
+    /// The risk after one more draw with the discrepancy `d`.
+    pub fn after_draw(self, risk: u64, d: u8) -> u64
+        requires { risk ≤ ONE }
+        ensures value { result ≡ step self.cards self.margin self.gamma risk d }
+        ensures at_most_one { result ≤ ONE }
+    {
+        let cards = u64::from(self.cards);
+        let diluted = 2 * cards - u64::from(self.margin);
+        let gamma = u64::from(self.gamma);
+        let numerator = u128::from((500 + gamma) * diluted);
+        let denominator = u128::from(500 * u64::from(d) * cards + gamma * diluted);
+        let scaled = (u128::from(risk) * numerator + denominator - 1) / denominator;
+        // Only a step with d of 0 or 1 can go above one.
+        scaled.min(u128::from(ONE)) as u64
+    }
+
+    /// The risk after a number of draws with the discrepancy `d`.
+    pub fn after_draws(self, risk: u64, number: u32, d: u8) -> u64
+        requires { risk ≤ ONE }
+        ensures value { result ≡ fold (step self.cards self.margin self.gamma) risk (replicate number d) }
+        ensures at_most_one { result ≤ ONE }
+    {
+        let mut now = risk;
+        for _ in 0..number {
+            now = self.after_draw(now, d);
+        }
+        now
+    }
+}

@@ -1,5 +1,6 @@
 pub mod Factors
 pub mod Products
+pub mod Chain
 pub mod Order
 pub mod Counting
 pub mod CleanDraws

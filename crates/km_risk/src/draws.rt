@@ -2,8 +2,9 @@
 ghost use Rattle.std.specs.Prelude.{◌≡◌, ◌≤◌};
 ghost use Rattle.km_risk.specs.Factor.{IsSetting};
 ghost use Rattle.km_risk.specs.declared.limits.TheConstants.{MOST_DRAWS};
-ghost use Rattle.km_risk.specs.Counts.{draws_in};
+ghost use Rattle.km_risk.specs.Counts.{draws_in, in_order};
 ghost use Rattle.km_risk.specs.Printed.{printed_risk};
+ghost use Rattle.km_risk.specs.Bounds.{IsNotBelow, IsNotFarAbove};
 
 use crate::limits::ONE;
 use crate::setting::Setting;
@@ -27,6 +28,8 @@ pub fn risk(c: &Counts, cards: u32, margin: u32, gamma: u32) -> u64
     requires setting { IsSetting cards margin gamma }
     ensures value { result ≡ printed_risk cards margin gamma c.now }
     ensures at_most_one { result ≤ ONE }
+    ensures not_below { IsNotBelow cards margin gamma (in_order c.now) result }
+    ensures not_far_above { IsNotFarAbove cards margin gamma (in_order c.now) result }
 {
     let setting = Setting {
         cards,

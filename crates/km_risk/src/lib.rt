@@ -10,6 +10,8 @@ mod draws;
 pub mod laws;
 mod limits;
 mod setting;
+#[cfg(test)]
+mod tests;
 
 pub use clean::clean_draws;
 pub use draws::{Counts, risk};

@@ -13,6 +13,7 @@ pub printed_risk-runs : (cards margin gamma : ℕ) (c : Counts) (after4 after3 a
     after1 ≡ fold (step cards margin gamma) after2 (replicate c.n1 1) →
     after0 ≡ fold (step cards margin gamma) after1 (replicate c.n0 0) →
     after0 ≡ printed_risk cards margin gamma c
+unfolding printed_risk
 printed_risk-runs cards margin gamma c after4 after3 after2 after1 after0 is4 is3 is2 is1 is0 =
     let to3 = append_run after4 after3 ONE (replicate c.n4 4) (replicate c.n3 3) is4 is3 in
     let to2 = append_run after3 after2 ONE (replicate c.n4 4 ++ replicate c.n3 3) (replicate c.n2 2) to3 is2 in

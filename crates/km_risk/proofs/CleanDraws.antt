@@ -20,6 +20,7 @@ in_order-clean n = let draws : List ℕ = replicate n 2 in append-nil (draws ++ 
 -- one clean draw more
 pub printed_risk-clean : (cards margin gamma n : ℕ) →
     printed_risk cards margin gamma (clean (n + 1)) ≡ step cards margin gamma (printed_risk cards margin gamma (clean n)) 2
+unfolding printed_risk
 printed_risk-clean cards margin gamma n =
     rw (in_order-clean (n + 1), in_order-clean n, replicate_next {X = ℕ} n 2) (fold_push (step cards margin gamma) ONE (replicate n 2) 2)
 
@@ -81,6 +82,7 @@ least_up_to f limit cards None none = λ n few fewer. none n (omega arith) (omeg
 least_up_to f limit cards (Some n) least = (omega (arith, least.1), omega (arith, least.1), least.2, λ k low. least.3 k (omega arith) low)
 
 pub least_law : LeastLaw
+unfolding clean_draws
 least_law cards margin gamma limit =
     least_up_to (λ n. printed_risk cards margin gamma (clean n)) (limit * MILLIONTH) cards (clean_draws cards margin gamma limit)
     (find_least (λ n. printed_risk cards margin gamma (clean n)) (limit * MILLIONTH) 0 (min cards MOST_DRAWS + 1))
@@ -132,6 +134,7 @@ module _ (cards margin larger gamma : ℕ) (some : 1 ≤ cards) (less : margin �
       (cross_margins (500 + gamma) gamma (500 * 2 * cards) (2 * cards - larger) (2 * cards - margin) (omega arith)))
 
   printed_risk_falls : (n : ℕ) → FallsAt n
+  unfolding printed_risk
   printed_risk_falls zero = omega arith
   printed_risk_falls (suc n) = subst FallsAt (add-one n) (falls_next n (printed_risk_falls n))
 

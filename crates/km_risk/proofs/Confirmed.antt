@@ -1,5 +1,5 @@
 -- Where the printed risk of draws is within the limit, so is their exact risk; and so few sequences ever have one within it.
-use Rattle.std.proofs.Common.{◌≡◌, ℕ, ◌*◌, ◌<◌, ◌≤◌, min, Bool, true, false, ◌||◌, cond, nat_le, List, [], ◌∷◌, ◌++◌, All, count_by, refl, sym, ◌∙◌, arith}
+use Rattle.std.proofs.Common.{◌≡◌, ℕ, ◌*◌, ◌<◌, ◌≤◌, min, Bool, true, false, ◌||◌, cond, List, [], ◌∷◌, ◌++◌, All, count_by, refl, sym, ◌∙◌, arith}
 use Rattle.std.proofs.Math.Bool.{or-true}
 use Rattle.std.proofs.Math.Nat.{mul-le-mul_right}
 use Rattle.std.specs.List.{list_any}
@@ -16,7 +16,7 @@ use Rattle.km_risk.specs.declared.limits.TheConstants.{ONE, MILLIONTH}
 use Rattle.km_risk.specs.Factor.{denominator}
 use Rattle.km_risk.specs.Exact.{exact_numerator, exact_denominator, is_within}
 use Rattle.km_risk.specs.Counts.{counts_of}
-use Rattle.km_risk.specs.Printed.{printed_risk}
+use Rattle.km_risk.specs.Printed.{printed_risk, is_printed_within}
 use Rattle.km_risk.specs.Reach.{sequences, prefixes}
 use Rattle.km_risk.specs.Laws.{ConfirmedLaw, RiskLimitLaw}
 
@@ -33,7 +33,7 @@ confirmed_law cards margin gamma limit draws some smaller lasting part few small
     le-leb _ _ (within_limit (exact_numerator cards margin gamma draws) (exact_denominator cards margin gamma draws)
     (printed_risk cards margin gamma (counts_of draws)) limit
     (product_pos (denominator cards margin gamma) (denominator_pos cards margin gamma some smaller lasting) draws) part
-    (rw (same.0, same.1) at (not_below_law cards margin gamma (counts_of draws) some smaller lasting)) small)
+    (rw (same.0, same.1) at (not_below_law cards margin gamma (counts_of draws) some smaller lasting)) (leb-true _ _ small))
 
 or_grows : (a b x y : Bool) → (a ≡ true → x ≡ true) → (b ≡ true → y ≡ true) → (a || b) ≡ true → (x || y) ≡ true
 or_grows true b x y first second h = rw (first refl) refl
@@ -71,9 +71,7 @@ module _ (P : ℕ → Type 0) (p q : List ℕ → Bool) (weaker : (draws : List 
 pub risk_limit_law : RiskLimitLaw
 risk_limit_law cards margin gamma limit ds some smaller lasting part count few small n =
     let fewer =
-    prefixes_grow (λ d. d ≤ 4) (λ draws. nat_le (printed_risk cards margin gamma (counts_of draws)) (limit * MILLIONTH))
-    (is_within cards margin gamma limit)
-    (λ draws each confirmed. confirmed_law cards margin gamma limit draws some smaller lasting part each (leb-true _ _ confirmed))
-    ds few n in
+    prefixes_grow (λ d. d ≤ 4) (is_printed_within cards margin gamma limit) (is_within cards margin gamma limit)
+    (λ draws each printed. confirmed_law cards margin gamma limit draws some smaller lasting part each printed) ds few n in
     let reached = rw (reach_law cards margin gamma limit ds count n) at (counting_law cards margin gamma limit ds some smaller count small n) in
     omega arith

@@ -186,12 +186,14 @@ as_fraction r b one_min j v f g h same =
     omega arith
 
 pub not_below_law : NotBelowLaw
+unfolding printed_risk
 not_below_law cards margin gamma c some smaller lasting =
     least_side (printed_risk cards margin gamma c) (exact_numerator cards margin gamma (in_order c)) (exact_denominator cards margin gamma (in_order c))
     (lower_of (numerator cards margin gamma) (denominator cards margin gamma) (denominator_pos cards margin gamma some smaller lasting)
     (low_factor cards margin gamma some smaller lasting) (high_factor cards margin gamma some smaller lasting) c)
 
 pub not_far_above_law : NotFarAboveLaw
+unfolding printed_risk
 not_far_above_law cards margin gamma c some smaller lasting =
     let draws = in_order c in
     let u = numerator cards margin gamma in

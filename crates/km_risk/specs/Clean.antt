@@ -8,6 +8,6 @@ use Rattle.km_risk.specs.Printed.{printed_risk}
 module _ (cards margin gamma : ℕ) where
   -- the least number of clean draws whose printed risk is at most limit millionths, if no more than the cards, and no
   -- more than 100,000, are needed
-  abbrev pub clean_draws : ℕ → Option ℕ
+  unfoldable pub clean_draws : ℕ → Option ℕ
   clean_draws limit =
       find (λ n. nat_le (printed_risk cards margin gamma (clean n)) (limit * MILLIONTH)) (range_with_len 0 (min cards MOST_DRAWS + 1))

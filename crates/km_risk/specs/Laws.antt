@@ -1,17 +1,16 @@
 -- Laws of the risk.
-use Rattle.std.specs.Prelude.{◌≡◌, ℕ, ◌+◌, ◌-◌, ◌*◌, ◌^◌, ◌<◌, ◌≤◌, nat_le, IsTrue, List, [], length, All, sum, count_by, MatchOption, IfSome, IsSomeAnd}
-use Rattle.std.specs.List.{list_any}
+use Rattle.std.specs.Prelude.{◌≡◌, ℕ, ◌+◌, ◌*◌, ◌^◌, ◌<◌, ◌≤◌, IsTrue, List, [], length, All, sum, count_by, MatchOption, IfSome, IsSomeAnd}
 use Rattle.km_risk.specs.declared.limits.TheConstants.{MOST_DRAWS, MILLIONTH}
 use Rattle.km_risk.specs.declared.draws.Counts.{Counts}
-use Rattle.km_risk.specs.Factor.{numerator, denominator}
+use Rattle.km_risk.specs.Factor.{threshold, numerator, denominator}
 use Rattle.km_risk.specs.Exact.{exact_numerator, exact_denominator, is_within}
 use Rattle.km_risk.specs.Counts.{in_order, counts_of, clean}
-use Rattle.km_risk.specs.Printed.{printed_risk}
+use Rattle.km_risk.specs.Printed.{printed_risk, is_printed_within}
 use Rattle.km_risk.specs.Bounds.{IsNotBelow, IsNotFarAbove}
 use Rattle.km_risk.specs.Clean.{clean_draws}
-use Rattle.km_risk.specs.Reach.{sequences, prefixes, reach}
+use Rattle.km_risk.specs.Reach.{sequences, some_prefix, reach}
 
--- a draw without a discrepancy, or with one against the reported outcome's margin, lowers the risk; each other draw doesn't
+-- a draw lowers the risk exactly where it isn't overstated
 abbrev pub FactorLaw : Type 0
 FactorLaw =
     (cards margin gamma d : ℕ) → 1 ≤ margin → margin ≤ cards →
@@ -25,7 +24,7 @@ OrderLaw =
     (exact_numerator cards margin gamma (in_order (counts_of draws)) ≡ exact_numerator cards margin gamma draws)
     × (exact_denominator cards margin gamma (in_order (counts_of draws)) ≡ exact_denominator cards margin gamma draws)
 
--- the printed risk is at least the smaller of one and the exact risk
+-- the printed risk is at least the exact risk, or one where that is above one
 abbrev pub NotBelowLaw : Type 0
 NotBelowLaw =
     (cards margin gamma : ℕ) (c : Counts) → 1 ≤ cards → margin ≤ cards → 1 ≤ gamma →
@@ -37,36 +36,34 @@ NotFarAboveLaw =
     (cards margin gamma : ℕ) (c : Counts) → 1 ≤ cards → margin ≤ cards → 1 ≤ gamma →
     IsNotFarAbove cards margin gamma (in_order c) (printed_risk cards margin gamma c)
 
--- draws whose counts have a printed risk of at most limit millionths have an exact risk of at most that
+-- draws with a printed risk of at most limit millionths have an exact risk of at most that
 abbrev pub ConfirmedLaw : Type 0
 ConfirmedLaw =
     (cards margin gamma limit : ℕ) (draws : List ℕ) →
     1 ≤ cards → margin ≤ cards → 1 ≤ gamma → limit < 1000000 → All (λ d. d ≤ 4) draws →
-    printed_risk cards margin gamma (counts_of draws) ≤ limit * MILLIONTH → IsTrue (is_within cards margin gamma limit draws)
+    IsTrue (is_printed_within cards margin gamma limit draws) → IsTrue (is_within cards margin gamma limit draws)
 
--- reach counts the sequences of which some prefix has an exact risk within the limit
+-- reach counts the sequences of draws of which some prefix has an exact risk within the limit
 abbrev pub ReachLaw : Type 0
 ReachLaw =
     (cards margin gamma limit : ℕ) (ds : List ℕ) → length ds ≡ cards →
-    (n : ℕ) → reach cards margin gamma limit ds [] n ≡ count_by (λ s. list_any (is_within cards margin gamma limit) (prefixes s)) (sequences ds n)
+    (n : ℕ) → reach cards margin gamma limit ds [] n ≡ count_by (some_prefix (is_within cards margin gamma limit)) (sequences ds n)
 
--- where the discrepancies are those of an assertion that isn't true of the cards, these are at most limit millionths of
--- all sequences
+-- where the assertion isn't true of the cards, these are at most limit millionths of all sequences; ds has the discrepancy
+-- of each card
 abbrev pub CountingLaw : Type 0
 CountingLaw =
     (cards margin gamma limit : ℕ) (ds : List ℕ) →
-    1 ≤ cards → margin ≤ cards → length ds ≡ cards → sum ds ≤ 2 * cards - margin →
+    1 ≤ cards → margin ≤ cards → length ds ≡ cards → sum ds ≤ threshold cards margin →
     (n : ℕ) → reach cards margin gamma limit ds [] n * 1000000 ≤ limit * cards ^ n
 
--- and so are those of which some prefix has a printed risk within the limit: the risk of confirming such an assertion
+-- and so are the sequences of which some prefix has a printed risk within the limit, as often as it is looked at
 abbrev pub RiskLimitLaw : Type 0
 RiskLimitLaw =
     (cards margin gamma limit : ℕ) (ds : List ℕ) →
     1 ≤ cards → margin ≤ cards → 1 ≤ gamma → limit < 1000000 →
-    length ds ≡ cards → All (λ d. d ≤ 4) ds → sum ds ≤ 2 * cards - margin →
-    (n : ℕ) →
-    count_by (λ s. list_any (λ draws. nat_le (printed_risk cards margin gamma (counts_of draws)) (limit * MILLIONTH)) (prefixes s)) (sequences ds n) * 1000000
-    ≤ limit * cards ^ n
+    length ds ≡ cards → All (λ d. d ≤ 4) ds → sum ds ≤ threshold cards margin →
+    (n : ℕ) → count_by (some_prefix (is_printed_within cards margin gamma limit)) (sequences ds n) * 1000000 ≤ limit * cards ^ n
 
 -- the clean draws of a limit are enough, and no smaller number is
 abbrev pub LeastLaw : Type 0

@@ -6,3 +6,4 @@ pub mod Bounds
 pub mod Clean
 pub mod Reach
 pub mod Laws
+pub mod Examples

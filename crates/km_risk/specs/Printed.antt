@@ -1,20 +1,25 @@
 -- The printed risk of numbers of draws, in units of 10^-18: a chain of whole numbers, each step rounded up.
-use Rattle.std.specs.Prelude.{ℕ, ◌+◌, ◌-◌, ◌*◌, ◌/◌, min, nat_le, if◌then◌else◌, fold}
-use Rattle.km_risk.specs.declared.limits.TheConstants.{ONE}
+use Rattle.std.specs.Prelude.{ℕ, ◌+◌, ◌-◌, ◌*◌, ◌/◌, min, Bool, nat_le, if◌then◌else◌, List, fold}
+use Rattle.km_risk.specs.declared.limits.TheConstants.{ONE, MILLIONTH}
 use Rattle.km_risk.specs.declared.draws.Counts.{Counts}
 use Rattle.km_risk.specs.Factor.{numerator, denominator}
-use Rattle.km_risk.specs.Counts.{in_order}
+use Rattle.km_risk.specs.Counts.{in_order, counts_of}
 
 -- a quotient, rounded up
 abbrev pub divided_up : ℕ → ℕ → ℕ
 divided_up a b = (a + b - 1) / b
 
 module _ (cards margin gamma : ℕ) where
-  -- the risk after one more draw; after a draw with d of 0 or 1 it is at most one
+  -- the risk after one more draw: times its factor, rounded up, and after a draw with d of 0 or 1 at most one
   abbrev pub step : ℕ → ℕ → ℕ
   step risk d =
       let scaled = divided_up (risk * numerator cards margin gamma) (denominator cards margin gamma d) in
       if nat_le d 1 then min ONE scaled else scaled
 
-  abbrev pub printed_risk : Counts → ℕ
+  -- the risk after all draws: those with d of 4 first, then 3, 2, 1 and 0
+  unfoldable pub printed_risk : Counts → ℕ
   printed_risk c = fold step ONE (in_order c)
+
+  -- the printed risk of a list of draws is at most limit millionths
+  abbrev pub is_printed_within : ℕ → List ℕ → Bool
+  is_printed_within limit draws = nat_le (printed_risk (counts_of draws)) (limit * MILLIONTH)

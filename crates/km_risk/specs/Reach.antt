@@ -1,6 +1,6 @@
 -- How many sequences of draws get to an exact risk within the limit.
-use Rattle.std.specs.Prelude.{ℕ, zero, suc, ◌^◌, if◌then◌else◌, List, [], ◌∷◌, ◌++◌, map, sum_by}
-use Rattle.std.specs.List.{flat_map}
+use Rattle.std.specs.Prelude.{ℕ, zero, suc, ◌^◌, Bool, if◌then◌else◌, List, [], ◌∷◌, ◌++◌, map, sum_by}
+use Rattle.std.specs.List.{flat_map, list_any}
 use Rattle.km_risk.specs.Exact.{is_within}
 
 -- each sequence of n draws from the cards, with replacement
@@ -12,6 +12,10 @@ sequences cards (suc n) = flat_map (λ card. map (λ more. card ∷ more) (seque
 abbrev pub prefixes : {X : Type 0} → List X → List (List X)
 prefixes [] = [] ∷ []
 prefixes (x ∷ xs) = [] ∷ map (λ more. x ∷ more) (prefixes xs)
+
+-- some prefix of the sequence passes a test
+abbrev pub some_prefix : {X : Type 0} → (List X → Bool) → List X → Bool
+some_prefix test s = list_any test (prefixes s)
 
 module _ (cards margin gamma limit : ℕ) where
   -- of the sequences that begin with the draws h and go on with n more, how many have a prefix, of h or longer, whose

@@ -13,8 +13,7 @@ use crate::setting::Setting;
 /// `None` exactly where more draws than there are cards, or more than 100,000, are needed.
 pub fn clean_draws(cards: u32, margin: u32, gamma: u32, limit: u32) -> Option<u32>
     requires setting { IsSetting cards margin gamma }
-    requires limit_some { 1 ≤ limit }
-    requires limit_most { limit ≤ GREATEST_LIMIT }
+    requires limit { (1 ≤ limit) × (limit ≤ GREATEST_LIMIT) }
     ensures { result ≡ clean_draws cards margin gamma limit }
 {
     let setting = Setting {

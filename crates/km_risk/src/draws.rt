@@ -10,7 +10,7 @@ use crate::limits::ONE;
 use crate::setting::Setting;
 
 /// How many draws have each discrepancy d, from 0 to 4. Without a discrepancy d is 2.
-#[derive(Clone, Copy, Debug, PartialEq, Eq)]
+#[derive(Clone, Copy, Debug, Default, PartialEq, Eq)]
 pub struct Counts {
     pub n0: u32,
     pub n1: u32,

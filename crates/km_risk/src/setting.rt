@@ -23,10 +23,10 @@ impl Setting {
         ensures at_most_one { result ≤ ONE }
     {
         let cards = u64::from(self.cards);
-        let diluted = 2 * cards - u64::from(self.margin);
+        let threshold = 2 * cards - u64::from(self.margin);
         let gamma = u64::from(self.gamma);
-        let numerator = u128::from((500 + gamma) * diluted);
-        let denominator = u128::from(500 * u64::from(d) * cards + gamma * diluted);
+        let numerator = u128::from((500 + gamma) * threshold);
+        let denominator = u128::from(500 * u64::from(d) * cards + gamma * threshold);
         let scaled = (u128::from(risk) * numerator + denominator - 1) / denominator;
         // Only a step with d of 0 or 1 can go above one.
         scaled.min(u128::from(ONE)) as u64

@@ -1,9 +1,14 @@
-use Rattle.std.proofs.Common.{◌∙◌, ap, sym, arith, ◌*◌}
+use Rattle.std.proofs.Common.{rules, ◌∙◌, ap, sym, arith, ◌*◌}
 use Rattle.km_risk.specs.declared.limits.TheConstants.{MILLIONTH}
 use Rattle.km_risk.specs.Counts.{clean}
 use Rattle.km_risk.specs.Printed.{printed_risk, step}
+use Rattle.km_risk.specs.Clean.{clean_draws}
 use Rattle.km_risk.proofs.CleanDraws.{find_behind, printed_risk-clean}
 use Rattle.km_risk.proofs.clean.clean_draws.Goals as goal
+
+pub loop-n-init : goal.loop-n-init
+unfolding printed_risk clean_draws
+loop-n-init c = search rules
 
 pub loop-n-preserved : goal.loop-n-preserved
 loop-n-preserved c = record {

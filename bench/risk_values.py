@@ -128,27 +128,22 @@ CLEAN = [
 ]
 
 
-def spelled(n):
-    return f"{n:_}"
-
-
 def main():
-    rows = list(settings_at_the_limits()) + list(settings_between())
-    print(f"const RISKS: [([u32; 5], u32, u32, u32, u64); {len(rows)}] = [")
-    for counts, cards, margin, gamma in rows:
+    print("// Counts of d from 0 to 4, cards, margin, gamma, and the printed risk.")
+    print('const RISKS: &str = "\\')
+    for counts, cards, margin, gamma in [*settings_at_the_limits(), *settings_between()]:
         value = risk(counts, cards, margin, gamma)
         if sum(counts) <= 5_000:
             assert is_between(value, counts, cards, margin, gamma), (counts, cards, margin, gamma)
-        listed = ", ".join(spelled(n) for n in counts)
-        print(f"    ([{listed}], {spelled(cards)}, {spelled(margin)}, {gamma}, {spelled(value)}),")
-    print("];")
+        print(*counts, cards, margin, gamma, value)
+    print('";')
     print()
-    print(f"const CLEAN_DRAWS: [(u32, u32, u32, u32, Option<u32>); {len(CLEAN)}] = [")
+    print("// Cards, margin, gamma, the limit in millionths, and the clean draws, or none.")
+    print('const CLEAN_DRAWS: &str = "\\')
     for cards, margin, gamma, limit in CLEAN:
         n = clean_draws(cards, margin, gamma, limit)
-        answer = "None" if n is None else f"Some({spelled(n)})"
-        print(f"    ({spelled(cards)}, {spelled(margin)}, {gamma}, {spelled(limit)}, {answer}),")
-    print("];")
+        print(cards, margin, gamma, limit, "none" if n is None else n)
+    print('";')
 
 
 if __name__ == "__main__":

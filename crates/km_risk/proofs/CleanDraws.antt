@@ -2,7 +2,7 @@
 use Rattle.std.proofs.Common.{◌≡◌, ℕ, zero, suc, ◌+◌, ◌-◌, ◌*◌, ◌<◌, ◌≤◌, min, Bool, true, false, cond, Option, Some, None, MatchOption, IfSome, IsSomeAnd, List, [], ◌++◌, find, replicate, nat_le, refl, subst, add-one, ◌∙◌, arith, inl, inr}
 use Rattle.std.proofs.Math.Nat.{mul-le-mul_left, mul-le-mul_right}
 use Rattle.std.specs.List.{range_with_len}
-use Rattle.std.proofs.lemmas.Bool.{lt-leb, le-leb, leb-true, leb-false, cases_lt}
+use Rattle.std.proofs.lemmas.Bool.{lt-leb, leb-true, leb-false, cases_lt}
 use Rattle.std.proofs.lemmas.Grind.{replicate_next}
 use Rattle.std.proofs.lemmas.List.{append-nil}
 use Rattle.std.proofs.lemmas.List.Sums.{fold_push}
@@ -11,7 +11,7 @@ use Rattle.km_risk.specs.declared.limits.TheConstants.{ONE, MOST_DRAWS, MILLIONT
 use Rattle.km_risk.specs.Factor.{numerator, denominator}
 use Rattle.km_risk.specs.Counts.{clean, in_order}
 use Rattle.km_risk.specs.Printed.{divided_up, step, printed_risk}
-use Rattle.km_risk.specs.Clean.{clean_draws}
+use Rattle.km_risk.specs.Clean.{clean_draws, IsLeast, IsNever}
 use Rattle.km_risk.specs.Laws.{LeastLaw, MoreDrawsLaw, LargerMarginLaw}
 
 in_order-clean : (n : ℕ) → in_order (clean n) ≡ replicate n 2
@@ -30,19 +30,6 @@ pub find_behind : (f : ℕ → ℕ) (limit n m : ℕ) → n < m → limit < f n 
 find_behind f limit n m some above =
     let more : m - n ≡ suc (m - (n + 1)) = omega arith in
     rw (more, lt-leb (f n) limit above) refl
-
--- and else it ends there
-pub find_here : (f : ℕ → ℕ) (limit n m : ℕ) → n < m → f n ≤ limit →
-    find (λ k. nat_le (f k) limit) (range_with_len n (m - n)) ≡ Some n
-find_here f limit n m some within =
-    let more : m - n ≡ suc (m - (n + 1)) = omega arith in
-    rw (more, le-leb (f n) limit within) refl
-
--- behind the last number nothing is found
-pub find_past : (p : ℕ → Bool) (n m : ℕ) → m ≤ n → find p (range_with_len n (m - n)) ≡ None
-find_past p n m past =
-    let none : m - n ≡ 0 = omega arith in
-    rw none refl
 
 -- a search ends at the least number within the limit, or none is within it
 abbrev IsLeastFrom : (ℕ → ℕ) → ℕ → ℕ → ℕ → Option ℕ → Type 0
@@ -81,11 +68,22 @@ least_up_to : (f : ℕ → ℕ) (limit cards : ℕ) (found : Option ℕ) → IsL
 least_up_to f limit cards None none = λ n few fewer. none n (omega arith) (omega arith)
 least_up_to f limit cards (Some n) least = (omega (arith, least.1), omega (arith, least.1), least.2, λ k low. least.3 k (omega arith) low)
 
-pub least_law : LeastLaw
+least_of : (cards margin gamma limit : ℕ) (found : Option ℕ) →
+    IsLeastUpTo (λ n. printed_risk cards margin gamma (clean n)) (limit * MILLIONTH) cards found →
+    MatchOption found (IsNever cards margin gamma limit) (IsLeast cards margin gamma limit)
+least_of cards margin gamma limit None never = never
+least_of cards margin gamma limit (Some n) h = record { within_cards = h.0; within_draws = h.1; enough = h.2; least = h.3 }
+
+least_found : (cards margin gamma limit : ℕ) →
+    IsLeastUpTo (λ n. printed_risk cards margin gamma (clean n)) (limit * MILLIONTH) cards (clean_draws cards margin gamma limit)
 unfolding clean_draws
-least_law cards margin gamma limit =
+least_found cards margin gamma limit =
     least_up_to (λ n. printed_risk cards margin gamma (clean n)) (limit * MILLIONTH) cards (clean_draws cards margin gamma limit)
     (find_least (λ n. printed_risk cards margin gamma (clean n)) (limit * MILLIONTH) 0 (min cards MOST_DRAWS + 1))
+
+pub least_law : LeastLaw
+least_law cards margin gamma limit =
+    least_of cards margin gamma limit (clean_draws cards margin gamma limit) (least_found cards margin gamma limit)
 
 pub more_draws_law : MoreDrawsLaw
 more_draws_law cards margin gamma n some smaller lasting =
@@ -155,4 +153,4 @@ larger_margin_law cards margin larger gamma limit some less smaller lasting =
     lower_least (λ n. printed_risk cards margin gamma (clean n)) (λ n. printed_risk cards larger gamma (clean n)) (limit * MILLIONTH) cards
     (printed_risk_falls cards margin larger gamma some less smaller lasting)
     (clean_draws cards margin gamma limit) (clean_draws cards larger gamma limit)
-    (least_law cards margin gamma limit) (least_law cards larger gamma limit)
+    (least_found cards margin gamma limit) (least_found cards larger gamma limit)

@@ -13,7 +13,7 @@ use Rattle.km_risk.specs.Exact.{product, exact_numerator, exact_denominator}
 use Rattle.km_risk.specs.Counts.{in_order}
 use Rattle.km_risk.specs.Printed.{divided_up, printed_risk}
 use Rattle.km_risk.specs.Bounds.{overstated}
-use Rattle.km_risk.specs.Laws.{NotBelowLaw, NotFarAboveLaw}
+use Rattle.km_risk.specs.Laws.{AtMostOneLaw, NotBelowLaw, NotFarAboveLaw}
 
 -- what a draw keeps, draws keep
 grows : (P : List ℕ → Type 0) → ((ds : List ℕ) (d : ℕ) → P ds → P (ds ++ d ∷ [])) → (ds more : List ℕ) → P ds → P (ds ++ more)
@@ -41,9 +41,13 @@ rises_high r u e b v a o j s large bound under rounded =
     let m4 = mul-le-mul_left (j * v) large in
     omega arith
 
+-- a risk, capped at one after an overstated draw
+abbrev capped_if : Bool → ℕ → ℕ
+capped_if c s = if c then min ONE s else s
+
 -- the step and a draw's factor in the growth, from the numerator and the denominators
 abbrev stepped : ℕ → (ℕ → ℕ) → ℕ → ℕ → ℕ
-stepped u e r d = if nat_le d 1 then min ONE (divided_up (r * u) (e d)) else divided_up (r * u) (e d)
+stepped u e r d = capped_if (nat_le d 1) (divided_up (r * u) (e d))
 
 abbrev growing : ℕ → (ℕ → ℕ) → ℕ → ℕ
 growing u e d = if nat_le d 1 then u else e d
@@ -75,7 +79,7 @@ LowerAt u e ds = AboveAt u e ds ⊎ (ONE ≤ fold (stepped u e) ONE ds)
 
 module _ (u : ℕ) (e : ℕ → ℕ) (pos : (d : ℕ) → 0 < e d) (low : (d : ℕ) → d ≤ 1 → e d ≤ u) (high : (d : ℕ) → 2 ≤ d → u ≤ e d) where
   upper_step : (r a b v j d : ℕ) → Upper r a b v j → (c : Bool) → nat_le d 1 ≡ c →
-      Upper (if c then min ONE (divided_up (r * u) (e d)) else divided_up (r * u) (e d)) (a * u) (b * e d) (v * (if c then u else e d)) (j + 1)
+      Upper (capped_if c (divided_up (r * u) (e d))) (a * u) (b * e d) (v * (if c then u else e d)) (j + 1)
   upper_step r a b v j d h true is_low =
       let small : e d ≤ u = low d (leb-true d 1 is_low) in
       let rounded = divided_up-most (r * u) (e d) (pos d) in
@@ -104,7 +108,7 @@ module _ (u : ℕ) (e : ℕ → ℕ) (pos : (d : ℕ) → 0 < e d) (low : (d : �
   upper_of ds = grows (UpperAt u e) upper_push [] ds (rw (pow-zero u) record { most = omega arith; under = omega arith; bound = omega arith })
 
   high_step : (r a b d : ℕ) → 2 ≤ d → ONE * a ≤ r * b → (c : Bool) → nat_le d 1 ≡ c →
-      ONE * (a * u) ≤ (if c then min ONE (divided_up (r * u) (e d)) else divided_up (r * u) (e d)) * (b * e d)
+      ONE * (a * u) ≤ capped_if c (divided_up (r * u) (e d)) * (b * e d)
   high_step r a b d large h true is_low = let small = leb-true d 1 is_low in absurd (omega arith)
   high_step r a b d large h false is_high = falls r u (e d) b a ONE (divided_up (r * u) (e d)) h (divided_up-least (r * u) (e d) (pos d))
 
@@ -113,8 +117,8 @@ module _ (u : ℕ) (e : ℕ → ℕ) (pos : (d : ℕ) → 0 < e d) (low : (d : �
       rw (fold_push (stepped u e) ONE ds d, power-push u ds d, product-push e ds d) (high_step _ _ _ d large h (nat_le d 1) refl)
 
   low_step : (r a b d : ℕ) → d ≤ 1 → (ONE * a ≤ r * b) ⊎ (ONE ≤ r) → (c : Bool) → nat_le d 1 ≡ c →
-      (ONE * (a * u) ≤ (if c then min ONE (divided_up (r * u) (e d)) else divided_up (r * u) (e d)) * (b * e d))
-      ⊎ (ONE ≤ (if c then min ONE (divided_up (r * u) (e d)) else divided_up (r * u) (e d)))
+      (ONE * (a * u) ≤ capped_if c (divided_up (r * u) (e d)) * (b * e d))
+      ⊎ (ONE ≤ capped_if c (divided_up (r * u) (e d)))
   low_step r a b d small h true is_low =
       let least = divided_up-least (r * u) (e d) (pos d) in
       elim h [
@@ -184,6 +188,13 @@ as_fraction r b one_min j v f g h same =
     let m = mul-le-mul_right g h in
     let grown : j * (v * g) ≡ j * (f * b) = rw same refl in
     omega arith
+
+pub at_most_one_law : AtMostOneLaw
+unfolding printed_risk
+at_most_one_law cards margin gamma c some smaller lasting =
+    let upper = upper_of (numerator cards margin gamma) (denominator cards margin gamma) (denominator_pos cards margin gamma some smaller lasting)
+    (low_factor cards margin gamma some smaller lasting) (high_factor cards margin gamma some smaller lasting) (in_order c) in
+    upper.most
 
 pub not_below_law : NotBelowLaw
 unfolding printed_risk

@@ -4,14 +4,15 @@ use Rattle.std.proofs.Math.Bool.{or-false}
 use Rattle.std.proofs.Math.Nat.{zero-add, pow-zero, pow-succ'}
 use Rattle.std.proofs.Math.Path.{fun_ext}
 use Rattle.std.specs.List.{flat_map, list_any}
-use Rattle.std.proofs.lemmas.List.{length-map, append-nil}
+use Rattle.std.proofs.lemmas.List.{length-map, map-append, append-nil}
+use Rattle.std.proofs.lemmas.Simd.{map-map}
 use Rattle.std.proofs.lemmas.List.Elements.{All-nil, All-cons, All-head, All-tail, All-append, All-map, All-weaker}
 use Rattle.std.proofs.lemmas.List.Sums.{sum_by-cons, sum_by-append}
-use Rattle.std.proofs.lemmas.List.Folds.{fold-map}
+use Rattle.std.proofs.lemmas.List.Folds.{fold-map, flat_map-map}
 use Rattle.std.proofs.lemmas.List.Concat.{flat_map-cons, length-flat_map}
 use Rattle.km_risk.specs.Exact.{is_within}
 use Rattle.km_risk.specs.Reach.{sequences, prefixes, reach}
-use Rattle.km_risk.specs.Laws.{ReachLaw}
+use Rattle.km_risk.specs.Laws.{SequencesLaw, ReachLaw}
 
 sum_by-flat_map : {X : Type 0} (f : X → ℕ) (g : ℕ → List X) (ds : List ℕ) → sum_by f (flat_map g ds) ≡ sum_by (λ d. sum_by f (g d)) ds
 sum_by-flat_map f g [] = refl
@@ -33,13 +34,31 @@ by_first q s ds =
     sum_by-flat_map (λ x. cond (q x) 1 0) (λ d. map (λ more. d ∷ more) s) ds
     ∙ ap (λ f. sum_by f ds) (fun_ext (λ d. fold-map (λ a x. a + cond (q x) 1 0) (λ more. d ∷ more) 0 s))
 
-length-sequences : (ds : List ℕ) (n : ℕ) → length (sequences ds n) ≡ length ds ^ n
-length-sequences ds zero = sym (pow-zero (length ds))
-length-sequences ds (suc n) =
-    length-flat_map (λ d. map (λ more. d ∷ more) (sequences ds n)) ds
-    ∙ ap (λ f. sum_by f ds) (fun_ext (λ d. length-map (sequences ds n) (λ more. d ∷ more)))
-    ∙ sum_by-constant (length (sequences ds n)) ds
-    ∙ rw (length-sequences ds n, pow-succ' (length ds) n) refl
+length-sequences : (cards : List ℕ) (n : ℕ) → length (sequences cards n) ≡ length cards ^ n
+length-sequences cards zero = sym (pow-zero (length cards))
+length-sequences cards (suc n) =
+    length-flat_map (λ c. map (λ more. c ∷ more) (sequences cards n)) cards
+    ∙ ap (λ f. sum_by f cards) (fun_ext (λ c. length-map (sequences cards n) (λ more. c ∷ more)))
+    ∙ sum_by-constant (length (sequences cards n)) cards
+    ∙ rw (length-sequences cards n, pow-succ' (length cards) n) refl
+
+map-flat_map : {X Y Z : Type 0} (f : Y → Z) (g : X → List Y) (xs : List X) → map f (flat_map g xs) ≡ flat_map (λ x. map f (g x)) xs
+map-flat_map f g [] = refl
+map-flat_map f g (x ∷ xs) =
+    rw (flat_map-cons g x xs, map-append f (g x) (flat_map g xs), map-flat_map f g xs, flat_map-cons (λ y. map f (g y)) x xs) refl
+
+map-sequences : (f : ℕ → ℕ) (cards : List ℕ) (n : ℕ) → map (λ s. map f s) (sequences cards n) ≡ sequences (map f cards) n
+map-sequences f cards zero = refl
+map-sequences f cards (suc n) =
+    map-flat_map (λ s. map f s) (λ c. map (λ more. c ∷ more) (sequences cards n)) cards
+    ∙ ap (λ g. flat_map g cards) (fun_ext (λ c.
+    map-map (λ s. map f s) (λ more. c ∷ more) (sequences cards n)
+    ∙ sym (map-map (λ more. f c ∷ more) (λ s. map f s) (sequences cards n))
+    ∙ ap (λ s. map (λ more. f c ∷ more) s) (map-sequences f cards n)))
+    ∙ sym (flat_map-map (λ d. map (λ more. d ∷ more) (sequences (map f cards) n)) f cards)
+
+pub sequences_law : SequencesLaw
+sequences_law cards discrepancy n = (length-sequences cards n, map-sequences discrepancy cards n)
 
 -- draws h, or some longer prefix of h and then more, pass
 abbrev pub passes : (List ℕ → Bool) → List ℕ → List ℕ → Bool

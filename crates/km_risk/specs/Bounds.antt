@@ -3,20 +3,23 @@ use Rattle.std.specs.Prelude.{ℕ, ◌+◌, ◌*◌, ◌≤◌, min, nat_le, Lis
 use Rattle.km_risk.specs.declared.limits.TheConstants.{ONE}
 use Rattle.km_risk.specs.Exact.{exact_numerator, exact_denominator}
 
--- the draws that don't lower the risk
+-- the draws with d of 0 or 1, whose factors are at least one
 abbrev pub overstated : List ℕ → List ℕ
 overstated draws = filter (λ d. nat_le d 1) draws
 
-module _ (cards margin gamma : ℕ) where
-  -- the exact risk, or one where it is above one, is at most this
-  abbrev pub IsNotBelow : List ℕ → ℕ → Type 0
-  IsNotBelow draws risk =
-      ONE * min (exact_numerator cards margin gamma draws) (exact_denominator cards margin gamma draws)
-      ≤ risk * exact_denominator cards margin gamma draws
+module _ (cards margin gamma : ℕ) (draws : List ℕ) (risk : ℕ) where
+  -- the risk is at least the exact risk of the draws, or at least one where that is above one
+  abbrev pub IsNotBelow : Type 0
+  IsNotBelow =
+      let over = exact_numerator cards margin gamma draws in
+      let under = exact_denominator cards margin gamma draws in
+      ONE * min over under ≤ risk * under
 
-  -- this is above it by at most a unit for each draw, times the exact risk of the overstated draws alone
-  abbrev pub IsNotFarAbove : List ℕ → ℕ → Type 0
-  IsNotFarAbove draws risk =
-      risk * exact_denominator cards margin gamma draws * exact_denominator cards margin gamma (overstated draws)
-      ≤ ONE * min (exact_numerator cards margin gamma draws) (exact_denominator cards margin gamma draws) * exact_denominator cards margin gamma (overstated draws)
-      + length draws * exact_numerator cards margin gamma (overstated draws) * exact_denominator cards margin gamma draws
+  -- it is above that by at most a unit for each draw, times the exact risk of the overstated draws alone
+  abbrev pub IsNotFarAbove : Type 0
+  IsNotFarAbove =
+      let over = exact_numerator cards margin gamma draws in
+      let under = exact_denominator cards margin gamma draws in
+      let growth_over = exact_numerator cards margin gamma (overstated draws) in
+      let growth_under = exact_denominator cards margin gamma (overstated draws) in
+      risk * under * growth_under ≤ ONE * min over under * growth_under + length draws * growth_over * under

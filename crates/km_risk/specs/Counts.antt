@@ -4,11 +4,12 @@ use Rattle.km_risk.specs.declared.draws.Counts.{Counts}
 
 -- how many draws there are
 abbrev pub draws_in : Counts → ℕ
-draws_in c = c.n0 + c.n1 + c.n2 + c.n3 + c.n4
+draws_in counts = counts.n0 + counts.n1 + counts.n2 + counts.n3 + counts.n4
 
 -- the draws as a list: those with d of 4 first, then 3, 2, 1 and 0
 abbrev pub in_order : Counts → List ℕ
-in_order c = replicate c.n4 4 ++ replicate c.n3 3 ++ replicate c.n2 2 ++ replicate c.n1 1 ++ replicate c.n0 0
+in_order counts =
+    replicate counts.n4 4 ++ replicate counts.n3 3 ++ replicate counts.n2 2 ++ replicate counts.n1 1 ++ replicate counts.n0 0
 
 -- the counts of a list of draws
 abbrev pub counts_of : List ℕ → Counts

@@ -2,6 +2,7 @@
 use Rattle.std.specs.Prelude.{ℕ, ◌*◌, ◌^◌, Bool, nat_le, List, map, length, fold}
 use Rattle.km_risk.specs.Factor.{numerator, denominator}
 
+-- the product of the numbers, and 1 for none
 abbrev pub product : List ℕ → ℕ
 product xs = fold (λ all x. all * x) 1 xs
 

@@ -9,11 +9,11 @@ use Rattle.km_risk.specs.declared.limits.TheConstants.{MOST_CARDS, GREATEST_GAMM
 
 -- the three numbers are within the limits of an audit
 pub record IsSetting (cards margin gamma : ℕ) : Type 0 where
-  pub margin_some : 1 ≤ margin
-  pub margin_most : margin ≤ cards
-  pub cards_most : cards ≤ MOST_CARDS
-  pub gamma_some : 1 ≤ gamma
-  pub gamma_most : gamma ≤ GREATEST_GAMMA
+  pub margin_positive : 1 ≤ margin
+  pub margin_within : margin ≤ cards
+  pub cards_within : cards ≤ MOST_CARDS
+  pub gamma_positive : 1 ≤ gamma
+  pub gamma_within : gamma ≤ GREATEST_GAMMA
 
 -- the discrepancies of all cards add up to at most this exactly where the assertion isn't true of what is seen
 abbrev pub threshold : ℕ → ℕ → ℕ

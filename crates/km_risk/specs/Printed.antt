@@ -18,7 +18,7 @@ module _ (cards margin gamma : ℕ) where
 
   -- the risk after all draws: those with d of 4 first, then 3, 2, 1 and 0
   unfoldable pub printed_risk : Counts → ℕ
-  printed_risk c = fold step ONE (in_order c)
+  printed_risk counts = fold step ONE (in_order counts)
 
   -- the printed risk of a list of draws is at most limit millionths
   abbrev pub is_printed_within : ℕ → List ℕ → Bool

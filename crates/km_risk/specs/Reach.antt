@@ -1,4 +1,4 @@
--- How many sequences of draws get to an exact risk within the limit.
+-- How many sequences of draws get to a risk within the limit.
 use Rattle.std.specs.Prelude.{ℕ, zero, suc, ◌^◌, Bool, if◌then◌else◌, List, [], ◌∷◌, ◌++◌, map, sum_by}
 use Rattle.std.specs.List.{flat_map, list_any}
 use Rattle.km_risk.specs.Exact.{is_within}
@@ -11,15 +11,17 @@ sequences cards (suc n) = flat_map (λ card. map (λ more. card ∷ more) (seque
 -- the first draws of a sequence: none, one, two, and so on to all of them
 abbrev pub prefixes : {X : Type 0} → List X → List (List X)
 prefixes [] = [] ∷ []
-prefixes (x ∷ xs) = [] ∷ map (λ more. x ∷ more) (prefixes xs)
+prefixes (draw ∷ more) = [] ∷ map (λ next. draw ∷ next) (prefixes more)
 
 -- some prefix of the sequence passes a test
 abbrev pub some_prefix : {X : Type 0} → (List X → Bool) → List X → Bool
-some_prefix test s = list_any test (prefixes s)
+some_prefix test draws = list_any test (prefixes draws)
 
 module _ (cards margin gamma limit : ℕ) where
-  -- of the sequences that begin with the draws h and go on with n more, how many have a prefix, of h or longer, whose
-  -- exact risk is at most limit millionths; ds has the discrepancy of each card
+  -- of the sequences that begin with what was drawn and go on with n draws more, how many have an exact risk of at most
+  -- limit millionths, now or after some of these draws; the list has the discrepancy of each card
   abbrev pub reach : List ℕ → List ℕ → ℕ → ℕ
-  reach ds h zero = if is_within cards margin gamma limit h then 1 else 0
-  reach ds h (suc n) = if is_within cards margin gamma limit h then cards ^ suc n else sum_by (λ d. reach ds (h ++ d ∷ []) n) ds
+  reach discrepancies drawn zero = if is_within cards margin gamma limit drawn then 1 else 0
+  reach discrepancies drawn (suc n) =
+      if is_within cards margin gamma limit drawn then cards ^ suc n
+      else sum_by (λ d. reach discrepancies (drawn ++ d ∷ []) n) discrepancies

@@ -23,22 +23,22 @@ pub struct Counts {
 /// of `margin` votes, and `gamma` thousandths.
 ///
 /// The draws with d of 4 are taken first, then those with 3, 2, 1 and 0. Each step is rounded up.
-pub fn risk(c: &Counts, cards: u32, margin: u32, gamma: u32) -> u64
-    requires draws { draws_in c.now ≤ MOST_DRAWS }
+pub fn risk(counts: &Counts, cards: u32, margin: u32, gamma: u32) -> u64
+    requires draws { draws_in counts.now ≤ MOST_DRAWS }
     requires setting { IsSetting cards margin gamma }
-    ensures value { result ≡ printed_risk cards margin gamma c.now }
+    ensures value { result ≡ printed_risk cards margin gamma counts.now }
     ensures at_most_one { result ≤ ONE }
-    ensures not_below { IsNotBelow cards margin gamma (in_order c.now) result }
-    ensures not_far_above { IsNotFarAbove cards margin gamma (in_order c.now) result }
+    ensures not_below { IsNotBelow cards margin gamma (in_order counts.now) result }
+    ensures not_far_above { IsNotFarAbove cards margin gamma (in_order counts.now) result }
 {
     let setting = Setting {
         cards,
         margin,
         gamma,
     };
-    let after4 = setting.after_draws(ONE, c.n4, 4);
-    let after3 = setting.after_draws(after4, c.n3, 3);
-    let after2 = setting.after_draws(after3, c.n2, 2);
-    let after1 = setting.after_draws(after2, c.n1, 1);
-    setting.after_draws(after1, c.n0, 0)
+    let after4 = setting.after_draws(ONE, counts.n4, 4);
+    let after3 = setting.after_draws(after4, counts.n3, 3);
+    let after2 = setting.after_draws(after3, counts.n2, 2);
+    let after1 = setting.after_draws(after2, counts.n1, 1);
+    setting.after_draws(after1, counts.n0, 0)
 }

@@ -1,5 +1,5 @@
 //! Laws of the risk, one for each function: its contract is the law, and its body is empty.
-ghost use Rattle.km_risk.specs.Laws.{FactorLaw, OrderLaw, NotBelowLaw, NotFarAboveLaw, ConfirmedLaw, ReachLaw, CountingLaw, RiskLimitLaw, LeastLaw, MoreDrawsLaw, LargerMarginLaw};
+ghost use Rattle.km_risk.specs.Laws.{FactorLaw, OrderLaw, AtMostOneLaw, NotBelowLaw, NotFarAboveLaw, ConfirmedLaw, SequencesLaw, ReachLaw, CountingLaw, RiskLimitLaw, LeastLaw, MoreDrawsLaw, LargerMarginLaw};
 
 /// A draw with d of 2 to 4 lowers the risk, and a draw with d of 0 or 1 doesn't.
 pub fn factors()
@@ -9,6 +9,11 @@ pub fn factors()
 /// The exact risk of draws doesn't depend on their order.
 pub fn any_order()
     ensures { OrderLaw }
+{}
+
+/// The printed risk is at most one.
+pub fn at_most_one()
+    ensures { AtMostOneLaw }
 {}
 
 /// The printed risk is at least the exact one, or one where that is less.
@@ -24,6 +29,11 @@ pub fn not_far_above()
 /// Draws whose printed risk is within a limit have an exact risk within it.
 pub fn confirmed()
     ensures { ConfirmedLaw }
+{}
+
+/// There are `cards ^ n` sequences of `n` draws, one for each sequence of cards.
+pub fn all_sequences()
+    ensures { SequencesLaw }
 {}
 
 /// What the counting law bounds is a number of sequences of draws.

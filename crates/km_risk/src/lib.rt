@@ -1,8 +1,8 @@
 //! The Kaplan-Markov risk of a ballot-comparison audit, and the draws that a clean audit needs.
 //!
-//! The risk is the Kaplan-Markov value of SHANGRLA (Stark 2020, section 3.2, over the overstatement assorter; the
-//! value itself is that of Stark's "Super-simple simultaneous single-ballot risk-limiting audits") for draws with
-//! replacement. It is printed as a whole number of units of 10^-18, and is never too small.
+//! The risk is the Kaplan-Markov value (Stark, "Super-simple simultaneous single-ballot risk-limiting audits") over the
+//! overstatement assorter (Stark, SHANGRLA, section 3.2), for draws with replacement. It is printed as a whole number of
+//! units of 10^-18, and each rounding goes up, so it is never too small.
 #![tactic(auto)]
 
 mod clean;

@@ -1,0 +1,2 @@
+pub mod SeedBytes
+pub mod Numbers

@@ -1,0 +1,39 @@
+// The card of a draw.
+ghost use Rattle.std.specs.Prelude.{◌≡◌, ◌≤◌};
+ghost use Rattle.sampler.specs.Draws.{card_of, drawn_card};
+
+use crate::Seed;
+use itoa::Buffer;
+use sha2::{Digest, Sha256};
+
+/// The card that a digest names, from 1: its 32 bytes as one number, most significant first, modulo the number
+/// of cards, plus 1.
+pub fn reduce(digest: &[u8; 32], cards: u32) -> u32
+    requires { 1 ≤ cards }
+    ensures card { result ≡ card_of digest.now cards }
+    ensures least { 1 ≤ result }
+    ensures most { result ≤ cards }
+{
+    let cards = u64::from(cards);
+    let mut remainder = 0;
+    for byte in digest {
+        remainder = (remainder * 256 + u64::from(*byte)) % cards;
+    }
+    remainder as u32 + 1
+}
+
+/// The card of draw number `k`, counted from 1: the one that the SHA-256 (FIPS 180-4) of the seed's bytes, a comma and
+/// `k` in decimal names. Draws are with replacement.
+pub fn draw(seed: &Seed, k: u64, cards: u32) -> u32
+    requires { 1 ≤ cards }
+    ensures card { result ≡ drawn_card seed.now k cards }
+    ensures least { 1 ≤ result }
+    ensures most { result ≤ cards }
+{
+    let mut number = Buffer::new();
+    let mut hasher = Sha256::new();
+    hasher.update(seed.bytes());
+    hasher.update(b",");
+    hasher.update(number.format(k).as_bytes());
+    reduce(&hasher.finalize(), cards)
+}

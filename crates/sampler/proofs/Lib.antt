@@ -1,2 +1,3 @@
 pub mod SeedBytes
 pub mod Numbers
+pub mod DrawTexts

@@ -1,8 +1,8 @@
 -- The first bad byte of a text, and the bytes of a seed in an array with room for the longest.
-use Rattle.std.proofs.Common.{◌≡◌, ℕ, ◌-◌, ◌<◌, ◌≤◌, Bool, true, false, not, ◌&&◌, nat_le, nat_lt, cond, Option, Some, None, inl, inr, List, ◌++◌, length, take, drop, get_or, replicate, arith, refl, sym, ap, leb-true, ◌∙◌}
+use Rattle.std.proofs.Common.{◌≡◌, ℕ, ◌≤◌, Bool, true, false, not, ◌&&◌, nat_le, nat_lt, cond, Some, None, List, ◌++◌, length, take, drop, get_or, replicate, arith, refl, sym, ap, leb-true, ◌∙◌}
 use Rattle.std.specs.List.{list_all, position_or_len}
 use Rattle.std.proofs.Math.Seq.{take-append_seam}
-use Rattle.std.proofs.lemmas.Bool.{cases_Bool, not-true, not-false, ltb-false, and_parts, and_from}
+use Rattle.std.proofs.lemmas.Bool.{not-true, not-false, ltb-false, and_parts, and_from}
 use Rattle.std.proofs.lemmas.List.{drop-replicate}
 use Rattle.std.proofs.lemmas.List.Elements.{All-from_get_or}
 use Rattle.std.proofs.lemmas.List.Folds.{list_all_at}

@@ -1,3 +1,4 @@
 pub mod Seeds
 pub mod SeedArray
 pub mod Draws
+pub mod Laws

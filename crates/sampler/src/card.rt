@@ -1,10 +1,23 @@
 // The card of a draw.
-ghost use Rattle.std.specs.Prelude.{◌≡◌, ◌≤◌};
-ghost use Rattle.sampler.specs.Draws.{card_of, drawn_card};
+ghost use Rattle.std.specs.Prelude.{◌≡◌, ◌≤◌, ◌%◌};
+ghost use Rattle.sampler.specs.Draws.{number_of, card_of, drawn_card};
 
 use crate::Seed;
 use itoa::Buffer;
 use sha2::{Digest, Sha256};
+
+// Taken byte by byte, so that 64 bits are enough for every number of cards.
+fn remainder(bytes: &[u8], cards: u32) -> u32
+    requires { 1 ≤ cards }
+    ensures { result ≡ number_of bytes.now % cards }
+{
+    let cards = u64::from(cards);
+    let mut remainder = 0;
+    for byte in bytes {
+        remainder = (remainder * 256 + u64::from(*byte)) % cards;
+    }
+    remainder as u32
+}
 
 /// The card that a digest names, from 1: its 32 bytes as one number, most significant first, modulo the number
 /// of cards, plus 1.
@@ -14,12 +27,7 @@ pub fn reduce(digest: &[u8; 32], cards: u32) -> u32
     ensures least { 1 ≤ result }
     ensures most { result ≤ cards }
 {
-    let cards = u64::from(cards);
-    let mut remainder = 0;
-    for byte in digest {
-        remainder = (remainder * 256 + u64::from(*byte)) % cards;
-    }
-    remainder as u32 + 1
+    remainder(digest, cards) + 1
 }
 
 /// The card of draw number `k`, counted from 1: the one that the SHA-256 (FIPS 180-4) of the seed's bytes, a comma and

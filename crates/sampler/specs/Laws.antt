@@ -1,0 +1,8 @@
+-- The law of draws.
+use Rattle.std.specs.Prelude.{◌≡◌, ◌<◌, ◌^◌, ℕ, List}
+use Rattle.sampler.specs.Draws.{draw_text}
+
+-- what is hashed tells the seed and the number of the draw, though a seed may have commas too
+abbrev pub TextTellsDraw : Type 0
+TextTellsDraw =
+    (seed other : List ℕ) (k k' : ℕ) → k < 2 ^ 64 → k' < 2 ^ 64 → draw_text seed k ≡ draw_text other k' → (seed ≡ other) × (k ≡ k')

@@ -30,8 +30,8 @@ pub fn reduce(digest: &[u8; 32], cards: u32) -> u32
     remainder(digest, cards) + 1
 }
 
-/// The card of draw number `k`, counted from 1: the one that the SHA-256 (FIPS 180-4) of the seed's bytes, a comma and
-/// `k` in decimal names. Draws are with replacement.
+/// The card of draw number `k`, counted from 1: what `reduce` gives for the SHA-256 of the seed's bytes, a comma and
+/// `k` in decimal without leading zeros. Draws are with replacement.
 pub fn draw(seed: &Seed, k: u64, cards: u32) -> u32
     requires { 1 ≤ cards }
     ensures card { result ≡ drawn_card seed.now k cards }

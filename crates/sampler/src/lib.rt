@@ -1,4 +1,5 @@
-//! The cards that an audit draws: each follows from the seed, its number and the number of cards by SHA-256 alone.
+//! The cards that an audit draws. Each follows by SHA-256 (FIPS 180-4) from the seed, the number of the draw and the
+//! number of cards alone, so that anyone can draw it again. The form is this suite's own, after Rivest's sampler.
 #![tactic(auto)]
 
 mod card;

@@ -1,0 +1,10 @@
+pub mod Parts
+pub mod Masks
+pub mod Greatest
+pub mod Tallies
+pub mod Nebs
+pub mod Proper
+pub mod Endings
+pub mod Listed
+pub mod Lows
+pub mod Elections

@@ -1,0 +1,61 @@
+-- The canonical certificate: the assertions that the search prints, their margin, and the order that no true assertion of larger margin refutes.
+use Rattle.std.specs.Prelude.{◌≡◌, ◌≢◌, ◌↔◌, ◌⊎◌, ℕ, ◌≤◌, ◌<◌, Bool, false, ◌&&◌, ◌==◌, nat_le, nat_lt, List, [], ◌∷◌, map, filter, find, count_by, Option, Some, None, Contains, AllPairs, IsTrue}
+use Rattle.std.specs.List.{list_any}
+use Rattle.irv_base.specs.Orders.{is_order, Elects}
+use Rattle.assertions.specs.declared.assertion.Assertion.{Assertion}
+use Rattle.assertions.specs.declared.assertion.Assertion.TheVariants.{Neb, Nen}
+use Rattle.assertions.specs.declared.assertion.Claim.{Claim}
+use Rattle.assertions.specs.FixedOrder.{is_before}
+use Rattle.assertions.specs.Assertions.{assertions, is_proper, is_true, true_margin}
+use Rattle.assertions.specs.Suffixes.{is_suffix, alternative_orders, alternative_suffixes, parts_ending, comes_before}
+use Rattle.assertions.specs.Refutation.{refutes}
+use Rattle.assertions.specs.Hardness as hardness
+
+-- ---- over any low of suffixes, and a margin that is meant to be the best
+
+-- a suffix that reaches the margin, though its parent, the suffix without its first candidate, doesn't
+abbrev pub is_end : (List ℕ → ℕ) → ℕ → List ℕ → Bool
+is_end low margin [] = false
+is_end low margin (c ∷ []) = nat_le margin (low (c ∷ []))
+is_end low margin (c ∷ d ∷ parent) = nat_le margin (low (c ∷ d ∷ parent)) && nat_lt (low (d ∷ parent)) margin
+
+abbrev pub certificate_ends : ℕ → ℕ → (List ℕ → ℕ) → ℕ → List (List ℕ)
+certificate_ends n winner low margin = filter (is_end low margin) (alternative_suffixes n winner)
+
+-- of the alternative orders of that hardness, the least when read backwards
+abbrev pub certificate_order : ℕ → ℕ → (List ℕ → ℕ) → ℕ → Option (List ℕ)
+certificate_order n winner low margin = find (λ order. low order == margin) (alternative_orders n winner)
+
+-- how many suffixes that end in c, and aren't whole, are below the margin
+abbrev pub cover_count : ℕ → (List ℕ → ℕ) → ℕ → ℕ → ℕ
+cover_count n low margin c = count_by (λ suffix. nat_lt (low suffix) margin) (parts_ending n c)
+
+-- how many of them are at most at it, and come before the order
+abbrev pub order_count : ℕ → (List ℕ → ℕ) → ℕ → List ℕ → ℕ → ℕ
+order_count n low margin order c = count_by (λ suffix. nat_le (low suffix) margin && comes_before suffix order) (parts_ending n c)
+
+-- ---- of some records
+
+abbrev pub is_same : Assertion → Assertion → Bool
+is_same (Neb w l) (Neb v k) = (w == v) && (l == k)
+is_same (Nen w l s) (Nen v k u) = (w == v) && (l == k) && (s == u)
+is_same (Neb w l) (Nen v k u) = false
+is_same (Nen w l s) (Neb v k) = false
+
+abbrev pub is_some_same : Option Assertion → Assertion → Bool
+is_some_same None a = false
+is_some_same (Some b) a = is_same b a
+
+-- the refuters of the ends, each once, in the fixed order
+abbrev pub certificate_assertions : ℕ → List (List ℕ) → ℕ → List Assertion
+certificate_assertions n records winner =
+    let best = hardness.best_margin n winner (hardness.low n records) in
+    let ends = certificate_ends n winner (hardness.low n records) best in
+    filter (λ a. list_any (λ suffix. is_some_same (hardness.refuter n records suffix) a) ends) (assertions n)
+
+abbrev pub claim_of : List (List ℕ) → Assertion → Claim
+claim_of records a = record { assertion = a; margin = true_margin records a }
+
+-- the certificate's assertions with their margins
+abbrev pub certificate_claims : ℕ → List (List ℕ) → ℕ → List Claim
+certificate_claims n records winner = map (claim_of records) (certificate_assertions n records winner)

@@ -1,0 +1,35 @@
+-- Suffixes of elimination orders: the last candidates, so that the winner stands last.
+use Rattle.std.specs.Prelude.{ℕ, zero, suc, ◌-◌, Bool, ◌&&◌, nat_lt, if◌then◌else◌, List, [], ◌∷◌, length, filter, flat_map, reverse}
+use Rattle.std.specs.List.{list_all}
+use Rattle.irv_base.specs.Candidates.{candidates, all_but, is_in, is_distinct}
+use Rattle.assertions.specs.Lists.{stands_before}
+
+-- distinct candidates below n
+abbrev pub is_suffix : ℕ → List ℕ → Bool
+is_suffix n suffix = is_distinct suffix && list_all (λ c. nat_lt c n) suffix
+
+-- the orders that put k more candidates before the suffix; read backwards, the least comes first
+abbrev pub orders_ending : ℕ → ℕ → List ℕ → List (List ℕ)
+orders_ending n zero suffix = suffix ∷ []
+orders_ending n (suc k) suffix = flat_map (λ c. if is_in suffix c then [] else orders_ending n k (c ∷ suffix)) (candidates n)
+
+-- the suffixes that put at most k more candidates before it, likewise
+abbrev pub suffixes_ending : ℕ → ℕ → List ℕ → List (List ℕ)
+suffixes_ending n zero suffix = suffix ∷ []
+suffixes_ending n (suc k) suffix = suffix ∷ flat_map (λ c. if is_in suffix c then [] else suffixes_ending n k (c ∷ suffix)) (candidates n)
+
+-- the orders that elect another candidate
+abbrev pub alternative_orders : ℕ → ℕ → List (List ℕ)
+alternative_orders n winner = flat_map (λ c. orders_ending n (n - 1) (c ∷ [])) (all_but n winner)
+
+-- the suffixes of these
+abbrev pub alternative_suffixes : ℕ → ℕ → List (List ℕ)
+alternative_suffixes n winner = flat_map (λ c. suffixes_ending n (n - 1) (c ∷ [])) (all_but n winner)
+
+-- the suffixes that end in c and aren't whole orders
+abbrev pub parts_ending : ℕ → ℕ → List (List ℕ)
+parts_ending n c = filter (λ suffix. nat_lt (length suffix) n) (suffixes_ending n (n - 1) (c ∷ []))
+
+-- both read backwards, the one stands before the other
+abbrev pub comes_before : List ℕ → List ℕ → Bool
+comes_before suffix other = stands_before (reverse suffix) (reverse other)

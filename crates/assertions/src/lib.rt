@@ -1,0 +1,14 @@
+//! RAIRE's assertions about an instant-runoff contest: which elimination orders they refute, the order in which
+//! they are listed, and how a ballot counts for them. The definitions of hardness and of the canonical
+//! certificate stand here too, with their laws.
+#![tactic(auto)]
+
+mod assertion;
+mod assorter;
+pub mod examples;
+
+mod refutation;
+
+pub use assertion::{Assertion, Claim, before};
+pub use assorter::value_of;
+pub use refutation::refutes;

@@ -1,0 +1,50 @@
+// Which elimination orders an assertion refutes.
+ghost use Rattle.std.specs.Prelude.{◌≡◌, IsTrue};
+ghost use Rattle.irv_base.specs.Candidates.{is_in, is_distinct, set_of};
+ghost use Rattle.assertions.specs.Refutation.{refutes, part_from};
+
+use crate::Assertion;
+use irv_base::{CandSet, Candidate};
+
+fn contains(suffix: &[Candidate], c: Candidate) -> bool
+    ensures { result ≡ is_in suffix.now c }
+{
+    suffix.iter().any(|d| *d == c)
+}
+
+/// The part of the suffix from `c` to the end.
+fn part_from(suffix: &[Candidate], c: Candidate) -> &[Candidate]
+    ensures { result.now ≡ part_from suffix.now c }
+{
+    for i in 0..suffix.len() {
+        if suffix[i] == c {
+            return &suffix[i..];
+        }
+    }
+    &suffix[suffix.len()..]
+}
+
+fn set_of(suffix: &[Candidate]) -> CandSet
+    requires { IsTrue (is_distinct suffix.now) }
+    ensures { result ≡ set_of suffix.now }
+{
+    let mut set = CandSet::empty();
+    for c in suffix {
+        set = set.with(*c);
+    }
+    set
+}
+
+/// Whether the assertion refutes each elimination order that ends in the suffix `t`, first eliminated first.
+///
+/// NEB refutes a suffix that holds `l` and in which `w` stands before `l` or isn't there. NEN refutes a suffix
+/// that holds `w` and whose candidates from `w` to the end are exactly `rest`.
+pub fn refutes(a: &Assertion, t: &[Candidate]) -> bool
+    requires { IsTrue (is_distinct t.now) }
+    ensures { result ≡ refutes a.now t.now }
+{
+    match *a {
+        Assertion::Neb { w, l } => contains(t, l) && !contains(part_from(t, l), w),
+        Assertion::Nen { w, l: _, rest } => contains(t, w) && set_of(part_from(t, w)) == rest,
+    }
+}

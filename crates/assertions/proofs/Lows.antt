@@ -2,7 +2,7 @@
 use Rattle.std.proofs.Common.{List, None, Option, Some, [], arith, eq-eqb, eqb-true, false, inl, inr, le_trans, lt-ltb, ltb-true, map, refl, subst, sym, true, ℕ, ◌&&◌, ◌++◌, ◌-◌, ◌<◌, ◌==◌, ◌∷◌, ◌≡◌, ◌≤◌}
 use Rattle.std.proofs.lemmas.Bool.{and_from, and_parts, both_ways, cases_Bool, cases_lt}
 use Rattle.irv_base.specs.Candidates.{is_in}
-use Rattle.irv_base.proofs.Distinct.{Distinct, distinct-head, distinct-tail, none}
+use Rattle.irv_base.proofs.Distinct.{Distinct, distinct-head, distinct-tail}
 use Rattle.irv_base.proofs.Members.{Member, find-member, from_filter, from_find, from_map, member-filter, member-map, out-from_none}
 use Rattle.assertions.specs.Assertions.{assertions, is_proper, is_true, true_margin, votes_against, votes_for}
 use Rattle.assertions.specs.Hardness.{low, refuter, true_refuters}

@@ -1,9 +1,9 @@
 -- The set of a suffix, made candidate by candidate.
-use Rattle.std.proofs.Common.{◌≡◌, ℕ, ◌+◌, ◌^◌, ◌<◌, true, false, ◌==◌, List, [], ◌∷◌, ◌++◌, length, get_or, take, drop, sym, ap, subst, take-append-drop, ◌∙◌}
+use Rattle.std.proofs.Common.{◌≡◌, ℕ, ◌+◌, ◌^◌, ◌<◌, true, false, List, [], ◌∷◌, ◌++◌, length, get_or, take, drop, sym, ap, subst, take-append-drop, ◌∙◌}
 use Rattle.std.proofs.lemmas.List.{take_more, drop_more}
 use Rattle.std.proofs.lemmas.List.Sums.{sum_by_push}
 use Rattle.irv_base.specs.Candidates.{set_of, has, is_distinct}
-use Rattle.irv_base.proofs.Members.{none-from_out, out-from_none}
+use Rattle.irv_base.proofs.Members.{out-from_none}
 use Rattle.irv_base.proofs.Distinct.{Distinct, distinct-split, distinct-from_test}
 use Rattle.irv_base.proofs.Sets.{has-set_of}
 

@@ -1,14 +1,13 @@
 -- The canonical certificate: the assertions that the search prints, their margin, and the order that no true assertion of larger margin refutes.
-use Rattle.std.specs.Prelude.{◌≡◌, ◌≢◌, ◌↔◌, ◌⊎◌, ℕ, ◌≤◌, ◌<◌, Bool, false, ◌&&◌, ◌==◌, nat_le, nat_lt, List, [], ◌∷◌, map, filter, find, count_by, Option, Some, None, Contains, AllPairs, IsTrue}
+use Rattle.std.specs.Prelude.{◌≡◌, ◌≢◌, ◌↔◌, ◌⊎◌, ℕ, ◌≤◌, Bool, false, ◌&&◌, ◌==◌, nat_le, nat_lt, List, [], ◌∷◌, map, filter, find, count_by, Option, Some, None, Contains, AllPairs, IsTrue}
 use Rattle.std.specs.List.{list_any}
-use Rattle.irv_base.specs.Orders.{is_order, Elects}
+use Rattle.irv_base.specs.Orders.{Elects}
 use Rattle.assertions.specs.declared.assertion.Assertion.{Assertion}
 use Rattle.assertions.specs.declared.assertion.Assertion.TheVariants.{Neb, Nen}
 use Rattle.assertions.specs.declared.assertion.Claim.{Claim}
 use Rattle.assertions.specs.FixedOrder.{is_before}
-use Rattle.assertions.specs.Assertions.{assertions, is_proper, is_true, true_margin}
-use Rattle.assertions.specs.Suffixes.{is_suffix, alternative_orders, alternative_suffixes, parts_ending, comes_before}
-use Rattle.assertions.specs.Refutation.{refutes}
+use Rattle.assertions.specs.Assertions.{assertions, true_margin}
+use Rattle.assertions.specs.Suffixes.{is_suffix, IsAlternative, alternative_orders, alternative_suffixes, parts_ending, comes_before}
 use Rattle.assertions.specs.Hardness as hardness
 
 -- ---- over any low of suffixes, and a margin that is meant to be the best
@@ -59,3 +58,21 @@ claim_of records a = record { assertion = a; margin = true_margin records a }
 -- the certificate's assertions with their margins
 abbrev pub certificate_claims : ℕ → List (List ℕ) → ℕ → List Claim
 certificate_claims n records winner = map (claim_of records) (certificate_assertions n records winner)
+
+-- ---- the rules, as one reads them
+
+-- the ends: suffixes that elect another candidate and reach the margin, though their parents don't
+pub record IsEnd (n : ℕ) (records : List (List ℕ)) (winner margin : ℕ) (suffix : List ℕ) : Type 0 where
+  pub proper : IsTrue (is_suffix n suffix)
+  pub alternative : (c : ℕ) × (c ≢ winner) × Elects suffix c
+  pub shortest : IsTrue (is_end (hardness.low n records) margin suffix)
+
+-- the margin is the least hardness of an alternative order; the order is of that hardness, and the least of these when read backwards;
+-- the assertions are the refuters of the ends, each once, in the fixed order
+pub record IsCertificate (n : ℕ) (records : List (List ℕ)) (winner margin : ℕ) (order : List ℕ) (claims : List Assertion) : Type 0 where
+  pub least : (other : List ℕ) → IsAlternative n winner other → margin ≤ hardness.low n records other
+  pub alternative : IsAlternative n winner order
+  pub reached : hardness.low n records order ≡ margin
+  pub first : (other : List ℕ) → IsAlternative n winner other → hardness.low n records other ≡ margin → (other ≡ order) ⊎ IsTrue (comes_before order other)
+  pub listed : (a : Assertion) → (Contains claims a ↔ ((suffix : List ℕ) × IsEnd n records winner margin suffix × hardness.IsRefuter n records suffix a))
+  pub rising : AllPairs (λ a b. IsTrue (is_before a b)) claims

@@ -7,4 +7,4 @@ pub mod Hardness
 pub mod Certificate
 pub mod Assorter
 pub mod Contests
-
+pub mod Laws

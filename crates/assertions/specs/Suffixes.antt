@@ -1,7 +1,8 @@
 -- Suffixes of elimination orders: the last candidates, so that the winner stands last.
-use Rattle.std.specs.Prelude.{ℕ, zero, suc, ◌-◌, Bool, ◌&&◌, nat_lt, if◌then◌else◌, List, [], ◌∷◌, length, filter, flat_map, reverse}
+use Rattle.std.specs.Prelude.{◌≢◌, ℕ, zero, suc, ◌-◌, Bool, ◌&&◌, nat_lt, if◌then◌else◌, List, [], ◌∷◌, length, filter, flat_map, reverse, IsTrue}
 use Rattle.std.specs.List.{list_all}
 use Rattle.irv_base.specs.Candidates.{candidates, all_but, is_in, is_distinct}
+use Rattle.irv_base.specs.Orders.{is_order, Elects}
 use Rattle.assertions.specs.Lists.{stands_before}
 
 -- distinct candidates below n
@@ -18,11 +19,15 @@ abbrev pub suffixes_ending : ℕ → ℕ → List ℕ → List (List ℕ)
 suffixes_ending n zero suffix = suffix ∷ []
 suffixes_ending n (suc k) suffix = suffix ∷ flat_map (λ c. if is_in suffix c then [] else suffixes_ending n k (c ∷ suffix)) (candidates n)
 
--- the orders that elect another candidate
+-- an order that elects another candidate than the winner
+abbrev pub IsAlternative : ℕ → ℕ → List ℕ → Type 0
+IsAlternative n winner order = IsTrue (is_order n order) × ((c : ℕ) × (c ≢ winner) × Elects order c)
+
+-- all of these, likewise
 abbrev pub alternative_orders : ℕ → ℕ → List (List ℕ)
 alternative_orders n winner = flat_map (λ c. orders_ending n (n - 1) (c ∷ [])) (all_but n winner)
 
--- the suffixes of these
+-- the suffixes of all of these
 abbrev pub alternative_suffixes : ℕ → ℕ → List (List ℕ)
 alternative_suffixes n winner = flat_map (λ c. suffixes_ending n (n - 1) (c ∷ [])) (all_but n winner)
 

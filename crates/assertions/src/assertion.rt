@@ -11,7 +11,10 @@ use irv_base::{CandSet, Candidate};
 #[derive(Clone, Copy, Debug, PartialEq, Eq, PartialOrd, Ord)]
 pub enum Assertion {
     /// Not eliminated before: `w` always has more votes than `l`, so that `w` isn't eliminated before `l`.
-    Neb { w: Candidate, l: Candidate },
+    Neb {
+        w: Candidate,
+        l: Candidate,
+    },
     /// Not eliminated next: with exactly the candidates of `rest` left, `w` has more votes than `l`.
     Nen {
         w: Candidate,

@@ -6,7 +6,7 @@
 mod assertion;
 mod assorter;
 pub mod examples;
-
+pub mod laws;
 mod refutation;
 
 pub use assertion::{Assertion, Claim, before};

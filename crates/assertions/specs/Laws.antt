@@ -1,0 +1,258 @@
+-- The laws of the definitions, on which the programs rest.
+use Rattle.std.specs.Prelude.{◌≡◌, ◌≢◌, ◌↔◌, ◌⊎◌, ℕ, ◌+◌, ◌-◌, ◌<◌, ◌≤◌, not, nat_lt, nat_le, max, map, filter, List, [], ◌∷◌, length, sum_by, Contains, AllPairs, Some, None, IsTrue, IsFalse, pos, ◌-ℤ◌}
+use Rattle.std.specs.List.{list_any, list_all}
+use Rattle.std.specs.List.Sorted.{IsPermutation}
+use Rattle.std.specs.declared.cmp.Ordering.TheVariants.{Less, Equal}
+use Rattle.irv_base.specs.Candidates.{candidates, is_in, set_of}
+use Rattle.irv_base.specs.Records.{tally}
+use Rattle.irv_base.specs.Orders.{is_order, EndsIn, Elects}
+use Rattle.irv_base.specs.Tabulation.{is_tabulated, is_possible}
+use Rattle.assertions.specs.declared.assertion.Assertion.{Assertion}
+use Rattle.assertions.specs.declared.assertion.Assertion.TheVariants.{Neb, Nen}
+use Rattle.assertions.specs.contracts.assertion.AssertionOrd.TheImpl.{ghosts}
+use Rattle.assertions.specs.FixedOrder.{is_before}
+use Rattle.assertions.specs.Assertions.{votes_for, votes_against, margin, is_true, true_margin, is_proper, assertions}
+use Rattle.assertions.specs.Suffixes.{is_suffix, IsAlternative, orders_ending, suffixes_ending, alternative_orders, parts_ending, comes_before}
+use Rattle.assertions.specs.Refutation.{refutes, covers}
+use Rattle.assertions.specs.Hardness.{greatest, low, refuter, IsRefuter, best_margin, start_order}
+use Rattle.assertions.specs.Certificate.{certificate_order, certificate_assertions, certificate_claims, IsEnd, IsCertificate}
+use Rattle.assertions.specs.Assorter.{assorter_value}
+
+-- ==== assertions
+
+-- a NEB compares w at its worst, with all left, to l at its best, with w and l alone
+abbrev pub NebFor : Type 0
+NebFor =
+    (n : ℕ) (records : List (List ℕ)) (w l : ℕ) → IsTrue (list_all (λ ranking. list_all (λ c. nat_lt c n) ranking) records) →
+    votes_for records (Neb w l) ≡ tally records (set_of (candidates n)) w
+
+abbrev pub NebAgainst : Type 0
+NebAgainst = (records : List (List ℕ)) (w l : ℕ) → w ≢ l → votes_against records (Neb w l) ≡ tally records (set_of (w ∷ l ∷ [])) l
+
+-- what the assorter values are above 1 in sum is the margin
+abbrev pub AssorterSums : Type 0
+AssorterSums =
+    (n : ℕ) (records : List (List ℕ)) (a : Assertion) → IsTrue (is_proper n a) →
+    pos (sum_by (assorter_value a) records) -ℤ pos (length records) ≡ margin records a
+
+abbrev pub AssertionsAreProper : Type 0
+AssertionsAreProper = (n : ℕ) (a : Assertion) → (Contains (assertions n) a ↔ IsTrue (is_proper n a))
+
+abbrev pub AssertionsRise : Type 0
+AssertionsRise = (n : ℕ) → AllPairs (λ a b. IsTrue (is_before a b)) (assertions n)
+
+-- ==== the fixed order
+
+pub record IsStrictTotal (precedes : Assertion → Assertion → Type 0) : Type 0 where
+  pub never_itself : (a : Assertion) → precedes a a → ⊥
+  pub goes_on : (a b c : Assertion) → precedes a b → precedes b c → precedes a c
+  pub one_of_both : (a b : Assertion) → a ≢ b → precedes a b ⊎ precedes b a
+
+abbrev pub FixedOrderIsTotal : Type 0
+FixedOrderIsTotal = IsStrictTotal (λ a b. IsTrue (is_before a b))
+
+-- it is the one that `Ord` has
+abbrev pub FixedOrderIsOrd : Type 0
+FixedOrderIsOrd = (a b : Assertion) → ((ghosts.cmp a b ≡ Less) ↔ IsTrue (is_before a b)) × ((ghosts.cmp a b ≡ Equal) ↔ (a ≡ b))
+
+-- ==== refutation
+
+-- what refutes a suffix refutes each longer one
+abbrev pub RefutesLonger : Type 0
+RefutesLonger = (a : Assertion) (suffix : List ℕ) (c : ℕ) → IsTrue (refutes a suffix) → IsFalse (is_in suffix c) → IsTrue (refutes a (c ∷ suffix))
+
+-- ---- a covering set that is true of some records proves their winner, however ties are broken
+abbrev pub CoverIsSound : Type 0
+CoverIsSound =
+    (n winner : ℕ) (claims : List Assertion) → winner < n → IsTrue (list_all (is_proper n) claims) → IsTrue (covers n winner claims) →
+    (records : List (List ℕ)) → IsTrue (list_all (is_true records) claims) →
+    (order : List ℕ) → IsTrue (is_order n order) → IsTrue (is_possible records order) → Elects order winner
+
+-- ==== suffixes and orders
+
+abbrev pub OrdersEnding : Type 0
+OrdersEnding =
+    (n k : ℕ) (suffix order : List ℕ) → k + length suffix ≡ n → IsTrue (is_suffix n suffix) →
+    (Contains (orders_ending n k suffix) order ↔ (IsTrue (is_order n order) × EndsIn order suffix))
+
+abbrev pub AlternativeOrders : Type 0
+AlternativeOrders = (n winner : ℕ) (order : List ℕ) → (Contains (alternative_orders n winner) order ↔ IsAlternative n winner order)
+
+-- they are listed each once, and in order
+abbrev pub AlternativeOrdersRise : Type 0
+AlternativeOrdersRise = (n winner : ℕ) → AllPairs (λ order other. IsTrue (comes_before order other)) (alternative_orders n winner)
+
+abbrev pub SuffixesEnding : Type 0
+SuffixesEnding =
+    (n k : ℕ) (suffix other : List ℕ) → IsTrue (is_suffix n suffix) →
+    (Contains (suffixes_ending n k suffix) other ↔ (IsTrue (is_suffix n other) × EndsIn other suffix × (length other ≤ k + length suffix)))
+
+-- what the cover count and the order count go through: suffixes that end in c and aren't whole
+abbrev pub PartsEnding : Type 0
+PartsEnding =
+    (n c : ℕ) (suffix : List ℕ) → c < n →
+    (Contains (parts_ending n c) suffix ↔ (IsTrue (is_suffix n suffix) × Elects suffix c × (length suffix < n)))
+
+abbrev pub PartsRise : Type 0
+PartsRise = (n c : ℕ) → AllPairs (λ suffix other. IsTrue (comes_before suffix other)) (parts_ending n c)
+
+-- an order that ends in a suffix is it, or ends in one that is longer by one
+abbrev pub SuffixGrows : Type 0
+SuffixGrows =
+    (n : ℕ) (order suffix : List ℕ) → IsTrue (is_order n order) → EndsIn order suffix →
+    (order ≡ suffix) ⊎ ((c : ℕ) × (c < n) × IsFalse (is_in suffix c) × EndsIn order (c ∷ suffix))
+
+-- ==== hardness
+
+-- each true assertion that refutes the suffix has at most that margin, and one has it if it is above 0
+abbrev pub LowIsGreatest : Type 0
+LowIsGreatest =
+    (n : ℕ) (records : List (List ℕ)) (suffix : List ℕ) →
+    ((a : Assertion) → IsTrue (is_proper n a) → IsTrue (refutes a suffix) → true_margin records a ≤ low n records suffix)
+    × (0 < low n records suffix → (a : Assertion) × IsTrue (is_proper n a) × IsTrue (refutes a suffix) × (true_margin records a ≡ low n records suffix))
+
+abbrev pub LowGrows : Type 0
+LowGrows = (n : ℕ) (records : List (List ℕ)) (suffix : List ℕ) (c : ℕ) → IsFalse (is_in suffix c) → low n records suffix ≤ low n records (c ∷ suffix)
+
+-- how the search computes it: one more candidate adds the NEBs that it loses to those outside, and the NENs that it wins from those behind it
+abbrev pub added : ℕ → List (List ℕ) → ℕ → List ℕ → ℕ
+added n records c suffix =
+    max
+    (greatest (map (λ w. true_margin records (Neb w c)) (filter (λ w. not (is_in (c ∷ suffix) w)) (candidates n))))
+    (greatest (map (λ l. true_margin records (Nen c l (set_of (c ∷ suffix)))) suffix))
+
+abbrev pub LowOfMore : Type 0
+LowOfMore =
+    (n : ℕ) (records : List (List ℕ)) (c : ℕ) (suffix : List ℕ) → IsTrue (is_suffix n (c ∷ suffix)) →
+    low n records (c ∷ suffix) ≡ max (low n records suffix) (added n records c suffix)
+
+abbrev pub LowOfNone : Type 0
+LowOfNone = (n : ℕ) (records : List (List ℕ)) → low n records [] ≡ 0
+
+-- the refuter is the first assertion, in the fixed order, that gives the suffix its low
+abbrev pub RefuterIsFirst : Type 0
+RefuterIsFirst = (n : ℕ) (records : List (List ℕ)) (suffix : List ℕ) (a : Assertion) → ((refuter n records suffix ≡ Some a) ↔ IsRefuter n records suffix a)
+
+abbrev pub RefuterOrNone : Type 0
+RefuterOrNone = (n : ℕ) (records : List (List ℕ)) (suffix : List ℕ) → ((refuter n records suffix ≡ None) ↔ (low n records suffix ≡ 0))
+
+-- an order is possible exactly where nothing true refutes it
+abbrev pub PossibleIffUnrefuted : Type 0
+PossibleIffUnrefuted =
+    (n : ℕ) (records : List (List ℕ)) (order : List ℕ) → IsTrue (is_order n order) →
+    (IsTrue (is_possible records order) ↔ (low n records order ≡ 0))
+
+-- ==== the best margin
+
+abbrev pub BestIsLeast : Type 0
+BestIsLeast =
+    (n winner : ℕ) (records : List (List ℕ)) (order : List ℕ) → Contains (alternative_orders n winner) order →
+    best_margin n winner (low n records) ≤ low n records order
+
+-- without a tie it is at least 1
+abbrev pub BestIsPositive : Type 0
+BestIsPositive =
+    (n winner : ℕ) (records : List (List ℕ)) (order : List ℕ) → 1 < n → IsTrue (is_order n order) → IsTrue (is_tabulated records order) → Elects order winner →
+    1 ≤ best_margin n winner (low n records)
+
+-- the search starts with an alternative order
+abbrev pub StartIsAlternative : Type 0
+StartIsAlternative = (n winner : ℕ) (order : List ℕ) → 1 < n → IsTrue (is_order n order) → Elects order winner → IsAlternative n winner (start_order order)
+
+-- suffixes in which all alternative orders end bound it
+abbrev pub FrontierBounds : Type 0
+FrontierBounds =
+    (n winner margin : ℕ) (records : List (List ℕ)) (frontier : List (List ℕ)) → winner < n → 1 < n →
+    ((order : List ℕ) → Contains (alternative_orders n winner) order → (suffix : List ℕ) × Contains frontier suffix × EndsIn order suffix) →
+    IsTrue (list_all (λ suffix. nat_le margin (low n records suffix)) frontier) → margin ≤ best_margin n winner (low n records)
+
+-- no covering set has a greater least margin
+abbrev pub NoneBeatsBest : Type 0
+NoneBeatsBest =
+    (n winner : ℕ) (records : List (List ℕ)) (claims : List Assertion) → winner < n → 1 < n → IsTrue (list_all (is_proper n) claims) → IsTrue (covers n winner claims) →
+    (a : Assertion) × Contains claims a × (true_margin records a ≤ best_margin n winner (low n records))
+
+-- ==== the certificate
+
+abbrev pub CertificateIsProper : Type 0
+CertificateIsProper = (n winner : ℕ) (records : List (List ℕ)) → IsTrue (list_all (is_proper n) (certificate_assertions n records winner))
+
+abbrev pub CertificateIsTrue : Type 0
+CertificateIsTrue = (n winner : ℕ) (records : List (List ℕ)) → IsTrue (list_all (is_true records) (certificate_assertions n records winner))
+
+abbrev pub CertificateCovers : Type 0
+CertificateCovers = (n winner : ℕ) (records : List (List ℕ)) → 0 < best_margin n winner (low n records) → IsTrue (covers n winner (certificate_assertions n records winner))
+
+-- the best margin is the smallest margin of its assertions
+abbrev pub CertificateReachesBest : Type 0
+CertificateReachesBest =
+    (n winner : ℕ) (records : List (List ℕ)) →
+    IsTrue (list_all (λ a. nat_le (best_margin n winner (low n records)) (true_margin records a)) (certificate_assertions n records winner))
+
+abbrev pub CertificateHasBest : Type 0
+CertificateHasBest =
+    (n winner : ℕ) (records : List (List ℕ)) → winner < n → 1 < n → 0 < best_margin n winner (low n records) →
+    (a : Assertion) × Contains (certificate_assertions n records winner) a × (true_margin records a ≡ best_margin n winner (low n records))
+
+abbrev pub CertificateOrder : Type 0
+CertificateOrder =
+    (n winner : ℕ) (records : List (List ℕ)) → winner < n → 1 < n →
+    (order : List ℕ) × (certificate_order n winner (low n records) (best_margin n winner (low n records)) ≡ Some order)
+    × Contains (alternative_orders n winner) order × (low n records order ≡ best_margin n winner (low n records))
+
+-- it refutes exactly the suffixes that reach the best margin
+abbrev pub CertificateRefutes : Type 0
+CertificateRefutes =
+    (n winner c : ℕ) (records : List (List ℕ)) (suffix : List ℕ) → 0 < best_margin n winner (low n records) →
+    IsTrue (is_suffix n suffix) → Elects suffix c → c ≢ winner →
+    (IsTrue (list_any (λ a. refutes a suffix) (certificate_assertions n records winner)) ↔ (best_margin n winner (low n records) ≤ low n records suffix))
+
+-- an end is the shortest of its suffixes that reaches the margin
+abbrev pub EndsAreShortest : Type 0
+EndsAreShortest =
+    (n winner margin : ℕ) (records : List (List ℕ)) (suffix shorter : List ℕ) → IsEnd n records winner margin suffix →
+    EndsIn suffix shorter → shorter ≢ [] → shorter ≢ suffix → low n records shorter < margin
+
+-- and each alternative order has one
+abbrev pub EndsAreOne : Type 0
+EndsAreOne =
+    (n winner : ℕ) (records : List (List ℕ)) (order : List ℕ) → IsAlternative n winner order →
+    let best = best_margin n winner (low n records) in
+    (suffix : List ℕ) × IsEnd n records winner best suffix × EndsIn order suffix
+    × ((other : List ℕ) → IsEnd n records winner best other → EndsIn order other → other ≡ suffix)
+
+-- over any hardness, it is the least when read backwards
+abbrev pub CertificateOrderIsFirst : Type 0
+CertificateOrderIsFirst =
+    (n winner margin : ℕ) (hardness : List ℕ → ℕ) (found order : List ℕ) → certificate_order n winner hardness margin ≡ Some found →
+    Contains (alternative_orders n winner) order → hardness order ≡ margin → (found ≡ order) ⊎ IsTrue (comes_before found order)
+
+-- what is defined meets the rules
+abbrev pub CertificateIs : Type 0
+CertificateIs =
+    (n winner : ℕ) (records : List (List ℕ)) → winner < n → 1 < n →
+    (order : List ℕ) × (certificate_order n winner (low n records) (best_margin n winner (low n records)) ≡ Some order)
+    × IsCertificate n records winner (best_margin n winner (low n records)) order (certificate_assertions n records winner)
+
+-- and nothing else does
+abbrev pub CertificateIsOne : Type 0
+CertificateIsOne =
+    (n winner : ℕ) (records : List (List ℕ)) (best best' : ℕ) (order order' : List ℕ) (claims claims' : List Assertion) →
+    IsCertificate n records winner best order claims → IsCertificate n records winner best' order' claims' →
+    (best ≡ best') × (order ≡ order') × (claims ≡ claims')
+
+-- the records may stand in any order
+abbrev pub RecordsInAnyOrder : Type 0
+RecordsInAnyOrder =
+    (n winner : ℕ) (records others : List (List ℕ)) → IsPermutation records others →
+    (low n records ≡ low n others) × (refuter n records ≡ refuter n others) × (certificate_claims n records winner ≡ certificate_claims n others winner)
+
+-- ==== two candidates
+abbrev pub TwoCandidates : Type 0
+TwoCandidates =
+    (records : List (List ℕ)) (w l : ℕ) → IsTrue (list_all (λ ranking. list_all (λ c. nat_lt c 2) ranking) records) → w < 2 → l < 2 →
+    let votes = tally records (set_of (candidates 2)) in
+    votes l < votes w →
+    (best_margin 2 w (low 2 records) ≡ votes w - votes l)
+    × (certificate_order 2 w (low 2 records) (votes w - votes l) ≡ Some (w ∷ l ∷ []))
+    × (certificate_claims 2 records w ≡ record { assertion = Neb w l; margin = votes w - votes l } ∷ [])

@@ -1,0 +1,214 @@
+//! The laws of the definitions: each holds of every value that it names, and has no code.
+ghost use Rattle.assertions.specs.Laws.{NebFor, NebAgainst, AssorterSums, AssertionsAreProper, AssertionsRise, FixedOrderIsTotal, FixedOrderIsOrd, RefutesLonger, CoverIsSound, OrdersEnding, AlternativeOrders, AlternativeOrdersRise, SuffixesEnding, PartsEnding, PartsRise, SuffixGrows, LowIsGreatest, LowGrows, LowOfMore, LowOfNone, RefuterIsFirst, RefuterOrNone, PossibleIffUnrefuted, BestIsLeast, BestIsPositive, StartIsAlternative, FrontierBounds, NoneBeatsBest, CertificateIsProper, CertificateIsTrue, CertificateCovers, CertificateReachesBest, CertificateHasBest, CertificateOrder, CertificateOrderIsFirst, CertificateRefutes, EndsAreShortest, EndsAreOne, CertificateIs, CertificateIsOne, RecordsInAnyOrder, TwoCandidates};
+
+/// What a NEB has for its winner: its votes with all candidates left.
+pub fn neb_for()
+    ensures { NebFor }
+{}
+
+/// What a NEB has against its winner: the votes of the loser with these two alone.
+pub fn neb_against()
+    ensures { NebAgainst }
+{}
+
+/// What the assorter values are above 1 each, in sum, is the margin.
+pub fn assorter_sums()
+    ensures { AssorterSums }
+{}
+
+/// The list of all assertions has exactly the proper ones.
+pub fn assertions_are_proper()
+    ensures { AssertionsAreProper }
+{}
+
+/// They are listed each once, in the fixed order.
+pub fn assertions_rise()
+    ensures { AssertionsRise }
+{}
+
+/// The fixed order is a strict total order.
+pub fn fixed_order_is_total()
+    ensures { FixedOrderIsTotal }
+{}
+
+/// It is the order of `Assertion` as `Ord`.
+pub fn fixed_order_is_ord()
+    ensures { FixedOrderIsOrd }
+{}
+
+/// What refutes a suffix refutes each longer one.
+pub fn refutes_longer()
+    ensures { RefutesLonger }
+{}
+
+/// Proper assertions that refute each order which elects another candidate prove the winner of any records of which
+/// all of them are true, however ties are broken.
+pub fn cover_is_sound()
+    ensures { CoverIsSound }
+{}
+
+/// The orders that end in a suffix are listed, and nothing else is.
+pub fn orders_ending()
+    ensures { OrdersEnding }
+{}
+
+/// The orders that elect another candidate are listed, and nothing else is.
+pub fn alternative_orders()
+    ensures { AlternativeOrders }
+{}
+
+/// They are listed each once, and read backwards they rise.
+pub fn alternative_orders_rise()
+    ensures { AlternativeOrdersRise }
+{}
+
+/// The suffixes that end in a suffix, and are longer by at most `k`, are listed, and nothing else is.
+pub fn suffixes_ending()
+    ensures { SuffixesEnding }
+{}
+
+/// What the cover count and the order count go through: the suffixes that end in a candidate and are no whole
+/// orders.
+pub fn parts_ending()
+    ensures { PartsEnding }
+{}
+
+/// These are listed each once, and read backwards they rise.
+pub fn parts_rise()
+    ensures { PartsRise }
+{}
+
+/// An order that ends in a suffix is it, or ends in one that is longer by one.
+pub fn suffix_grows()
+    ensures { SuffixGrows }
+{}
+
+/// The low of a suffix is the greatest margin of a true assertion that refutes it, or 0.
+pub fn low_is_greatest()
+    ensures { LowIsGreatest }
+{}
+
+/// So it is at most the low of a longer suffix.
+pub fn low_grows()
+    ensures { LowGrows }
+{}
+
+/// How the low of a suffix follows from that of its parent.
+pub fn low_of_more()
+    ensures { LowOfMore }
+{}
+
+/// Nothing refutes the empty suffix.
+pub fn low_of_none()
+    ensures { LowOfNone }
+{}
+
+/// The refuter of a suffix is the first true assertion, in the fixed order, that refutes it by its low.
+pub fn refuter_is_first()
+    ensures { RefuterIsFirst }
+{}
+
+/// There is none exactly where the low is 0.
+pub fn refuter_or_none()
+    ensures { RefuterOrNone }
+{}
+
+/// An order is possible exactly where nothing true refutes it.
+pub fn possible_iff_unrefuted()
+    ensures { PossibleIffUnrefuted }
+{}
+
+/// The best margin is at most the hardness of each alternative order.
+pub fn best_is_least()
+    ensures { BestIsLeast }
+{}
+
+/// Without a tie the best margin is at least 1.
+pub fn best_is_positive()
+    ensures { BestIsPositive }
+{}
+
+/// The order that the search starts from elects another candidate than the winner.
+pub fn start_is_alternative()
+    ensures { StartIsAlternative }
+{}
+
+/// Suffixes in which all alternative orders end bound the best margin.
+pub fn frontier_bounds()
+    ensures { FrontierBounds }
+{}
+
+/// No set of proper assertions that refutes all alternative orders has a greater least margin.
+pub fn none_beats_best()
+    ensures { NoneBeatsBest }
+{}
+
+/// The certificate's assertions are proper.
+pub fn certificate_is_proper()
+    ensures { CertificateIsProper }
+{}
+
+/// And true of the records, whatever the best margin.
+pub fn certificate_is_true()
+    ensures { CertificateIsTrue }
+{}
+
+/// They refute each alternative order.
+pub fn certificate_covers()
+    ensures { CertificateCovers }
+{}
+
+/// Each of them has at least the best margin.
+pub fn certificate_reaches_best()
+    ensures { CertificateReachesBest }
+{}
+
+/// And one has it.
+pub fn certificate_has_best()
+    ensures { CertificateHasBest }
+{}
+
+/// The certificate's order is an alternative one of the best margin.
+pub fn certificate_order()
+    ensures { CertificateOrder }
+{}
+
+/// And the least of these when read backwards.
+pub fn certificate_order_is_first()
+    ensures { CertificateOrderIsFirst }
+{}
+
+/// A suffix is refuted by one of the certificate's assertions exactly where it reaches the best margin.
+pub fn certificate_refutes()
+    ensures { CertificateRefutes }
+{}
+
+/// An end of the certificate is the shortest of its suffixes that reaches the margin.
+pub fn ends_are_shortest()
+    ensures { EndsAreShortest }
+{}
+
+/// Each alternative order has one end.
+pub fn ends_are_one()
+    ensures { EndsAreOne }
+{}
+
+/// What is defined as the certificate meets its rules.
+pub fn certificate_is()
+    ensures { CertificateIs }
+{}
+
+/// Nothing else does: the records determine the margin, the order and the assertions.
+pub fn certificate_is_one()
+    ensures { CertificateIsOne }
+{}
+
+/// The records may stand in any order.
+pub fn records_in_any_order()
+    ensures { RecordsInAnyOrder }
+{}
+
+/// The certificate of two candidates is NEB, whose margin is the lead of the winner.
+pub fn two_candidates()
+    ensures { TwoCandidates }
+{}

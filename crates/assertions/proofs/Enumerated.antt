@@ -27,13 +27,13 @@ pub suffix-rest : {n : ℕ} (before t : List ℕ) → Suffix n (before ++ t) →
 suffix-rest before t s = record { apart = distinct-rest before t s.apart; below = λ c m. s.below c (member-append_right before m) }
 
 -- a child
-child : (n c : ℕ) (t : List ℕ) → Suffix n t → c < n → is_in t c ≡ false → Suffix n (c ∷ t)
+pub child : (n c : ℕ) (t : List ℕ) → Suffix n t → c < n → is_in t c ≡ false → Suffix n (c ∷ t)
 child n c t s l out = record { apart = more (none-from_out out) s.apart; below = λ z m. elim (member_cases m) [ inl e ↦ subst (λ x. x < n) e l | inr r ↦ s.below z r ] }
 
-abbrev children_ending : ℕ → ℕ → List ℕ → ℕ → List (List ℕ)
+abbrev pub children_ending : ℕ → ℕ → List ℕ → ℕ → List (List ℕ)
 children_ending n k t c = if is_in t c then [] else suffixes_ending n k (c ∷ t)
 
-from_children : (n k : ℕ) (t : List ℕ) (c : ℕ) (s : List ℕ) → Member s (children_ending n k t c) → (is_in t c ≡ false) × Member s (suffixes_ending n k (c ∷ t))
+pub from_children : (n k : ℕ) (t : List ℕ) (c : ℕ) (s : List ℕ) → Member s (children_ending n k t c) → (is_in t c ≡ false) × Member s (suffixes_ending n k (c ∷ t))
 from_children n k t c s m = go (is_in t c) refl m where
   go : (b : Bool) → is_in t c ≡ b → Member s (cond b [] (suffixes_ending n k (c ∷ t))) → (is_in t c ≡ false) × Member s (suffixes_ending n k (c ∷ t))
   go true e m = absurd (member_nil m)

@@ -26,3 +26,5 @@ pub mod Reordered
 pub mod Two
 pub mod Listings
 pub mod Shortest
+pub mod Scored
+pub mod Few

@@ -1,17 +1,17 @@
 -- What one more candidate adds to the low of a suffix, and what the search's frontier says of the best margin.
-use Rattle.std.proofs.Common.{Contains, List, [], ap, append_assoc, arith, eq-eqb, eqb-true, false, filter, inl, inr, le_antisymm, le_trans, leb-true, map, max, nat_le, not, refl, subst, subst₂, sym, true, ℕ, ◌++◌, ◌<◌, ◌==◌, ◌∙◌, ◌∷◌, ◌≡◌, ◌≤◌, ◌⊎◌}
+use Rattle.std.proofs.Common.{Contains, List, [], ap, append_assoc, arith, eq-eqb, eqb-true, false, filter, inl, inr, le_antisymm, le_trans, leb-true, map, max, nat_le, not, refl, subst, sym, true, ℕ, ◌++◌, ◌<◌, ◌==◌, ◌∙◌, ◌∷◌, ◌≡◌, ◌≤◌, ◌⊎◌}
 use Rattle.std.proofs.lemmas.Bool.{and_from, and_parts, cases_lt, not-true, not_from_false}
 use Rattle.std.specs.List.{list_all}
 use Rattle.irv_base.specs.Candidates.{candidates, has, is_in, set_of}
 use Rattle.irv_base.specs.Orders.{EndsIn, is_order}
 use Rattle.irv_base.proofs.Distinct.{Distinct, distinct-head, distinct-rest}
-use Rattle.irv_base.proofs.Members.{Member, candidate-member, contains-from_member, from_candidates, from_filter, from_list_all, from_map, here, in-from_member, member-append_right, member-filter, member-from_contains, member-from_in, member-map, member_cases, none-from_out, out-from_none, there}
+use Rattle.irv_base.proofs.Members.{Member, candidate-member, contains-from_member, from_candidates, from_filter, from_list_all, from_map, here, in-from_member, member-append_cases, member-append_left, member-append_right, member-filter, member-from_contains, member-from_in, member-map, member_cases, none-from_out, out-from_none, there}
 use Rattle.irv_base.proofs.Orders.{Order, last_split, order_facts}
 use Rattle.irv_base.proofs.Sets.{member-from_has}
 use Rattle.assertions.specs.Assertions.{is_proper, margin, true_margin}
 use Rattle.assertions.specs.Hardness.{best_margin, low}
-use Rattle.assertions.specs.Laws.{added}
 use Rattle.assertions.specs.Refutation.{part_from, refutes}
+use Rattle.assertions.specs.Scores.{added, added_refuters, nebs_against, nens_for}
 use Rattle.assertions.specs.Suffixes.{alternative_orders, is_suffix}
 use Rattle.assertions.specs.declared.assertion.Assertion.{Assertion}
 use Rattle.assertions.specs.declared.assertion.Assertion.TheVariants.{Neb, Nen}
@@ -28,34 +28,52 @@ module _ (n : ℕ) (records : List (List ℕ)) (c : ℕ) (t : List ℕ) (s : Suf
   apart m e = distinct-head s.apart (subst (λ x. Member x t) (sym e) m)
 
   -- what refutes the longer suffix refutes the shorter one, or is one of those added
-  split_refuter : (a : Assertion) → is_proper n a ≡ true → refutes a (c ∷ t) ≡ true → (refutes a t ≡ true) ⊎ (true_margin records a ≤ added n records c t)
+  pub split_refuter : (a : Assertion) → is_proper n a ≡ true → refutes a (c ∷ t) ≡ true → (refutes a t ≡ true) ⊎ Member a (added_refuters n c t)
   split_refuter (Neb w l) proper r =
       let p = pair_facts n w l proper in
       let (in', free) = and_parts (is_in (c ∷ t) l) (not (is_in (part_from (c ∷ t) l) w)) r in
       elim (member_cases (member-from_in l (c ∷ t) in')) [
-        | inl e ↦ inr (outside w l p.winner e (ap (λ s. is_in s w) (sym (part_from-same c l t e)) ∙ not-true (is_in (part_from (c ∷ t) l) w) free))
+        | inl e ↦
+            let out : is_in (c ∷ t) w ≡ false = ap (λ s. is_in s w) (sym (part_from-same c l t e)) ∙ not-true (is_in (part_from (c ∷ t) l) w) free in
+            let m : Member (Neb w c) (nebs_against n c (c ∷ t)) =
+            member-map (λ w. Neb w c) (member-filter (λ w. not (is_in (c ∷ t) w)) (candidates n) (candidate-member w n p.winner) (not_from_false (is_in (c ∷ t) w) out)) in
+            inr (subst (λ x. Member (Neb w x) (added_refuters n c t)) e (member-append_left (nens_for c (set_of (c ∷ t)) t) m))
         | inr m ↦ inl (and_from (is_in t l) (not (is_in (part_from t l) w)) (in-from_member m) (ap (λ s. not (is_in s w)) (sym (part_from-other c l t (apart m))) ∙ free))
       ]
-    where
-      outside : (w l : ℕ) → w < n → c ≡ l → is_in (c ∷ t) w ≡ false → true_margin records (Neb w l) ≤ added n records c t
-      outside w l lt e out =
-          let m : Member (true_margin records (Neb w c)) (map (λ w. true_margin records (Neb w c)) (filter (λ w. not (is_in (c ∷ t) w)) (candidates n))) =
-          member-map (λ w. true_margin records (Neb w c)) (member-filter (λ w. not (is_in (c ∷ t) w)) (candidates n) (candidate-member w n lt) (not_from_false (is_in (c ∷ t) w) out)) in
-          subst (λ x. true_margin records (Neb w x) ≤ added n records c t) e (omega (arith, greatest-member m))
   split_refuter (Nen w l rest) proper r =
       let p = nen_facts n w l rest proper in
       let (in', same) = and_parts (is_in (c ∷ t) w) (set_of (part_from (c ∷ t) w) == rest) r in
       elim (member_cases (member-from_in w (c ∷ t) in')) [
-        | inl e ↦ inr (inside w l rest e p.pair.differ (ap set_of (sym (part_from-same c w t e)) ∙ eqb-true (set_of (part_from (c ∷ t) w)) rest same) p.has_loser)
+        | inl e ↦
+            let q : set_of (c ∷ t) ≡ rest = ap set_of (sym (part_from-same c w t e)) ∙ eqb-true (set_of (part_from (c ∷ t) w)) rest same in
+            let k : Member l t = elim (member_cases (member-from_has (c ∷ t) l s.apart (ap (λ x. has x l) q ∙ p.has_loser))) [ inl g ↦ absurd (p.pair.differ (sym e ∙ g)) | inr g ↦ g ] in
+            let m : Member (Nen c l (set_of (c ∷ t))) (nens_for c (set_of (c ∷ t)) t) = member-map (λ l. Nen c l (set_of (c ∷ t))) k in
+            inr (subst (λ x. Member (Nen x l rest) (added_refuters n c t)) e (subst (λ x. Member (Nen c l x) (added_refuters n c t)) q (member-append_right (nebs_against n c (c ∷ t)) m)))
         | inr m ↦ inl (and_from (is_in t w) (set_of (part_from t w) == rest) (in-from_member m) (ap (λ x. set_of x == rest) (sym (part_from-other c w t (apart m))) ∙ same))
       ]
-    where
-      inside : (w l rest : ℕ) → c ≡ w → (w ≡ l → ⊥) → set_of (c ∷ t) ≡ rest → has rest l ≡ true → true_margin records (Nen w l rest) ≤ added n records c t
-      inside w l rest e ne same h =
-          let k : Member l t = elim (member_cases (member-from_has (c ∷ t) l s.apart (ap (λ x. has x l) same ∙ h))) [ inl q ↦ absurd (ne (sym e ∙ q)) | inr q ↦ q ] in
-          let m : Member (true_margin records (Nen c l (set_of (c ∷ t)))) (map (λ l. true_margin records (Nen c l (set_of (c ∷ t)))) t) = member-map (λ l. true_margin records (Nen c l (set_of (c ∷ t)))) k in
-          let le : true_margin records (Nen c l (set_of (c ∷ t))) ≤ added n records c t = omega (arith, greatest-member m) in
-          subst₂ (λ x y. true_margin records (Nen x l y) ≤ added n records c t) e same le
+
+  abbrev pub Refutes : Assertion → Type 0
+  Refutes a = (is_proper n a ≡ true) × (refutes a (c ∷ t) ≡ true)
+
+  -- and those added refute it
+  pub added-refutes : (a : Assertion) → Member a (added_refuters n c t) → Refutes a
+  added-refutes a m =
+      elim (member-append_cases (nebs_against n c (c ∷ t)) (nens_for c (set_of (c ∷ t)) t) m) [
+        | inl x ↦
+            let (w, k, e) = from_map (λ w. Neb w c) a (filter (λ w. not (is_in (c ∷ t) w)) (candidates n)) x in
+            let (k', out) = from_filter (λ w. not (is_in (c ∷ t) w)) (candidates n) k in
+            let out' : is_in (c ∷ t) w ≡ false = not-true (is_in (c ∷ t) w) out in
+            subst Refutes e (
+              pair_test n w c (record { winner = from_candidates k'; loser = s.below c here; differ = λ e. none-from_out out' (subst (λ z. Member z (c ∷ t)) (sym e) here) }),
+              and_from (is_in (c ∷ t) c) (not (is_in (part_from (c ∷ t) c) w)) (in-from_member {c = c} {cs = c ∷ t} here) (not_from_false (is_in (part_from (c ∷ t) c) w) (ap (λ s. is_in s w) (part_from-same c c t refl) ∙ out')),
+            )
+        | inr x ↦
+            let (l, k, e) = from_map (λ l. Nen c l (set_of (c ∷ t))) a t x in
+            subst Refutes e (
+              suffix-nen n c l (c ∷ t) s here (there k) (apart k),
+              and_from (is_in (c ∷ t) c) (set_of (part_from (c ∷ t) c) == set_of (c ∷ t)) (in-from_member {c = c} {cs = c ∷ t} here) (eq-eqb (set_of (part_from (c ∷ t) c)) (set_of (c ∷ t)) (ap set_of (part_from-same c c t refl))),
+            )
+      ]
 
   low-le : low n records (c ∷ t) ≤ max (low n records t) (added n records c t)
   low-le =
@@ -64,7 +82,7 @@ module _ (n : ℕ) (records : List (List ℕ)) (c : ℕ) (t : List ℕ) (s : Suf
             let (a, g) = low_is n records (c ∷ t) lt in
             elim (split_refuter a g.proper g.refuting) [
               | inl q ↦ let le : true_margin records a ≤ low n records t = low-refuter n records t a g.proper q in at-most g.reached (omega arith)
-              | inr q ↦ at-most g.reached (omega arith)
+              | inr q ↦ let le : true_margin records a ≤ added n records c t = greatest-member (member-map (true_margin records) q) in at-most g.reached (omega arith)
             ]
         | inr z ↦ omega arith
       ]
@@ -72,37 +90,12 @@ module _ (n : ℕ) (records : List (List ℕ)) (c : ℕ) (t : List ℕ) (s : Suf
       at-most : {x y m : ℕ} → x ≡ y → x ≤ m → y ≤ m
       at-most {m = m} e h = subst (λ z. z ≤ m) e h
 
-  -- those added refute it
-  pub added-neb : (w : ℕ) → w < n → is_in (c ∷ t) w ≡ false → (is_proper n (Neb w c) ≡ true) × (refutes (Neb w c) (c ∷ t) ≡ true)
-  added-neb w lt out = (
-    pair_test n w c (record { winner = lt; loser = s.below c here; differ = λ e. none-from_out out (subst (λ z. Member z (c ∷ t)) (sym e) here) }),
-    and_from (is_in (c ∷ t) c) (not (is_in (part_from (c ∷ t) c) w)) (in-from_member {c = c} {cs = c ∷ t} here) (not_from_false (is_in (part_from (c ∷ t) c) w) (ap (λ s. is_in s w) (part_from-same c c t refl) ∙ out)),
-  )
-
-  pub added-nen : (l : ℕ) → Member l t → (is_proper n (Nen c l (set_of (c ∷ t))) ≡ true) × (refutes (Nen c l (set_of (c ∷ t))) (c ∷ t) ≡ true)
-  added-nen l k = (
-    suffix-nen n c l (c ∷ t) s here (there k) (apart k),
-    and_from (is_in (c ∷ t) c) (set_of (part_from (c ∷ t) c) == set_of (c ∷ t)) (in-from_member {c = c} {cs = c ∷ t} here) (eq-eqb (set_of (part_from (c ∷ t) c)) (set_of (c ∷ t)) (ap set_of (part_from-same c c t refl))),
-  )
-
   added-le : added n records c t ≤ low n records (c ∷ t)
   added-le =
-      let first = greatest-le (low n records (c ∷ t)) (map (λ w. true_margin records (Neb w c)) (filter (λ w. not (is_in (c ∷ t) w)) (candidates n))) outside in
-      let second = greatest-le (low n records (c ∷ t)) (map (λ l. true_margin records (Nen c l (set_of (c ∷ t)))) t) inside in
-      omega arith
-    where
-      outside : (x : ℕ) → Member x (map (λ w. true_margin records (Neb w c)) (filter (λ w. not (is_in (c ∷ t) w)) (candidates n))) → x ≤ low n records (c ∷ t)
-      outside x m =
-          let (w, k, e) = from_map (λ w. true_margin records (Neb w c)) x (filter (λ w. not (is_in (c ∷ t) w)) (candidates n)) m in
-          let (k', out) = from_filter (λ w. not (is_in (c ∷ t) w)) (candidates n) k in
-          let (proper, r) = added-neb w (from_candidates k') (not-true (is_in (c ∷ t) w) out) in
-          subst (λ z. z ≤ low n records (c ∷ t)) e (low-refuter n records (c ∷ t) (Neb w c) proper r)
-
-      inside : (x : ℕ) → Member x (map (λ l. true_margin records (Nen c l (set_of (c ∷ t)))) t) → x ≤ low n records (c ∷ t)
-      inside x m =
-          let (l, k, e) = from_map (λ l. true_margin records (Nen c l (set_of (c ∷ t)))) x t m in
-          let (proper, r) = added-nen l k in
-          subst (λ z. z ≤ low n records (c ∷ t)) e (low-refuter n records (c ∷ t) (Nen c l (set_of (c ∷ t))) proper r)
+      greatest-le (low n records (c ∷ t)) (map (true_margin records) (added_refuters n c t)) (λ x m.
+      let (a, k, e) = from_map (true_margin records) x (added_refuters n c t) m in
+      let (proper, r) = added-refutes a k in
+      subst (λ z. z ≤ low n records (c ∷ t)) e (low-refuter n records (c ∷ t) a proper r))
 
 pub low_of_more : (n : ℕ) (records : List (List ℕ)) (c : ℕ) (t : List ℕ) → is_suffix n (c ∷ t) ≡ true →
     low n records (c ∷ t) ≡ max (low n records t) (added n records c t)

@@ -1,9 +1,9 @@
--- What the assorter values sum up to.
-use Rattle.std.proofs.Common.{Bool, List, None, Option, Some, [], arith, cond, count_by, eqb-true, false, if◌then◌else◌, length, ne_eqb, pos, refl, sum_by, sym, true, true≢false, ℕ, ◌+◌, ◌-ℤ◌, ◌∙◌, ◌∷◌, ◌≡◌}
+-- What the assorter values sum up to, and the margin of a true assertion.
+use Rattle.std.proofs.Common.{Bool, List, None, Option, Some, [], arith, cond, count_by, eqb-true, false, if◌then◌else◌, length, lt-ltb, ltb-true, nat_lt, ne_eqb, pos, refl, sum_by, sym, true, true≢false, ℕ, ◌+◌, ◌-ℤ◌, ◌-◌, ◌<ℤ◌, ◌<◌, ◌↔◌, ◌∙◌, ◌∷◌, ◌≡◌}
 use Rattle.std.proofs.lemmas.Int.{ints}
 use Rattle.std.proofs.lemmas.List.Sums.{sum_by-cons}
 use Rattle.irv_base.specs.Records.{is_ahead, is_first, is_some_of, top}
-use Rattle.assertions.specs.Assertions.{is_proper, margin, votes_against, votes_for}
+use Rattle.assertions.specs.Assertions.{is_proper, is_true, margin, true_margin, votes_against, votes_for}
 use Rattle.assertions.specs.Assorter.{assorter_value}
 use Rattle.assertions.specs.declared.assertion.Assertion.{Assertion}
 use Rattle.assertions.specs.declared.assertion.Assertion.TheVariants.{Neb, Nen}
@@ -54,3 +54,13 @@ difference s n f a e = omega (arith, ints)
 
 pub assorter_sums : (n : ℕ) (records : List (List ℕ)) (a : Assertion) → is_proper n a ≡ true → pos (sum_by (assorter_value a) records) -ℤ pos (length records) ≡ margin records a
 assorter_sums n records a proper = difference (sum_by (assorter_value a) records) (length records) (votes_for records a) (votes_against records a) (assorter-sum n records a proper)
+
+-- ---- the margin of a true assertion
+pub true_margin_is : (records : List (List ℕ)) (a : Assertion) →
+    ((is_true records a ≡ true) ↔ (pos 0 <ℤ margin records a)) × (is_true records a ≡ true → margin records a ≡ pos (true_margin records a))
+true_margin_is records a = go (votes_for records a) (votes_against records a) where
+  go : (f g : ℕ) → ((nat_lt g f ≡ true) ↔ (pos 0 <ℤ (pos f -ℤ pos g))) × (nat_lt g f ≡ true → pos f -ℤ pos g ≡ pos (f - g))
+  go f g = (
+    (λ h. let lt : g < f = ltb-true g f h in omega (arith, ints), λ h. let lt : g < f = omega (arith, ints) in lt-ltb g f lt),
+    λ h. let lt : g < f = ltb-true g f h in omega (arith, ints),
+  )

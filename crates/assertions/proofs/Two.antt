@@ -1,5 +1,5 @@
 -- The certificate of two candidates.
-use Rattle.std.proofs.Common.{Bool, List, None, Some, [], ap, arith, cond, eq-eqb, eqb-true, false, filter, find, inl, inr, le-leb, lt-ltb, ltb-true, map, max, nat_le, nat_lt, not, refl, subst, subst₂, suc, sym, true, zero, ℕ, ◌&&◌, ◌-◌, ◌<◌, ◌==◌, ◌∙◌, ◌∷◌, ◌≡◌, ◌≢◌, ◌≤◌}
+use Rattle.std.proofs.Common.{Bool, List, None, Some, [], ap, arith, cond, eq-eqb, eqb-true, false, filter, find, inl, inr, le-leb, lt-ltb, ltb-true, map, max, nat_le, nat_lt, not, refl, subst, subst₂, suc, sym, true, zero, ℕ, ◌&&◌, ◌++◌, ◌-◌, ◌<◌, ◌==◌, ◌∙◌, ◌∷◌, ◌≡◌, ◌≢◌, ◌≤◌}
 use Rattle.std.proofs.lemmas.Bool.{and_parts, cases_Bool}
 use Rattle.std.specs.List.{list_all, list_any}
 use Rattle.irv_base.specs.Candidates.{candidates, has, is_in, set_of}
@@ -10,8 +10,8 @@ use Rattle.irv_base.proofs.Sets.{member-from_has}
 use Rattle.assertions.specs.Assertions.{is_proper, is_true, true_margin, votes_against, votes_for}
 use Rattle.assertions.specs.Certificate.{certificate_assertions, certificate_claims, certificate_ends, certificate_order, claim_of, is_end, is_some_same}
 use Rattle.assertions.specs.Hardness.{best_margin, greatest, low, refuter}
-use Rattle.assertions.specs.Laws.{added}
 use Rattle.assertions.specs.Refutation.{part_from, refutes}
+use Rattle.assertions.specs.Scores.{added}
 use Rattle.assertions.specs.Suffixes.{alternative_orders, alternative_suffixes, is_suffix}
 use Rattle.assertions.specs.declared.assertion.Assertion.{Assertion}
 use Rattle.assertions.specs.declared.assertion.Assertion.TheVariants.{Neb, Nen}
@@ -83,16 +83,16 @@ module _ (records : List (List ℕ)) (w l : ℕ) (below : list_all (λ ranking. 
     low_one =
         low_of_more 2 records l [] proper_one
         ∙ ap (λ x. max x (added 2 records l [])) (low_of_none 2 records)
-        ∙ ap (λ vs. max 0 (max (greatest (map (λ v. true_margin records (Neb v l)) vs)) 0)) outside_one
-        ∙ ap (λ x. max 0 (max (max 0 x) 0)) neb
+        ∙ ap (λ vs. max 0 (greatest (map (true_margin records) (map (λ v. Neb v l) vs ++ [])))) outside_one
+        ∙ ap (λ x. max 0 (max 0 x)) neb
         ∙ omega arith
 
     low_both : low 2 records (w ∷ l ∷ []) ≡ lead
     low_both =
         low_of_more 2 records w (l ∷ []) proper_both
         ∙ ap (λ x. max x (added 2 records w (l ∷ []))) low_one
-        ∙ ap (λ vs. max lead (max (greatest (map (λ v. true_margin records (Neb v w)) vs)) (max 0 (true_margin records (Nen w l (set_of (w ∷ l ∷ []))))))) outside_both
-        ∙ ap (λ x. max lead (max 0 (max 0 x))) nen
+        ∙ ap (λ vs. max lead (greatest (map (true_margin records) (map (λ v. Neb v w) vs ++ Nen w l (set_of (w ∷ l ∷ [])) ∷ [])))) outside_both
+        ∙ ap (λ x. max lead (max 0 x)) nen
         ∙ omega arith
 
     best : best_margin 2 w (low 2 records) ≡ lead

@@ -1,5 +1,5 @@
 -- The laws of the definitions, on which the programs rest.
-use Rattle.std.specs.Prelude.{◌≡◌, ◌≢◌, ◌↔◌, ◌⊎◌, ℕ, ◌+◌, ◌-◌, ◌<◌, ◌≤◌, not, nat_lt, nat_le, max, map, filter, List, [], ◌∷◌, length, sum_by, Contains, AllPairs, Some, None, IsTrue, IsFalse, pos, ◌-ℤ◌}
+use Rattle.std.specs.Prelude.{◌≡◌, ◌≢◌, ◌↔◌, ◌⊎◌, ℕ, ◌+◌, ◌-◌, ◌*◌, ◌<◌, ◌≤◌, nat_lt, nat_le, max, List, [], ◌∷◌, length, sum_by, Contains, AllPairs, Some, None, IsTrue, IsFalse, pos, ◌-ℤ◌, ◌<ℤ◌}
 use Rattle.std.specs.List.{list_any, list_all}
 use Rattle.std.specs.List.Sorted.{IsPermutation}
 use Rattle.std.specs.declared.cmp.Ordering.TheVariants.{Less, Equal}
@@ -8,14 +8,15 @@ use Rattle.irv_base.specs.Records.{tally}
 use Rattle.irv_base.specs.Orders.{is_order, EndsIn, Elects}
 use Rattle.irv_base.specs.Tabulation.{is_tabulated, is_possible}
 use Rattle.assertions.specs.declared.assertion.Assertion.{Assertion}
-use Rattle.assertions.specs.declared.assertion.Assertion.TheVariants.{Neb, Nen}
+use Rattle.assertions.specs.declared.assertion.Assertion.TheVariants.{Neb}
 use Rattle.assertions.specs.contracts.assertion.AssertionOrd.TheImpl.{ghosts}
 use Rattle.assertions.specs.FixedOrder.{is_before}
 use Rattle.assertions.specs.Assertions.{votes_for, votes_against, margin, is_true, true_margin, is_proper, assertions}
-use Rattle.assertions.specs.Suffixes.{is_suffix, IsAlternative, orders_ending, suffixes_ending, alternative_orders, parts_ending, comes_before}
+use Rattle.assertions.specs.Suffixes.{is_suffix, IsAlternative, orders_ending, suffixes_ending, alternative_orders, parts_ending, comes_before, factorial}
 use Rattle.assertions.specs.Refutation.{refutes, covers}
-use Rattle.assertions.specs.Hardness.{greatest, low, refuter, IsRefuter, best_margin, start_order}
-use Rattle.assertions.specs.Certificate.{certificate_order, certificate_assertions, certificate_claims, IsEnd, IsCertificate}
+use Rattle.assertions.specs.Hardness.{low, refuter, IsRefuter, best_margin, start_order}
+use Rattle.assertions.specs.Scores.{score_of, no_score, all_offered, added_refuters, added}
+use Rattle.assertions.specs.Certificate.{certificate_order, cover_count, order_count, certificate_assertions, certificate_claims, IsEnd, IsCertificate}
 use Rattle.assertions.specs.Assorter.{assorter_value}
 
 -- ==== assertions
@@ -34,6 +35,12 @@ abbrev pub AssorterSums : Type 0
 AssorterSums =
     (n : ℕ) (records : List (List ℕ)) (a : Assertion) → IsTrue (is_proper n a) →
     pos (sum_by (assorter_value a) records) -ℤ pos (length records) ≡ margin records a
+
+-- true is what has a margin above 0
+abbrev pub TrueMargin : Type 0
+TrueMargin =
+    (records : List (List ℕ)) (a : Assertion) →
+    (IsTrue (is_true records a) ↔ (pos 0 <ℤ margin records a)) × (IsTrue (is_true records a) → margin records a ≡ pos (true_margin records a))
 
 abbrev pub AssertionsAreProper : Type 0
 AssertionsAreProper = (n : ℕ) (a : Assertion) → (Contains (assertions n) a ↔ IsTrue (is_proper n a))
@@ -96,6 +103,15 @@ PartsEnding =
 abbrev pub PartsRise : Type 0
 PartsRise = (n c : ℕ) → AllPairs (λ suffix other. IsTrue (comes_before suffix other)) (parts_ending n c)
 
+-- and they are few, and so are those that a count counts
+abbrev pub PartsAreFew : Type 0
+PartsAreFew = (n c : ℕ) → c < n → length (parts_ending n c) ≤ 2 * factorial (n - 1)
+
+abbrev pub CountsAreFew : Type 0
+CountsAreFew =
+    (n c margin : ℕ) (low : List ℕ → ℕ) (order : List ℕ) → c < n →
+    (cover_count n low margin c ≤ 2 * factorial (n - 1)) × (order_count n low margin order c ≤ 2 * factorial (n - 1))
+
 -- an order that ends in a suffix is it, or ends in one that is longer by one
 abbrev pub SuffixGrows : Type 0
 SuffixGrows =
@@ -114,13 +130,7 @@ LowIsGreatest =
 abbrev pub LowGrows : Type 0
 LowGrows = (n : ℕ) (records : List (List ℕ)) (suffix : List ℕ) (c : ℕ) → IsFalse (is_in suffix c) → low n records suffix ≤ low n records (c ∷ suffix)
 
--- how the search computes it: one more candidate adds the NEBs that it loses to those outside, and the NENs that it wins from those behind it
-abbrev pub added : ℕ → List (List ℕ) → ℕ → List ℕ → ℕ
-added n records c suffix =
-    max
-    (greatest (map (λ w. true_margin records (Neb w c)) (filter (λ w. not (is_in (c ∷ suffix) w)) (candidates n))))
-    (greatest (map (λ l. true_margin records (Nen c l (set_of (c ∷ suffix)))) suffix))
-
+-- how the search computes it, one more candidate at a time
 abbrev pub LowOfMore : Type 0
 LowOfMore =
     (n : ℕ) (records : List (List ℕ)) (c : ℕ) (suffix : List ℕ) → IsTrue (is_suffix n (c ∷ suffix)) →
@@ -136,18 +146,26 @@ RefuterIsFirst = (n : ℕ) (records : List (List ℕ)) (suffix : List ℕ) (a : 
 abbrev pub RefuterOrNone : Type 0
 RefuterOrNone = (n : ℕ) (records : List (List ℕ)) (suffix : List ℕ) → ((refuter n records suffix ≡ None) ↔ (low n records suffix ≡ 0))
 
+-- the low and the refuter together, likewise
+abbrev pub ScoreOfMore : Type 0
+ScoreOfMore =
+    (n : ℕ) (records : List (List ℕ)) (c : ℕ) (suffix : List ℕ) → IsTrue (is_suffix n (c ∷ suffix)) →
+    score_of n records (c ∷ suffix) ≡ all_offered records (score_of n records suffix) (added_refuters n c suffix)
+
+abbrev pub ScoreOfNone : Type 0
+ScoreOfNone = (n : ℕ) (records : List (List ℕ)) → score_of n records [] ≡ no_score
+
 -- an order is possible exactly where nothing true refutes it
 abbrev pub PossibleIffUnrefuted : Type 0
 PossibleIffUnrefuted =
     (n : ℕ) (records : List (List ℕ)) (order : List ℕ) → IsTrue (is_order n order) →
     (IsTrue (is_possible records order) ↔ (low n records order ≡ 0))
 
--- ==== the best margin
+-- ==== the best margin, over any hardness of orders
 
 abbrev pub BestIsLeast : Type 0
 BestIsLeast =
-    (n winner : ℕ) (records : List (List ℕ)) (order : List ℕ) → Contains (alternative_orders n winner) order →
-    best_margin n winner (low n records) ≤ low n records order
+    (n winner : ℕ) (hardness : List ℕ → ℕ) (order : List ℕ) → Contains (alternative_orders n winner) order → best_margin n winner hardness ≤ hardness order
 
 -- without a tie it is at least 1
 abbrev pub BestIsPositive : Type 0
@@ -194,13 +212,20 @@ CertificateHasBest =
     (n winner : ℕ) (records : List (List ℕ)) → winner < n → 1 < n → 0 < best_margin n winner (low n records) →
     (a : Assertion) × Contains (certificate_assertions n records winner) a × (true_margin records a ≡ best_margin n winner (low n records))
 
+-- its order, over any hardness
 abbrev pub CertificateOrder : Type 0
 CertificateOrder =
-    (n winner : ℕ) (records : List (List ℕ)) → winner < n → 1 < n →
-    (order : List ℕ) × (certificate_order n winner (low n records) (best_margin n winner (low n records)) ≡ Some order)
-    × Contains (alternative_orders n winner) order × (low n records order ≡ best_margin n winner (low n records))
+    (n winner : ℕ) (hardness : List ℕ → ℕ) → winner < n → 1 < n →
+    let best = best_margin n winner hardness in
+    (order : List ℕ) × (certificate_order n winner hardness best ≡ Some order) × Contains (alternative_orders n winner) order × (hardness order ≡ best)
 
--- it refutes exactly the suffixes that reach the best margin
+-- it is the least when read backwards
+abbrev pub CertificateOrderIsFirst : Type 0
+CertificateOrderIsFirst =
+    (n winner margin : ℕ) (hardness : List ℕ → ℕ) (found order : List ℕ) → certificate_order n winner hardness margin ≡ Some found →
+    Contains (alternative_orders n winner) order → hardness order ≡ margin → (found ≡ order) ⊎ IsTrue (comes_before found order)
+
+-- the certificate refutes exactly the suffixes that reach the best margin
 abbrev pub CertificateRefutes : Type 0
 CertificateRefutes =
     (n winner c : ℕ) (records : List (List ℕ)) (suffix : List ℕ) → 0 < best_margin n winner (low n records) →
@@ -220,12 +245,6 @@ EndsAreOne =
     let best = best_margin n winner (low n records) in
     (suffix : List ℕ) × IsEnd n records winner best suffix × EndsIn order suffix
     × ((other : List ℕ) → IsEnd n records winner best other → EndsIn order other → other ≡ suffix)
-
--- over any hardness, it is the least when read backwards
-abbrev pub CertificateOrderIsFirst : Type 0
-CertificateOrderIsFirst =
-    (n winner margin : ℕ) (hardness : List ℕ → ℕ) (found order : List ℕ) → certificate_order n winner hardness margin ≡ Some found →
-    Contains (alternative_orders n winner) order → hardness order ≡ margin → (found ≡ order) ⊎ IsTrue (comes_before found order)
 
 -- what is defined meets the rules
 abbrev pub CertificateIs : Type 0

@@ -6,5 +6,6 @@ pub mod Refutation
 pub mod Hardness
 pub mod Certificate
 pub mod Assorter
+pub mod Scores
 pub mod Contests
 pub mod Laws

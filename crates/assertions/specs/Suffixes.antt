@@ -1,5 +1,5 @@
 -- Suffixes of elimination orders: the last candidates, so that the winner stands last.
-use Rattle.std.specs.Prelude.{◌≢◌, ℕ, zero, suc, ◌-◌, Bool, ◌&&◌, nat_lt, if◌then◌else◌, List, [], ◌∷◌, length, filter, flat_map, reverse, IsTrue}
+use Rattle.std.specs.Prelude.{◌≢◌, ℕ, zero, suc, ◌-◌, ◌*◌, Bool, ◌&&◌, nat_lt, if◌then◌else◌, List, [], ◌∷◌, length, filter, flat_map, reverse, IsTrue}
 use Rattle.std.specs.List.{list_all}
 use Rattle.irv_base.specs.Candidates.{candidates, all_but, is_in, is_distinct}
 use Rattle.irv_base.specs.Orders.{is_order, Elects}
@@ -38,3 +38,7 @@ parts_ending n c = filter (λ suffix. nat_lt (length suffix) n) (suffixes_ending
 -- both read backwards, the one stands before the other
 abbrev pub comes_before : List ℕ → List ℕ → Bool
 comes_before suffix other = stands_before (reverse suffix) (reverse other)
+
+abbrev pub factorial : ℕ → ℕ
+factorial zero = 1
+factorial (suc n) = suc n * factorial n

@@ -4,7 +4,7 @@ ghost use Rattle.assertions.specs.FixedOrder.{is_before};
 
 use irv_base::{CandSet, Candidate};
 
-/// One of RAIRE's two kinds of assertion, that a winner `w` beats a loser `l` (RAIRE, section 4).
+/// One of RAIRE's two kinds of assertion, that a winner `w` beats a loser `l`.
 ///
 /// Its variants and fields stand in the fixed order: NEB before NEN, then the smaller winner, then the smaller
 /// loser, then the smaller number of the set.

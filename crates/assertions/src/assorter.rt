@@ -28,7 +28,7 @@ fn is_ahead(ranking: &Ranking, l: Candidate, w: Candidate) -> bool
 }
 
 /// The assorter value of a ballot with this ranking, doubled: 2 where it counts for the winner, 0 where it counts
-/// for the loser, and else 1 (SHANGRLA, section 3.2).
+/// for the loser, and else 1.
 pub fn value_of(a: &Assertion, r: &Ranking) -> u8
     ensures { result ≡ assorter_value a.now r.now }
 {

@@ -1,5 +1,5 @@
 //! The laws of the definitions: each holds of every value that it names, and has no code.
-ghost use Rattle.assertions.specs.Laws.{NebFor, NebAgainst, AssorterSums, AssertionsAreProper, AssertionsRise, FixedOrderIsTotal, FixedOrderIsOrd, RefutesLonger, CoverIsSound, OrdersEnding, AlternativeOrders, AlternativeOrdersRise, SuffixesEnding, PartsEnding, PartsRise, SuffixGrows, LowIsGreatest, LowGrows, LowOfMore, LowOfNone, RefuterIsFirst, RefuterOrNone, PossibleIffUnrefuted, BestIsLeast, BestIsPositive, StartIsAlternative, FrontierBounds, NoneBeatsBest, CertificateIsProper, CertificateIsTrue, CertificateCovers, CertificateReachesBest, CertificateHasBest, CertificateOrder, CertificateOrderIsFirst, CertificateRefutes, EndsAreShortest, EndsAreOne, CertificateIs, CertificateIsOne, RecordsInAnyOrder, TwoCandidates};
+ghost use Rattle.assertions.specs.Laws.{NebFor, NebAgainst, AssorterSums, TrueMargin, AssertionsAreProper, AssertionsRise, FixedOrderIsTotal, FixedOrderIsOrd, RefutesLonger, CoverIsSound, OrdersEnding, AlternativeOrders, AlternativeOrdersRise, SuffixesEnding, PartsEnding, PartsRise, PartsAreFew, CountsAreFew, SuffixGrows, LowIsGreatest, LowGrows, LowOfMore, LowOfNone, RefuterIsFirst, RefuterOrNone, ScoreOfMore, ScoreOfNone, PossibleIffUnrefuted, BestIsLeast, BestIsPositive, StartIsAlternative, FrontierBounds, NoneBeatsBest, CertificateIsProper, CertificateIsTrue, CertificateCovers, CertificateReachesBest, CertificateHasBest, CertificateOrder, CertificateOrderIsFirst, CertificateRefutes, EndsAreShortest, EndsAreOne, CertificateIs, CertificateIsOne, RecordsInAnyOrder, TwoCandidates};
 
 /// What a NEB has for its winner: its votes with all candidates left.
 pub fn neb_for()
@@ -14,6 +14,11 @@ pub fn neb_against()
 /// What the assorter values are above 1 each, in sum, is the margin.
 pub fn assorter_sums()
     ensures { AssorterSums }
+{}
+
+/// An assertion is true where its margin is above 0.
+pub fn true_margin()
+    ensures { TrueMargin }
 {}
 
 /// The list of all assertions has exactly the proper ones.
@@ -78,6 +83,16 @@ pub fn parts_rise()
     ensures { PartsRise }
 {}
 
+/// They are at most `2 * (n - 1)!`.
+pub fn parts_are_few()
+    ensures { PartsAreFew }
+{}
+
+/// So the cover count and the order count are at most that.
+pub fn counts_are_few()
+    ensures { CountsAreFew }
+{}
+
 /// An order that ends in a suffix is it, or ends in one that is longer by one.
 pub fn suffix_grows()
     ensures { SuffixGrows }
@@ -111,6 +126,16 @@ pub fn refuter_is_first()
 /// There is none exactly where the low is 0.
 pub fn refuter_or_none()
     ensures { RefuterOrNone }
+{}
+
+/// How the low and the refuter of a suffix follow from those of its parent.
+pub fn score_of_more()
+    ensures { ScoreOfMore }
+{}
+
+/// The empty suffix has neither.
+pub fn score_of_none()
+    ensures { ScoreOfNone }
 {}
 
 /// An order is possible exactly where nothing true refutes it.

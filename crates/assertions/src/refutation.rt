@@ -1,16 +1,10 @@
 // Which elimination orders an assertion refutes.
 ghost use Rattle.std.specs.Prelude.{◌≡◌, IsTrue};
-ghost use Rattle.irv_base.specs.Candidates.{is_in, is_distinct, set_of};
+ghost use Rattle.irv_base.specs.Candidates.{is_distinct, set_of};
 ghost use Rattle.assertions.specs.Refutation.{refutes, part_from};
 
 use crate::Assertion;
 use irv_base::{CandSet, Candidate};
-
-fn contains(suffix: &[Candidate], c: Candidate) -> bool
-    ensures { result ≡ is_in suffix.now c }
-{
-    suffix.iter().any(|d| *d == c)
-}
 
 /// The part of the suffix from `c` to the end.
 fn part_from(suffix: &[Candidate], c: Candidate) -> &[Candidate]
@@ -44,7 +38,7 @@ pub fn refutes(a: &Assertion, t: &[Candidate]) -> bool
     ensures { result ≡ refutes a.now t.now }
 {
     match *a {
-        Assertion::Neb { w, l } => contains(t, l) && !contains(part_from(t, l), w),
-        Assertion::Nen { w, l: _, rest } => contains(t, w) && set_of(part_from(t, w)) == rest,
+        Assertion::Neb { w, l } => t.contains(&l) && !part_from(t, l).contains(&w),
+        Assertion::Nen { w, l: _, rest } => t.contains(&w) && set_of(part_from(t, w)) == rest,
     }
 }

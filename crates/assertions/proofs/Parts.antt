@@ -1,6 +1,6 @@
 -- The part of a suffix from a candidate on, and what refutes a longer suffix.
-use Rattle.std.proofs.Common.{◌++◌, All, ◌≡◌, ℕ, true, false, not, ◌==◌, ◌⊎◌, inl, inr, List, [], ◌∷◌, refl, sym, ap, subst, eq-eqb, ne_eqb, ◌∙◌}
-use Rattle.std.proofs.lemmas.Bool.{and_parts, and_from, cases_eq, both_ways}
+use Rattle.std.proofs.Common.{◌++◌, All, ◌≡◌, ℕ, true, false, not, ◌==◌, ◌⊎◌, inl, inr, List, [], ◌∷◌, refl, sym, ap, subst, eq-eqb, ne_eqb, ◌∙◌, ◌↔◌, eqb-true}
+use Rattle.std.proofs.lemmas.Bool.{and_parts, and_from, cases_eq, both_ways, not-true, not_from_false}
 use Rattle.std.proofs.lemmas.List.Elements.{All-tail}
 use Rattle.irv_base.specs.Candidates.{is_in, is_distinct, set_of}
 use Rattle.irv_base.proofs.Members.{Member, here, there, member_cases, member_nil, member-append_right, member-from_in, in-from_member, out-from_none}
@@ -104,3 +104,42 @@ part_from-append [] c rest d = part_from-same c c rest refl
 part_from-append (b ∷ before) c rest d =
     part_from-other b c (before ++ c ∷ rest) (λ e. distinct-head d (member-append_right before (subst (λ x. Member x (c ∷ rest)) (sym e) here)))
     ∙ part_from-append before c rest (distinct-tail d)
+
+-- ---- where a suffix is refuted
+member-split : {c : ℕ} {t : List ℕ} → Member c t → (before : List ℕ) × (behind : List ℕ) × (t ≡ before ++ c ∷ behind)
+member-split (here {xs = xs}) = ([], xs, refl)
+member-split (there {y = y} m) = let (before, behind, e) = member-split m in (y ∷ before, behind, ap (λ s. y ∷ s) e)
+
+part_from-split : (t before : List ℕ) (c : ℕ) (behind : List ℕ) → Distinct t → t ≡ before ++ c ∷ behind → part_from t c ≡ c ∷ behind
+part_from-split t before c behind d same = ap (λ s. part_from s c) same ∙ part_from-append before c behind (subst Distinct same d)
+
+in-split : (t before : List ℕ) (c : ℕ) (behind : List ℕ) → t ≡ before ++ c ∷ behind → is_in t c ≡ true
+in-split t before c behind same = in-from_member (subst (Member c) (sym same) (member-append_right before here))
+
+pub neb-where : (t : List ℕ) (w l : ℕ) → Distinct t →
+    ((refutes (Neb w l) t ≡ true) ↔ ((before : List ℕ) × (behind : List ℕ) × (t ≡ before ++ l ∷ behind) × (is_in (l ∷ behind) w ≡ false)))
+neb-where t w l d = (forth, back) where
+  forth : refutes (Neb w l) t ≡ true → (before : List ℕ) × (behind : List ℕ) × (t ≡ before ++ l ∷ behind) × (is_in (l ∷ behind) w ≡ false)
+  forth h =
+      let (in', free) = and_parts (is_in t l) (not (is_in (part_from t l) w)) h in
+      let (before, behind, same) = member-split (member-from_in l t in') in
+      (before, behind, same, ap (λ s. is_in s w) (sym (part_from-split t before l behind d same)) ∙ not-true (is_in (part_from t l) w) free)
+
+  back : (before : List ℕ) × (behind : List ℕ) × (t ≡ before ++ l ∷ behind) × (is_in (l ∷ behind) w ≡ false) → refutes (Neb w l) t ≡ true
+  back (before, behind, same, out) =
+      and_from (is_in t l) (not (is_in (part_from t l) w)) (in-split t before l behind same)
+      (not_from_false (is_in (part_from t l) w) (ap (λ s. is_in s w) (part_from-split t before l behind d same) ∙ out))
+
+pub nen-where : (t : List ℕ) (w l rest : ℕ) → Distinct t →
+    ((refutes (Nen w l rest) t ≡ true) ↔ ((before : List ℕ) × (behind : List ℕ) × (t ≡ before ++ w ∷ behind) × (set_of (w ∷ behind) ≡ rest)))
+nen-where t w l rest d = (forth, back) where
+  forth : refutes (Nen w l rest) t ≡ true → (before : List ℕ) × (behind : List ℕ) × (t ≡ before ++ w ∷ behind) × (set_of (w ∷ behind) ≡ rest)
+  forth h =
+      let (in', is) = and_parts (is_in t w) (set_of (part_from t w) == rest) h in
+      let (before, behind, same) = member-split (member-from_in w t in') in
+      (before, behind, same, ap set_of (sym (part_from-split t before w behind d same)) ∙ eqb-true (set_of (part_from t w)) rest is)
+
+  back : (before : List ℕ) × (behind : List ℕ) × (t ≡ before ++ w ∷ behind) × (set_of (w ∷ behind) ≡ rest) → refutes (Nen w l rest) t ≡ true
+  back (before, behind, same, is) =
+      and_from (is_in t w) (set_of (part_from t w) == rest) (in-split t before w behind same)
+      (eq-eqb (set_of (part_from t w)) rest (ap set_of (part_from-split t before w behind d same) ∙ is))

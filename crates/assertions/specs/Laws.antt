@@ -1,14 +1,14 @@
 -- The laws of the definitions, on which the programs rest.
-use Rattle.std.specs.Prelude.{◌≡◌, ◌≢◌, ◌↔◌, ◌⊎◌, ℕ, ◌+◌, ◌-◌, ◌*◌, ◌<◌, ◌≤◌, nat_lt, nat_le, max, List, [], ◌∷◌, length, sum_by, Contains, AllPairs, Some, None, IsTrue, IsFalse, pos, ◌-ℤ◌, ◌<ℤ◌}
+use Rattle.std.specs.Prelude.{◌≡◌, ◌≢◌, ◌↔◌, ◌⊎◌, ℕ, ◌+◌, ◌-◌, ◌*◌, ◌<◌, ◌≤◌, nat_lt, nat_le, max, List, [], ◌∷◌, ◌++◌, length, sum_by, Contains, AllPairs, Some, None, IsTrue, IsFalse, pos, ◌-ℤ◌, ◌<ℤ◌}
 use Rattle.std.specs.List.{list_any, list_all}
 use Rattle.std.specs.List.Sorted.{IsPermutation}
 use Rattle.std.specs.declared.cmp.Ordering.TheVariants.{Less, Equal}
-use Rattle.irv_base.specs.Candidates.{candidates, is_in, set_of}
+use Rattle.irv_base.specs.Candidates.{candidates, is_in, is_distinct, set_of}
 use Rattle.irv_base.specs.Records.{tally}
 use Rattle.irv_base.specs.Orders.{is_order, EndsIn, Elects}
 use Rattle.irv_base.specs.Tabulation.{is_tabulated, is_possible}
 use Rattle.assertions.specs.declared.assertion.Assertion.{Assertion}
-use Rattle.assertions.specs.declared.assertion.Assertion.TheVariants.{Neb}
+use Rattle.assertions.specs.declared.assertion.Assertion.TheVariants.{Neb, Nen}
 use Rattle.assertions.specs.contracts.assertion.AssertionOrd.TheImpl.{ghosts}
 use Rattle.assertions.specs.FixedOrder.{is_before}
 use Rattle.assertions.specs.Assertions.{votes_for, votes_against, margin, is_true, true_margin, is_proper, assertions}
@@ -64,11 +64,18 @@ FixedOrderIsOrd = (a b : Assertion) → ((ghosts.cmp a b ≡ Less) ↔ IsTrue (i
 
 -- ==== refutation
 
+-- NEB(w,l) refutes where l stands and w isn't behind it, NEN(w,l,rest) where w and those behind it are the rest
+abbrev pub RefutesWhere : Type 0
+RefutesWhere =
+    (suffix : List ℕ) (w l rest : ℕ) → IsTrue (is_distinct suffix) →
+    (IsTrue (refutes (Neb w l) suffix) ↔ ((before : List ℕ) × (behind : List ℕ) × (suffix ≡ before ++ l ∷ behind) × IsFalse (is_in (l ∷ behind) w)))
+    × (IsTrue (refutes (Nen w l rest) suffix) ↔ ((before : List ℕ) × (behind : List ℕ) × (suffix ≡ before ++ w ∷ behind) × (set_of (w ∷ behind) ≡ rest)))
+
 -- what refutes a suffix refutes each longer one
 abbrev pub RefutesLonger : Type 0
 RefutesLonger = (a : Assertion) (suffix : List ℕ) (c : ℕ) → IsTrue (refutes a suffix) → IsFalse (is_in suffix c) → IsTrue (refutes a (c ∷ suffix))
 
--- ---- a covering set that is true of some records proves their winner, however ties are broken
+-- a covering set that is true of some records proves their winner, however ties are broken
 abbrev pub CoverIsSound : Type 0
 CoverIsSound =
     (n winner : ℕ) (claims : List Assertion) → winner < n → IsTrue (list_all (is_proper n) claims) → IsTrue (covers n winner claims) →
@@ -103,7 +110,7 @@ PartsEnding =
 abbrev pub PartsRise : Type 0
 PartsRise = (n c : ℕ) → AllPairs (λ suffix other. IsTrue (comes_before suffix other)) (parts_ending n c)
 
--- and they are few, and so are those that a count counts
+-- they are at most so many, and so are those that a count counts
 abbrev pub PartsAreFew : Type 0
 PartsAreFew = (n c : ℕ) → c < n → length (parts_ending n c) ≤ 2 * factorial (n - 1)
 

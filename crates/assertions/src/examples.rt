@@ -16,7 +16,11 @@ pub fn three_candidates()
     ensures first { low 3 contests.three_candidates (2 ∷ 1 ∷ 0 ∷ []) ≡ 2 }
     ensures best { best_margin 3 1 (low 3 contests.three_candidates) ≡ 1 }
     ensures order { certificate_order 3 1 (low 3 contests.three_candidates) 1 ≡ Some (1 ∷ 0 ∷ 2 ∷ []) }
-    ensures claims { certificate_claims 3 contests.three_candidates 1 ≡ record { assertion = Assertion.Neb 1 2; margin = 1 } ∷ record { assertion = Assertion.Nen 1 0 3; margin = 2 } ∷ record { assertion = Assertion.Nen 2 0 5; margin = 2 } ∷ [] }
+    ensures claims { certificate_claims 3 contests.three_candidates 1
+        ≡ record { assertion = Assertion.Neb 1 2; margin = 1 }
+        ∷ record { assertion = Assertion.Nen 1 0 3; margin = 2 }
+        ∷ record { assertion = Assertion.Nen 2 0 5; margin = 2 }
+        ∷ [] }
     ensures covered { IsTrue (covers 3 1 (certificate_assertions 3 contests.three_candidates 1)) }
     ensures possible { IsTrue (is_possible contests.three_candidates (2 ∷ 0 ∷ 1 ∷ [])) }
     ensures below_0 { cover_count 3 (low 3 contests.three_candidates) 1 0 ≡ 1 }
@@ -27,7 +31,9 @@ pub fn three_candidates()
 pub fn two_candidates()
     ensures best { best_margin 2 0 (low 2 contests.two_candidates) ≡ 1 }
     ensures order { certificate_order 2 0 (low 2 contests.two_candidates) 1 ≡ Some (0 ∷ 1 ∷ []) }
-    ensures claims { certificate_claims 2 contests.two_candidates 0 ≡ record { assertion = Assertion.Neb 0 1; margin = 1 } ∷ [] }
+    ensures claims { certificate_claims 2 contests.two_candidates 0
+        ≡ record { assertion = Assertion.Neb 0 1; margin = 1 }
+        ∷ [] }
 {}
 
 /// A county's contest of candidates 15 to 18, here 0 to 3: four ballots 16, three 17, and one each of 18,17, of 18
@@ -35,7 +41,11 @@ pub fn two_candidates()
 pub fn county_contest()
     ensures best { best_margin 4 1 (low 4 contests.county) ≡ 1 }
     ensures order { certificate_order 4 1 (low 4 contests.county) 1 ≡ Some (3 ∷ 0 ∷ 1 ∷ 2 ∷ []) }
-    ensures claims { certificate_claims 4 contests.county 1 ≡ record { assertion = Assertion.Neb 1 0; margin = 3 } ∷ record { assertion = Assertion.Neb 1 3; margin = 2 } ∷ record { assertion = Assertion.Nen 1 2 6; margin = 1 } ∷ [] }
+    ensures claims { certificate_claims 4 contests.county 1
+        ≡ record { assertion = Assertion.Neb 1 0; margin = 3 }
+        ∷ record { assertion = Assertion.Neb 1 3; margin = 2 }
+        ∷ record { assertion = Assertion.Nen 1 2 6; margin = 1 }
+        ∷ [] }
 {}
 
 /// NEB(1,2) at cards that are lost, have no record, agree with it, or were recorded the other way round.

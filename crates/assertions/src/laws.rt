@@ -1,5 +1,5 @@
 //! The laws of the definitions: each holds of every value that it names, and has no code.
-ghost use Rattle.assertions.specs.Laws.{NebFor, NebAgainst, AssorterSums, TrueMargin, AssertionsAreProper, AssertionsRise, FixedOrderIsTotal, FixedOrderIsOrd, RefutesLonger, CoverIsSound, OrdersEnding, AlternativeOrders, AlternativeOrdersRise, SuffixesEnding, PartsEnding, PartsRise, PartsAreFew, CountsAreFew, SuffixGrows, LowIsGreatest, LowGrows, LowOfMore, LowOfNone, RefuterIsFirst, RefuterOrNone, ScoreOfMore, ScoreOfNone, PossibleIffUnrefuted, BestIsLeast, BestIsPositive, StartIsAlternative, FrontierBounds, NoneBeatsBest, CertificateIsProper, CertificateIsTrue, CertificateCovers, CertificateReachesBest, CertificateHasBest, CertificateOrder, CertificateOrderIsFirst, CertificateRefutes, EndsAreShortest, EndsAreOne, CertificateIs, CertificateIsOne, RecordsInAnyOrder, TwoCandidates};
+ghost use Rattle.assertions.specs.Laws.{NebFor, NebAgainst, AssorterSums, TrueMargin, AssertionsAreProper, AssertionsRise, FixedOrderIsTotal, FixedOrderIsOrd, RefutesWhere, RefutesLonger, CoverIsSound, OrdersEnding, AlternativeOrders, AlternativeOrdersRise, SuffixesEnding, PartsEnding, PartsRise, PartsAreFew, CountsAreFew, SuffixGrows, LowIsGreatest, LowGrows, LowOfMore, LowOfNone, RefuterIsFirst, RefuterOrNone, ScoreOfMore, ScoreOfNone, PossibleIffUnrefuted, BestIsLeast, BestIsPositive, StartIsAlternative, FrontierBounds, NoneBeatsBest, CertificateIsProper, CertificateIsTrue, CertificateCovers, CertificateReachesBest, CertificateHasBest, CertificateOrder, CertificateOrderIsFirst, CertificateRefutes, EndsAreShortest, EndsAreOne, CertificateIs, CertificateIsOne, RecordsInAnyOrder, TwoCandidates};
 
 /// What a NEB has for its winner: its votes with all candidates left.
 pub fn neb_for()
@@ -39,6 +39,12 @@ pub fn fixed_order_is_total()
 /// It is the order of `Assertion` as `Ord`.
 pub fn fixed_order_is_ord()
     ensures { FixedOrderIsOrd }
+{}
+
+/// NEB refutes where its loser stands and its winner isn't behind it, NEN where its winner and those behind it are
+/// the rest.
+pub fn refutes_where()
+    ensures { RefutesWhere }
 {}
 
 /// What refutes a suffix refutes each longer one.

@@ -1,0 +1,23 @@
+-- What a desk has served.
+use Rattle.std.specs.Prelude.{ℕ, max, Bool, true, false, Result, Ok, Err}
+use Rattle.desk.specs.Count.{grown, one_more}
+use Rattle.desk.specs.declared.served.Served.{Served}
+
+abbrev pub nothing : Served
+nothing = record { misses = 0; bytes = 0; longest = 0 }
+
+-- one more miss where `begin` answered false
+abbrev pub misses_after : {E : Type 0} → Result Bool E → ℕ → ℕ
+misses_after (Ok true) misses = misses
+misses_after (Ok false) misses = one_more misses
+misses_after (Err e) misses = misses
+
+-- after a `begin`, a new file's bytes are counted
+abbrev pub after_begin : {E : Type 0} → Result Bool E → Served → Served
+after_begin result served = record { misses = misses_after result served.misses; bytes = 0; longest = served.longest }
+
+-- after a `read`, the bytes that it gave are counted
+abbrev pub after_read : {E : Type 0} → Result ℕ E → Served → Served
+after_read (Ok n) served =
+    let bytes = grown served.bytes n in record { misses = served.misses; bytes = bytes; longest = max served.longest bytes }
+after_read (Err e) served = served

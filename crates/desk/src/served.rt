@@ -1,0 +1,55 @@
+// What a desk has served, whether or not it tells its files.
+ghost use Rattle.std.specs.Prelude.{◌≡◌, max};
+ghost use Rattle.desk.specs.Count.{grown, one_more};
+
+/// What a desk has served so far, whether or not it tells its files. Each count stops at the last u64.
+///
+/// A `Desk` keeps one to say what came of its calls: it calls `begin` at the start of each of its own
+/// `begin`, then `miss` where that answers false, and `give` at each read that succeeds.
+#[derive(Clone, Copy, Debug, PartialEq, Eq)]
+pub struct Served {
+    /// How often `begin` answered false.
+    pub misses: u64,
+    /// How many bytes came since the last `begin`.
+    pub bytes: u64,
+    /// The most bytes that ever came between one `begin` and the next.
+    pub longest: u64,
+}
+
+impl Served {
+    ghost use Rattle.desk.specs.Served.{nothing};
+
+    /// Nothing yet.
+    pub fn new() -> Served
+        ensures { result ≡ nothing }
+    {
+        Served {
+            misses: 0,
+            bytes: 0,
+            longest: 0,
+        }
+    }
+
+    /// A file is asked for.
+    pub fn begin(&mut self)
+        ensures { self.new ≡ record self.old { bytes = 0 } }
+    {
+        self.bytes = 0;
+    }
+
+    /// There is none.
+    pub fn miss(&mut self)
+        ensures { self.new ≡ record self.old { misses = one_more self.old.misses } }
+    {
+        self.misses = self.misses.saturating_add(1);
+    }
+
+    /// So many bytes of it are given.
+    pub fn give(&mut self, count: usize)
+        ensures { let bytes = grown self.old.bytes count in
+            self.new ≡ record self.old { bytes = bytes; longest = max self.old.longest bytes } }
+    {
+        self.bytes = self.bytes.saturating_add(count as u64);
+        self.longest = self.longest.max(self.bytes);
+    }
+}

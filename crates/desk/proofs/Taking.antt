@@ -4,7 +4,6 @@ use Rattle.std.proofs.lemmas.List.{take_at, take_rest}
 use Rattle.std.specs.Io.KnownBytes.{Appends, Keeps}
 use Rattle.std.proofs.KnownBytes.{Appends-kept}
 use Rattle.std.specs.declared.option.Option.{Option}
-use Rattle.desk.specs.Sink.{AppendsPrefix}
 
 pub on_err : {T E P : Type 0} (r : Result T E) → P → OnErr r P
 on_err (Ok x) p = tt
@@ -17,7 +16,8 @@ moved all done rest n split =
     ∙ ap (λ (l : List ℕ). (done ++ take n rest) ++ l) (sym (take_rest rest n))
 
 -- a write that fails ends it with a prefix
-pub cut_short : (a b c : Option (List ℕ)) (all done rest : List ℕ) → all ≡ done ++ rest → Appends a b done → Keeps b c → AppendsPrefix a c all
+pub cut_short : (a b c : Option (List ℕ)) (all done rest : List ℕ) → all ≡ done ++ rest → Appends a b done → Keeps b c
+    → (n : ℕ) × (n ≤ length all) × Appends a c (take n all)
 cut_short a b c all done rest split so_far kept =
     let front : take (length done) all ≡ done = ap (λ (l : List ℕ). take (length done) l) split ∙ take_at done rest (length done) refl in
     let fits : length done ≤ length all = omega (arith, ap length split, length-append done rest) in

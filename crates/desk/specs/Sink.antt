@@ -1,7 +1,12 @@
--- What a sink takes of a text.
-use Rattle.std.specs.Prelude.{ℕ, ◌≤◌, List, length, take, Option}
+-- What a sink took over a call. A word takes the sink's ghost members, as `S.Sink`, and the sink before and after.
+use Rattle.std.specs.Prelude.{ℕ, ◌≤◌, List, length, take}
 use Rattle.std.specs.Io.KnownBytes.{Appends}
+use Rattle.desk.specs.declared.sink.Sink.{Ghosts}
 
--- it took a prefix of the text, where that is told
-abbrev pub AppendsPrefix : Option (List ℕ) → Option (List ℕ) → List ℕ → Type 0
-AppendsPrefix old new text = (n : ℕ) × (n ≤ length text) × Appends old new (take n text)
+-- it took the text, where that is told
+abbrev pub Took : {S : Type 0} → Ghosts S → S → S → List ℕ → Type 0
+Took sink old new text = Appends (sink.taken old) (sink.taken new) text
+
+-- it took a prefix of the text
+abbrev pub TookPrefix : {S : Type 0} → Ghosts S → S → S → List ℕ → Type 0
+TookPrefix sink old new text = (n : ℕ) × (n ≤ length text) × Took sink old new (take n text)

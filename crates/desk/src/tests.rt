@@ -1,6 +1,6 @@
 // What no clause says: that calls succeed, and what the system's files and writers give.
 use crate::{
-    Desk, DeskFault, Failed, FileDesk, MemoryDesk, MemorySink, Named, NoGate, StreamSink, read_all,
+    Desk, DeskFault, Failed, FileDesk, MemoryDesk, MemorySink, Named, StreamSink, read_all,
     write_all,
 };
 use irv_base::Name;
@@ -75,6 +75,7 @@ fn a_real_file_is_read(rt: HostRuntime) -> Result<(), Fail> {
     assert_eq!(rt; bytes.as_slice(), b"some bytes\n".as_slice());
     assert_eq!(rt; desk.begin("none.txt").ok(), Some(false));
     assert_eq!(rt; desk.begin("real.txt/none").err(), Some(Failed));
+    fs::remove_file(&rt, "real.txt")?;
     Ok(())
 }
 

@@ -1,9 +1,8 @@
 // Whole files and whole texts.
 ghost use Rattle.std.specs.Prelude.{◌≡◌, ◌≤◌, ◌<◌, ◌⊎◌, ◌↔◌, true, false, max, Some, vec_len, OnOk, OnErr, IfOk, IfSome, IsErrOf};
-ghost use Rattle.std.specs.Io.KnownBytes.{Appends};
-ghost use Rattle.desk.specs.Count.{Rose};
+ghost use Rattle.desk.specs.Count.{Rose, HasCause};
 ghost use Rattle.desk.specs.Desk.{held_bytes};
-ghost use Rattle.desk.specs.Sink.{AppendsPrefix};
+ghost use Rattle.desk.specs.Sink.{Took, TookPrefix};
 ghost use Rattle.desk.specs.Reading.{IsReadOf, misses_after_reading};
 ghost use Rattle.desk.specs.declared.whole.DeskFault.TheVariants.{ReadFault, Memory};
 
@@ -106,10 +105,9 @@ fn read_begun<D: Desk>(alloc: Global, desk: &mut D, limit: u64) -> Result<Vec<u8
 
 /// Writes all the bytes. At `Failed` the sink took a prefix of them.
 pub fn write_all<S: Sink>(sink: &mut S, bytes: &[u8]) -> Result<(), Failed>
-    ensures whole { OnOk result (Appends (S.taken sink.old) (S.taken sink.new) bytes.now) }
-    ensures prefix { OnErr result (AppendsPrefix (S.taken sink.old) (S.taken sink.new) bytes.now) }
-    ensures later { S.faults sink.old ≤ S.faults sink.new }
-    ensures cause { OnErr result (Rose (S.faults sink.old) (S.faults sink.new)) }
+    ensures whole { OnOk result (Took S.Sink sink.old sink.new bytes.now) }
+    ensures prefix { OnErr result (TookPrefix S.Sink sink.old sink.new bytes.now) }
+    ensures cause { HasCause (S.faults sink.old) (S.faults sink.new) result }
 {
     let mut rest = bytes;
     while !rest.is_empty() {

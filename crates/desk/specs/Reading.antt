@@ -15,8 +15,5 @@ IsReadOf held limit (Err Memory) = ⊤
 
 -- one more miss where the file is missing
 abbrev pub misses_after_reading : {T : Type 0} → Result T DeskFault → ℕ → ℕ
-misses_after_reading (Ok bytes) misses = misses
 misses_after_reading (Err Missing) misses = one_more misses
-misses_after_reading (Err TooLong) misses = misses
-misses_after_reading (Err ReadFault) misses = misses
-misses_after_reading (Err Memory) misses = misses
+misses_after_reading result misses = misses

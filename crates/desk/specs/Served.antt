@@ -1,5 +1,5 @@
 -- What a desk has served.
-use Rattle.std.specs.Prelude.{ℕ, max, Bool, true, false, Result, Ok, Err}
+use Rattle.std.specs.Prelude.{ℕ, max, Bool, false, Result, Ok, Err}
 use Rattle.desk.specs.Count.{grown, one_more}
 use Rattle.desk.specs.declared.served.Served.{Served}
 
@@ -8,9 +8,8 @@ nothing = record { misses = 0; bytes = 0; longest = 0 }
 
 -- one more miss where `begin` answered false
 abbrev pub misses_after : {E : Type 0} → Result Bool E → ℕ → ℕ
-misses_after (Ok true) misses = misses
 misses_after (Ok false) misses = one_more misses
-misses_after (Err e) misses = misses
+misses_after result misses = misses
 
 -- after a `begin`, a new file's bytes are counted
 abbrev pub after_begin : {E : Type 0} → Result Bool E → Served → Served

@@ -1,0 +1,9 @@
+pub mod BallotsSoFar
+pub mod Dropped
+pub mod ForAll
+pub mod Ids
+pub mod Names
+pub mod Places
+pub mod Rankings
+pub mod Reading
+pub mod Sound

@@ -1,0 +1,4 @@
+pub mod Rows
+pub mod Ballots
+pub mod FirstForm
+pub mod Faults

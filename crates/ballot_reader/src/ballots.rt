@@ -1,0 +1,96 @@
+// The ballots of a contest.
+ghost use Rattle.std.specs.Prelude.{◌≡◌, ◌<◌, ◌≤◌, length, All, IsTrue};
+ghost use Rattle.ballot_reader.specs.Ballots.{AreBallots, all_differ};
+ghost use Rattle.irv_base.specs.declared.limits.TheConstants.{FEWEST_CANDIDATES, MOST_CANDIDATES, MOST_RECORDS};
+
+use crate::contest::Contest;
+use indexmap::IndexSet;
+use irv_base::{Name, Ranking};
+use std::marker::Model;
+
+/// A contest and its ballots, in the order of the file.
+///
+/// There are 2 to 20 candidates, all different, and at most 1,000,000 ballots, whose ids are all different. A ranking has
+/// candidates of this contest only, each as its place in `candidates`, from 0.
+#[derive(Drop)]
+pub struct Ballots {
+    contest: Name,
+    candidates: Vec<Name>,
+    ids: IndexSet<Name>,
+    places: Vec<u32>,
+    rankings: Vec<Ranking>,
+}
+
+impl Model for Ballots {
+    ghost use Rattle.ballot_reader.specs.Ballots.{BallotFile, IsSound};
+
+    ghost Value = { BallotFile };
+
+    ghost view = { λ b. record { contest = b.contest; candidates = b.candidates.items; ids = b.ids.keys; places = b.places.items; rankings = b.rankings.items } };
+
+    ghost invariant = { λ b. IsSound (record { contest = b.contest; candidates = b.candidates.items; ids = b.ids.keys; places = b.places.items; rankings = b.rankings.items }) };
+}
+
+impl Ballots {
+    pub(crate) fn new(
+        contest: Contest,
+        ids: IndexSet<Name>,
+        places: Vec<u32>,
+        rankings: Vec<Ranking>,
+    ) -> Ballots
+        requires { AreBallots (length contest.candidates) ids.keys places.items rankings.items }
+        ensures { result ≡ record { contest = contest.id; candidates = contest.candidates; ids = ids.keys; places = places.items; rankings = rankings.items } }
+    {
+        let Contest { id, candidates } = contest;
+        Ballots {
+            contest: id,
+            candidates,
+            ids,
+            places,
+            rankings,
+        }
+    }
+
+    /// The id of the contest.
+    pub fn contest(&self) -> &Name
+        ensures { result.now ≡ self.now.contest }
+    {
+        &self.contest
+    }
+
+    /// The ids of the candidates, in the order of the contest's record.
+    pub fn candidates(&self) -> &[Name]
+        ensures same { result.now ≡ self.now.candidates }
+        ensures fewest { FEWEST_CANDIDATES ≤ length self.now.candidates }
+        ensures most { length self.now.candidates ≤ MOST_CANDIDATES }
+        ensures differ { IsTrue (all_differ self.now.candidates) }
+    {
+        self.candidates.as_slice()
+    }
+
+    /// The ids of the ballots.
+    pub fn ids(&self) -> &[Name]
+        ensures same { result.now ≡ self.now.ids }
+        ensures one_each { length self.now.ids ≡ length self.now.rankings }
+        ensures differ { IsTrue (all_differ self.now.ids) }
+    {
+        self.ids.as_slice()
+    }
+
+    /// The numbers of the ballots' records in the file, from 1.
+    pub fn places(&self) -> &[u32]
+        ensures same { result.now ≡ self.now.places }
+        ensures one_each { length self.now.places ≡ length self.now.rankings }
+    {
+        self.places.as_slice()
+    }
+
+    /// The rankings of the ballots.
+    pub fn rankings(&self) -> &[Ranking]
+        ensures same { result.now ≡ self.now.rankings }
+        ensures most { length self.now.rankings ≤ MOST_RECORDS }
+        ensures below { All (λ ranking. All (λ c. c < length self.now.candidates) ranking) self.now.rankings }
+    {
+        self.rankings.as_slice()
+    }
+}

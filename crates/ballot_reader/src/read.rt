@@ -1,0 +1,88 @@
+// Reading a ballot file.
+ghost use Rattle.std.specs.Prelude.{◌≡◌, IfOk, IfErr, IsNone, Some, option_and_then};
+ghost use Rattle.ballot_reader.specs.FirstForm.{ballots_of, ballot_of, file_if, for_all};
+ghost use Rattle.ballot_reader.specs.Faults.{Refuses};
+
+use crate::ballots::Ballots;
+use crate::contest::{Contest, ballot_of, contest_of, is_one};
+use crate::fault::{BRule, BallotFault};
+use crate::rows::Rows;
+use csv::ByteRecord;
+use indexmap::IndexSet;
+use irv_base::{MOST_RECORDS, Memory, Name};
+use std::alloc::Global;
+
+const BYTE_ORDER_MARK: [u8; 3] = [0xEF, 0xBB, 0xBF];
+
+// The ballots of the contest in the records that are left, if each is one.
+fn ballots_left(
+    alloc: Global,
+    contest: Contest,
+    rows: &mut Rows<'_>,
+    row: &mut ByteRecord,
+) -> Result<Option<Ballots>, Memory>
+    ensures { IfOk result (λ ballots. ballots ≡ option_and_then (file_if contest) (for_all (ballot_of contest) rows.old)) }
+{
+    let mut ids = IndexSet::new(alloc);
+    let mut places = Vec::new(alloc);
+    let mut rankings = Vec::new(alloc);
+    'records: while rows.read(row)? {
+        if places.len() == MOST_RECORDS as usize {
+            return Ok(None);
+        }
+        let Some(ballot) = ballot_of(&contest, row) else {
+            return Ok(None);
+        };
+        if !ids.insert(ballot.id)? {
+            return Ok(None);
+        }
+        places.push(places.len() as u32 + 3)?;
+        rankings.push(ballot.ranking)?;
+    }
+    Ok(Some(Ballots::new(contest, ids, places, rankings)))
+}
+
+fn first_form(alloc: Global, bytes: &[u8]) -> Result<Option<Ballots>, Memory>
+    ensures { IfOk result (λ ballots. ballots ≡ ballots_of bytes.now) }
+{
+    if bytes.starts_with(&BYTE_ORDER_MARK) {
+        return Ok(None);
+    }
+    let mut rows = Rows::of(alloc, bytes);
+    let mut row = ByteRecord::new(alloc);
+    if !rows.read(&mut row)? {
+        return Ok(None);
+    }
+    if !is_one(&row) {
+        return Ok(None);
+    }
+    if !rows.read(&mut row)? {
+        return Ok(None);
+    }
+    let Some(contest) = contest_of(alloc, &row)? else {
+        return Ok(None);
+    };
+    ballots_left(alloc, contest, &mut rows, &mut row)
+}
+
+/// Reads a ballot file.
+///
+/// So far that is a file of one contest, asked for by `None`, with few candidates and with each id as it stands in the file:
+/// every other one is refused by rule B0 at 0.
+pub fn read_ballots(
+    alloc: Global,
+    bytes: &[u8],
+    contest: Option<&Name>,
+) -> Result<Ballots, BallotFault>
+    requires { IsNone contest }
+    ensures read { IfOk result (λ ballots. ballots_of bytes.now ≡ Some ballots) }
+    ensures refused { IfErr result (Refuses bytes.now) }
+{
+    match first_form(alloc, bytes)? {
+        Some(ballots) => Ok(ballots),
+        None => Err(BallotFault::Refused {
+            rule: BRule::B0,
+            at: 0,
+        }),
+    }
+}

@@ -1,6 +1,6 @@
 pub mod BallotsSoFar
 pub mod Dropped
-pub mod ForAll
+pub mod AllOf
 pub mod Ids
 pub mod Names
 pub mod Places

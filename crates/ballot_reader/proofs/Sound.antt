@@ -12,7 +12,7 @@ use Rattle.irv_base.specs.Candidates.{is_distinct}
 use Rattle.irv_base.specs.Names.{is_name}
 use Rattle.irv_base.specs.declared.limits.TheConstants.{MOST_RECORDS}
 use Rattle.ballot_reader.specs.Ballots.{Id, BallotFile, AreCandidates, AreBallots, IsSound, is_same, all_differ}
-use Rattle.ballot_reader.specs.FirstForm.{Contest, candidate_of, ranking_of, ballot_of, contest_of, file_of, file_if, for_all, if_distinct, is_count, is_one, names_of, ballots_in}
+use Rattle.ballot_reader.specs.FirstForm.{Contest, candidate_of, ranking_of, ballot_of, contest_of, file_of, file_with, all_of, distinct, is_count, is_one, names_of, ballots_in}
 use Rattle.ballot_reader.specs.Rows.{Fields}
 use Rattle.ballot_reader.specs.declared.contest.Ballot.{Ballot}
 
@@ -21,21 +21,21 @@ use Rattle.ballot_reader.specs.declared.contest.Ballot.{Ballot}
 abbrev pub Below : ℕ → List ℕ → Type 0
 Below n ranking = All (λ c. c < n) ranking
 
-for_all-below : (candidates ids : List Id) (ranking : List ℕ) → for_all (candidate_of candidates) ids ≡ Some ranking → Below (length candidates) ranking
-for_all-below candidates [] ranking h = let e : [] ≡ ranking = cc in subst (Below (length candidates)) e (All-nil (λ c. c < length candidates))
-for_all-below candidates (id ∷ ids) ranking h =
-    option_and_then_some (λ c. option_map (λ cs. c ∷ cs) (for_all (candidate_of candidates) ids)) (candidate_of candidates id) ranking h
-    (λ c first rest. cons (for_all (candidate_of candidates) ids) refl rest (position-Some (λ candidate. is_same candidate id) candidates c [] first).0 (for_all-below candidates ids))
+all_of-below : (candidates ids : List Id) (ranking : List ℕ) → all_of (candidate_of candidates) ids ≡ Some ranking → Below (length candidates) ranking
+all_of-below candidates [] ranking h = let e : [] ≡ ranking = cc in subst (Below (length candidates)) e (All-nil (λ c. c < length candidates))
+all_of-below candidates (id ∷ ids) ranking h =
+    option_and_then_some (λ c. option_map (λ cs. c ∷ cs) (all_of (candidate_of candidates) ids)) (candidate_of candidates id) ranking h
+    (λ c first rest. cons (all_of (candidate_of candidates) ids) refl rest (position-Some (λ candidate. is_same candidate id) candidates c [] first).0 (all_of-below candidates ids))
   where
-    cons : {c : ℕ} (o : Option (List ℕ)) → for_all (candidate_of candidates) ids ≡ o → option_map (λ cs. c ∷ cs) o ≡ Some ranking → c < length candidates
-        → ((cs : List ℕ) → for_all (candidate_of candidates) ids ≡ Some cs → Below (length candidates) cs) → Below (length candidates) ranking
+    cons : {c : ℕ} (o : Option (List ℕ)) → all_of (candidate_of candidates) ids ≡ o → option_map (λ cs. c ∷ cs) o ≡ Some ranking → c < length candidates
+        → ((cs : List ℕ) → all_of (candidate_of candidates) ids ≡ Some cs → Below (length candidates) cs) → Below (length candidates) ranking
     cons None e g l ih = absurd cc
     cons {c} (Some cs) e g l ih = let s : c ∷ cs ≡ ranking = cc in subst (Below (length candidates)) s (All-cons (λ c. c < length candidates) c cs l (ih cs e))
 
 ranking-below : (candidates ids : List Id) (ranking : List ℕ) → ranking_of candidates ids ≡ Some ranking → Below (length candidates) ranking
 ranking-below candidates ids ranking h =
-    option_and_then_some if_distinct (for_all (candidate_of candidates) ids) ranking h
-    (λ found first rest. for_all-below candidates ids ranking (first ∙ ap Some (cond_some (is_distinct found) found ranking rest).1))
+    option_and_then_some distinct (all_of (candidate_of candidates) ids) ranking h
+    (λ found first rest. all_of-below candidates ids ranking (first ∙ ap Some (cond_some (is_distinct found) found ranking rest).1))
 
 pub ballot-below : (contest : Contest) (row : Fields) (ballot : Ballot) → ballot_of contest row ≡ Some ballot → Below (length contest.candidates) ballot.ranking
 ballot-below contest [] ballot h = absurd cc

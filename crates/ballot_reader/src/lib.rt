@@ -13,3 +13,6 @@ pub use ballots::Ballots;
 pub use fault::{BRule, BallotFault};
 pub use limits::{FEWEST_READ, MOST_READ};
 pub use read::read_ballots;
+
+#[cfg(test)]
+mod tests;

@@ -1,6 +1,6 @@
 // Reading a ballot file.
 ghost use Rattle.std.specs.Prelude.{◌≡◌, IfOk, IfErr, IsNone, Some, option_and_then};
-ghost use Rattle.ballot_reader.specs.FirstForm.{ballots_of, ballot_of, file_if, for_all};
+ghost use Rattle.ballot_reader.specs.FirstForm.{ballots_of, ballot_of, file_with, all_of};
 ghost use Rattle.ballot_reader.specs.Faults.{Refuses};
 
 use crate::ballots::Ballots;
@@ -21,7 +21,7 @@ fn ballots_left(
     rows: &mut Rows<'_>,
     row: &mut ByteRecord,
 ) -> Result<Option<Ballots>, Memory>
-    ensures { IfOk result (λ ballots. ballots ≡ option_and_then (file_if contest) (for_all (ballot_of contest) rows.old)) }
+    ensures { IfOk result (λ ballots. ballots ≡ option_and_then (file_with contest) (all_of (ballot_of contest) rows.old)) }
 {
     let mut ids = IndexSet::new(alloc);
     let mut places = Vec::new(alloc);

@@ -14,12 +14,15 @@ use Rattle.ballot_reader.proofs.Sound.{are_ballots}
 use Rattle.ballot_reader.proofs.read.ballots_left.Goals as goal
 
 pub records-init : goal.records-init
-records-init c = ([], record {
-  so_far = ballots-none c.args.contest c.args.rows.now;
-  ids = c.new-ids.ensures.empty;
-  places = c.new-places.ensures.items;
-  rankings = c.new-rankings.ensures.items;
-})
+records-init c = (
+  [],
+  record {
+    so_far = ballots-none c.args.contest c.args.rows.now;
+    ids = c.new-ids.ensures.empty;
+    places = c.new-places.ensures.items;
+    rankings = c.new-rankings.ensures.items;
+  },
+)
 
 -- there are as many places as ballots
 counted : (ballots : List Ballot) (places : List ℕ) → places ≡ range_with_len 3 (length ballots) → length places ≡ length ballots
@@ -62,14 +65,16 @@ records-preserved c =
     let few : length ballots < MOST_RECORDS = omega (arith, c.records.places.ok, n, c.len.ensures, c.if-len.false, inv.so_far.few) in
     let absent = not-true _ (sym c.in_ok-insert.ensures.added ∙ c.if-not-branch.false) in
     let new = ap (λ ids. is_among ids ballot.id) (sym inv.ids) ∙ sym (among-set c.records.ids.keys ballot.id) ∙ absent in
-    let place : c.len-in-records.result ≡ length ballots = omega (arith, c.records.places.ok, n, c.len-in-records.ensures) in
-    (ballots ++ ballot ∷ [], record {
-      so_far = ballots-more c.args.contest c.args.rows.now ballots (fields_of c.read.new.row) ballot c.read.new.self (rw next at inv.so_far) (sym c.in-Some.ensures) few new;
-      ids = rw absent at c.in_ok-insert.ensures.keys ∙ ap (λ ids. ids ++ ballot.id ∷ []) inv.ids ∙ sym (map-append (λ (b : Ballot). b.id) ballots (ballot ∷ []));
-      places = c.in_ok-push.ensures.items ∙ ap (λ k. c.records.places.items ++ (k + 3) ∷ []) place ∙ ap (λ places. places ++ (length ballots + 3) ∷ []) inv.places
-          ∙ sym (range-more 3 (length ballots)) ∙ ap (range_with_len 3) (sym (length-append ballots (ballot ∷ [])));
-      rankings = c.in_ok-push-2.ensures.items ∙ ap (λ rankings. rankings ++ ballot.ranking ∷ []) inv.rankings ∙ sym (map-append (λ (b : Ballot). b.ranking) ballots (ballot ∷ []));
-    })
+    let place : c.len-in-records.result ≡ length ballots = omega (arith, c.records.places.ok, n, c.len-in-records.ensures) in (
+      ballots ++ ballot ∷ [],
+      record {
+        so_far = ballots-more c.args.contest c.args.rows.now ballots (fields_of c.read.new.row) ballot c.read.new.self (rw next at inv.so_far) (sym c.in-Some.ensures) few new;
+        ids = rw absent at c.in_ok-insert.ensures.keys ∙ ap (λ ids. ids ++ ballot.id ∷ []) inv.ids ∙ sym (map-append (λ (b : Ballot). b.id) ballots (ballot ∷ []));
+        places = c.in_ok-push.ensures.items ∙ ap (λ k. c.records.places.items ++ (k + 3) ∷ []) place ∙ ap (λ places. places ++ (length ballots + 3) ∷ []) inv.places
+            ∙ sym (range-more 3 (length ballots)) ∙ ap (range_with_len 3) (sym (length-append ballots (ballot ∷ [])));
+        rankings = c.in_ok-push-2.ensures.items ∙ ap (λ rankings. rankings ++ ballot.ranking ∷ []) inv.rankings ∙ sym (map-append (λ (b : Ballot). b.ranking) ballots (ballot ∷ []));
+      },
+    )
 
 pub new-requires : goal.new-requires
 new-requires c =

@@ -1,11 +1,10 @@
 -- Ballots that are read one record after the other.
-use Rattle.std.proofs.Common.{◌≡◌, ◌<◌, ◌≤◌, ◌+◌, ◌++◌, ◌∷◌, [], ◌∙◌, ◌&&◌, ℕ, Bool, true, false, List, Option, Some, None, length, map, refl, sym, ap, arith, inl, inr, append_assoc, length-append}
+use Rattle.std.proofs.Common.{◌≡◌, ◌<◌, ◌≤◌, ◌++◌, ◌∷◌, [], ◌∙◌, ◌&&◌, ℕ, Bool, true, false, List, Option, Some, None, length, refl, ap, arith, append_assoc, length-append}
 use Rattle.std.specs.Prelude.{All, option_and_then, nat_le, if◌then◌else◌}
-use Rattle.std.proofs.lemmas.Bool.{cases_Bool, both_ways, and_parts}
 use Rattle.std.proofs.lemmas.List.{map-append}
 use Rattle.std.proofs.lemmas.List.Elements.{All-append, All-cons, All-nil}
 use Rattle.irv_base.specs.declared.limits.TheConstants.{MOST_RECORDS}
-use Rattle.ballot_reader.specs.Ballots.{Id, BallotFile, all_differ, is_among}
+use Rattle.ballot_reader.specs.Ballots.{BallotFile, all_differ, is_among}
 use Rattle.ballot_reader.specs.FirstForm.{Contest, ballot_of, file_with, file_of, all_of}
 use Rattle.ballot_reader.specs.Rows.{Fields}
 use Rattle.ballot_reader.specs.declared.contest.Ballot.{Ballot}

@@ -1,5 +1,5 @@
 -- The fields of a record from a place on.
-use Rattle.std.proofs.Common.{◌≡◌, ◌+◌, ℕ, zero, suc, List, [], ◌∷◌, Option, Some, None, drop, refl, sym, ap, ◌∙◌, arith, add-one}
+use Rattle.std.proofs.Common.{◌≡◌, ◌+◌, ℕ, zero, suc, List, [], ◌∷◌, Some, None, drop, refl, ap, ◌∙◌, add-one}
 use Rattle.csv.specs.Records.{field_at}
 use Rattle.ballot_reader.specs.Rows.{Fields}
 

@@ -1,5 +1,5 @@
 -- Lists of ids none of which stands twice.
-use Rattle.std.proofs.Common.{inl, inr, ◌≡◌, Bool, true, false, not, ◌&&◌, ◌||◌, List, [], ◌∷◌, ◌++◌, refl, sym, ap, ◌∙◌}
+use Rattle.std.proofs.Common.{inl, inr, ◌≡◌, Bool, true, false, not, ◌||◌, List, [], ◌∷◌, ◌++◌, refl, sym, ap, ◌∙◌}
 use Rattle.std.specs.List.{list_any}
 use Rattle.std.proofs.lemmas.Bool.{and_parts, and_from, not-true, both_ways, cases_Bool}
 use Rattle.std.proofs.lemmas.Cmp.{nat_list_eq_equiv}
@@ -9,7 +9,7 @@ use Rattle.ballot_reader.specs.Ballots.{Id, is_same, is_among, all_differ}
 same-comm : (a b : Id) → is_same a b ≡ is_same b a
 same-comm a b = nat_list_eq_equiv.symm a b
 
-or-false : (a b : Bool) → (a || b) ≡ false → (a ≡ false) × (b ≡ false)
+pub or-false : (a b : Bool) → (a || b) ≡ false → (a ≡ false) × (b ≡ false)
 or-false false b h = (refl, h)
 or-false true b h = absurd (both_ways true h refl)
 

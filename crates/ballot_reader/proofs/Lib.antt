@@ -6,4 +6,6 @@ pub mod Names
 pub mod Places
 pub mod Rankings
 pub mod Reading
+pub mod Rereads
 pub mod Sound
+pub mod Spelled

@@ -1,5 +1,5 @@
 -- Rankings that are read one preference after the other.
-use Rattle.std.proofs.Common.{◌≡◌, ◌++◌, ◌∷◌, [], ◌∙◌, ℕ, true, false, Option, Some, None, List, refl, ap, append_assoc, inl, inr}
+use Rattle.std.proofs.Common.{◌≡◌, ◌++◌, ◌∷◌, [], ◌∙◌, ℕ, true, false, Some, None, List, refl, ap, append_assoc, inl, inr}
 use Rattle.std.specs.Prelude.{option_and_then}
 use Rattle.std.proofs.lemmas.Bool.{cases_Bool}
 use Rattle.irv_base.specs.Candidates.{is_in, is_distinct}

@@ -1,8 +1,7 @@
 -- What is read is sound: its candidates and ballots are within the limits, and a ballot ranks candidates of the contest.
 use Rattle.std.proofs.Common.{◌≡◌, ◌<◌, ◌≤◌, ◌∷◌, [], ◌∙◌, ◌&&◌, ℕ, Bool, true, false, List, Option, Some, None, length, map, refl, sym, ap, subst, arith}
-use Rattle.std.specs.Prelude.{All, IsTrue, if◌then◌else◌, option_map, option_and_then, nat_le, codes}
-use Rattle.std.specs.List.{list_all, range_with_len}
-use Rattle.std.proofs.lemmas.Bool.{and_parts}
+use Rattle.std.specs.Prelude.{All, if◌then◌else◌, option_map}
+use Rattle.std.specs.List.{range_with_len}
 use Rattle.std.proofs.lemmas.List.{length-map}
 use Rattle.std.proofs.lemmas.List.Elements.{All-nil, All-cons, All-map}
 use Rattle.std.proofs.lemmas.List.FromFn.{length-range_with_len}
@@ -11,8 +10,8 @@ use Rattle.std.proofs.lemmas.Option.{option_and_then_some, cond_some}
 use Rattle.irv_base.specs.Candidates.{is_distinct}
 use Rattle.irv_base.specs.Names.{is_name}
 use Rattle.irv_base.specs.declared.limits.TheConstants.{MOST_RECORDS}
-use Rattle.ballot_reader.specs.Ballots.{Id, BallotFile, AreCandidates, AreBallots, IsSound, is_same, all_differ}
-use Rattle.ballot_reader.specs.FirstForm.{Contest, candidate_of, ranking_of, ballot_of, contest_of, file_of, file_with, all_of, distinct, is_count, is_one, names_of, ballots_in}
+use Rattle.ballot_reader.specs.Ballots.{Id, AreBallots, is_same, all_differ}
+use Rattle.ballot_reader.specs.FirstForm.{Contest, candidate_of, ranking_of, ballot_of, all_of, distinct}
 use Rattle.ballot_reader.specs.Rows.{Fields}
 use Rattle.ballot_reader.specs.declared.contest.Ballot.{Ballot}
 

@@ -1,5 +1,5 @@
 -- The form of ballot file that is read so far: one contest with few candidates, and every id as it stands in the file.
-use Rattle.std.specs.Prelude.{ℕ, ◌+◌, Bool, true, false, ◌&&◌, nat_le, if◌then◌else◌, List, [], ◌∷◌, map, length, position, Option, Some, None, option_map, option_and_then, codes, nat_eq}
+use Rattle.std.specs.Prelude.{ℕ, ◌+◌, Bool, false, ◌&&◌, nat_le, if◌then◌else◌, List, [], ◌∷◌, map, length, position, Option, Some, None, option_map, option_and_then, codes, nat_eq}
 use Rattle.std.specs.List.{list_all, range_with_len, starts_with}
 use Rattle.irv_base.specs.Candidates.{is_distinct}
 use Rattle.irv_base.specs.Names.{is_name}

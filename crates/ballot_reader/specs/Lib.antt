@@ -1,4 +1,5 @@
 pub mod Rows
 pub mod Ballots
 pub mod FirstForm
+pub mod Laws
 pub mod Faults

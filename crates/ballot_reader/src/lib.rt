@@ -5,6 +5,7 @@ mod ballots;
 mod contest;
 mod fault;
 mod fields;
+pub mod laws;
 mod limits;
 mod read;
 mod rows;

@@ -1,5 +1,5 @@
-use Rattle.std.proofs.Common.{◌≡◌, ◌∙◌, sym}
-use Rattle.ballot_reader.proofs.Rankings.{ranks-more, ranks-repeated, ranks-unknown}
+use Rattle.std.proofs.Common.{◌∙◌, sym}
+use Rattle.ballot_reader.proofs.Rankings.{ranks-more, ranks-repeated}
 use Rattle.ballot_reader.proofs.contest.ranking_of.Goals as goal
 
 pub returns-then-contains : goal.returns-then-contains

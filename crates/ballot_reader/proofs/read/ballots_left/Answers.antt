@@ -7,7 +7,7 @@ use Rattle.csv.specs.Records.{fields_of}
 use Rattle.irv_base.specs.declared.limits.TheConstants.{MOST_RECORDS}
 use Rattle.ballot_reader.specs.Ballots.{is_among}
 use Rattle.ballot_reader.specs.declared.contest.Ballot.{Ballot}
-use Rattle.ballot_reader.proofs.BallotsSoFar.{BallotsSoFar, ballots-none, ballots-more, ballots-many, ballots-repeated}
+use Rattle.ballot_reader.proofs.BallotsSoFar.{ballots-none, ballots-more, ballots-many, ballots-repeated}
 use Rattle.ballot_reader.proofs.Ids.{among-set}
 use Rattle.ballot_reader.proofs.Places.{range-more}
 use Rattle.ballot_reader.proofs.Sound.{are_ballots}

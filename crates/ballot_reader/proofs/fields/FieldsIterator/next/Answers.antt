@@ -1,4 +1,4 @@
-use Rattle.std.proofs.Common.{◌≡◌, ◌∷◌, ◌∙◌, sym, ap, arith, length, drop, ◌+◌}
+use Rattle.std.proofs.Common.{◌∙◌, sym, arith}
 use Rattle.csv.specs.Records.{fields_of}
 use Rattle.ballot_reader.proofs.Dropped.{drop-field, drop-none}
 use Rattle.ballot_reader.proofs.fields.FieldsIterator.next.Goals as goal

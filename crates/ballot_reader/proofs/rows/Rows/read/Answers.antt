@@ -1,8 +1,8 @@
-use Rattle.std.proofs.Common.{not, Bor, List, ℕ, Bool, ◌≡◌, ◌∙◌, ◌∷◌, [], sym, refl, ap, true, false, if◌then◌else◌}
+use Rattle.std.proofs.Common.{not, Bor, List, ℕ, Bool, ◌≡◌, ◌∙◌, ◌∷◌, [], sym, true, false, if◌then◌else◌}
 use Rattle.std.proofs.lemmas.Bool.{not-false}
 use Rattle.csv.specs.Records.{fields_of}
 use Rattle.csv.specs.declared.reader.Reader.{Reader}
-use Rattle.ballot_reader.specs.Rows.{Fields, records_left, bytes_left, records_after}
+use Rattle.ballot_reader.specs.Rows.{Fields, records_left, bytes_left}
 use Rattle.ballot_reader.proofs.Reading.{TakesOff, read-takes_off, read-between}
 use Rattle.ballot_reader.proofs.rows.Rows.read.Goals as goal
 

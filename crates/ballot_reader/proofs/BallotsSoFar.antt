@@ -1,30 +1,34 @@
 -- Ballots that are read one record after the other.
 use Rattle.std.proofs.Common.{◌≡◌, ◌<◌, ◌≤◌, ◌++◌, ◌∷◌, [], ◌∙◌, ◌&&◌, ℕ, Bool, true, false, List, Option, Some, None, length, refl, ap, arith, append_assoc, length-append}
-use Rattle.std.specs.Prelude.{All, option_and_then, nat_le, if◌then◌else◌}
+use Rattle.std.specs.Prelude.{option_and_then, nat_le, if◌then◌else◌}
+use Rattle.std.specs.List.{list_all}
+use Rattle.std.proofs.lemmas.Bool.{and_from}
 use Rattle.std.proofs.lemmas.List.{map-append}
-use Rattle.std.proofs.lemmas.List.Elements.{All-append, All-cons, All-nil}
+use Rattle.std.proofs.lemmas.List.Folds.{list_all-append}
 use Rattle.irv_base.specs.declared.limits.TheConstants.{MOST_RECORDS}
 use Rattle.ballot_reader.specs.Ballots.{BallotFile, all_differ, is_among}
 use Rattle.ballot_reader.specs.FirstForm.{Contest, ballot_of, file_with, file_of, all_of}
+use Rattle.ballot_reader.specs.Laws.{is_ballot}
 use Rattle.ballot_reader.specs.Rows.{Fields}
 use Rattle.ballot_reader.specs.declared.contest.Ballot.{Ballot}
 use Rattle.ballot_reader.proofs.AllOf.{behind, behind-end, behind-more, behind-none, behind-refused}
 use Rattle.ballot_reader.proofs.Ids.{differ-push, repeated}
-use Rattle.ballot_reader.proofs.Sound.{Below, ids_of, ballot-below}
+use Rattle.ballot_reader.proofs.Sound.{ids_of}
+use Rattle.ballot_reader.proofs.Spelled.{ballot-is}
 
 -- the records are these ballots, and then those of the rest
 pub record BallotsSoFar (contest : Contest) (rows : List Fields) (ballots : List Ballot) (rest : List Fields) : Type 0 where
   pub split : all_of (ballot_of contest) rows ≡ behind ballots (all_of (ballot_of contest) rest)
   pub few : length ballots ≤ MOST_RECORDS
   pub differ : all_differ (ids_of ballots) ≡ true
-  pub below : All (λ ballot. Below (length contest.candidates) ballot.ranking) ballots
+  pub valid : list_all (is_ballot (length contest.candidates)) ballots ≡ true
 
 pub ballots-none : (contest : Contest) (rows : List Fields) → BallotsSoFar contest rows [] rows
 ballots-none contest rows = record {
   split = Rattle.ballot_reader.proofs.AllOf.behind-nil (all_of (ballot_of contest) rows);
   few = omega arith;
   differ = refl;
-  below = All-nil (λ (ballot : Ballot). Below (length contest.candidates) ballot.ranking);
+  valid = refl;
 }
 
 pub ballots-more : (contest : Contest) (rows : List Fields) (ballots : List Ballot) (row : Fields) (ballot : Ballot) (rest : List Fields) → BallotsSoFar contest rows ballots (row ∷ rest)
@@ -33,8 +37,9 @@ ballots-more contest rows ballots row ballot rest so_far e few new = record {
   split = so_far.split ∙ behind-more (ballot_of contest) ballots row ballot rest e;
   few = omega (arith, length-append ballots (ballot ∷ []));
   differ = ap all_differ (map-append (λ (b : Ballot). b.id) ballots (ballot ∷ [])) ∙ differ-push (ids_of ballots) ballot.id so_far.differ new;
-  below = All-append (λ (b : Ballot). Below (length contest.candidates) b.ranking) ballots (ballot ∷ []) so_far.below
-      (All-cons (λ (b : Ballot). Below (length contest.candidates) b.ranking) ballot [] (ballot-below contest row ballot e) (All-nil (λ (b : Ballot). Below (length contest.candidates) b.ranking)));
+  valid = list_all-append (is_ballot (length contest.candidates)) ballots (ballot ∷ [])
+      ∙ and_from (list_all (is_ballot (length contest.candidates)) ballots) (is_ballot (length contest.candidates) ballot && true) so_far.valid
+      (and_from (is_ballot (length contest.candidates) ballot) true (ballot-is contest row ballot e).valid refl);
 }
 
 -- ---- what is refused

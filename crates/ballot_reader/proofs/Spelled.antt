@@ -49,7 +49,7 @@ pub record BallotIs (contest : Contest) (row : Fields) (ballot : Ballot) : Type 
   pub row_is : row ≡ ballot_record contest ballot
   pub valid : is_ballot (length contest.candidates) ballot ≡ true
 
-ballot-is : (contest : Contest) (row : Fields) (ballot : Ballot) → ballot_of contest row ≡ Some ballot → BallotIs contest row ballot
+pub ballot-is : (contest : Contest) (row : Fields) (ballot : Ballot) → ballot_of contest row ≡ Some ballot → BallotIs contest row ballot
 ballot-is contest [] ballot h = absurd cc
 ballot-is contest (of ∷ []) ballot h = absurd cc
 ballot-is contest (of ∷ id ∷ ids) ballot h = by (is_same of contest.id && is_name id) (ranking_of contest.candidates ids) refl refl h where

@@ -2,6 +2,7 @@
 use Rattle.std.specs.Prelude.{◌≡◌, ◌<◌, ◌≤◌, ◌==◌, ℕ, Bool, true, not, ◌&&◌, List, [], ◌∷◌, length, All, IsTrue}
 use Rattle.std.specs.List.{list_any}
 use Rattle.std.specs.Cmp.Lexicographic.{pointwise}
+use Rattle.irv_base.specs.Candidates.{is_distinct}
 use Rattle.irv_base.specs.declared.limits.TheConstants.{FEWEST_CANDIDATES, MOST_CANDIDATES, MOST_RECORDS}
 
 -- ---- ids
@@ -41,6 +42,7 @@ pub record AreBallots (n : ℕ) (ids : List Id) (places : List ℕ) (rankings : 
   pub a_place_each : length places ≡ length rankings
   pub differ : IsTrue (all_differ ids)
   pub below : All (λ ranking. All (λ c. c < n) ranking) rankings
+  pub distinct : All (λ ranking. IsTrue (is_distinct ranking)) rankings
 
 pub record IsSound (file : BallotFile) : Type 0 where
   pub candidates : AreCandidates file.candidates

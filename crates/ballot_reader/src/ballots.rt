@@ -1,6 +1,7 @@
 // The ballots of a contest.
 ghost use Rattle.std.specs.Prelude.{◌≡◌, ◌<◌, ◌≤◌, length, All, IsTrue};
 ghost use Rattle.ballot_reader.specs.Ballots.{AreBallots, all_differ};
+ghost use Rattle.irv_base.specs.Candidates.{is_distinct};
 ghost use Rattle.irv_base.specs.declared.limits.TheConstants.{FEWEST_CANDIDATES, MOST_CANDIDATES, MOST_RECORDS};
 
 use crate::contest::Contest;
@@ -10,8 +11,10 @@ use std::marker::Model;
 
 /// A contest and its ballots, in the order of the file.
 ///
-/// There are 2 to 20 candidates, all different, and at most 1,000,000 ballots, whose ids are all different. A ranking has
-/// candidates of this contest only, each as its place in `candidates`, from 0.
+/// There are `FEWEST_CANDIDATES` to `MOST_CANDIDATES` candidates, all different, and at most `MOST_RECORDS` ballots, whose ids
+/// are all different. A ranking has candidates of this contest only, each as its place in `candidates`, from 0.
+///
+/// To a contract it is the record of these lists.
 #[derive(Drop)]
 pub struct Ballots {
     contest: Name,
@@ -90,6 +93,7 @@ impl Ballots {
         ensures same { result.now ≡ self.now.rankings }
         ensures most { length self.now.rankings ≤ MOST_RECORDS }
         ensures below { All (λ ranking. All (λ c. c < length self.now.candidates) ranking) self.now.rankings }
+        ensures distinct { All (λ ranking. IsTrue (is_distinct ranking)) self.now.rankings }
     {
         self.rankings.as_slice()
     }

@@ -14,6 +14,9 @@ use std::alloc::Global;
 
 const BYTE_ORDER_MARK: [u8; 3] = [0xEF, 0xBB, 0xBF];
 
+// The record of the first ballot, counted from 1: that of the contest stands before it, and the number of contests before that.
+const FIRST_BALLOT: u32 = 3;
+
 // The ballots of the contest in the records that are left, if each is one.
 fn ballots_left(
     alloc: Global,
@@ -36,7 +39,7 @@ fn ballots_left(
         if !ids.insert(ballot.id)? {
             return Ok(None);
         }
-        places.push(places.len() as u32 + 3)?;
+        places.push(FIRST_BALLOT + places.len() as u32)?;
         rankings.push(ballot.ranking)?;
     }
     Ok(Some(Ballots::new(contest, ids, places, rankings)))
@@ -67,8 +70,10 @@ fn first_form(alloc: Global, bytes: &[u8]) -> Result<Option<Ballots>, Memory>
 
 /// Reads a ballot file.
 ///
-/// So far that is a file of one contest, asked for by `None`, with few candidates and with each id as it stands in the file:
-/// every other one is refused by rule B0 at 0.
+/// So far that is a file of one contest, asked for by `None`. Its first record is the one field `1`. The second one is `Contest`,
+/// the contest's id, the number of candidates as one digit from `FEWEST_READ` to `MOST_READ`, and as many ids. Each other one is a
+/// ballot: the contest's id, the ballot's own, and candidates' ids, the most preferred first, possibly none. Ids are taken as they
+/// stand. Every other file is refused by rule B0 at 0.
 pub fn read_ballots(
     alloc: Global,
     bytes: &[u8],

@@ -70,7 +70,7 @@ records-preserved c =
       record {
         so_far = ballots-more c.args.contest c.args.rows.now ballots (fields_of c.read.new.row) ballot c.read.new.self (rw next at inv.so_far) (sym c.in-Some.ensures) few new;
         ids = rw absent at c.in_ok-insert.ensures.keys ∙ ap (λ ids. ids ++ ballot.id ∷ []) inv.ids ∙ sym (map-append (λ (b : Ballot). b.id) ballots (ballot ∷ []));
-        places = c.in_ok-push.ensures.items ∙ ap (λ k. c.records.places.items ++ (k + 3) ∷ []) place ∙ ap (λ places. places ++ (length ballots + 3) ∷ []) inv.places
+        places = c.in_ok-push.ensures.items ∙ ap (λ k. c.records.places.items ++ (3 + k) ∷ []) place ∙ ap (λ places. places ++ (3 + length ballots) ∷ []) inv.places
             ∙ sym (range-more 3 (length ballots)) ∙ ap (range_with_len 3) (sym (length-append ballots (ballot ∷ [])));
         rankings = c.in_ok-push-2.ensures.items ∙ ap (λ rankings. rankings ++ ballot.ranking ∷ []) inv.rankings ∙ sym (map-append (λ (b : Ballot). b.ranking) ballots (ballot ∷ []));
       },
@@ -79,4 +79,4 @@ records-preserved c =
 pub new-requires : goal.new-requires
 new-requires c =
     let (ballots, inv) = c.records.invariant in
-    rw (inv.ids, inv.places, inv.rankings) (are_ballots (length c.args.contest.candidates) ballots inv.so_far.few inv.so_far.differ inv.so_far.below)
+    rw (inv.ids, inv.places, inv.rankings) (are_ballots (length c.args.contest.candidates) ballots inv.so_far.few inv.so_far.differ inv.so_far.valid)

@@ -6,7 +6,8 @@ use Rattle.std.proofs.lemmas.Bool.{and_from}
 use Rattle.std.proofs.lemmas.List.{map-append}
 use Rattle.std.proofs.lemmas.List.Folds.{list_all-append}
 use Rattle.irv_base.specs.declared.limits.TheConstants.{MOST_RECORDS}
-use Rattle.ballot_reader.specs.Ballots.{BallotFile, all_differ, is_among}
+use Rattle.irv_base.specs.Names.{all_differ, is_among}
+use Rattle.ballot_reader.specs.Ballots.{BallotFile}
 use Rattle.ballot_reader.specs.FirstForm.{Contest, ballot_of, file_with, file_of, all_of}
 use Rattle.ballot_reader.specs.Laws.{is_ballot}
 use Rattle.ballot_reader.specs.Rows.{Fields}

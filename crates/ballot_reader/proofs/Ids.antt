@@ -4,7 +4,7 @@ use Rattle.std.specs.List.{list_any}
 use Rattle.std.proofs.lemmas.Bool.{and_parts, and_from, not-true, both_ways, cases_Bool}
 use Rattle.std.proofs.lemmas.Cmp.{nat_list_eq_equiv}
 use Rattle.std.proofs.lemmas.List.Folds.{list_any-append}
-use Rattle.ballot_reader.specs.Ballots.{Id, is_same, is_among, all_differ}
+use Rattle.irv_base.specs.Names.{Id, is_same, is_among, all_differ}
 
 same-comm : (a b : Id) → is_same a b ≡ is_same b a
 same-comm a b = nat_list_eq_equiv.symm a b

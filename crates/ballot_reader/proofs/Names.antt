@@ -4,7 +4,7 @@ use Rattle.std.specs.List.{list_all}
 use Rattle.std.proofs.lemmas.Bool.{and_from}
 use Rattle.std.proofs.lemmas.List.Folds.{list_all-append}
 use Rattle.irv_base.specs.Names.{is_name}
-use Rattle.ballot_reader.specs.Ballots.{Id, is_among, all_differ}
+use Rattle.irv_base.specs.Names.{Id, is_among, all_differ}
 use Rattle.ballot_reader.specs.FirstForm.{names_of}
 use Rattle.ballot_reader.proofs.Ids.{differ-push, repeated}
 

@@ -5,7 +5,7 @@ use Rattle.std.proofs.lemmas.Bool.{cases_Bool}
 use Rattle.irv_base.specs.Candidates.{is_in, is_distinct}
 use Rattle.irv_base.proofs.Members.{member-from_in, none-from_out}
 use Rattle.irv_base.proofs.Distinct.{distinct-from_test, distinct-split, distinct-push, test-distinct}
-use Rattle.ballot_reader.specs.Ballots.{Id}
+use Rattle.irv_base.specs.Names.{Id}
 use Rattle.ballot_reader.specs.FirstForm.{candidate_of, all_of, distinct, ranking_of}
 use Rattle.ballot_reader.proofs.AllOf.{behind, behind-more, behind-none, behind-refused}
 

@@ -8,7 +8,7 @@ use Rattle.std.proofs.lemmas.List.Sums.{position_or_len_is}
 use Rattle.irv_base.specs.Candidates.{is_distinct}
 use Rattle.irv_base.specs.Names.{is_name}
 use Rattle.irv_base.specs.declared.limits.TheConstants.{MOST_RECORDS}
-use Rattle.ballot_reader.specs.Ballots.{Id, is_same, is_among, all_differ}
+use Rattle.irv_base.specs.Names.{Id, is_same, is_among, all_differ}
 use Rattle.ballot_reader.specs.FirstForm.{Contest, digit, candidate_of, distinct, ranking_of, ballot_of, contest_of, file_of, file_with, all_of, is_count, names_of}
 use Rattle.ballot_reader.specs.Laws.{contest_record, id_of, ballot_record, is_ballot, WhatIsSpelledIsRead}
 use Rattle.ballot_reader.specs.declared.contest.Ballot.{Ballot}

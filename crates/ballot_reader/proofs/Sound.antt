@@ -10,7 +10,8 @@ use Rattle.std.proofs.lemmas.List.Sums.{AllPass-from_list_all}
 use Rattle.irv_base.specs.Candidates.{is_distinct}
 use Rattle.irv_base.specs.Names.{is_name}
 use Rattle.irv_base.specs.declared.limits.TheConstants.{MOST_RECORDS}
-use Rattle.ballot_reader.specs.Ballots.{Id, AreBallots, all_differ}
+use Rattle.irv_base.specs.Names.{Id, all_differ}
+use Rattle.ballot_reader.specs.Ballots.{AreBallots}
 use Rattle.ballot_reader.specs.Laws.{is_ballot}
 use Rattle.ballot_reader.specs.declared.contest.Ballot.{Ballot}
 

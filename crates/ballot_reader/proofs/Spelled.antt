@@ -9,7 +9,8 @@ use Rattle.std.proofs.lemmas.Option.{option_and_then_some, cond_some}
 use Rattle.irv_base.specs.Candidates.{is_distinct}
 use Rattle.irv_base.specs.Names.{is_name}
 use Rattle.irv_base.specs.declared.limits.TheConstants.{MOST_RECORDS}
-use Rattle.ballot_reader.specs.Ballots.{Id, BallotFile, is_same, all_differ}
+use Rattle.irv_base.specs.Names.{Id, is_same, all_differ}
+use Rattle.ballot_reader.specs.Ballots.{BallotFile}
 use Rattle.ballot_reader.specs.FirstForm.{Contest, digit, candidate_of, distinct, ranking_of, ballot_of, contest_of, file_of, file_with, all_of, is_count, is_one}
 use Rattle.ballot_reader.specs.Laws.{contest_record, id_of, ballot_record, spelling, is_ballot, HasSpelling, WhatIsReadIsSpelled}
 use Rattle.ballot_reader.specs.Rows.{Fields}

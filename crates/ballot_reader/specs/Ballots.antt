@@ -1,24 +1,8 @@
 -- What a ballot file says of its contest.
-use Rattle.std.specs.Prelude.{◌≡◌, ◌<◌, ◌≤◌, ◌==◌, ℕ, Bool, true, not, ◌&&◌, List, [], ◌∷◌, length, All, IsTrue}
-use Rattle.std.specs.List.{list_any}
-use Rattle.std.specs.Cmp.Lexicographic.{pointwise}
+use Rattle.std.specs.Prelude.{◌≡◌, ◌<◌, ◌≤◌, ℕ, List, length, All, IsTrue}
 use Rattle.irv_base.specs.Candidates.{is_distinct}
+use Rattle.irv_base.specs.Names.{Id, all_differ}
 use Rattle.irv_base.specs.declared.limits.TheConstants.{FEWEST_CANDIDATES, MOST_CANDIDATES, MOST_RECORDS}
-
--- ---- ids
-
-abbrev pub Id : Type 0
-Id = List ℕ
-
-abbrev pub is_same : Id → Id → Bool
-is_same a b = pointwise ◌==◌ a b
-
-abbrev pub is_among : List Id → Id → Bool
-is_among ids id = list_any (λ other. is_same other id) ids
-
-abbrev pub all_differ : List Id → Bool
-all_differ [] = true
-all_differ (id ∷ rest) = not (is_among rest id) && all_differ rest
 
 -- ---- ballots
 

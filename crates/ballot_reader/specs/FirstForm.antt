@@ -4,7 +4,8 @@ use Rattle.std.specs.List.{list_all, range_with_len, starts_with}
 use Rattle.irv_base.specs.Candidates.{is_distinct}
 use Rattle.irv_base.specs.Names.{is_name}
 use Rattle.irv_base.specs.declared.limits.TheConstants.{MOST_RECORDS}
-use Rattle.ballot_reader.specs.Ballots.{Id, BallotFile, is_same, all_differ}
+use Rattle.irv_base.specs.Names.{Id, is_same, all_differ}
+use Rattle.ballot_reader.specs.Ballots.{BallotFile}
 use Rattle.ballot_reader.specs.Rows.{Fields, records_of}
 use Rattle.ballot_reader.specs.declared.contest.Ballot.{Ballot}
 use Rattle.ballot_reader.specs.declared.limits.TheConstants.{FEWEST_READ, MOST_READ}

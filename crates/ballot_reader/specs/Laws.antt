@@ -4,7 +4,8 @@ use Rattle.std.specs.List.{list_all}
 use Rattle.irv_base.specs.Candidates.{is_distinct}
 use Rattle.irv_base.specs.Names.{is_name}
 use Rattle.irv_base.specs.declared.limits.TheConstants.{MOST_RECORDS}
-use Rattle.ballot_reader.specs.Ballots.{Id, BallotFile, all_differ}
+use Rattle.irv_base.specs.Names.{Id, all_differ}
+use Rattle.ballot_reader.specs.Ballots.{BallotFile}
 use Rattle.ballot_reader.specs.FirstForm.{Contest, digit, file_of, ballots_in}
 use Rattle.ballot_reader.specs.Rows.{Fields}
 use Rattle.ballot_reader.specs.declared.contest.Ballot.{Ballot}

@@ -1,6 +1,7 @@
 // The ballots of a contest.
 ghost use Rattle.std.specs.Prelude.{◌≡◌, ◌<◌, ◌≤◌, length, All, IsTrue};
-ghost use Rattle.ballot_reader.specs.Ballots.{AreBallots, all_differ};
+ghost use Rattle.irv_base.specs.Names.{all_differ};
+ghost use Rattle.ballot_reader.specs.Ballots.{AreBallots};
 ghost use Rattle.irv_base.specs.Candidates.{is_distinct};
 ghost use Rattle.irv_base.specs.declared.limits.TheConstants.{FEWEST_CANDIDATES, MOST_CANDIDATES, MOST_RECORDS};
 

@@ -2,7 +2,7 @@
 ghost use Rattle.std.specs.Prelude.{◌≡◌, ◌<◌, ◌≤◌, length, position, IfOk, IfSome, option_map};
 ghost use Rattle.csv.specs.Records.{fields_of};
 ghost use Rattle.irv_base.specs.declared.limits.TheConstants.{ROOM};
-ghost use Rattle.ballot_reader.specs.Ballots.{is_same};
+ghost use Rattle.irv_base.specs.Names.{is_same};
 ghost use Rattle.ballot_reader.specs.FirstForm.{contest_of, ballot_of, candidate_of, ranking_of, is_count, is_one, names_of};
 
 use crate::fields::Fields;

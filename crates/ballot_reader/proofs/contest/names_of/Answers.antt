@@ -1,6 +1,6 @@
 use Rattle.std.proofs.Common.{◌≡◌, ◌∙◌, true, sym, ap, rules}
 use Rattle.std.specs.Result.{is_ok}
-use Rattle.ballot_reader.specs.Ballots.{is_among}
+use Rattle.irv_base.specs.Names.{is_among}
 use Rattle.ballot_reader.proofs.Names.{names-more, names-repeated}
 use Rattle.ballot_reader.proofs.contest.names_of.Goals as goal
 

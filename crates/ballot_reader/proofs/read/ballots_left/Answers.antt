@@ -5,7 +5,7 @@ use Rattle.std.proofs.lemmas.List.{map-append}
 use Rattle.std.proofs.lemmas.List.FromFn.{length-range_with_len}
 use Rattle.csv.specs.Records.{fields_of}
 use Rattle.irv_base.specs.declared.limits.TheConstants.{MOST_RECORDS}
-use Rattle.ballot_reader.specs.Ballots.{is_among}
+use Rattle.irv_base.specs.Names.{is_among}
 use Rattle.ballot_reader.specs.declared.contest.Ballot.{Ballot}
 use Rattle.ballot_reader.proofs.BallotsSoFar.{ballots-none, ballots-more, ballots-many, ballots-repeated}
 use Rattle.ballot_reader.proofs.Ids.{among-set}

@@ -1,0 +1,7 @@
+pub mod Names
+pub mod Orders
+pub mod Sets
+pub mod Exact
+pub mod LineFeed
+pub mod ReadsBack
+pub mod Files

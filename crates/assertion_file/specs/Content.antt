@@ -1,0 +1,48 @@
+-- What an assertion file says of a contest.
+use Rattle.std.specs.Prelude.{◌<◌, ◌≤◌, ℕ, List, length, All, IsTrue}
+use Rattle.std.specs.List.{list_all}
+use Rattle.irv_base.specs.Names.{is_name}
+use Rattle.irv_base.specs.Orders.{is_order}
+use Rattle.irv_base.specs.declared.limits.TheConstants.{FEWEST_CANDIDATES, MOST_CANDIDATES, MOST_RECORDS}
+use Rattle.assertions.specs.Assertions.{is_proper}
+use Rattle.assertions.specs.declared.assertion.Claim.{Claim}
+use Rattle.assertion_file.specs.Ids.{Id, all_differ}
+
+-- a candidate is its place in the list of candidates, from 0
+pub record Content : Type 0 where
+  pub contest : Id
+  pub candidates : List Id
+  pub records : ℕ
+  pub winner : ℕ
+  pub margin : ℕ
+  pub order : List ℕ
+  pub claims : List Claim
+
+abbrev pub candidate_count : Content → ℕ
+candidate_count file = length file.candidates
+
+-- a margin in votes, where there are so many records
+pub record IsMargin (records margin : ℕ) : Type 0 where
+  pub some : 1 ≤ margin
+  pub most : margin ≤ records
+
+-- about n candidates and so many records
+pub record IsSoundClaim (n records : ℕ) (claim : Claim) : Type 0 where
+  pub proper : IsTrue (is_proper n claim.assertion)
+  pub margin : IsMargin records claim.margin
+
+pub record IsSound (file : Content) : Type 0 where
+  pub fewest : FEWEST_CANDIDATES ≤ candidate_count file
+  pub most : candidate_count file ≤ MOST_CANDIDATES
+  pub differ : IsTrue (all_differ file.candidates)
+  pub some_records : 1 ≤ file.records
+  pub most_records : file.records ≤ MOST_RECORDS
+  pub winner : file.winner < candidate_count file
+  pub order : IsTrue (is_order (candidate_count file) file.order)
+  pub margin : IsMargin file.records file.margin
+  pub claims : All (IsSoundClaim (candidate_count file) file.records) file.claims
+
+-- its ids are names, as the type of the ids has it
+pub record HasNames (file : Content) : Type 0 where
+  pub contest : IsTrue (is_name file.contest)
+  pub candidates : IsTrue (list_all is_name file.candidates)

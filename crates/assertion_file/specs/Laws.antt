@@ -1,0 +1,8 @@
+-- The laws of the assertion file.
+use Rattle.std.specs.Prelude.{◌≡◌, Some, IsTrue}
+use Rattle.assertion_file.specs.Content.{Content, IsSound, HasNames}
+use Rattle.assertion_file.specs.Text.{file_value, assertion_file_text, json_of}
+
+-- what is printed reads as the file's value
+abbrev pub TextReadsBack : Type 0
+TextReadsBack = (file : Content) → IsSound file → HasNames file → json_of (assertion_file_text file) ≡ Some (file_value file)

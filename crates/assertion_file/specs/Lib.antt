@@ -1,0 +1,4 @@
+pub mod Ids
+pub mod Content
+pub mod Text
+pub mod Laws

@@ -1,0 +1,7 @@
+//! The laws of the assertion file: each holds of every value that it names, and has no code.
+ghost use Rattle.assertion_file.specs.Laws.{TextReadsBack};
+
+/// What is printed reads as the file's JSON value.
+pub fn text_reads_back()
+    ensures { TextReadsBack }
+{}

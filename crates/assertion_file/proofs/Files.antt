@@ -1,12 +1,13 @@
 -- The value of an assertion file is exact, and nests little.
-use Rattle.std.proofs.Common.{◌≡◌, ℕ, zero, suc, ◌≤◌, true, List, [], ◌∷◌, map, All, Some, refl, codes, arith}
+use Rattle.std.proofs.Common.{◌≡◌, ℕ, zero, suc, ◌≤◌, true, false, List, [], ◌∷◌, ◌++◌, map, All, Some, refl, ap, codes, ◌∙◌, arith}
 use Rattle.std.specs.List.{list_all}
 use Rattle.std.specs.Str.{IsUtf8}
 use Rattle.std.proofs.lemmas.Bool.{and_parts}
 use Rattle.std.proofs.lemmas.Str.{IsUtf8-nil}
 use Rattle.json.proofs.Printed.Utf8.{IsUtf8-are_ascii}
-use Rattle.serde_json.specs.Data.{string, depth, items_depth}
+use Rattle.serde_json.specs.Data.{Data, string, depth, items_depth}
 use Rattle.serde_json.specs.View.{items_of}
+use Rattle.serde_json.specs.Written.{compact_text, has_float}
 use Rattle.serde_json.proofs.OnLiterals.{serde_json_on_literals}
 use Rattle.irv_base.specs.Names.{is_name}
 use Rattle.irv_base.specs.declared.limits.TheConstants.{MOST_RECORDS}
@@ -16,7 +17,7 @@ use Rattle.assertions.specs.declared.assertion.Claim.{Claim}
 use Rattle.assertion_file.specs.Ids.{Id, id_of, ids_of, ids_in}
 use Rattle.assertion_file.specs.Content.{Content, HasNames, IsSound, IsSoundClaim}
 use Rattle.assertion_file.specs.Text.{assertion_value, claim_value, file_value, assertion_file_text, json_of}
-use Rattle.assertion_file.proofs.Exact.{IsExact, ItemsAreExact}
+use Rattle.assertion_file.proofs.Exact.{IsExact, ItemsAreExact, has_float-exact}
 use Rattle.assertion_file.proofs.Names.{IsUtf8-name}
 use Rattle.assertion_file.proofs.ReadsBack.{json_of-line}
 
@@ -115,3 +116,12 @@ depth-file_value file =
 
 pub text_reads_back : (file : Content) → IsSound file → HasNames file → json_of (assertion_file_text file) ≡ Some (file_value file)
 text_reads_back file sound names = json_of-line (file_value file) (file_is_exact file sound names.contest names.candidates) (depth-file_value file)
+
+-- ---- the text
+
+-- what a writer gives for the value, and a line feed
+pub printed_text : (file : Content) (value : Data) (bytes line : List ℕ) → IsSound file → HasNames file → value ≡ file_value file → (has_float value ≡ false → bytes ≡ compact_text value) →
+    line ≡ bytes ++ 10 ∷ [] → line ≡ assertion_file_text file
+printed_text file value bytes line sound names same printed with_line =
+    let whole = has_float-exact (file_value file) (file_is_exact file sound names.contest names.candidates) in
+    with_line ∙ ap (λ text. text ++ 10 ∷ []) (printed (ap has_float same ∙ whole) ∙ ap compact_text same)

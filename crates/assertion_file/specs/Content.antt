@@ -42,7 +42,7 @@ pub record IsSound (file : Content) : Type 0 where
   pub margin : IsMargin file.records file.margin
   pub claims : All (IsSoundClaim (candidate_count file) file.records) file.claims
 
--- its ids are names, as the type of the ids has it
+-- the ids keep the rule of ids, which the type of a name has
 pub record HasNames (file : Content) : Type 0 where
   pub contest : IsTrue (is_name file.contest)
   pub candidates : IsTrue (list_all is_name file.candidates)

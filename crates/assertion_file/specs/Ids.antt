@@ -22,7 +22,7 @@ abbrev pub id_of : List Id → ℕ → Id
 id_of ids c = slice_index_or ids c []
 
 abbrev pub ids_of : List Id → List ℕ → List Id
-ids_of ids candidates = map (id_of ids) candidates
+ids_of ids cs = map (id_of ids) cs
 
 -- the ids of the candidates in the set, in the order of the list
 abbrev pub ids_in : List Id → ℕ → List Id

@@ -1,5 +1,5 @@
 -- The laws of the assertion file.
-use Rattle.std.specs.Prelude.{◌≡◌, Some, IsTrue}
+use Rattle.std.specs.Prelude.{◌≡◌, Some}
 use Rattle.assertion_file.specs.Content.{Content, IsSound, HasNames}
 use Rattle.assertion_file.specs.Text.{file_value, assertion_file_text, json_of}
 

@@ -2,3 +2,4 @@ pub mod Ids
 pub mod Content
 pub mod Text
 pub mod Laws
+pub mod Examples

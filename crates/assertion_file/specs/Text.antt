@@ -8,6 +8,7 @@ use Rattle.serde_json.specs.Written.{compact_text}
 use Rattle.assertions.specs.declared.assertion.Assertion.{Assertion}
 use Rattle.assertions.specs.declared.assertion.Assertion.TheVariants.{Neb, Nen}
 use Rattle.assertions.specs.declared.assertion.Claim.{Claim}
+use Rattle.assertion_file.specs.declared.print.TheConstants.{VERSION}
 use Rattle.assertion_file.specs.Ids.{Id, id_of, ids_of, ids_in}
 use Rattle.assertion_file.specs.Content.{Content}
 
@@ -20,7 +21,7 @@ members_of (named ∷ rest) = member named.0 named.1 (members_of rest)
 abbrev pub array_of : List Data → Data
 array_of values = array (items_of values)
 
--- its members have to be in the order of their names
+-- the names have to stand in byte order
 abbrev pub object_of : List (List ℕ × Data) → Data
 object_of named = object (members_of named)
 
@@ -34,20 +35,20 @@ ids_value ids = array_of (map string ids)
 
 abbrev pub neb_value : Id → Id → ℕ → Data
 neb_value winner loser margin = object_of (
-    (codes "kind", string (codes "NEB"))
-    ∷ (codes "loser", string loser)
-    ∷ (codes "margin", whole_number margin)
-    ∷ (codes "winner", string winner)
-    ∷ [])
+    (codes "kind", string (codes "NEB")) ∷
+    (codes "loser", string loser) ∷
+    (codes "margin", whole_number margin) ∷
+    (codes "winner", string winner) ∷
+    [])
 
 abbrev pub nen_value : Id → Id → Data → ℕ → Data
 nen_value winner loser rest margin = object_of (
-    (codes "kind", string (codes "NEN"))
-    ∷ (codes "loser", string loser)
-    ∷ (codes "margin", whole_number margin)
-    ∷ (codes "rest", rest)
-    ∷ (codes "winner", string winner)
-    ∷ [])
+    (codes "kind", string (codes "NEN")) ∷
+    (codes "loser", string loser) ∷
+    (codes "margin", whole_number margin) ∷
+    (codes "rest", rest) ∷
+    (codes "winner", string winner) ∷
+    [])
 
 abbrev pub assertion_value : List Id → Assertion → ℕ → Data
 assertion_value ids (Neb w l) margin = neb_value (id_of ids w) (id_of ids l) margin
@@ -56,20 +57,18 @@ assertion_value ids (Nen w l rest) margin = nen_value (id_of ids w) (id_of ids l
 abbrev pub claim_value : List Id → Claim → Data
 claim_value ids claim = assertion_value ids claim.assertion claim.margin
 
-abbrev pub version : ℕ
-version = 1
-
+-- candidates by their ids, and the order with the first eliminated first
 unfoldable pub file_value : Content → Data
 file_value file = object_of (
-    (codes "assertions", array_of (map (claim_value file.candidates) file.claims))
-    ∷ (codes "candidates", ids_value file.candidates)
-    ∷ (codes "contest", string file.contest)
-    ∷ (codes "margin", whole_number file.margin)
-    ∷ (codes "order", ids_value (ids_of file.candidates file.order))
-    ∷ (codes "records", whole_number file.records)
-    ∷ (codes "version", whole_number version)
-    ∷ (codes "winner", string (id_of file.candidates file.winner))
-    ∷ [])
+    (codes "assertions", array_of (map (claim_value file.candidates) file.claims)) ∷
+    (codes "candidates", ids_value file.candidates) ∷
+    (codes "contest", string file.contest) ∷
+    (codes "margin", whole_number file.margin) ∷
+    (codes "order", ids_value (ids_of file.candidates file.order)) ∷
+    (codes "records", whole_number file.records) ∷
+    (codes "version", whole_number VERSION) ∷
+    (codes "winner", string (id_of file.candidates file.winner)) ∷
+    [])
 
 -- ---- the file's text
 
@@ -78,6 +77,8 @@ line_feed = 0x0A
 
 abbrev pub assertion_file_text : Content → List ℕ
 assertion_file_text file = compact_text (file_value file) ++ line_feed ∷ []
+
+-- ---- reading
 
 -- the value that bytes are, where they are JSON in UTF-8
 abbrev pub json_of : List ℕ → Option Data

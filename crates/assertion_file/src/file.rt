@@ -9,11 +9,13 @@ use assertions::Claim;
 use irv_base::{Candidate, Name, Order};
 use std::marker::Model;
 
-/// What an assertion file says of a contest: who won it by how many records, and the assertions that show it.
+/// What an assertion file says of a contest: its winner, the assertions that are to be confirmed with their margins,
+/// and an order that shows why no larger margin is to be had.
 ///
 /// There are 2 to 20 candidates, all different, and 1 to 1,000,000 ballot records. A candidate is its place in the
 /// list of candidates, from 0. The order is one of all candidates, each assertion is a proper one among them, and
-/// each margin, the file's and those of the claims, is 1 to the number of records.
+/// each margin, the file's and those of the claims, is 1 to the number of records. That the file holds of any ballots
+/// isn't said: a checker finds that out.
 ///
 /// To a contract a file is the record of these values, with a list for each list.
 #[derive(Drop)]
@@ -38,8 +40,7 @@ impl Model for AssertionFile {
 }
 
 impl AssertionFile {
-    /// A file about the contest with these `candidates`, of which `winner` won with these ballot `records`. An order
-    /// that elects another candidate is refuted by no true assertion of a margin above `margin`, and `order` is one.
+    /// A file that says this of the contest. `records` counts the ballot records, and margins are in votes.
     pub fn new(
         contest: Name,
         candidates: Vec<Name>,
@@ -105,7 +106,7 @@ impl AssertionFile {
         self.winner
     }
 
-    /// The smallest margin of the claims, in votes.
+    /// The margin that the file claims for the contest, in votes: that of its closest assertion.
     pub fn margin(&self) -> u32
         ensures same { result ≡ self.now.margin }
         ensures within { IsMargin self.now.records result }
@@ -113,7 +114,7 @@ impl AssertionFile {
         self.margin
     }
 
-    /// An order that elects another candidate and that no true assertion of a larger margin refutes.
+    /// The order that the file gives as the hardest to refute, first eliminated first.
     pub fn order(&self) -> &Order
         ensures same { result.now ≡ self.now.order }
         ensures order { IsTrue (is_order (length self.now.candidates) result.now) }

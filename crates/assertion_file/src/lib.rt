@@ -2,9 +2,12 @@
 //! check.
 #![tactic(auto)]
 
+pub mod examples;
 mod file;
 pub mod laws;
 mod print;
+#[cfg(test)]
+mod tests;
 
 pub use file::AssertionFile;
-pub use print::print_file;
+pub use print::{VERSION, print_file};

@@ -1,7 +1,7 @@
 // The text of an assertion file.
 ghost use Rattle.std.specs.Prelude.{◌≡◌, ◌<◌, ◌≤◌, length, map, Some, All, IfOk, IsTrue};
-ghost use Rattle.serde_json.specs.View.{view};
 ghost use Rattle.std.specs.List.{list_all};
+ghost use Rattle.serde_json.specs.View.{view};
 ghost use Rattle.irv_base.specs.Names.{is_name};
 ghost use Rattle.irv_base.specs.declared.limits.TheConstants.{ROOM};
 ghost use Rattle.assertions.specs.Assertions.{is_proper};
@@ -11,9 +11,12 @@ ghost use Rattle.assertion_file.specs.Text.{array_of, ids_value, neb_value, nen_
 
 use crate::AssertionFile;
 use assertions::{Assertion, Claim};
-use irv_base::{CandSet, Candidate, Memory, Name, ROOM};
+use irv_base::{CandSet, Candidate, Memory, Name};
 use serde_json::{Value, json};
 use std::alloc::{AllocError, Global};
+
+/// The version of the assertion file's form.
+pub const VERSION: u32 = 1;
 
 // The name as text.
 fn text(name: &Name) -> &str
@@ -31,6 +34,7 @@ fn id_of(names: &[Name], c: Candidate) -> &str
     text(&names[c.index()])
 }
 
+// The ids of all candidates.
 fn candidates_value(alloc: Global, names: &[Name]) -> Result<Value, AllocError>
     ensures value { IfOk result (λ v. view v ≡ ids_value names.now) }
     ensures valid { IfOk result (λ _. IsTrue (list_all is_name names.now)) }
@@ -42,6 +46,7 @@ fn candidates_value(alloc: Global, names: &[Name]) -> Result<Value, AllocError>
     Ok(Value::Array(ids))
 }
 
+// The ids of the candidates in this order.
 fn order_value(alloc: Global, names: &[Name], order: &[Candidate]) -> Result<Value, AllocError>
     requires { All (λ c. c < length names.now) order.now }
     ensures { IfOk result (λ v. view v ≡ ids_value (ids_of names.now order.now)) }
@@ -53,6 +58,7 @@ fn order_value(alloc: Global, names: &[Name], order: &[Candidate]) -> Result<Val
     Ok(Value::Array(ids))
 }
 
+// The ids of the candidates in the set, in the contest's order.
 fn set_value(alloc: Global, names: &[Name], set: CandSet) -> Result<Value, AllocError>
     requires { length names.now ≤ ROOM }
     ensures { IfOk result (λ v. view v ≡ ids_value (ids_in names.now set)) }
@@ -136,7 +142,7 @@ fn file_value(alloc: Global, file: &AssertionFile) -> Result<Value, AllocError>
         "margin": file.margin(),
         "order": order,
         "records": file.records(),
-        "version": 1u32,
+        "version": VERSION,
         "winner": winner,
     })
 }

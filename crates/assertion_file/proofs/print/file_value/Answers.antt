@@ -1,4 +1,4 @@
-use Rattle.std.proofs.Common.{◌≡◌, ◌<◌, true, length, All, ap, subst, sym, ◌∙◌}
+use Rattle.std.proofs.Common.{◌≡◌, ◌<◌, true, length, All, subst, sym}
 use Rattle.irv_base.specs.Orders.{is_order}
 use Rattle.assertion_file.proofs.Orders.{All-order}
 use Rattle.assertion_file.proofs.print.file_value.Goals as goal

@@ -1,0 +1,32 @@
+-- The worked examples.
+use Rattle.std.specs.Prelude.{[], ◌∷◌, codes}
+use Rattle.assertions.specs.declared.assertion.Assertion.TheVariants.{Neb, Nen}
+use Rattle.assertion_file.specs.Content.{Content}
+
+-- the certificate of five ballots 1, four 2,3 and three 3,2
+abbrev pub three_candidates : Content
+three_candidates = record {
+  contest = codes "1";
+  candidates = codes "1" ∷ codes "2" ∷ codes "3" ∷ [];
+  records = 12;
+  winner = 1;
+  margin = 1;
+  order = 1 ∷ 0 ∷ 2 ∷ [];
+  claims =
+      record { assertion = Neb 1 2; margin = 1 } ∷
+      record { assertion = Nen 1 0 3; margin = 2 } ∷
+      record { assertion = Nen 2 0 5; margin = 2 } ∷
+      [];
+}
+
+-- three ballots for A\1 and two for B
+abbrev pub two_candidates : Content
+two_candidates = record {
+  contest = codes "7";
+  candidates = codes "A\\1" ∷ codes "B" ∷ [];
+  records = 5;
+  winner = 0;
+  margin = 1;
+  order = 0 ∷ 1 ∷ [];
+  claims = record { assertion = Neb 0 1; margin = 1 } ∷ [];
+}

@@ -9,16 +9,16 @@ use Rattle.serde_json.specs.Data.{Data, string, depth, items_depth}
 use Rattle.serde_json.specs.View.{items_of}
 use Rattle.serde_json.specs.Written.{compact_text, has_float}
 use Rattle.serde_json.proofs.OnLiterals.{serde_json_on_literals}
-use Rattle.irv_base.specs.Names.{is_name}
+use Rattle.irv_base.specs.Names.{Id, is_name}
 use Rattle.irv_base.specs.declared.limits.TheConstants.{MOST_RECORDS}
 use Rattle.assertions.specs.declared.assertion.Assertion.{Assertion}
 use Rattle.assertions.specs.declared.assertion.Assertion.TheVariants.{Neb, Nen}
 use Rattle.assertions.specs.declared.assertion.Claim.{Claim}
-use Rattle.assertion_file.specs.Ids.{Id, id_of, ids_of, ids_in}
+use Rattle.assertion_file.specs.Ids.{id_of, ids_of, ids_in}
 use Rattle.assertion_file.specs.Content.{Content, HasNames, IsSound, IsSoundClaim}
 use Rattle.assertion_file.specs.Text.{assertion_value, claim_value, file_value, assertion_file_text, json_of}
 use Rattle.assertion_file.proofs.Exact.{IsExact, ItemsAreExact, has_float-exact}
-use Rattle.assertion_file.proofs.Names.{IsUtf8-name}
+use Rattle.irv_base.proofs.NameText.{IsUtf8-name}
 use Rattle.assertion_file.proofs.ReadsBack.{json_of-line}
 
 -- ---- exact

@@ -1,4 +1,3 @@
-pub mod Names
 pub mod Orders
 pub mod Sets
 pub mod Exact

@@ -7,7 +7,8 @@ use Rattle.serde_json.specs.View.{view}
 use Rattle.serde_json.specs.declared.value.Value.{Value}
 use Rattle.irv_base.specs.Candidates.{candidates, has}
 use Rattle.irv_base.proofs.Ranges.{candidates-more}
-use Rattle.assertion_file.specs.Ids.{Id, id_of, ids_of}
+use Rattle.irv_base.specs.Names.{Id}
+use Rattle.assertion_file.specs.Ids.{id_of, ids_of}
 
 -- of the candidates below c
 abbrev pub strings_below : List Id → ℕ → ℕ → List Data

@@ -1,12 +1,11 @@
 -- What an assertion file says of a contest.
 use Rattle.std.specs.Prelude.{◌<◌, ◌≤◌, ℕ, List, length, All, IsTrue}
 use Rattle.std.specs.List.{list_all}
-use Rattle.irv_base.specs.Names.{is_name}
+use Rattle.irv_base.specs.Names.{Id, all_differ, is_name}
 use Rattle.irv_base.specs.Orders.{is_order}
 use Rattle.irv_base.specs.declared.limits.TheConstants.{FEWEST_CANDIDATES, MOST_CANDIDATES, MOST_RECORDS}
 use Rattle.assertions.specs.Assertions.{is_proper}
 use Rattle.assertions.specs.declared.assertion.Claim.{Claim}
-use Rattle.assertion_file.specs.Ids.{Id, all_differ}
 
 -- a candidate is its place in the list of candidates, from 0
 pub record Content : Type 0 where

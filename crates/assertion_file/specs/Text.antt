@@ -9,7 +9,8 @@ use Rattle.assertions.specs.declared.assertion.Assertion.{Assertion}
 use Rattle.assertions.specs.declared.assertion.Assertion.TheVariants.{Neb, Nen}
 use Rattle.assertions.specs.declared.assertion.Claim.{Claim}
 use Rattle.assertion_file.specs.declared.print.TheConstants.{VERSION}
-use Rattle.assertion_file.specs.Ids.{Id, id_of, ids_of, ids_in}
+use Rattle.irv_base.specs.Names.{Id}
+use Rattle.assertion_file.specs.Ids.{id_of, ids_of, ids_in}
 use Rattle.assertion_file.specs.Content.{Content}
 
 -- ---- JSON

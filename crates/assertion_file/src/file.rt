@@ -2,7 +2,7 @@
 ghost use Rattle.std.specs.Prelude.{◌≡◌, ◌<◌, ◌≤◌, length, All, IsTrue};
 ghost use Rattle.irv_base.specs.Orders.{is_order};
 ghost use Rattle.irv_base.specs.declared.limits.TheConstants.{FEWEST_CANDIDATES, MOST_CANDIDATES, MOST_RECORDS};
-ghost use Rattle.assertion_file.specs.Ids.{all_differ};
+ghost use Rattle.irv_base.specs.Names.{all_differ};
 ghost use Rattle.assertion_file.specs.Content.{IsMargin, IsSoundClaim};
 
 use assertions::Claim;

@@ -1,6 +1,6 @@
 use Rattle.std.proofs.Common.{rules, sym, subst}
 use Rattle.std.specs.Str.{IsUtf8}
-use Rattle.assertion_file.proofs.Names.{IsUtf8-name}
+use Rattle.irv_base.proofs.NameText.{IsUtf8-name}
 use Rattle.assertion_file.proofs.print.text.Goals as goal
 
 pub unwrap-requires : goal.unwrap-requires

@@ -1,0 +1,426 @@
+-- What follows from how a call went: what was due, and what the sinks took of it.
+use Rattle.std.proofs.Common.{◌≡◌, ◌⊎◌, inl, inr, ⊎_elim, ℕ, List, Option, [], length, None, Some, IfSome, nat_le, if◌then◌else◌, refl, sym, ◌∙◌, ap, subst, arith, append-nil, Bool, true, false, nat_eq, eq-eqb, le-leb, ◌≢◌}
+use Rattle.std.specs.Io.KnownBytes.{Appends, Keeps}
+use Rattle.desk.specs.Desk.{File, held_bytes}
+use Rattle.raire_cli.specs.Outcome.{Outcome, Kind, Done, Tie, Verdict, Answered, Refused, outcome, status_of, read_fault, out_of_memory, too_long, no_such_file}
+use Rattle.raire_cli.specs.Script.{Reading, Bytes, Missing, TooLong, Fault, Script, Readings, AsHeld, ByDesk, reading_of, stop_of, May, Concludes, IsDetermined, limit}
+use Rattle.ballot_reader.specs.FirstForm.{ballots_of}
+use Rattle.raire_cli.specs.Answers.{Line, Search, line_of, script_of, MayCome, IsDue}
+use Rattle.raire_cli.specs.Ends.{Writing, Took, IsWhole, IsWritten}
+use Rattle.raire_cli.specs.Promises.{IsUndone, IsQuiet, Exactly, TookTexts, IsAnswered, IsNoLine, ComesToRead, HasFile, ComesToVerdict, IsRefused, HasAnswer, IsReadFault, IsWriteFault, IsForErr, IsStatus, IsAccepted, Statuses}
+use Rattle.raire_cli.specs.Story.{Story}
+use Rattle.raire_cli.specs.Search.{FindsIn}
+use Rattle.raire_cli.specs.Confirmation.{ConfirmsAsked}
+use Rattle.assertion_file.specs.Content.{Content}
+use Rattle.assertion_file.specs.Text.{assertion_file_text}
+use Rattle.raire_cli.proofs.Searches.{found_in-one, won-certificate}
+use Rattle.raire_cli.proofs.TwoRead.{two_read}
+use Rattle.raire_cli.proofs.Headline.{of_answer}
+use Rattle.raire_cli.proofs.Scripts.{ended, concludes_may, stops_may, told_reaches, held_or_fault, determined, some_is}
+
+-- each command but a search with a budget is determined
+script_determined : (line : Line) → IsDetermined (script_of line)
+script_determined (Search name) = λ bytes. found_in-one name (ballots_of bytes)
+
+line_determined : (files : List File) (line : Option Line) (d e : Outcome) → MayCome (AsHeld files) line d → MayCome (AsHeld files) line e → d ≡ e
+line_determined files None d e p q = p ∙ sym q
+line_determined files (Some line) d e p q = determined files (script_of line) d e (script_determined line) p q
+
+abbrev status_in : Outcome → ℕ
+status_in due = due.status
+
+-- two numbers that a test tells apart
+differ : (m n : ℕ) → m ≡ n → nat_eq m n ≡ false → ⊥
+differ m n e test = let yes : nat_eq m n ≡ true = eq-eqb m n e in cc (yes, test)
+
+-- ---- the statuses of what a script comes to
+
+-- why a file stops a call
+data Stop (name : List ℕ) (reading : Reading) (due : Outcome) : Type 0 where
+  missing : reading ≡ Missing → no_such_file name ≡ due → Stop name reading due
+  too_long_file : reading ≡ TooLong → too_long name ≡ due → Stop name reading due
+  fault : reading ≡ Fault → read_fault name ≡ due → Stop name reading due
+
+stop : (name : List ℕ) (reading : Reading) (due : Outcome) → stop_of name reading ≡ Some due → Stop name reading due
+stop name (Bytes bytes) due is = absurd (cc is)
+stop name Missing due is = missing refl (some_is is)
+stop name TooLong due is = too_long_file refl (some_is is)
+stop name Fault due is = fault refl (some_is is)
+
+refused_verdict : (v : Verdict) (due : Outcome) → due ≡ outcome v → due.status ≡ 2 → (name text : List ℕ) × (v ≡ Refused name text)
+refused_verdict (Answered Done text) due is two = absurd (differ 0 2 (sym (ap status_in is) ∙ two) refl)
+refused_verdict (Answered Tie text) due is two = absurd (differ 3 2 (sym (ap status_in is) ∙ two) refl)
+refused_verdict (Refused name text) due is two = (name, text, refl)
+
+answer_verdict : (kind : Kind) (v : Verdict) (due : Outcome) → due ≡ outcome v → due.status ≡ status_of kind → (text : List ℕ) × (v ≡ Answered kind text)
+answer_verdict Done (Answered Done text) due is n = (text, refl)
+answer_verdict Done (Answered Tie text) due is n = absurd (differ 3 0 (sym (ap status_in is) ∙ n) refl)
+answer_verdict Done (Refused name text) due is n = absurd (differ 2 0 (sym (ap status_in is) ∙ n) refl)
+answer_verdict Tie (Answered Done text) due is n = absurd (differ 0 3 (sym (ap status_in is) ∙ n) refl)
+answer_verdict Tie (Answered Tie text) due is n = (text, refl)
+answer_verdict Tie (Refused name text) due is n = absurd (differ 2 3 (sym (ap status_in is) ∙ n) refl)
+
+no_answer : (kind : Kind) (due : Outcome) → due.status ≡ status_of kind → (due.status ≡ 7) ⊎ (due.status ≡ 11) ⊎ (due.status ≡ 12) → ⊥
+no_answer Done due n cases = omega (arith, n, cases)
+no_answer Tie due n cases = omega (arith, n, cases)
+
+-- the statuses of a verdict
+verdict_status : (v : Verdict) → (status_in (outcome v) ≡ 0) ⊎ (status_in (outcome v) ≡ 2) ⊎ (status_in (outcome v) ≡ 3)
+verdict_status (Answered Done text) = inl refl
+verdict_status (Answered Tie text) = inr (inr refl)
+verdict_status (Refused name text) = inr (inl refl)
+
+stop_status : (name : List ℕ) (reading : Reading) (due : Outcome) → Stop name reading due → (due.status ≡ 7) ⊎ (due.status ≡ 11) ⊎ (due.status ≡ 12)
+stop_status name reading due (missing r is) = inr (inr (sym (ap status_in is)))
+stop_status name reading due (too_long_file r is) = inr (inl (sym (ap status_in is)))
+stop_status name reading due (fault r is) = inl (sym (ap status_in is))
+
+-- a refusal has nothing for `out`
+verdict_out : (v : Verdict) → IsForErr (status_in (outcome v)) → (outcome v).out ≡ []
+verdict_out (Answered Done text) for_err = absurd (omega arith)
+verdict_out (Answered Tie text) for_err = absurd (omega arith)
+verdict_out (Refused name text) for_err = refl
+
+stop_out : (name : List ℕ) (reading : Reading) (due : Outcome) → Stop name reading due → due.out ≡ []
+stop_out name reading due (missing r is) = sym (ap (λ (o : Outcome). o.out) is)
+stop_out name reading due (too_long_file r is) = sym (ap (λ (o : Outcome). o.out) is)
+stop_out name reading due (fault r is) = sym (ap (λ (o : Outcome). o.out) is)
+
+line_out : (readings : Readings) (line : Option Line) (due : Outcome) → IsDue readings line due → IsForErr due.status → due.out ≡ []
+line_out readings line due (inr memory) for_err = ap (λ (o : Outcome). o.out) memory
+line_out readings None due (inl bad) for_err = ap (λ (o : Outcome). o.out) bad
+line_out readings (Some line) due (inl may) for_err = elim (ended readings (script_of line) due may) [
+  | inl (v, concludes, is) ↦ ap (λ (o : Outcome). o.out) is ∙ verdict_out v (subst IsForErr (ap status_in is) for_err)
+  | inr (name, reading, reaches, there, stops) ↦ stop_out name reading due (stop name reading due stops)
+]
+
+-- 1 comes of no script
+not_words : (readings : Readings) (script : Script) (due : Outcome) → May readings script due → due.status ≡ 1 → ⊥
+not_words readings script due may one = elim (ended readings script due may) [
+  | inl (v, concludes, is) ↦
+      let e : status_in (outcome v) ≡ 1 = sym (ap status_in is) ∙ one in
+      omega (arith, verdict_status v)
+  | inr (name, reading, reaches, there, stops) ↦
+      omega (arith, stop_status name reading due (stop name reading due stops))
+]
+
+no_fault_held : (file : Option (List ℕ)) → Fault ≡ reading_of file → ⊥
+no_fault_held None is = cc is
+no_fault_held (Some bytes) is = by_length (nat_le (length bytes) limit) is
+  where
+    by_length : (b : Bool) → Fault ≡ (if b then Bytes bytes else TooLong) → ⊥
+    by_length true e = cc e
+    by_length false e = cc e
+
+fault_told : (held : Option (List File)) (failed : Type 0) (name : List ℕ) (reading : Reading) → reading ≡ Fault → ByDesk held failed name reading → failed
+fault_told held failed name reading is (inr (failing, f)) = f
+fault_told None failed name reading is (inl told) = absurd (told is)
+fault_told (Some files) failed name reading is (inl told) = absurd (no_fault_held (held_bytes name files) (sym is ∙ told))
+
+free : (n : ℕ) → nat_eq n 7 ≡ false → nat_eq n 8 ≡ false → nat_eq n 9 ≡ false → IsUndone n → ⊥
+free n a b c (inl e) = differ n 7 e a
+free n a b c (inr (inl e)) = differ n 8 e b
+free n a b c (inr (inr e)) = differ n 9 e c
+
+kind_free : (kind : Kind) → IsUndone (status_of kind) → ⊥
+kind_free Done = free 0 refl refl refl
+kind_free Tie = free 3 refl refl refl
+
+keeps : (before after : Option (List ℕ)) → Appends before after [] → Keeps before after
+keeps None after took = tt
+keeps (Some xs) None took = absurd took
+keeps (Some xs) (Some ys) took = took ∙ append-nil xs
+
+-- ---- the clauses of `run`
+
+module _ (words : List (List ℕ)) (status : ℕ) (out err : Writing) where
+  -- where the desk tells: undone, or what the files make it
+  told : (files : List File) (failed : Type 0) (line : Option Line) (due : Outcome) → IsDue (ByDesk (Some files) failed) line due → IsWritten due status out err
+      → IsUndone status ⊎ (MayCome (AsHeld files) line due × IsWhole due status out err)
+  told files failed line due is_due (inr cut) = inl (inr (inl cut.ends))
+  told files failed line due (inr memory) (inl whole) = inl (inr (inr (whole.ends ∙ ap status_in memory)))
+  told files failed None due (inl bad) (inl whole) = inr (bad, whole)
+  told files failed (Some line) due (inl may) (inl whole) =
+      ⊎_elim (λ held. inr (held, whole)) (λ seven. inl (inl (whole.ends ∙ seven))) (held_or_fault files failed (script_of line) due may)
+
+  pub answered : (files : List File) (failed : Type 0) (due : Outcome) → IsDue (ByDesk (Some files) failed) (line_of words) due → IsWritten due status out err
+      → IsUndone status ⊎ IsAnswered words files status out err
+  answered files failed due is_due written = elim (told files failed (line_of words) due is_due written) [
+    | inl undone ↦ inl undone
+    | inr (may, whole) ↦
+        let is : due ≡ record { status = status; out = due.out; err = due.err } = λ i. record { status = sym whole.ends i; out = due.out; err = due.err } in
+        inr (due.out, due.err, subst (MayCome (AsHeld files) (line_of words)) is may, whole.to_out, whole.to_err)
+  ]
+
+  -- a status that comes exactly where something is so
+  exactly : (n : ℕ) (cause : Type 0) (files : List File) (failed : Type 0) (line : Option Line) (due : Outcome) → IsDue (ByDesk (Some files) failed) line due → IsWritten due status out err
+      → (IsUndone n → ⊥)
+      → ((d : Outcome) → MayCome (AsHeld files) line d → d.status ≡ n → cause)
+      → (cause → (d : Outcome) × MayCome (AsHeld files) line d × (d.status ≡ n))
+      → Exactly n status cause
+  exactly n cause files failed line due is_due written free from to = (
+    λ e. elim (told files failed line due is_due written) [
+      | inl undone ↦ absurd (free (subst IsUndone e undone))
+      | inr (may, whole) ↦ from due may (sym whole.ends ∙ e)
+    ],
+    λ so. elim (told files failed line due is_due written) [
+      | inl undone ↦ inr undone
+      | inr (may, whole) ↦ let (d, may_d, is_d) = to so in inl (whole.ends ∙ ap status_in (line_determined files line due d may may_d) ∙ is_d)
+    ],
+  )
+
+  verdict_to : (files : List File) (line : Option Line) → line_of words ≡ line → (v : Verdict) → ComesToVerdict words files v
+      → (d : Outcome) × MayCome (AsHeld files) line d × (d.status ≡ status_in (outcome v))
+  verdict_to files line is_line v (l, is_l, concludes) =
+      (outcome v, subst (λ x. MayCome (AsHeld files) x (outcome v)) (sym is_l ∙ is_line) (concludes_may (AsHeld files) (script_of l) v concludes), refl)
+
+  stop_to : (files : List File) (line : Option Line) → line_of words ≡ line → (name : List ℕ) (reading : Reading) (due : Outcome) → ComesToRead (AsHeld files) words name → AsHeld files name reading
+      → stop_of name reading ≡ Some due → (d : Outcome) × MayCome (AsHeld files) line d × (d.status ≡ due.status)
+  stop_to files line is_line name reading due (l, is_l, reaches) there stops =
+      (due, subst (λ x. MayCome (AsHeld files) x due) (sym is_l ∙ is_line) (stops_may (AsHeld files) (script_of l) name reading due reaches there stops), refl)
+
+  refused_from : (files : List File) (line : Option Line) → line_of words ≡ line → (d : Outcome) → MayCome (AsHeld files) line d → d.status ≡ 2 → IsRefused words files
+  refused_from files None is_line d bad two = absurd (differ 1 2 (sym (ap status_in bad) ∙ two) refl)
+  refused_from files (Some line) is_line d may two = elim (ended (AsHeld files) (script_of line) d may) [
+    | inl (v, concludes, is) ↦
+        let (name, text, is_v) = refused_verdict v d is two in
+        (name, text, (line, is_line, subst (λ w. Concludes (AsHeld files) (script_of line) w) is_v concludes))
+    | inr (name, reading, reaches, there, stops) ↦ absurd (omega (arith, two, stop_status name reading d (stop name reading d stops)))
+  ]
+
+  answer_from : (files : List File) (kind : Kind) (line : Option Line) → line_of words ≡ line → (d : Outcome) → MayCome (AsHeld files) line d → d.status ≡ status_of kind → HasAnswer words files kind
+  answer_from files Done None is_line d bad n = absurd (differ 1 0 (sym (ap status_in bad) ∙ n) refl)
+  answer_from files Tie None is_line d bad n = absurd (differ 1 3 (sym (ap status_in bad) ∙ n) refl)
+  answer_from files kind (Some line) is_line d may n = elim (ended (AsHeld files) (script_of line) d may) [
+    | inl (v, concludes, is) ↦
+        let (text, is_v) = answer_verdict kind v d is n in
+        (text, (line, is_line, subst (λ w. Concludes (AsHeld files) (script_of line) w) is_v concludes))
+    | inr (name, reading, reaches, there, stops) ↦ absurd (no_answer kind d n (stop_status name reading d (stop name reading d stops)))
+  ]
+
+  missing_from : (files : List File) (line : Option Line) → line_of words ≡ line → (d : Outcome) → MayCome (AsHeld files) line d → d.status ≡ 12 → HasFile words files Missing
+  missing_from files None is_line d bad n = absurd (differ 1 12 (sym (ap status_in bad) ∙ n) refl)
+  missing_from files (Some line) is_line d may n = elim (ended (AsHeld files) (script_of line) d may) [
+    | inl (v, concludes, is) ↦ absurd (omega (arith, sym (ap status_in is) ∙ n, verdict_status v))
+    | inr (name, reading, reaches, there, stops) ↦ elim (stop name reading d stops) [
+      | missing r is ↦ (name, (line, is_line, reaches), subst (λ x. AsHeld files name x) r there)
+      | too_long_file r is ↦ absurd (differ 11 12 (ap status_in is ∙ n) refl)
+      | fault r is ↦ absurd (differ 7 12 (ap status_in is ∙ n) refl)
+    ]
+  ]
+
+  too_long_from : (files : List File) (line : Option Line) → line_of words ≡ line → (d : Outcome) → MayCome (AsHeld files) line d → d.status ≡ 11 → HasFile words files TooLong
+  too_long_from files None is_line d bad n = absurd (differ 1 11 (sym (ap status_in bad) ∙ n) refl)
+  too_long_from files (Some line) is_line d may n = elim (ended (AsHeld files) (script_of line) d may) [
+    | inl (v, concludes, is) ↦ absurd (omega (arith, sym (ap status_in is) ∙ n, verdict_status v))
+    | inr (name, reading, reaches, there, stops) ↦ elim (stop name reading d stops) [
+      | missing r is ↦ absurd (differ 12 11 (ap status_in is ∙ n) refl)
+      | too_long_file r is ↦ (name, (line, is_line, reaches), subst (λ x. AsHeld files name x) r there)
+      | fault r is ↦ absurd (differ 7 11 (ap status_in is ∙ n) refl)
+    ]
+  ]
+
+  read_fault_from : (held : Option (List File)) (failed : Type 0) (line : Option Line) → line_of words ≡ line → (due : Outcome) → IsDue (ByDesk held failed) line due → IsWhole due status out err → due.status ≡ 7
+      → IsReadFault words held failed out err
+  read_fault_from held failed line is_line due (inr memory) whole n = absurd (differ 9 7 (sym (ap status_in memory) ∙ n) refl)
+  read_fault_from held failed None is_line due (inl bad) whole n = absurd (differ 1 7 (sym (ap status_in bad) ∙ n) refl)
+  read_fault_from held failed (Some line) is_line due (inl may) whole n = elim (ended (ByDesk held failed) (script_of line) due may) [
+    | inl (v, concludes, is) ↦ absurd (omega (arith, sym (ap status_in is) ∙ n, verdict_status v))
+    | inr (name, reading, reaches, there, stops) ↦ elim (stop name reading due stops) [
+      | missing r is ↦ absurd (differ 12 7 (ap status_in is ∙ n) refl)
+      | too_long_file r is ↦ absurd (differ 11 7 (ap status_in is ∙ n) refl)
+      | fault r is ↦ record {
+        cause = fault_told held failed name reading r there;
+        name = name;
+        reached = (line, is_line, told_reaches held failed (script_of line) name reaches);
+        said = subst (λ d. TookTexts d out err) (sym is) (whole.to_out, whole.to_err);
+      }
+    ]
+  ]
+
+  not_eight : (readings : Readings) (line : Option Line) (due : Outcome) → IsDue readings line due → due.status ≡ 8 → ⊥
+  not_eight readings line due (inr memory) n = differ 9 8 (sym (ap status_in memory) ∙ n) refl
+  not_eight readings None due (inl bad) n = differ 1 8 (sym (ap status_in bad) ∙ n) refl
+  not_eight readings (Some line) due (inl may) n = elim (ended readings (script_of line) due may) [
+    | inl (v, concludes, is) ↦ omega (arith, sym (ap status_in is) ∙ n, verdict_status v)
+    | inr (name, reading, reaches, there, stops) ↦ omega (arith, n, stop_status name reading due (stop name reading due stops))
+  ]
+
+  nine : (readings : Readings) (line : Option Line) (due : Outcome) → IsDue readings line due → due.status ≡ 9 → due ≡ out_of_memory
+  nine readings line due (inr memory) n = memory
+  nine readings None due (inl bad) n = absurd (differ 1 9 (sym (ap status_in bad) ∙ n) refl)
+  nine readings (Some line) due (inl may) n = elim (ended readings (script_of line) due may) [
+    | inl (v, concludes, is) ↦ absurd (omega (arith, sym (ap status_in is) ∙ n, verdict_status v))
+    | inr (name, reading, reaches, there, stops) ↦ absurd (omega (arith, n, stop_status name reading due (stop name reading due stops)))
+  ]
+
+  no_line_from : (readings : Readings) (line : Option Line) → line_of words ≡ line → (due : Outcome) → IsDue readings line due → due.status ≡ 1 → IsNoLine words
+  no_line_from readings line is_line due (inr memory) n = absurd (differ 9 1 (sym (ap status_in memory) ∙ n) refl)
+  no_line_from readings None is_line due (inl bad) n = is_line
+  no_line_from readings (Some line) is_line due (inl may) n = absurd (not_words readings (script_of line) due may n)
+
+  no_line_to : (readings : Readings) (due : Outcome) → IsDue readings None due → (due.status ≡ 1) ⊎ (due.status ≡ 9)
+  no_line_to readings due (inl bad) = inl (ap status_in bad)
+  no_line_to readings due (inr memory) = inr (ap status_in memory)
+
+if_some : {A : Type 0} (o : Option A) (P Q : A → Type 0) → ((x : A) → P x → Q x) → IfSome o P → IfSome o Q
+if_some None P Q f p = tt
+if_some (Some x) P Q f p = f x p
+
+-- an accepted file has an answer
+accepted_answer : (words : List (List ℕ)) (files : List File) → IsAccepted words files → HasAnswer words files Done
+accepted_answer words files ok =
+    let short : nat_le (length ok.asks.bytes) limit ≡ true = le-leb (length ok.asks.bytes) limit ok.is_short in
+    let read : reading_of (held_bytes ok.asks.name files) ≡ Bytes ok.asks.bytes = ap reading_of ok.asks.held ∙ ap (λ b. if b then Bytes ok.asks.bytes else TooLong) short in
+    let (text, has) = won-certificate ok.ballots ok.winner ok.asks.won (omega (arith, two_read ok.asks.bytes ok.ballots ok.asks.accepted)) in
+    (text, (Search ok.asks.name, ok.asks.asked, (ok.asks.bytes, sym read, subst (λ b. FindsIn ok.asks.name b (Answered Done text)) (sym ok.asks.accepted) has)))
+
+verdict_known : (v : Verdict) → IsStatus (status_in (outcome v))
+verdict_known (Answered kind text) = inr (inr (kind, refl))
+verdict_known (Refused name text) = inl (inr (inl refl))
+
+stop_known : (status : ℕ) → (status ≡ 7) ⊎ (status ≡ 11) ⊎ (status ≡ 12) → IsStatus status
+stop_known status (inl seven) = inl (inr (inr (inl seven)))
+stop_known status (inr (inl eleven)) = inl (inr (inr (inr (inr (inl eleven)))))
+stop_known status (inr (inr twelve)) = inl (inr (inr (inr (inr (inr twelve)))))
+
+due_known : (readings : Readings) (line : Option Line) (due : Outcome) → IsDue readings line due → IsStatus due.status
+due_known readings line due (inr memory) = inl (inr (inr (inr (inl (ap status_in memory)))))
+due_known readings None due (inl bad) = inl (inl (ap status_in bad))
+due_known readings (Some line) due (inl may) = elim (ended readings (script_of line) due may) [
+  | inl (v, concludes, is) ↦ subst IsStatus (sym (ap status_in is)) (verdict_known v)
+  | inr (name, reading, reaches, there, stops) ↦ stop_known due.status (stop_status name reading due (stop name reading due stops))
+]
+
+-- ---- each from the story of a call
+
+module _ {words : List (List ℕ)} {held : Option (List File)} {failed : Type 0} {status : ℕ} {out err : Writing} (story : Story words held failed status out err) where
+  pub bad_words_clause : Exactly 1 status (IsNoLine words)
+  bad_words_clause = (
+    λ e. elim story.written [
+      | inl whole ↦ no_line_from words status out err (ByDesk held failed) (line_of words) refl story.due story.is_due (sym whole.ends ∙ e)
+      | inr cut ↦ absurd (differ 8 1 (sym cut.ends ∙ e) refl)
+    ],
+    λ none. elim story.written [
+      | inl whole ↦ ⊎_elim (λ one. inl (whole.ends ∙ one)) (λ nine. inr (inr (inr (whole.ends ∙ nine)))) (no_line_to words status out err (ByDesk held failed) story.due (subst (λ l. IsDue (ByDesk held failed) l story.due) none story.is_due))
+      | inr cut ↦ inr (inr (inl cut.ends))
+    ],
+  )
+
+  pub read_fault_clause : status ≡ 7 → IsReadFault words held failed out err
+  read_fault_clause e = elim story.written [
+    | inl whole ↦ read_fault_from words status out err held failed (line_of words) refl story.due story.is_due whole (sym whole.ends ∙ e)
+    | inr cut ↦ absurd (differ 8 7 (sym cut.ends ∙ e) refl)
+  ]
+
+  pub write_fault_clause : status ≡ 8 → IsWriteFault (ByDesk held failed) words out err
+  write_fault_clause e = elim story.written [
+    | inl whole ↦ absurd (not_eight words status out err (ByDesk held failed) (line_of words) story.due story.is_due (sym whole.ends ∙ e))
+    | inr cut ↦ record { cause = cut.cause; due = story.due; is_due = story.is_due; to_out = cut.to_out; to_err = cut.to_err }
+  ]
+
+  pub memory_clause : status ≡ 9 → TookTexts out_of_memory out err
+  memory_clause e = elim story.written [
+    | inl whole ↦ subst (λ d. TookTexts d out err) (nine words status out err (ByDesk held failed) (line_of words) story.due story.is_due (sym whole.ends ∙ e)) (whole.to_out, whole.to_err)
+    | inr cut ↦ absurd (differ 8 9 (sym cut.ends ∙ e) refl)
+  ]
+
+  pub kept_clause : IsForErr status → Keeps out.before out.after
+  kept_clause for_err = elim story.written [
+    | inl whole ↦ keeps out.before out.after (subst (λ t. Took out t) (line_out (ByDesk held failed) (line_of words) story.due story.is_due (subst IsForErr whole.ends for_err)) whole.to_out)
+    | inr cut ↦ absurd (omega (arith, for_err, cut.ends))
+  ]
+
+  pub answer_clause : IfSome held (λ files. IsUndone status ⊎ IsAnswered words files status out err)
+  answer_clause = answer_told held failed story.due story.is_due story.written
+    where
+      answer_told : (h : Option (List File)) (f : Type 0) (due : Outcome) → IsDue (ByDesk h f) (line_of words) due → IsWritten due status out err → IfSome h (λ files. IsUndone status ⊎ IsAnswered words files status out err)
+      answer_told None f due is_due written = tt
+      answer_told (Some files) f due is_due written = answered words status out err files f due is_due written
+
+  -- a clause on a status that comes exactly where something is so
+  exactly_clause : (n : ℕ) (cause : List File → Type 0) → (IsUndone n → ⊥)
+      → ((files : List File) (d : Outcome) → MayCome (AsHeld files) (line_of words) d → d.status ≡ n → cause files)
+      → ((files : List File) → cause files → (d : Outcome) × MayCome (AsHeld files) (line_of words) d × (d.status ≡ n))
+      → IfSome held (λ files. Exactly n status (cause files))
+  exactly_clause n cause is_free from to = exactly_told held failed story.due story.is_due story.written
+    where
+      exactly_told : (h : Option (List File)) (f : Type 0) (due : Outcome) → IsDue (ByDesk h f) (line_of words) due → IsWritten due status out err → IfSome h (λ files. Exactly n status (cause files))
+      exactly_told None f due is_due written = tt
+      exactly_told (Some files) f due is_due written =
+          exactly words status out err n (cause files) files f (line_of words) due is_due written is_free (from files) (to files)
+
+  pub refused_clause : IfSome held (λ files. Exactly 2 status (IsRefused words files))
+  refused_clause = exactly_clause 2 (IsRefused words) (free 2 refl refl refl) (λ files. refused_from words status out err files (line_of words) refl)
+      (λ files (name, text, comes). verdict_to words status out err files (line_of words) refl (Refused name text) comes)
+
+  pub answer_kind_clause : (kind : Kind) → IfSome held (λ files. Exactly (status_of kind) status (HasAnswer words files kind))
+  answer_kind_clause kind = exactly_clause (status_of kind) (λ files. HasAnswer words files kind) (kind_free kind) (λ files. answer_from words status out err files kind (line_of words) refl)
+      (λ files (text, comes). verdict_to words status out err files (line_of words) refl (Answered kind text) comes)
+
+  pub missing_clause : IfSome held (λ files. Exactly 12 status (HasFile words files Missing))
+  missing_clause = exactly_clause 12 (λ files. HasFile words files Missing) (free 12 refl refl refl) (λ files. missing_from words status out err files (line_of words) refl)
+      (λ files (name, comes, there). stop_to words status out err files (line_of words) refl name Missing (no_such_file name) comes there refl)
+
+  pub too_long_clause : IfSome held (λ files. Exactly 11 status (HasFile words files TooLong))
+  too_long_clause = exactly_clause 11 (λ files. HasFile words files TooLong) (free 11 refl refl refl) (λ files. too_long_from words status out err files (line_of words) refl)
+      (λ files (name, comes, there). stop_to words status out err files (line_of words) refl name TooLong (too_long name) comes there refl)
+
+  not_seven : IsQuiet failed out err → status ≡ 7 → ⊥
+  not_seven quiet seven = quiet.desk (read_fault_clause seven).cause
+
+  quiet_not_eight : IsQuiet failed out err → status ≡ 8 → ⊥
+  quiet_not_eight quiet eight = ⊎_elim quiet.sink_out quiet.sink_err (write_fault_clause eight).cause
+
+  -- nothing else is left where no count rose
+  quiet_or_nine : {P : Type 0} → IsQuiet failed out err → P ⊎ IsUndone status → P ⊎ (status ≡ 9)
+  quiet_or_nine quiet (inl p) = inl p
+  quiet_or_nine quiet (inr (inl seven)) = absurd (not_seven quiet seven)
+  quiet_or_nine quiet (inr (inr (inl eight))) = absurd (quiet_not_eight quiet eight)
+  quiet_or_nine quiet (inr (inr (inr nine))) = inr nine
+
+  answered_not_nine : {P : Type 0} → IsQuiet failed out err → IsUndone status ⊎ P → (status ≡ 9 → ⊥) → P
+  answered_not_nine quiet (inl (inl seven)) not_nine = absurd (not_seven quiet seven)
+  answered_not_nine quiet (inl (inr (inl eight))) not_nine = absurd (quiet_not_eight quiet eight)
+  answered_not_nine quiet (inl (inr (inr nine))) not_nine = absurd (not_nine nine)
+  answered_not_nine quiet (inr p) not_nine = p
+
+  pub quiet_clause : IfSome held (λ files. IsQuiet failed out err → status ≢ 9 → IsAnswered words files status out err)
+  quiet_clause = if_some held (λ files. IsUndone status ⊎ IsAnswered words files status out err) (λ files. IsQuiet failed out err → status ≢ 9 → IsAnswered words files status out err)
+      (λ files answer quiet not_nine. answered_not_nine quiet answer not_nine) answer_clause
+
+  -- status 0 confirms the winner
+  pub headline_clause : IfSome held (λ files. status ≡ 0 → (file : Content) × ConfirmsAsked words files file × Took out (assertion_file_text file))
+  headline_clause = if_some held (λ files. IsUndone status ⊎ IsAnswered words files status out err) (λ files. status ≡ 0 → (file : Content) × ConfirmsAsked words files file × Took out (assertion_file_text file))
+      (λ files answer zero. by_answer files answer zero) answer_clause
+    where
+      by_answer : (files : List File) → IsUndone status ⊎ IsAnswered words files status out err → status ≡ 0 → (file : Content) × ConfirmsAsked words files file × Took out (assertion_file_text file)
+      by_answer files (inl undone) zero = absurd (free 0 refl refl refl (subst IsUndone zero undone))
+      by_answer files (inr (to_out, to_err, may, took, took_err)) zero =
+          let (file, confirms, is) = of_answer words files (line_of words) refl (record { status = status; out = to_out; err = to_err }) may zero in
+          (file, confirms, subst (Took out) is took)
+
+  -- an accepted file is answered
+  pub complete_clause : IfSome held (λ files. IsAccepted words files → IsQuiet failed out err → (status ≡ 0) ⊎ (status ≡ 9))
+  complete_clause = if_some held (λ files. Exactly 0 status (HasAnswer words files Done)) (λ files. IsAccepted words files → IsQuiet failed out err → (status ≡ 0) ⊎ (status ≡ 9))
+      (λ files exact accepted quiet. quiet_or_nine quiet (exact.1 (accepted_answer words files accepted))) (answer_kind_clause Done)
+
+  pub known_clause : IsStatus status
+  known_clause = elim story.written [
+    | inl whole ↦ subst IsStatus (sym whole.ends) (due_known (ByDesk held failed) (line_of words) story.due story.is_due)
+    | inr cut ↦ inr (inl cut.ends)
+  ]
+
+  pub statuses_clause : Statuses words held failed status out err
+  statuses_clause = record {
+    known = known_clause;
+    done = answer_kind_clause Done;
+    bad_words = bad_words_clause;
+    refused = refused_clause;
+    tie = answer_kind_clause Tie;
+    read_fault = read_fault_clause;
+    write_fault = write_fault_clause;
+    memory = memory_clause;
+    too_long = too_long_clause;
+    missing = missing_clause;
+  }

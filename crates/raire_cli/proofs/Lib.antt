@@ -1,0 +1,9 @@
+mod Scripts
+mod Steps
+mod Searches
+mod TwoRead
+mod Headline
+mod ReadFiles
+mod Two
+mod Ended
+mod Clauses

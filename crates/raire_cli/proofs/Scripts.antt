@@ -1,0 +1,69 @@
+-- What a script may come to.
+use Rattle.std.proofs.Common.{◌≡◌, ◌⊎◌, inl, inr, ⊎_elim, ℕ, List, Option, None, Some, refl, sym, ◌∙◌, ap, subst}
+use Rattle.desk.specs.Desk.{File}
+use Rattle.raire_cli.specs.Outcome.{Outcome, Verdict, outcome, read_fault}
+use Rattle.raire_cli.specs.Script.{Reading, Bytes, Fault, Script, Read, Ends, Readings, AsHeld, AsTold, ByDesk, stop_of, May, Reaches, Concludes, IsDetermined}
+
+-- It concludes with a verdict, or a file stops it.
+pub ended : (readings : Readings) (script : Script) (due : Outcome) → May readings script due
+    → ((v : Verdict) × Concludes readings script v × (due ≡ outcome v))
+    ⊎ ((name : List ℕ) × (reading : Reading) × Reaches readings script name × readings name reading × (stop_of name reading ≡ Some due))
+ended readings (Ends verdicts) due (v, may, is) = inl (v, may, is)
+ended readings (Read name next) due (inl (reading, may, stop)) = inr (name, reading, inl refl, may, stop)
+ended readings (Read name next) due (inr (bytes, may, rest)) = elim (ended readings (next bytes) due rest) [
+  | inl (v, concludes, is) ↦ inl (v, (bytes, may, concludes), is)
+  | inr (file, reading, reaches, there, stop) ↦ inr (file, reading, inr (bytes, may, reaches), there, stop)
+]
+
+pub concludes_may : (readings : Readings) (script : Script) (v : Verdict) → Concludes readings script v → May readings script (outcome v)
+concludes_may readings (Ends verdicts) v concludes = (v, concludes, refl)
+concludes_may readings (Read name next) v (bytes, may, rest) = inr (bytes, may, concludes_may readings (next bytes) v rest)
+
+pub stops_may : (readings : Readings) (script : Script) (name : List ℕ) (reading : Reading) (due : Outcome) → Reaches readings script name → readings name reading → stop_of name reading ≡ Some due
+    → May readings script due
+stops_may readings (Ends verdicts) name reading due reaches there stop = absurd reaches
+stops_may readings (Read first next) name reading due (inl is) there stop =
+    inl (reading, subst (λ n. readings n reading) (sym is) there, ap (λ n. stop_of n reading) is ∙ stop)
+stops_may readings (Read first next) name reading due (inr (bytes, may, rest)) there stop =
+    inr (bytes, may, stops_may readings (next bytes) name reading due rest there stop)
+
+no_fault : (held : Option (List File)) (failed : Type 0) (name bytes : List ℕ) → ByDesk held failed name (Bytes bytes) → AsTold held name (Bytes bytes)
+no_fault held failed name bytes (inl told) = told
+no_fault held failed name bytes (inr (fault, f)) = absurd (cc fault)
+
+pub told_reaches : (held : Option (List File)) (failed : Type 0) (script : Script) (name : List ℕ) → Reaches (ByDesk held failed) script name → Reaches (AsTold held) script name
+told_reaches held failed (Ends verdicts) name reaches = reaches
+told_reaches held failed (Read first next) name (inl is) = inl is
+told_reaches held failed (Read first next) name (inr (bytes, may, rest)) =
+    inr (bytes, no_fault held failed first bytes may, told_reaches held failed (next bytes) name rest)
+
+pub some_is : {A : Type 0} {x y : A} → Some x ≡ Some y → x ≡ y
+some_is e = cc
+
+stopped_by_fault : (name : List ℕ) (reading : Reading) (due : Outcome) → reading ≡ Fault → stop_of name reading ≡ Some due → due.status ≡ 7
+stopped_by_fault name reading due fault stop =
+    let is : read_fault name ≡ due = some_is (sym (ap (λ r. stop_of name r) fault) ∙ stop) in
+    ap (λ (o : Outcome). o.status) (sym is)
+
+-- It is what the files make it, or 7.
+pub held_or_fault : (files : List File) (failed : Type 0) (script : Script) (due : Outcome) → May (ByDesk (Some files) failed) script due → May (AsHeld files) script due ⊎ (due.status ≡ 7)
+held_or_fault files failed (Ends verdicts) due may = inl may
+held_or_fault files failed (Read name next) due (inl (reading, inl told, stop)) = inl (inl (reading, told, stop))
+held_or_fault files failed (Read name next) due (inl (reading, inr (fault, f), stop)) = inr (stopped_by_fault name reading due fault stop)
+held_or_fault files failed (Read name next) due (inr (bytes, inl told, rest)) =
+    ⊎_elim (λ may. inl (inr (bytes, told, may))) (λ seven. inr seven) (held_or_fault files failed (next bytes) due rest)
+held_or_fault files failed (Read name next) due (inr (bytes, inr (fault, f), rest)) = absurd (cc fault)
+
+not_bytes : (name bytes : List ℕ) (reading : Reading) (due : Outcome) → reading ≡ Bytes bytes → stop_of name reading ≡ Some due → ⊥
+not_bytes name bytes reading due is stop = let none : None ≡ Some due = sym (ap (λ r. stop_of name r) is) ∙ stop in cc
+
+-- What files are held decides it.
+pub determined : (files : List File) (script : Script) (d e : Outcome) → IsDetermined script → May (AsHeld files) script d → May (AsHeld files) script e → d ≡ e
+determined files (Ends verdicts) d e one (v, may_v, is_d) (w, may_w, is_e) = is_d ∙ ap outcome (one v w may_v may_w) ∙ sym is_e
+determined files (Read name next) d e one (inl (r, there_r, stop_d)) (inl (s, there_s, stop_e)) =
+    some_is (sym stop_d ∙ ap (λ x. stop_of name x) (there_r ∙ sym there_s) ∙ stop_e)
+determined files (Read name next) d e one (inl (r, there_r, stop_d)) (inr (bytes, there, rest)) = absurd (not_bytes name bytes r d (there_r ∙ sym there) stop_d)
+determined files (Read name next) d e one (inr (bytes, there, rest)) (inl (s, there_s, stop_e)) = absurd (not_bytes name bytes s e (there_s ∙ sym there) stop_e)
+determined files (Read name next) d e one (inr (bytes, there_d, rest_d)) (inr (others, there_e, rest_e)) =
+    let same : bytes ≡ others = (let is : Bytes bytes ≡ Bytes others = there_d ∙ sym there_e in cc) in
+    determined files (next others) d e (one others) (subst (λ b. May (AsHeld files) (next b) d) same rest_d) rest_e

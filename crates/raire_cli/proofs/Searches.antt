@@ -1,0 +1,158 @@
+-- What a search finds is one thing, and an accepted contest without a tie has a certificate, which confirms its winner.
+use Rattle.std.proofs.Common.{◌≡◌, ℕ, ◌<◌, ◌≤◌, List, Option, [], ◌∷◌, ◌++◌, reverse, All, Contains, None, Some, refl, sym, ap, subst, arith, ◌∙◌}
+use Rattle.std.specs.List.{list_any}
+use Rattle.std.proofs.lemmas.List.{reverse-append}
+use Rattle.std.proofs.lemmas.List.Elements.{All-nil, All-cons}
+use Rattle.irv_base.specs.Orders.{Elects}
+use Rattle.irv_base.proofs.Members.{Member, here, there, member-append_right, from_list_all, from_list_any, member-map, from_map, contains-from_member, member-from_contains}
+use Rattle.irv_base.proofs.Orders.{order_facts}
+use Rattle.irv_base.proofs.Ties.{tabulated_is_one, first_tie_is_one, tabulated_or_tie}
+use Rattle.assertions.specs.declared.assertion.Assertion.{Assertion}
+use Rattle.assertions.specs.declared.assertion.Claim.{Claim}
+use Rattle.assertions.specs.Assertions.{is_proper, is_true, true_margin}
+use Rattle.assertions.specs.Certificate.{certificate_assertions, certificate_claims, certificate_order, claim_of}
+use Rattle.assertions.specs.Hardness.{low, best_margin}
+use Rattle.assertions.specs.Refutation.{refutes}
+use Rattle.assertions.specs.Suffixes.{IsAlternative, alternative_orders}
+use Rattle.assertions.proofs.Alternatives.{order_is}
+use Rattle.assertions.proofs.Certificates.{certificate_is_proper, certificate_is_true, certificate-le, certificate_covers, certificate_has_best}
+use Rattle.assertions.proofs.Endings.{alternative_orders_are}
+use Rattle.assertions.proofs.Lows.{low-refuter}
+use Rattle.assertions.proofs.Positive.{best_is_positive}
+use Rattle.ballot_reader.specs.Ballots.{BallotFile}
+use Rattle.assertion_file.specs.Content.{Content}
+use Rattle.assertion_file.specs.Text.{assertion_file_text}
+use Rattle.raire_cli.specs.Outcome.{Verdict, Answered, Refused, Done, Tie}
+use Rattle.raire_cli.specs.Search.{candidate_count, margin_of, certificate_of, tie_text, IsWon, HasTie, IsCertificateOf, HasCertificate, Finds, FindsIn}
+use Rattle.raire_cli.specs.Confirmation.{Holds, Confirms}
+
+-- ---- one thing
+
+same_last : (xs ys : List ℕ) (x y : ℕ) → xs ++ x ∷ [] ≡ ys ++ y ∷ [] → x ≡ y
+same_last xs ys x y e = first_same (sym (reverse-append xs (x ∷ [])) ∙ ap reverse e ∙ reverse-append ys (y ∷ [])) where
+  first_same : {us vs : List ℕ} → x ∷ us ≡ y ∷ vs → x ≡ y
+  first_same e = cc
+
+elects-one : (order : List ℕ) (w v : ℕ) → Elects order w → Elects order v → w ≡ v
+elects-one order w v (xs, e) (ys, f) = same_last xs ys w v (sym e ∙ f)
+
+winner-one : (ballots : BallotFile) (w v : ℕ) → IsWon ballots w → IsWon ballots v → w ≡ v
+winner-one ballots w v a b =
+    let e : a.order ≡ b.order = tabulated_is_one (candidate_count ballots) ballots.rankings a.order b.order a.permutation a.tabulated b.permutation b.tabulated in
+    elects-one b.order w v (subst (λ o. Elects o w) e a.elects) b.elects
+
+some-one : {A : Type 0} {x y : A} → Some x ≡ Some y → x ≡ y
+some-one e = cc
+
+certificate-one : (ballots : BallotFile) (f g : Content) → IsCertificateOf ballots f → IsCertificateOf ballots g → f ≡ g
+certificate-one ballots f g a b =
+    let n = candidate_count ballots in
+    let w : a.winner ≡ b.winner = winner-one ballots a.winner b.winner a.won b.won in
+    let least : certificate_order n b.winner (low n ballots.rankings) (margin_of ballots b.winner) ≡ Some a.order =
+    subst (λ x. certificate_order n x (low n ballots.rankings) (margin_of ballots x) ≡ Some a.order) w a.least in
+    let o : a.order ≡ b.order = some-one (sym least ∙ b.least) in
+    a.is ∙ ap (λ x. certificate_of ballots x a.order) w ∙ ap (certificate_of ballots b.winner) o ∙ sym b.is
+
+tie-one : (ballots : BallotFile) (text other : List ℕ) → HasTie ballots text → HasTie ballots other → text ≡ other
+tie-one ballots text other a b =
+    let (r, t, v) = first_tie_is_one (candidate_count ballots) ballots.rankings a.round a.tied a.votes b.round b.tied b.votes a.counted b.counted a.first b.first in
+    a.shown ∙ ap (λ x. tie_text ballots.candidates x a.tied a.votes) r ∙ ap (λ x. tie_text ballots.candidates b.round x a.votes) t
+    ∙ ap (λ x. tie_text ballots.candidates b.round b.tied x) v ∙ sym b.shown
+
+never_both : (ballots : BallotFile) (file : Content) (text : List ℕ) → IsCertificateOf ballots file → HasTie ballots text → ⊥
+never_both ballots file text c t =
+    tabulated_or_tie (candidate_count ballots) ballots.rankings c.won.order t.round t.tied t.votes c.won.permutation c.won.tabulated t.counted t.first
+
+found-one : (ballots : BallotFile) (v w : Verdict) → Finds ballots v → Finds ballots w → v ≡ w
+found-one ballots (Answered Done text) (Answered Done other) (f, a, p) (g, b, q) =
+    ap (λ t. Answered Done t) (p ∙ ap assertion_file_text (certificate-one ballots f g a b) ∙ sym q)
+found-one ballots (Answered Done text) (Answered Tie other) (f, a, p) b = absurd (never_both ballots f other a b)
+found-one ballots (Answered Done text) (Refused name other) a b = absurd b
+found-one ballots (Answered Tie text) (Answered Done other) a (g, b, q) = absurd (never_both ballots g text b a)
+found-one ballots (Answered Tie text) (Answered Tie other) a b = ap (λ t. Answered Tie t) (tie-one ballots text other a b)
+found-one ballots (Answered Tie text) (Refused name other) a b = absurd b
+found-one ballots (Refused name text) w a b = absurd a
+
+pub found_in-one : (name : List ℕ) (ballots : Option BallotFile) (v w : Verdict) → FindsIn name ballots v → FindsIn name ballots w → v ≡ w
+found_in-one name None v w p q = p ∙ sym q
+found_in-one name (Some ballots) v w p q = found-one ballots v w p q
+
+-- ---- a certificate
+
+winner-below : (ballots : BallotFile) (winner : ℕ) → IsWon ballots winner → winner < candidate_count ballots
+winner-below ballots winner won =
+    let (before, e) = won.elects in
+    (order_facts (candidate_count ballots) won.order won.permutation).below winner (subst (Member winner) (sym e) (member-append_right before here))
+
+pub won-certificate : (ballots : BallotFile) (winner : ℕ) → IsWon ballots winner → 1 < candidate_count ballots → (text : List ℕ) × HasCertificate ballots text
+won-certificate ballots winner won two =
+    let n = candidate_count ballots in
+    let (order, least, among, hard) = order_is n winner (low n ballots.rankings) (winner-below ballots winner won) two in (
+      assertion_file_text (certificate_of ballots winner order),
+      (certificate_of ballots winner order, record { winner = winner; won = won; order = order; least = least; is = refl }, refl),
+    )
+
+-- ---- it confirms the winner
+
+module _ (n : ℕ) (records : List (List ℕ)) (winner : ℕ) where
+  listed : (claim : Claim) → Member claim (certificate_claims n records winner) → (a : Assertion) × Member a (certificate_assertions n records winner) × (claim_of records a ≡ claim)
+  listed claim m = from_map (claim_of records) claim (certificate_assertions n records winner) m
+
+  claim-holds : (claim : Claim) → Member claim (certificate_claims n records winner) → Holds n records claim
+  claim-holds claim m =
+      let (a, k, e) = listed claim m in
+      subst (Holds n records) e (record {
+        proper = from_list_all (is_proper n) k (certificate_is_proper n winner records);
+        holds = from_list_all (is_true records) k (certificate_is_true n winner records);
+        margin = refl;
+      })
+
+  claim-least : (claim : Claim) → Member claim (certificate_claims n records winner) → best_margin n winner (low n records) ≤ claim.margin
+  claim-least claim m =
+      let (a, k, e) = listed claim m in
+      subst (λ (c : Claim). best_margin n winner (low n records) ≤ c.margin) e (certificate-le n winner records a k)
+
+each : {X : Type 0} (P : X → Type 0) (xs : List X) → ((x : X) → Member x xs → P x) → All P xs
+each P [] h = All-nil P
+each P (x ∷ xs) h = All-cons P x xs (h x here) (each P xs (λ y m. h y (there m)))
+
+-- what a file has of the certificate
+record Certified (n : ℕ) (records : List (List ℕ)) (winner : ℕ) (file : Content) : Type 0 where
+  pub margin : file.margin ≡ best_margin n winner (low n records)
+  pub order : certificate_order n winner (low n records) (best_margin n winner (low n records)) ≡ Some file.order
+  pub claims : file.claims ≡ certificate_claims n records winner
+
+confirmed : (n : ℕ) (records : List (List ℕ)) (winner : ℕ) (file : Content) → winner < n → 1 < n → 1 ≤ best_margin n winner (low n records) →
+    Certified n records winner file → Confirms n records winner file
+confirmed n records winner file below two positive c =
+    let best = best_margin n winner (low n records) in
+    let (found, least, among, hard) = order_is n winner (low n records) below two in
+    let same : file.order ≡ found = some-one (sym c.order ∙ least) in
+    let (a, k, e) = certificate_has_best n winner records below two positive in
+    record {
+      hold = subst (All (Holds n records)) (sym c.claims) (each (Holds n records) (certificate_claims n records winner) (claim-holds n records winner));
+      cover = λ order alternative.
+          let inside = member-from_contains order (alternative_orders n winner) ((alternative_orders_are n winner order).1 alternative) in
+          let any = from_list_all (λ order. list_any (λ a. refutes a order) (certificate_assertions n records winner)) inside (certificate_covers n winner records positive) in
+          let (a, m, r) = from_list_any (λ a. refutes a order) (certificate_assertions n records winner) any in
+          (claim_of records a, subst (λ claims. Contains claims (claim_of records a)) (sym c.claims) (contains-from_member (member-map (claim_of records) m)), r);
+      reached = (
+        claim_of records a,
+        subst (λ claims. Contains claims (claim_of records a)) (sym c.claims) (contains-from_member (member-map (claim_of records) (member-from_contains a (certificate_assertions n records winner) k))),
+        e ∙ sym c.margin,
+      );
+      smallest = subst (All (λ claim. file.margin ≤ claim.margin)) (sym c.claims)
+          (each (λ (claim : Claim). file.margin ≤ claim.margin) (certificate_claims n records winner) (λ claim m. let le = claim-least n records winner claim m in omega (arith, le, c.margin)));
+      alternative = subst (IsAlternative n winner) (sym same) ((alternative_orders_are n winner found).0 among);
+      hardest = λ a proper holds r.
+          let le : true_margin records a ≤ low n records file.order = low-refuter n records file.order a proper r in
+          omega (arith, le, ap (low n records) same, hard, c.margin);
+    }
+
+pub certificate-confirms : (ballots : BallotFile) (file : Content) → 1 < candidate_count ballots → (c : IsCertificateOf ballots file) →
+    Confirms (candidate_count ballots) ballots.rankings c.winner file
+certificate-confirms ballots file two c =
+    let n = candidate_count ballots in
+    let positive = best_is_positive n c.winner ballots.rankings c.won.order two c.won.permutation c.won.tabulated c.won.elects in
+    subst (Confirms n ballots.rankings c.winner) (sym c.is)
+    (confirmed n ballots.rankings c.winner (certificate_of ballots c.winner c.order) (winner-below ballots c.winner c.won) two positive (record { margin = refl; order = c.least; claims = refl }))

@@ -1,0 +1,13 @@
+pub mod Words
+pub mod Outcome
+pub mod Script
+pub mod Search
+pub mod Confirmation
+pub mod Answers
+pub mod Ends
+pub mod Accounts
+pub mod Said
+pub mod Command
+pub mod Found
+pub mod Promises
+pub mod Story

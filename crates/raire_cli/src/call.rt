@@ -1,0 +1,105 @@
+// The top call.
+ghost use Rattle.std.specs.Prelude.{◌≡◌, ◌≢◌, ◌⊎◌, ◌≤◌, IfSome};
+ghost use Rattle.std.specs.Io.KnownBytes.{Keeps};
+ghost use Rattle.desk.specs.Count.{Rose};
+ghost use Rattle.assertion_file.specs.Text.{assertion_file_text};
+ghost use Rattle.assertion_file.specs.Content.{Content};
+ghost use Rattle.raire_cli.specs.Accounts.{IsAccountedFor};
+ghost use Rattle.raire_cli.specs.Confirmation.{ConfirmsAsked};
+ghost use Rattle.raire_cli.specs.Script.{ByDesk};
+ghost use Rattle.raire_cli.specs.Words.{texts};
+ghost use Rattle.raire_cli.specs.Story.{Story};
+ghost use Rattle.raire_cli.specs.Promises.{IsUndone, IsQuiet, IsAnswered, Statuses, IsForErr, IsAccepted};
+ghost use Rattle.raire_cli.specs.Answers.{line_of, IsDue};
+ghost use Rattle.raire_cli.specs.Ends.{writing, Took};
+ghost use Rattle.raire_cli.specs.Said.{due};
+
+use crate::commands::Command;
+use crate::deliver::deliver;
+use crate::outcome::{Answer, Refusal};
+use desk::{Desk, Gate, Sink};
+use std::alloc::Global;
+
+/// Runs the command of the words over the files of the desk, and gives the status that the program ends with.
+///
+/// | status | meaning | written |
+/// |---|---|---|
+/// | 0 | the answer | `out` |
+/// | 1 | the words are no command line | `err` |
+/// | 2 | a rule refuses a file | `err` |
+/// | 3 | the tabulation has a tie | `out` |
+/// | 7 | a file could not be read | `err` |
+/// | 8 | a text could not be written | a part of it |
+/// | 9 | memory could not be had | `err` |
+/// | 11 | a file has more than 67,108,864 bytes | `err` |
+/// | 12 | there is no such file | `err` |
+pub fn run<R: AllocGlobal, D: Desk, O: Sink, E: Sink, G: Gate + Sync>(
+    rt: &R,
+    words: &[String],
+    desk: &mut D,
+    out: &mut O,
+    err: &mut E,
+    gate: &G,
+) -> u8
+    // Status 0 of a search: the printed assertions are all true of the records, and refute every elimination order
+    // that elects another candidate. The printed margin is the smallest of theirs, and no true assertion of larger
+    // margin refutes the printed order.
+    ensures headline { IfSome (D.held desk.old) (λ files. result ≡ 0 → (file : Content)
+        × ConfirmsAsked (texts words.now) files file × Took (writing O.Sink out.old out.new) (assertion_file_text file)) }
+
+    // A search of an accepted file whose contest has no tie ends so where no count of faults rose, if memory was found.
+    ensures complete { IfSome (D.held desk.old) (λ files. IsAccepted (texts words.now) files →
+        IsQuiet (Rose (D.faults desk.old) (D.faults desk.new)) (writing O.Sink out.old out.new) (writing E.Sink err.old err.new) →
+        (result ≡ 0) ⊎ (result ≡ 9)) }
+
+    // Where the desk tells its files and no count of faults rose: want of memory, or the defined status and texts.
+    ensures answer { IfSome (D.held desk.old) (λ files.
+        IsQuiet (Rose (D.faults desk.old) (D.faults desk.new)) (writing O.Sink out.old out.new) (writing E.Sink err.old err.new) →
+        result ≢ 9 → IsAnswered (texts words.now) files result (writing O.Sink out.old out.new) (writing E.Sink err.old err.new)) }
+
+    // The same where a count rose, but for 7 and 8.
+    ensures answer_but { IfSome (D.held desk.old) (λ files. IsUndone result ⊎
+        IsAnswered (texts words.now) files result (writing O.Sink out.old out.new) (writing E.Sink err.old err.new)) }
+
+    // When each status comes, and what the sinks then took.
+    ensures status { Statuses (texts words.now) (D.held desk.old) (Rose (D.faults desk.old) (D.faults desk.new)) result
+        (writing O.Sink out.old out.new) (writing E.Sink err.old err.new) }
+
+    // 11 and 12 come exactly where the desk served so, told or not told what it holds.
+    ensures served { IsAccountedFor (D.served desk.old) (D.served desk.new) result }
+
+    // 1, 2, 7, 9, 11 and 12 leave `out` as it was.
+    ensures kept { IsForErr result → Keeps (O.taken out.old) (O.taken out.new) }
+    ensures held { D.held desk.new ≡ D.held desk.old }
+{
+    perform(rt.alloc(), words, desk, out, err)
+}
+
+fn perform<D: Desk, O: Sink, E: Sink>(
+    alloc: Global,
+    words: &[String],
+    desk: &mut D,
+    out: &mut O,
+    err: &mut E,
+) -> u8
+    ensures story { Story (texts words.now) (D.held desk.old) (Rose (D.faults desk.old) (D.faults desk.new)) result
+        (writing O.Sink out.old out.new) (writing E.Sink err.old err.new) }
+    ensures served { IsAccountedFor (D.served desk.old) (D.served desk.new) result }
+    ensures held { D.held desk.new ≡ D.held desk.old }
+{
+    let said = answer(alloc, words, desk);
+    deliver(&said, out, err)
+}
+
+fn answer<D: Desk>(alloc: Global, words: &[String], desk: &mut D) -> Result<Answer, Refusal>
+    ensures held { D.held desk.new ≡ D.held desk.old }
+    ensures later { D.faults desk.old ≤ D.faults desk.new }
+    ensures due { IsDue (ByDesk (D.held desk.old) (Rose (D.faults desk.old) (D.faults desk.new)))
+        (line_of (texts words.now)) (due result) }
+    ensures served { IsAccountedFor (D.served desk.old) (D.served desk.new) (due result).status }
+{
+    match Command::read(words) {
+        Some(command) => command.answer(alloc, desk),
+        None => Err(Refusal::Words),
+    }
+}

@@ -1,0 +1,10 @@
+//! The top call of the suite: a command line goes in with the files that it names, a status and texts come out.
+#![tactic(auto)]
+
+mod call;
+mod commands;
+mod deliver;
+mod files;
+mod outcome;
+
+pub use call::run;

@@ -1,0 +1,15 @@
+-- The laws of the race
+use Rattle.std.specs.Prelude.{IsTrue, ◌≡◌, ◌↔◌, ℕ, ◌≤◌, Some, List, length}
+use Rattle.race_core.specs.declared.event.Event.{Event}
+use Rattle.race_core.specs.Race.{Race, least, start, run, all_closed, closed_count}
+
+-- over every list of events that are enabled, once all pieces are closed the bound is the least value
+abbrev pub RaceLaw : Type 0
+RaceLaw =
+    (values : List ℕ) (first workers : ℕ) (events : List Event) (r : Race) →
+    1 ≤ length values → least values ≤ first →
+    run (start values first workers) events ≡ Some r → IsTrue (all_closed r) → r.bound ≡ least values
+
+-- as many pieces are closed as there are, exactly where all are
+abbrev pub ClosedLaw : Type 0
+ClosedLaw = (r : Race) → IsTrue (all_closed r) ↔ (closed_count r ≡ length r.values)

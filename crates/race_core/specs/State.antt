@@ -1,0 +1,1 @@
+-- How a `State` keeps a race

@@ -1,0 +1,8 @@
+//! The race of workers over the pieces of a search, as a machine over events, apart from threads and memory that is shared.
+#![tactic(auto)]
+
+mod event;
+
+pub mod laws;
+
+pub use event::Event;

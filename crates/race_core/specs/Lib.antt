@@ -1,3 +1,4 @@
 pub mod Race
 pub mod Laws
+pub mod Steps
 pub mod State

@@ -1,5 +1,6 @@
 -- The race: workers take pieces, look at a shared bound, lower it by posts, and close pieces. Each event is one step of one worker.
-use Rattle.std.specs.Prelude.{ℕ, ◌+◌, min, Bool, true, false, not, ◌&&◌, ◌==◌, nat_le, nat_lt, is_some, if◌then◌else◌, List, [], ◌∷◌, ◌++◌, length, count_by, fold, Option, Some, None, option_and_then, slice_index, slice_get, slice_set, replicate}
+use Rattle.std.specs.Prelude.{ℕ, ◌+◌, ◌-◌, ◌^◌, min, Bool, true, false, not, ◌&&◌, ◌==◌, nat_le, nat_lt, is_some, if◌then◌else◌, List, [], ◌∷◌, ◌++◌, length, count_by, fold, Option, Some, None, option_and_then, slice_index, slice_get, slice_set, replicate}
+use Rattle.std.specs.Option.{option_map_or}
 use Rattle.std.specs.List.{list_any, list_all, range_with_len}
 use Rattle.race_core.specs.declared.event.Event.{Event}
 use Rattle.race_core.specs.declared.event.Event.TheVariants.{Take, Look, Post, Close}
@@ -99,3 +100,24 @@ all_closed r = list_all (is_closed r) (range_with_len 0 (length r.values))
 
 abbrev pub closed_count : Race → ℕ
 closed_count r = count_by (is_closed r) (range_with_len 0 (length r.values))
+
+-- ---- a machine that counts looks in 64 bits
+
+abbrev pub worker_of : Event → ℕ
+worker_of (Take k) = k
+worker_of (Look k) = k
+worker_of (Post k m) = k
+worker_of (Close k p) = k
+
+-- the worker's looks stand at the last u64
+abbrev pub is_out_of_looks : Race → ℕ → Bool
+is_out_of_looks r k = option_map_or (λ w. w.looks == 2 ^ 64 - 1) (slice_get r.workers k) false
+
+-- the race after the event, or none where it is not enabled or its worker is out of looks
+abbrev pub step : Race → Event → Option Race
+step r e = if is_out_of_looks r (worker_of e) then None else after r e
+
+-- how many events are taken before the first that is not
+abbrev pub taken_count : Race → List Event → ℕ
+taken_count r [] = 0
+taken_count r (e ∷ es) = option_map_or (λ s. 1 + taken_count s es) (step r e) 0

@@ -2,7 +2,11 @@
 #![tactic(auto)]
 
 mod event;
+mod state;
 
 pub mod laws;
+#[cfg(test)]
+mod tests;
 
 pub use event::Event;
+pub use state::State;

@@ -1,10 +1,10 @@
 -- How many pieces are closed, by the marks.
-use Rattle.std.proofs.Common.{◌≡◌, ◌≢◌, ℕ, zero, suc, ◌+◌, ◌-◌, ◌^◌, ◌<◌, ◌≤◌, Bool, true, false, ◌&&◌, ◌||◌, ◌==◌, cond, List, [], ◌∷◌, ◌++◌, map, filter, take, length, get_or, set, slice_index, slice_index_or, slice_get, All, Some, count_by, refl, sym, ap, ◌∙◌, subst, arith, inl, inr}
-use Rattle.std.specs.List.{list_any, range_with_len, fold}
+use Rattle.std.proofs.Common.{◌≡◌, ℕ, suc, ◌+◌, ◌<◌, Bool, true, false, cond, List, [], ◌∷◌, map, take, length, get_or, slice_index, slice_get, All, Some, count_by, refl, sym, ap, ◌∙◌, inl, inr}
+use Rattle.std.specs.List.{range_with_len, fold}
 use Rattle.std.specs.Option.{option_map}
 use Rattle.std.proofs.Math.Nat.{zero-add}
 use Rattle.std.proofs.lemmas.Bool.{cases_Bool, and_right, and_from, eq-eqb}
-use Rattle.std.proofs.lemmas.List.{length-map, get_or-map}
+use Rattle.std.proofs.lemmas.List.{length-map}
 use Rattle.std.proofs.lemmas.List.Elements.{All-cons, All-nil}
 use Rattle.std.proofs.lemmas.List.Folds.{list_any_at, list_any_none, fold-map}
 use Rattle.std.proofs.lemmas.List.FromFn.{fill_by_all}
@@ -31,10 +31,10 @@ module _ (ps : List Piece) (cs : List ℕ) (es : List Entry) (n b closed lowest 
       let inside : k < length es = h.taken_by_some p (h.marked_taken p mark) in
       let entry : Entry = get_or es k record { seen = 0; posted = 0; looks = 0; done = false } in
       let at : slice_get (numbered f 0 es) k ≡ Some (f k entry) =
-          slice_get-numbered f 0 es k ∙ ap (option_map (f (0 + k))) (slice_get-get_or es k record { seen = 0; posted = 0; looks = 0; done = false } inside) ∙ ap (λ i. Some (f i entry)) (zero-add k) in
+      slice_get-numbered f 0 es k ∙ ap (option_map (f (0 + k))) (slice_get-get_or es k record { seen = 0; posted = 0; looks = 0; done = false } inside) ∙ ap (λ i. Some (f i entry)) (zero-add k) in
       let closed_by : is_in (f k entry).closed p ≡ true = is_in-filter (is_taker ts k) p (take closed cs) ∙ and_from _ _ (eq-eqb k k refl) (h.marked p ∙ mark) in
       list_any_at (λ w. is_in w.closed p) (numbered f 0 es) k (f k entry) (slice_get_within (numbered f 0 es) k (f k entry) at)
-          (ap (λ (w : Worker). is_in w.closed p) (get_or_from_slice_get (numbered f 0 es) k (f k entry) (f k entry) at) ∙ closed_by)
+      (ap (λ (w : Worker). is_in w.closed p) (get_or_from_slice_get (numbered f 0 es) k (f k entry) (f k entry) at) ∙ closed_by)
 
   not_closed : (p : ℕ) → is_marked ps p ≡ false → is_closed shown p ≡ false
   not_closed p mark =
@@ -54,4 +54,4 @@ module _ (ps : List Piece) (cs : List ℕ) (es : List Entry) (n b closed lowest 
       let marks = map (λ (q : Piece). q.is_closed) ps in
       let tests : marks ≡ map (is_closed shown) (range_with_len 0 (length ps)) = fill_by_all (is_closed shown) marks (length ps) false (length-map ps (λ (q : Piece). q.is_closed)) (λ k below. sym (closed_is k)) in
       h.counted ∙ sym (fold-map add (λ (q : Piece). q.is_closed) 0 ps) ∙ ap (fold add 0) tests ∙ fold-map add (is_closed shown) 0 (range_with_len 0 (length ps))
-          ∙ ap (λ m. count_by (is_closed shown) (range_with_len 0 m)) (sym (length-map ps (λ (q : Piece). q.value)))
+      ∙ ap (λ m. count_by (is_closed shown) (range_with_len 0 m)) (sym (length-map ps (λ (q : Piece). q.value)))

@@ -1,19 +1,18 @@
 -- The workers that the entries of a `State` show.
-use Rattle.std.proofs.Common.{◌≡◌, ◌≢◌, ℕ, zero, suc, ◌+◌, ◌-◌, ◌^◌, ◌<◌, ◌≤◌, Bool, true, false, ◌&&◌, ◌||◌, ◌==◌, not, cond, nat_lt, List, [], ◌∷◌, ◌++◌, map, filter, take, length, get_or, set, slice_get, slice_index, slice_index_or, All, Option, Some, None, refl, sym, ap, ◌∙◌, subst, arith, inl, inr, ⊎_elim}
-use Rattle.std.specs.List.{list_any, range_with_len}
+use Rattle.std.proofs.Common.{◌≡◌, ◌≢◌, ℕ, zero, suc, ◌+◌, ◌-◌, ◌^◌, ◌<◌, ◌≤◌, Bool, true, false, ◌&&◌, ◌||◌, ◌==◌, cond, List, [], ◌∷◌, ◌++◌, filter, length, get_or, set, slice_get, All, Option, Some, None, refl, sym, ap, ◌∙◌, arith, inl, inr}
+use Rattle.std.specs.List.{range_with_len}
 use Rattle.std.specs.Option.{option_map, option_map_or, option_and_then}
 use Rattle.std.proofs.Math.Nat.{zero-add, add-zero}
 use Rattle.std.proofs.Math.Numerals.{add-one}
-use Rattle.std.proofs.lemmas.Bool.{cases_Bool, cases_eq, cond_both, eqb-true, eq-eqb, ne_eqb, lt-ltb, le-ltb, cond-true, cond-false}
-use Rattle.std.proofs.lemmas.List.{append-nil, get_or-set_same, get_or-set_other}
+use Rattle.std.proofs.lemmas.Bool.{cases_Bool, cond_both, eqb-true, eq-eqb, ne_eqb, cond-true, cond-false}
+use Rattle.std.proofs.lemmas.List.{get_or-set_same, get_or-set_other}
 use Rattle.std.proofs.lemmas.Option.{slice_get_within}
 use Rattle.std.proofs.lemmas.List.Elements.{All-head, All-tail, filter-append}
-use Rattle.std.proofs.lemmas.List.Folds.{list_any-append, list_any_at}
+use Rattle.std.proofs.lemmas.List.Folds.{list_any_at}
 use Rattle.std.proofs.lemmas.List.FromFn.{get_or-range_with_len, length-range_with_len}
-use Rattle.race_core.specs.declared.state.Piece.{Piece}
 use Rattle.race_core.specs.declared.state.Entry.{Entry}
 use Rattle.race_core.specs.Race.{Worker, Race, is_in}
-use Rattle.race_core.specs.State.{is_taker, shown_worker, numbered, ready_entry}
+use Rattle.race_core.specs.State.{is_taker, numbered, ready_entry}
 
 -- ---- workers by number
 
@@ -34,7 +33,7 @@ module _ (f : ℕ → Entry → Worker) where
     numbered_set j (d ∷ es) zero e w others here = λ x. (ap (λ n. g n e) (sym (add-zero j)) ∙ here) x ∷ numbered_same (suc j) es (λ k c h. others k c (λ same. omega (arith, add-zero j))) x
     numbered_set j (d ∷ es) (suc i) e w others here =
         λ x. others j d (λ same. omega arith) x
-            ∷ numbered_set (suc j) es i e w (λ k c apart. others k c (λ same. apart (omega arith))) (ap (λ n. g n e) (omega arith) ∙ here) x
+        ∷ numbered_set (suc j) es i e w (λ k c apart. others k c (λ same. apart (omega arith))) (ap (λ n. g n e) (omega arith) ∙ here) x
 
 -- ---- a worker that may step
 
@@ -47,24 +46,24 @@ pub ready_step : (f : ℕ → Entry → Worker) (es : List Entry) (k : ℕ) (act
     ≡ option_and_then (λ e. act (f k e)) (ready_entry es k)
 ready_step f es k act looks = rw (slice_get-numbered f 0 es k, zero-add k) (at (slice_get es k))
   where
-  at : (o : Option Entry) → cond (option_map_or (λ w. w.looks == 2 ^ 64 - 1) (option_map (f k) o) false) None (option_and_then act (option_map (f k) o))
-      ≡ option_and_then (λ e. act (f k e)) (option_and_then (λ e. cond (e.looks == 2 ^ 64 - 1) None (Some e)) o)
-  at None = refl
-  at (Some e) = ap (λ n. cond (n == 2 ^ 64 - 1) None (act (f k e))) (looks e) ∙ choose (λ d. act (f k d)) (e.looks == 2 ^ 64 - 1) e
+    at : (o : Option Entry) → cond (option_map_or (λ w. w.looks == 2 ^ 64 - 1) (option_map (f k) o) false) None (option_and_then act (option_map (f k) o))
+        ≡ option_and_then (λ e. act (f k e)) (option_and_then (λ e. cond (e.looks == 2 ^ 64 - 1) None (Some e)) o)
+    at None = refl
+    at (Some e) = ap (λ n. cond (n == 2 ^ 64 - 1) None (act (f k e))) (looks e) ∙ choose (λ d. act (f k d)) (e.looks == 2 ^ 64 - 1) e
 
 -- an entry that is ready is the worker's, with looks left
 pub ready_at : (es : List Entry) (k : ℕ) (e : Entry) → Some e ≡ ready_entry es k → (slice_get es k ≡ Some e) × (e.looks ≢ 2 ^ 64 - 1)
 ready_at es k e is = at (slice_get es k) is
   where
-  at : (o : Option Entry) → Some e ≡ option_and_then (λ d. cond (d.looks == 2 ^ 64 - 1) None (Some d)) o → (o ≡ Some e) × (e.looks ≢ 2 ^ 64 - 1)
-  at None is = cc
-  at (Some d) is = elim (cases_Bool (d.looks == 2 ^ 64 - 1)) [
-    | inl last ↦ let none : Some e ≡ None = is ∙ cond-true _ None (Some d) last in cc
-    | inr more ↦
-      let same : Some e ≡ Some d = is ∙ cond-false _ None (Some d) more in
-      let equal : e ≡ d = cc in
-      (ap Some (sym equal), λ last. let again : (d.looks == 2 ^ 64 - 1) ≡ true = eq-eqb d.looks (2 ^ 64 - 1) (ap (λ (x : Entry). x.looks) (sym equal) ∙ last) in cc)
-  ]
+    at : (o : Option Entry) → Some e ≡ option_and_then (λ d. cond (d.looks == 2 ^ 64 - 1) None (Some d)) o → (o ≡ Some e) × (e.looks ≢ 2 ^ 64 - 1)
+    at None is = cc
+    at (Some d) is = elim (cases_Bool (d.looks == 2 ^ 64 - 1)) [
+      | inl last ↦ let none : Some e ≡ None = is ∙ cond-true _ None (Some d) last in cc
+      | inr more ↦
+          let same : Some e ≡ Some d = is ∙ cond-false _ None (Some d) more in
+          let equal : e ≡ d = cc in
+          (ap Some (sym equal), λ last. let again : (d.looks == 2 ^ 64 - 1) ≡ true = eq-eqb d.looks (2 ^ 64 - 1) (ap (λ (x : Entry). x.looks) (sym equal) ∙ last) in cc)
+    ]
 
 pub ready_within : (es : List Entry) (k : ℕ) (e : Entry) → Some e ≡ ready_entry es k → k < length es
 ready_within es k e is = slice_get_within es k e (ready_at es k e is).0
@@ -83,9 +82,9 @@ module _ (f : ℕ → Bool) (p : ℕ) where
   pub is_in-filter : (xs : List ℕ) → is_in (filter f xs) p ≡ (f p && is_in xs p)
   is_in-filter [] = none (f p)
     where
-    none : (b : Bool) → false ≡ (b && false)
-    none true = refl
-    none false = refl
+      none : (b : Bool) → false ≡ (b && false)
+      none true = refl
+      none false = refl
   is_in-filter (x ∷ xs) =
       let others = is_in-filter xs in
       cond_both (f x) (x ∷ filter f xs) (filter f xs) (λ ys. is_in ys p ≡ (f p && is_in (x ∷ xs) p))
@@ -129,9 +128,9 @@ module _ (ts : List ℕ) (n k : ℕ) where
   pub taken_after_take : (i : ℕ) → n < length ts → filter (is_taker (set ts n k) i) (range_with_len 0 (n + 1)) ≡ filter (is_taker ts i) (range_with_len 0 n) ++ cond (k == i) (n ∷ []) []
   taken_after_take i inside =
       ap (filter (is_taker (set ts n k) i)) (range_more 0 n ∙ ap (λ m. range_with_len 0 n ++ m ∷ []) (zero-add n))
-          ∙ filter-append (is_taker (set ts n k) i) (range_with_len 0 n) (n ∷ [])
-          ∙ ap (λ ys. ys ++ cond (get_or (set ts n k) n 0 == i) (n ∷ []) []) (same_taker i (range_with_len 0 n) (all_below n))
-          ∙ ap (λ t. filter (is_taker ts i) (range_with_len 0 n) ++ cond (t == i) (n ∷ []) []) (get_or-set_same ts n k 0 inside)
+      ∙ filter-append (is_taker (set ts n k) i) (range_with_len 0 n) (n ∷ [])
+      ∙ ap (λ ys. ys ++ cond (get_or (set ts n k) n 0 == i) (n ∷ []) []) (same_taker i (range_with_len 0 n) (all_below n))
+      ∙ ap (λ t. filter (is_taker ts i) (range_with_len 0 n) ++ cond (t == i) (n ∷ []) []) (get_or-set_same ts n k 0 inside)
 
 -- a piece was closed
 pub closed_after_close : (ts : List ℕ) (cs : List ℕ) (p i : ℕ) → filter (is_taker ts i) (cs ++ p ∷ []) ≡ filter (is_taker ts i) cs ++ cond (is_taker ts i p) (p ∷ []) []

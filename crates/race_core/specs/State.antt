@@ -1,5 +1,5 @@
 -- How the fields of a `State` show a race.
-use Rattle.std.specs.Prelude.{ℕ, ◌+◌, ◌-◌, ◌^◌, ◌≡◌, ◌≤◌, ◌<◌, ◌==◌, Bool, true, false, suc, if◌then◌else◌, List, [], ◌∷◌, map, filter, take, length, count_by, slice_index, slice_index_or, slice_get, Option, Some, None, option_and_then}
+use Rattle.std.specs.Prelude.{ℕ, ◌-◌, ◌^◌, ◌≡◌, ◌≤◌, ◌<◌, ◌==◌, Bool, true, false, suc, if◌then◌else◌, List, [], ◌∷◌, map, filter, take, length, count_by, slice_index, slice_index_or, slice_get, Option, Some, None, option_and_then}
 use Rattle.std.specs.List.{range_with_len}
 use Rattle.race_core.specs.declared.state.Piece.{Piece}
 use Rattle.race_core.specs.declared.state.Entry.{Entry}

@@ -2,9 +2,8 @@
 #![tactic(auto)]
 
 mod event;
-mod state;
-
 pub mod laws;
+mod state;
 #[cfg(test)]
 mod tests;
 

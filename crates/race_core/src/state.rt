@@ -56,12 +56,7 @@ impl Model for State {
 
 impl State {
     /// The start of a race over pieces of these values, with `first` as the bound.
-    pub fn start(
-        alloc: Global,
-        values: &[u32],
-        first: u32,
-        workers: u32,
-    ) -> Result<State, Memory>
+    pub fn start(alloc: Global, values: &[u32], first: u32, workers: u32) -> Result<State, Memory>
         requires some { 1 ≤ length values.now }
         requires few { length values.now < 2 ^ 32 }
         requires first { least values.now ≤ first }

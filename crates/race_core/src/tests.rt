@@ -21,12 +21,11 @@ fn two_workers_close_all_at_the_least_value(rt: HostRuntime) -> Result<(), Fail>
     assert_eq!(rt; race.run(&events), 6);
     assert_eq!(rt; race.bound(), 1);
     assert!(rt; !race.step(Event::Post { worker: 0, m: 0 }));
-    assert!(
-        rt; !race
-            .step(Event::Close {
-                worker: 0,
-                piece: 0,
-            })
+    assert!(rt;
+        !race.step(Event::Close {
+            worker: 0,
+            piece: 0,
+        })
     );
     assert_eq!(rt; race.closed(), 2);
     Ok(())

@@ -1,9 +1,7 @@
-use Rattle.std.proofs.Common.{◌≡◌, ◌+◌, ◌<◌, ◌≤◌, ◌==◌, ◌&&◌, not, true, false, nat_le, take, length, get_or, None, Some, refl, sym, ap, ◌∙◌, arith}
+use Rattle.std.proofs.Common.{◌≡◌, ◌+◌, ◌==◌, ◌&&◌, not, true, false, nat_le, take, None, Some, refl, ap, arith}
 use Rattle.std.proofs.lemmas.Bool.{eq-eqb, ne_eqb, lt-leb, le-leb, and_left, and_right, and_from}
 use Rattle.std.proofs.lemmas.List.{take_more_set}
-use Rattle.race_core.specs.declared.state.Piece.{Piece}
 use Rattle.race_core.specs.declared.event.Event.TheVariants.{Close}
-use Rattle.race_core.specs.Race.{least}
 use Rattle.race_core.specs.State.{ready_entry}
 use Rattle.race_core.proofs.Shown.{ready_within}
 use Rattle.race_core.proofs.Sound.{sound_close, sound_entry, room_left, mark_at}
@@ -30,11 +28,11 @@ returns-then-p-worker c =
     let q = c.index-p.result.now in
     let mark = mark_at s.pieces.items s.closings.items s.entries.items s.next s.closed s.lowest c.self.invariant c.args.piece q c.if-piece-self.false c.index-p.ensures in
     let fails : ((q.taker == c.args.worker) && not q.is_closed && nat_le s.bound q.value) ≡ false =
-        elim c.then-p-worker.branch [
-          | then-p-worker-via-then-p-worker w ↦ and_left _ _ (and_left _ _ (ne_eqb q.taker c.args.worker w.if-p-worker.true))
-          | then-p-worker-via-else-p-worker+then-p w ↦ and_left _ _ (and_right (q.taker == c.args.worker) (not q.is_closed) (ap not w.if-p.true))
-          | then-p-worker-via-else-p-worker+else-p+then-p-self w ↦ and_right _ _ (lt-leb s.bound q.value w.if-p-self.true)
-        ] in
+    elim c.then-p-worker.branch [
+      | then-p-worker-via-then-p-worker w ↦ and_left _ _ (and_left _ _ (ne_eqb q.taker c.args.worker w.if-p-worker.true))
+      | then-p-worker-via-else-p-worker+then-p w ↦ and_left _ _ (and_right (q.taker == c.args.worker) (not q.is_closed) (ap not w.if-p.true))
+      | then-p-worker-via-else-p-worker+else-p+then-p-self w ↦ and_right _ _ (lt-leb s.bound q.value w.if-p-self.true)
+    ] in
     (rw (← c.self.view_is) (not_closed s.pieces.items (take s.closed s.closings.items) s.entries.items s.next s.bound c.args.worker c.args.piece c.in-Some.entry q ready c.if-piece-self.false c.self.invariant.next_within c.index-p.ensures mark fails), refl)
 
 pub index_mut-requires-2 : goal.index_mut-requires-2
@@ -71,6 +69,6 @@ returns c =
     let mark = mark_at s.pieces.items s.closings.items s.entries.items s.next s.closed s.lowest c.self.invariant c.args.piece q c.if-piece-self.false c.index-p.ensures in
     let room = room_left s.pieces.items s.closings.items s.entries.items s.next s.closed s.lowest c.self.invariant c.args.piece q c.if-piece-self.false c.index-p.ensures c.if-p.false in
     let passes : ((q.taker == c.args.worker) && not q.is_closed && nat_le s.bound q.value) ≡ true =
-        and_from _ _ (and_from _ _ (eq-eqb q.taker c.args.worker c.if-p-worker.false) (ap not c.if-p.false)) (le-leb s.bound q.value c.if-p-self.false) in
+    and_from _ _ (and_from _ _ (eq-eqb q.taker c.args.worker c.if-p-worker.false) (ap not c.if-p.false)) (le-leb s.bound q.value c.if-p-self.false) in
     rw (← c.self.view_is, take_more_set s.closings.items s.closed c.args.piece room)
-        (closed_piece s.pieces.items (take s.closed s.closings.items) s.entries.items s.next s.bound c.args.worker c.args.piece c.in-Some.entry q ready c.if-piece-self.false c.self.invariant.next_within c.index-p.ensures mark passes)
+    (closed_piece s.pieces.items (take s.closed s.closings.items) s.entries.items s.next s.bound c.args.worker c.args.piece c.in-Some.entry q ready c.if-piece-self.false c.self.invariant.next_within c.index-p.ensures mark passes)

@@ -1,4 +1,3 @@
-use Rattle.std.proofs.Common.{rules}
 use Rattle.race_core.proofs.Counted.{closed_counted}
 use Rattle.race_core.proofs.state.State.closed.Goals as goal
 

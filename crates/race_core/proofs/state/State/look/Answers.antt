@@ -1,4 +1,4 @@
-use Rattle.std.proofs.Common.{◌≡◌, ◌+◌, take, None, Some, refl, arith}
+use Rattle.std.proofs.Common.{◌≡◌, take, None, refl}
 use Rattle.race_core.specs.declared.event.Event.TheVariants.{Look}
 use Rattle.race_core.specs.State.{ready_entry}
 use Rattle.race_core.proofs.Fields.{not_ready, looked}

@@ -1,12 +1,9 @@
-use Rattle.std.proofs.Common.{◌≡◌, ◌+◌, ◌<◌, ◌≤◌, ◌==◌, ◌&&◌, not, true, false, nat_le, map, take, length, get_or, None, Some, refl, sym, ap, ◌∙◌, arith}
-use Rattle.std.proofs.lemmas.Bool.{eq-eqb, ne_eqb, lt-leb, le-leb, and_left, and_right, and_from}
-use Rattle.std.proofs.lemmas.List.{take_more_set}
-use Rattle.race_core.specs.declared.state.Piece.{Piece}
+use Rattle.std.proofs.Common.{◌≡◌, ◌<◌, ◌≤◌, map, take, None, Some, refl, arith}
 use Rattle.race_core.specs.declared.event.Event.TheVariants.{Post}
 use Rattle.race_core.specs.Race.{least}
 use Rattle.race_core.specs.State.{ready_entry}
 use Rattle.race_core.proofs.Shown.{ready_within}
-use Rattle.race_core.proofs.Sound.{sound_close, sound_entry, room_left, mark_at}
+use Rattle.race_core.proofs.Sound.{sound_entry}
 use Rattle.race_core.proofs.Fields.{not_ready, too_low, posted}
 use Rattle.race_core.proofs.state.State.post.Goals as goal
 
@@ -39,4 +36,4 @@ returns c =
     let ready : Some c.in-Some.entry ≡ ready_entry s.entries.items c.args.worker = rw c.deref.ensures.value at c.in-Some.ensures in
     let high : least (map (λ q. q.value) s.pieces.items) ≤ c.args.m = omega (arith, c.self.invariant.lowest_is) in
     rw (← c.self.view_is, c.min-self-inside.ensures, c.min.ensures)
-        (posted s.pieces.items (take s.closed s.closings.items) s.entries.items s.next s.bound c.args.worker c.args.m c.in-Some.entry ready high)
+    (posted s.pieces.items (take s.closed s.closings.items) s.entries.items s.next s.bound c.args.worker c.args.m c.in-Some.entry ready high)

@@ -1,5 +1,3 @@
-use Rattle.std.proofs.Common.{◌≡◌, List, [], ℕ, map, refl, ap, ◌∙◌}
-use Rattle.race_core.specs.State.{shown_race, open_piece}
 use Rattle.race_core.proofs.Fields.{start_shown}
 use Rattle.race_core.proofs.Sound.{start_sound}
 use Rattle.race_core.proofs.state.State.start.Goals as goal

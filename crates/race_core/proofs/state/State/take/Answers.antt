@@ -1,4 +1,4 @@
-use Rattle.std.proofs.Common.{◌≡◌, ◌+◌, take, None, Some, refl, arith}
+use Rattle.std.proofs.Common.{◌≡◌, take, None, Some, refl, arith}
 use Rattle.race_core.specs.declared.event.Event.TheVariants.{Take}
 use Rattle.race_core.specs.State.{ready_entry}
 use Rattle.race_core.proofs.Fields.{not_ready, already_done, took_none, took}
@@ -37,7 +37,7 @@ returns-then-next-len c =
     let ready : Some c.in-Some.entry ≡ ready_entry s.entries.items c.args.worker = rw c.deref.ensures.value at c.in-Some.ensures in
     let low = closed_below s.pieces.items s.closings.items s.entries.items s.next s.closed s.lowest c.self.invariant in
     rw (← c.self.view_is)
-        (took s.pieces.items (take s.closed s.closings.items) s.entries.items s.next s.bound c.args.worker c.in-Some.entry c.index_mut.result.now ready c.if-entry.false (omega arith) c.index_mut.ensures.value low)
+    (took s.pieces.items (take s.closed s.closings.items) s.entries.items s.next s.bound c.args.worker c.in-Some.entry c.index_mut.result.now ready c.if-entry.false (omega arith) c.index_mut.ensures.value low)
 
 pub returns-else-next-len : goal.returns-else-next-len
 returns-else-next-len c =

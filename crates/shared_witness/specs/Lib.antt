@@ -1,0 +1,6 @@
+pub mod View
+pub mod Moment
+pub mod Words
+pub mod Steps
+pub mod Race
+pub mod Laws

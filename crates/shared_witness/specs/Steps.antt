@@ -1,0 +1,26 @@
+-- What one step of a seat is: between two moments at which the rule holds, it changes the words and the view of the seat.
+use Rattle.std.specs.Prelude.{ℕ, ◌≡◌, slice_get, Some}
+use Rattle.shared_witness.specs.declared.view.View.{View}
+use Rattle.shared_witness.specs.declared.view.Terms.{Terms}
+use Rattle.shared_witness.specs.Moment.{Moment, RaceRule, after_take, after_look, after_post, after_close}
+
+-- the seat of number k goes from the view `old` to the view `new`, and the race from one moment to the next
+pub record IsStep (t : Terms) (k : ℕ) (old new : View) (before after : Moment) : Type 0 where
+  pub held : RaceRule t before
+  pub holds : RaceRule t after
+  pub had : slice_get before.views k ≡ Some old
+  pub has : slice_get after.views k ≡ Some new
+
+-- `found` is the word as the step found it
+module _ (t : Terms) (old : View) (found : ℕ) (new : View) where
+  abbrev pub Takes : Type 0
+  Takes = (m : Moment) × (k : ℕ) × (found ≡ m.ticket) × IsStep t k old new m (after_take t m k old)
+
+  abbrev pub Looks : Type 0
+  Looks = (m : Moment) × (k : ℕ) × (found ≡ m.bound) × IsStep t k old new m (after_look m k old)
+
+  abbrev pub Posts : ℕ → Type 0
+  Posts value = (m : Moment) × (k : ℕ) × (found ≡ m.bound) × IsStep t k old new m (after_post m k old value)
+
+  abbrev pub Closes : ℕ → Type 0
+  Closes piece = (m : Moment) × (k : ℕ) × (found ≡ m.bound) × IsStep t k old new m (after_close m k old piece)

@@ -1,0 +1,9 @@
+//! A race whose ticket and bound are two words that threads share: each step of a worker is one atomic step.
+#![tactic(auto)]
+
+mod steps;
+mod view;
+
+pub mod laws;
+
+pub use view::{Terms, View};

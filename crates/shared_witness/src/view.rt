@@ -1,0 +1,73 @@
+// What is fixed of a race, what a seat knows of it, and the rule over both.
+
+use atomic_table::{Join, Seat, Split, Table, TableRule};
+use std::alloc::Global;
+use std::collections::LinkedList;
+
+/// What is fixed when a race is made: the number of its pieces, the first bound, and the number of workers.
+#[derive(Clone, Copy, Debug)]
+pub struct Terms {
+    pub pieces: u32,
+    pub first: u32,
+    pub workers: u32,
+}
+
+/// What a seat knows, in proofs and clauses alone: no value of it is made.
+pub struct View {
+    /// The pieces that it took, in turn.
+    pub taken: LinkedList<u32>,
+    /// The pieces that it closed, in turn.
+    pub closed: LinkedList<u32>,
+    /// The least bound that it has seen.
+    pub seen: u32,
+    /// The least value that it posted.
+    pub posted: u32,
+    /// How often it looked at the bound.
+    pub looks: u64,
+    /// How many of its takes found no piece.
+    pub ends: u32,
+    /// How many more of its takes may find no piece.
+    pub may: u32,
+}
+
+/// The rule that holds of the two words and all views between any two steps.
+pub(crate) struct Rule;
+
+impl TableRule<u8, View, Terms> for Rule {
+    ghost use Rattle.shared_witness.specs.Words.{Holds};
+    ghost use Rattle.shared_witness.specs.View.{new_view};
+
+    ghost holds = { Holds };
+
+    ghost first = { λ t. new_view t.workers };
+}
+
+pub(crate) struct Splitting;
+
+impl Split<View> for Splitting {
+    ghost use Rattle.shared_witness.specs.View.{view_after_split, new_view};
+
+    ghost left = { view_after_split };
+
+    ghost right = { λ v. new_view 1 };
+}
+
+pub(crate) struct Joining;
+
+impl Join<View> for Joining {
+    ghost use Rattle.shared_witness.specs.View.{joined, spent_view};
+
+    ghost both = { joined };
+
+    ghost spent = { spent_view };
+}
+
+pub(crate) type Words = Table<u8, View, Terms, Rule, Global>;
+
+pub(crate) type WordSeat = Seat<u8, View>;
+
+/// The place of the word that counts the takes.
+pub(crate) const TICKET: usize = 0;
+
+/// The place of the word that is the bound.
+pub(crate) const BOUND: usize = 1;

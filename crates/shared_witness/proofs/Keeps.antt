@@ -1,26 +1,27 @@
 -- Each step keeps the rule.
-use Rattle.std.proofs.Common.{◌≡◌, ◌≢◌, ℕ, zero, suc, ◌+◌, ◌-◌, ◌^◌, ◌≤◌, ◌<◌, ◌==◌, min, Bool, true, false, cond, nat_lt, List, [], ◌∷◌, ◌++◌, length, length-append, get_or, set, slice_get, sum_by, All, Some, refl, sym, ap, ◌∙◌, subst, arith, inl, inr}
-use Rattle.std.proofs.lemmas.Bool.{cond_both, ltb-true, ltb-false, cases_lt, cases_eq, lt-ltb, le-ltb, eq-eqb, ne_eqb}
+use Rattle.std.proofs.Common.{◌≡◌, ◌≢◌, ℕ, zero, suc, ◌+◌, ◌-◌, ◌^◌, ◌≤◌, ◌<◌, ◌==◌, min, Bool, true, false, cond, not, nat_lt, List, [], ◌∷◌, ◌++◌, length, length-append, get_or, set, slice_get, sum_by, All, Some, refl, sym, ap, ◌∙◌, subst, arith, inl, inr}
+use Rattle.std.proofs.lemmas.Bool.{not-true, cond_both, ltb-true, ltb-false, cases_lt, cases_eq, lt-ltb, le-ltb, eq-eqb, ne_eqb}
 use Rattle.std.proofs.lemmas.List.{length_push}
 use Rattle.std.proofs.lemmas.List.Elements.{All-nil, All-cons, All-set, All-push, All-weaker}
 use Rattle.std.proofs.lemmas.List.Sums.{sum_by_push}
+use Rattle.race_core.specs.Race.{is_in}
 use Rattle.shared_witness.specs.declared.view.View.{View}
 use Rattle.shared_witness.specs.declared.view.Terms.{Terms}
 use Rattle.shared_witness.specs.View.{highest, new_view, spent_view, view_after_take, view_after_split, joined}
 use Rattle.shared_witness.specs.Moment.{Moment, taken_pieces, ended_takes, least_posted, times, EachOnce, RaceRule, opening, after_take, after_look, after_post, after_close, after_split, after_join}
 use Rattle.shared_witness.specs.Words.{AreTerms}
-use Rattle.shared_witness.proofs.Lists.{All-at, sum_set, sum_at, times-taken, length-taken, times-append, times-push, least-set, least-at, least-first, least-push, least-lift, length_of_once, slice_get-set_other, slice_get-set_same}
+use Rattle.shared_witness.proofs.Lists.{All-at, sum_set, sum_at, times-taken, length-taken, times-append, times-push, least-set, least-at, least-first, least-push, least-lift, length_of_once, times_none, times_some, slice_get-set_other, slice_get-set_same}
 
-abbrev share : View → ℕ
+abbrev pub share : View → ℕ
 share v = v.ends + v.may
 
-abbrev spent_if_none : View → Type 0
+abbrev pub spent_if_none : View → Type 0
 spent_if_none v = share v ≡ 0 → v ≡ spent_view
 
-abbrev between : ℕ → View → Type 0
+abbrev pub between : ℕ → View → Type 0
 between bound v = (bound ≤ v.seen) × (v.seen ≤ v.posted)
 
-abbrev closes_taken : View → Type 0
+abbrev pub closes_taken : View → Type 0
 closes_taken v = (p : ℕ) → times v.closed p ≤ times v.taken p
 
 -- ---- a step that changes neither what was taken nor the ends
@@ -72,6 +73,13 @@ module _ (t : Terms) (m : Moment) (k : ℕ) (v : View) (h : RaceRule t m) (at : 
         | inl here ↦ rw (eq-eqb piece p here) (let open_here : times v.closed p < times v.taken p = subst (λ q. times v.closed q < times v.taken q) here open_piece in omega (arith, open_here))
         | inr other ↦ rw (ne_eqb piece p other) (let before = closed p in omega (arith, before))
       ]))
+
+-- a piece that was taken and is open was closed less often than taken
+pub open_times : (v : View) (piece : ℕ) → is_in v.taken piece ≡ true → not (is_in v.closed piece) ≡ true → times v.closed piece < times v.taken piece
+open_times v piece taken open_piece =
+    let some = times_some v.taken piece taken in
+    let none = times_none v.closed piece (not-true (is_in v.closed piece) open_piece) in
+    omega (arith, some, none)
 
 -- ---- a take
 

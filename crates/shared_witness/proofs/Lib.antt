@@ -1,2 +1,4 @@
 pub mod Lists
 pub mod Keeps
+pub mod Allowed
+pub mod Told

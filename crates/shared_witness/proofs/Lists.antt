@@ -2,6 +2,7 @@
 use Rattle.std.proofs.Common.{◌≡◌, ◌≢◌, ℕ, zero, suc, ◌+◌, ◌-◌, ◌≤◌, ◌<◌, ◌==◌, min, nat_lt, Bool, true, false, ◌||◌, cond, inl, inr, List, [], ◌∷◌, ◌++◌, length, get_or, set, slice_get, sum_by, count_by, flat_map, All, Some, None, refl, sym, ap, ◌∙◌, subst, arith, length-append}
 use Rattle.std.proofs.lemmas.Bool.{or_parts, or_cases, cases_lt, lt-ltb, le-ltb, eq-eqb}
 use Rattle.std.proofs.lemmas.List.Folds.{list_any_at}
+use Rattle.std.proofs.lemmas.List.{get_or_at}
 use Rattle.std.proofs.Math.Numerals.{add-one}
 use Rattle.std.proofs.lemmas.Option.{slice_get_within, get_or_from_slice_get}
 use Rattle.std.proofs.lemmas.List.Sums.{sum_by-cons, sum_by-append, sum_by-set, sum_by_push, get_or-le-sum_by}
@@ -151,3 +152,7 @@ module _ (n : ℕ) (xs : List ℕ) (once : EachOnce n xs) where
 
   pub length_of_once : length xs ≡ n
   length_of_once = sym (below_all n xs each_below) ∙ counted_below n (omega arith)
+
+-- what stands in the middle of a list
+pub All-middle : {A : Type 0} (P : A → Type 0) (xs : List A) (x : A) (ys : List A) → All P (xs ++ x ∷ ys) → P x
+All-middle P xs x ys all = subst P (get_or_at xs x ys x (length xs) refl) (All-get_or P (xs ++ x ∷ ys) (length xs) x (let longer = length-append xs (x ∷ ys) in omega (arith, longer)) all)

@@ -1,15 +1,41 @@
 -- What clauses see of a race and of a seat.
-use Rattle.std.specs.Prelude.{ℕ}
+use Rattle.std.specs.Prelude.{ℕ, ◌≡◌, ◌≤◌, ◌<◌, ◌^◌, min, nat_lt, if◌then◌else◌, All, map, List, length}
 use Rattle.atomic_table.specs.Seated.{TableId}
 use Rattle.shared_witness.specs.declared.view.View.{View}
 use Rattle.shared_witness.specs.declared.view.Terms.{Terms}
+use Rattle.shared_witness.specs.View.{new_view}
+use Rattle.shared_witness.specs.Words.{AreTerms}
+use Rattle.shared_witness.specs.Steps.{Takes, Posts}
 
 -- which race it is, and its terms
 pub record SharedRace : Type 0 where
   pub id : TableId
   pub terms : Terms
 
+-- what the fields of a race keep: two words and no slot, and the number of pieces beside them
+pub record IsSharedRace (pieces : ℕ) (id : TableId) (t : Terms) : Type 0 where
+  pub two_words : id.words ≡ 2
+  pub no_slot : id.slots ≡ 0
+  pub same_pieces : pieces ≡ t.pieces
+  pub some_worker : 1 ≤ t.workers
+  pub fits : AreTerms t
+
 -- which race the seat is of, and its view
 pub record Seated : Type 0 where
   pub race : TableId
   pub view : View
+
+-- a seat of the race that did nothing yet, and may end once
+abbrev pub new_seat : SharedRace → Seated
+new_seat race = record { race = race.id; view = new_view 1 }
+
+-- the piece that a take answers: the number found, or the number of pieces where that is past all of them
+abbrev pub TakesPiece : Terms → View → ℕ → View → Type 0
+TakesPiece t old piece new = (found : ℕ) × (piece ≡ min found t.pieces) × Takes t old found new
+
+-- the bound that a post answers: the smaller of the bound found and the value
+abbrev pub PostsValue : Terms → View → ℕ → ℕ → View → Type 0
+PostsValue t old value bound new = (found : ℕ) × (bound ≡ min found value) × Posts t old found new value
+
+abbrev pub views_of : List Seated → List View
+views_of seats = map (λ s. s.view) seats

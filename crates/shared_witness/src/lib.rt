@@ -1,9 +1,11 @@
 //! A race whose ticket and bound are two words that threads share: each step of a worker is one atomic step.
 #![tactic(auto)]
 
+mod race;
 mod steps;
 mod view;
 
 pub mod laws;
 
+pub use race::{Race, RaceSeat, Seats};
 pub use view::{Terms, View};

@@ -1,0 +1,184 @@
+// A race that threads share, and the seats of its workers.
+ghost use Rattle.std.specs.Prelude.{◌≡◌, ◌≢◌, ◌+◌, ◌≤◌, ◌<◌, ◌++◌, ◌∷◌, [], All, IfOk, IsTrue, not, min, length, replicate, fold};
+ghost use Rattle.std.specs.Vec.Iter.{into_iter_items};
+ghost use Rattle.race_core.specs.Race.{is_in};
+ghost use Rattle.shared_witness.specs.View.{new_view, view_after_take, view_after_look, view_after_post, view_after_close, view_after_split, joined};
+ghost use Rattle.shared_witness.specs.Moment.{EachOnce, least_posted, taken_pieces};
+ghost use Rattle.shared_witness.specs.Steps.{Takes, Looks, Posts, Closes};
+ghost use Rattle.shared_witness.specs.Race.{new_seat, TakesPiece, PostsValue, views_of};
+
+use crate::steps::{close_word, look_word, post_word, take_word};
+use crate::view::{BOUND, Joining, Splitting, Terms, View, WordSeat, Words};
+use atomic_table::Table;
+use irv_base::Memory;
+use std::alloc::Global;
+use std::marker::{Brand, Model};
+use std::vec::IntoIter;
+
+/// A race: a ticket that hands out pieces, and a bound that only falls. Workers share it by `&`, each with a seat of its own.
+///
+/// After `new` no call takes memory, none waits for another, and none tries a step again.
+#[derive(Drop)]
+pub struct Race {
+    words: Words,
+    pieces: u32,
+}
+
+impl Model for Race {
+    ghost use Rattle.shared_witness.specs.Race.{SharedRace, IsSharedRace};
+
+    ghost Value = { SharedRace };
+
+    ghost view = { λ r. record { id = r.words.shared.table_id; terms = r.words.shared.key } };
+
+    ghost invariant = { λ r. IsSharedRace r.pieces r.words.shared.table_id r.words.shared.key };
+}
+
+/// A worker's seat. Contracts see which race it is of, and its view: what it took, closed, saw and posted.
+#[derive(Drop)]
+pub struct RaceSeat {
+    seat: WordSeat,
+}
+
+impl Model for RaceSeat {
+    ghost use Rattle.std.specs.Prelude.{◌≡◌, ◌+◌, []};
+    ghost use Rattle.shared_witness.specs.Race.{Seated};
+
+    ghost Value = { Seated };
+
+    ghost view = { λ s. record { race = s.seat.table_id; view = s.seat.me.0 } };
+
+    ghost invariant = { λ s. (s.seat.me.0.ends + s.seat.me.0.may ≡ 1) × (s.seat.me.1 ≡ []) };
+}
+
+/// A race that was just made, with a seat for each worker.
+#[derive(Drop)]
+pub struct Seats {
+    pub race: Race,
+    pub seats: Vec<RaceSeat>,
+}
+
+impl Race {
+    /// A race over pieces 0, 1 and so on below `pieces`, with `first` as the bound, and a seat for each of the workers.
+    pub fn new(alloc: Global, pieces: u32, first: u32, workers: u32) -> Result<Seats, Memory>
+        requires pieces { 1 ≤ pieces }
+        requires workers { (1 ≤ workers) × (workers ≤ 8) }
+        ensures terms { IfOk result (λ s. s.race.terms ≡ record { pieces = pieces; first = first; workers = workers }) }
+        ensures seats { IfOk result (λ s. s.seats.items ≡ replicate workers (new_seat s.race)) }
+    {
+        let mut seats = Vec::with_capacity(alloc, workers as usize)?;
+        let terms = Terms {
+            pieces,
+            first,
+            workers,
+        };
+        let (words, mut rest) = Table::of_words(alloc, &[0, u64::from(first)], &terms)?;
+        for _i in 1..workers {
+            seats.push(split_off(&words, &mut rest))?;
+        }
+        seats.push(last_seat(rest))?;
+        Ok(Seats {
+            race: Race { words, pieces },
+            seats,
+        })
+    }
+
+    /// Takes the next piece: one that no seat took before, or the number of pieces where all were taken. The seat is then done.
+    pub fn take(&self, seat: &mut RaceSeat) -> u32
+        requires race { seat.old.race ≡ self.now.id }
+        requires going { seat.old.view.ends ≡ 0 }
+        ensures race { seat.new.race ≡ self.now.id }
+        ensures most { result ≤ self.now.terms.pieces }
+        ensures view { seat.new.view ≡ view_after_take self.now.terms.pieces result seat.old.view }
+        ensures step { TakesPiece self.now.terms seat.old.view result seat.new.view }
+    {
+        let found = take_word::<Brand>(&self.words, &mut seat.seat);
+        if found < u64::from(self.pieces) {
+            found as u32
+        } else {
+            self.pieces
+        }
+    }
+
+    /// Looks at the bound.
+    pub fn look(&self, seat: &mut RaceSeat) -> u32
+        requires race { seat.old.race ≡ self.now.id }
+        ensures race { seat.new.race ≡ self.now.id }
+        ensures least { (result ≤ self.now.terms.first) × (result ≤ seat.old.view.seen) }
+        ensures view { seat.new.view ≡ view_after_look result seat.old.view }
+        ensures step { Looks self.now.terms seat.old.view result seat.new.view }
+    {
+        look_word::<Brand>(&self.words, &mut seat.seat) as u32
+    }
+
+    /// Lowers the bound to `m`, where it is above, and answers what it is then.
+    pub fn post(&self, seat: &mut RaceSeat, m: u32) -> u32
+        requires race { seat.old.race ≡ self.now.id }
+        ensures race { seat.new.race ≡ self.now.id }
+        ensures least { (result ≤ m) × (result ≤ self.now.terms.first) × (result ≤ seat.old.view.seen) }
+        ensures view { seat.new.view ≡ view_after_post result m seat.old.view }
+        ensures step { PostsValue self.now.terms seat.old.view m result seat.new.view }
+    {
+        post_word::<Brand>(&self.words, &mut seat.seat, m).min(u64::from(m)) as u32
+    }
+
+    /// Looks at the bound, and notes that piece `p`, which the seat took, is closed.
+    pub fn close_piece(&self, seat: &mut RaceSeat, p: u32) -> u32
+        requires race { seat.old.race ≡ self.now.id }
+        requires taken { IsTrue (is_in seat.old.view.taken p) }
+        requires open_piece { IsTrue (not (is_in seat.old.view.closed p)) }
+        ensures race { seat.new.race ≡ self.now.id }
+        ensures least { (result ≤ self.now.terms.first) × (result ≤ seat.old.view.seen) }
+        ensures view { seat.new.view ≡ view_after_close result p seat.old.view }
+        ensures step { Closes self.now.terms seat.old.view result seat.new.view p }
+    {
+        close_word::<Brand>(&self.words, &mut seat.seat, p) as u32
+    }
+}
+
+/// Joins the seats to the first, in turn.
+fn join_seats(words: &Words, first: &mut WordSeat, seats: IntoIter<RaceSeat>)
+    requires table { (first.old.table_id ≡ words.now.shared.table_id) × (words.now.shared.table_id.words ≡ 2) }
+    requires share { first.old.me.0.ends + first.old.me.0.may ≢ 0 }
+    requires seats { All (λ s. s.race ≡ words.now.shared.table_id) (into_iter_items seats) }
+    ensures table { first.new.table_id ≡ first.old.table_id }
+    ensures view { first.new.me ≡ (fold joined first.old.me.0 (views_of (into_iter_items seats)), first.old.me.1) }
+    ensures shares { All (λ s. s.view.ends + s.view.may ≡ 1) (into_iter_items seats) }
+{
+    for seat in seats {
+        join_to(words, first, seat);
+    }
+}
+
+/// Joins a seat to the first.
+fn join_to(words: &Words, first: &mut WordSeat, seat: RaceSeat)
+    requires table { (first.old.table_id ≡ words.now.shared.table_id) × (words.now.shared.table_id.words ≡ 2) }
+    requires share { first.old.me.0.ends + first.old.me.0.may ≢ 0 }
+    requires race { seat.race ≡ words.now.shared.table_id }
+    ensures table { first.new.table_id ≡ first.old.table_id }
+    ensures view { first.new.me ≡ (joined first.old.me.0 seat.view, first.old.me.1) }
+    ensures share { seat.view.ends + seat.view.may ≡ 1 }
+{
+    let RaceSeat { seat: other } = seat;
+    words.shared.join_seat::<Joining>(first, other);
+}
+
+/// A seat for one worker, cut off the seat of several.
+fn split_off(words: &Words, rest: &mut WordSeat) -> RaceSeat
+    requires table { (rest.old.table_id ≡ words.now.shared.table_id) × (words.now.shared.table_id.words ≡ 2) }
+    requires several { 2 ≤ rest.old.me.0.may }
+    ensures rest { (rest.new.table_id ≡ rest.old.table_id) × (rest.new.me ≡ (view_after_split rest.old.me.0, rest.old.me.1)) }
+    ensures seat { result ≡ record { race = rest.old.table_id; view = new_view 1 } }
+{
+    RaceSeat {
+        seat: words.shared.split_seat::<Splitting>(rest),
+    }
+}
+
+/// The seat that is left for the last worker.
+fn last_seat(rest: WordSeat) -> RaceSeat
+    requires { rest.me ≡ (new_view 1, []) }
+    ensures { result ≡ record { race = rest.table_id; view = new_view 1 } }
+{
+    RaceSeat { seat: rest }
+}

@@ -2,3 +2,4 @@ pub mod Lists
 pub mod Keeps
 pub mod Allowed
 pub mod Told
+pub mod Ends

@@ -5,7 +5,7 @@ ghost use Rattle.race_core.specs.Race.{is_in};
 ghost use Rattle.shared_witness.specs.View.{new_view, view_after_take, view_after_look, view_after_post, view_after_close, view_after_split, joined};
 ghost use Rattle.shared_witness.specs.Moment.{EachOnce, least_posted, taken_pieces};
 ghost use Rattle.shared_witness.specs.Steps.{Takes, Looks, Posts, Closes};
-ghost use Rattle.shared_witness.specs.Race.{new_seat, TakesPiece, PostsValue, views_of};
+ghost use Rattle.shared_witness.specs.Race.{new_seat, TakesPiece, PostsValue, IsSharedRace, views_of};
 
 use crate::steps::{close_word, look_word, post_word, take_word};
 use crate::view::{BOUND, Joining, Splitting, Terms, View, WordSeat, Words};
@@ -134,6 +134,40 @@ impl Race {
     {
         close_word::<Brand>(&self.words, &mut seat.seat, p) as u32
     }
+
+    /// Ends the race, and answers the bound: the least of the first bound and of all posts, and at most what any seat saw.
+    /// Where all seats are done, the pieces that they took are all pieces, each once.
+    pub fn finish(self, seats: Vec<RaceSeat>) -> u32
+        requires race { All (λ s. s.race ≡ self.id) seats.items }
+        requires each { length seats.items ≡ self.terms.workers }
+        ensures bound { result ≡ least_posted self.terms.first (views_of seats.items) }
+        ensures seen { All (λ s. result ≤ s.view.seen) seats.items }
+        ensures taken { All (λ s. 1 ≤ s.view.ends) seats.items → EachOnce self.terms.pieces (taken_pieces (views_of seats.items)) }
+    {
+        let Race { words, pieces: _ } = self;
+        let mut rest = seats.into_iter();
+        let Some(first) = rest.next() else {
+            unreachable!()
+        };
+        let RaceSeat { seat: mut all } = first;
+        join_seats(&words, &mut all, rest);
+        last_bound(words, all)
+    }
+}
+
+/// The bound at the end, by the seat that has all ends.
+fn last_bound(words: Words, all: WordSeat) -> u32
+    requires table { all.table_id ≡ words.shared.table_id }
+    requires words { IsSharedRace words.shared.key.pieces words.shared.table_id words.shared.key }
+    requires share { all.me.0.ends + all.me.0.may ≡ words.shared.key.workers }
+    ensures bound { result ≡ min words.shared.key.first all.me.0.posted }
+    ensures seen { result ≤ all.me.0.seen }
+    ensures taken { 1 ≤ all.me.0.ends → EachOnce words.shared.key.pieces all.me.0.taken }
+{
+    let closed = words.close_with(all);
+    let bound = closed.word(BOUND);
+    closed.free();
+    bound as u32
 }
 
 /// Joins the seats to the first, in turn.

@@ -3,3 +3,5 @@ pub mod Keeps
 pub mod Allowed
 pub mod Told
 pub mod Ends
+pub mod Events
+pub mod Fresh

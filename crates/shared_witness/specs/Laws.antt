@@ -1,10 +1,13 @@
 -- The laws of a race that threads share: each step keeps the rule, and is the event of the race that it is named after.
-use Rattle.std.specs.Prelude.{ℕ, ◌+◌, ◌^◌, ◌≡◌, ◌≢◌, ◌≤◌, ◌<◌, min, not, IsTrue, List, slice_get, slice_index, length, Some}
-use Rattle.race_core.specs.Race.{is_in}
+use Rattle.std.specs.Prelude.{ℕ, ◌+◌, ◌≡◌, ◌≢◌, ◌≤◌, ◌<◌, ◌↔◌, min, not, IsTrue, List, slice_get, slice_index, length, replicate, Some}
+use Rattle.race_core.specs.declared.event.Event.TheVariants.{Take, Look, Post, Close}
+use Rattle.race_core.specs.Race.{is_in, least, start, after}
 use Rattle.shared_witness.specs.declared.view.View.{View}
 use Rattle.shared_witness.specs.declared.view.Terms.{Terms}
-use Rattle.shared_witness.specs.Moment.{Moment, RaceRule, opening, after_take, after_look, after_post, after_close, after_split, after_join}
+use Rattle.shared_witness.specs.Moment.{Moment, RaceRule, EachOnce, times, taken_pieces, opening, after_take, after_look, after_post, after_close, after_split, after_join}
+use Rattle.shared_witness.specs.View.{new_view}
 use Rattle.shared_witness.specs.Words.{AreTerms}
+use Rattle.shared_witness.specs.Shown.{shown_race}
 
 -- ---- the rule holds at the opening, and each kind of step keeps it
 
@@ -32,3 +35,53 @@ abbrev pub JoinKeeps : Type 0
 JoinKeeps =
     (t : Terms) (m : Moment) (k : ℕ) (v : View) (i : ℕ) (w : View) → AreTerms t → RaceRule t m → slice_get m.views k ≡ Some v → slice_get m.views i ≡ Some w → i ≢ k → v.ends + v.may ≢ 0 →
     RaceRule t (after_join m k v i w)
+
+-- ---- what the rule says of a seat and of the words
+
+-- the ticket never wraps
+abbrev pub TicketIsSmall : Type 0
+TicketIsSmall = (t : Terms) (m : Moment) → RaceRule t m → m.ticket ≤ t.pieces + t.workers
+
+-- the piece of a take is one that no seat took before, and none is left exactly where all were taken
+abbrev pub TakeIsFresh : Type 0
+TakeIsFresh =
+    (t : Terms) (m : Moment) → RaceRule t m →
+    (m.ticket < t.pieces → times (taken_pieces m.views) m.ticket ≡ 0) × ((t.pieces ≤ m.ticket) ↔ EachOnce t.pieces (taken_pieces m.views))
+
+-- a seat with the ends of all workers has all pieces and posts
+abbrev pub AllJoined : Type 0
+AllJoined =
+    (t : Terms) (m : Moment) (k : ℕ) (v : View) → AreTerms t → RaceRule t m → slice_get m.views k ≡ Some v → v.ends + v.may ≡ t.workers →
+    (m.bound ≡ min t.first v.posted) × EachOnce (min m.ticket t.pieces) v.taken
+
+-- ---- the words and the views show a race, and each step is an event of it
+
+-- where each worker has a new seat, the race is at its start
+abbrev pub StartIsShown : Type 0
+StartIsShown =
+    (t : Terms) (values : List ℕ) → AreTerms t →
+    shown_race values t record { ticket = 0; bound = t.first; views = replicate t.workers (new_view 1) } ≡ start values t.first t.workers
+
+-- a take of a seat that is not done
+abbrev pub TakeIsEvent : Type 0
+TakeIsEvent =
+    (t : Terms) (m : Moment) (k : ℕ) (v : View) (values : List ℕ) → RaceRule t m → length values ≡ t.pieces → slice_get m.views k ≡ Some v → v.ends ≡ 0 →
+    after (shown_race values t m) (Take k) ≡ Some (shown_race values t (after_take t m k v))
+
+abbrev pub LookIsEvent : Type 0
+LookIsEvent =
+    (t : Terms) (m : Moment) (k : ℕ) (v : View) (values : List ℕ) → RaceRule t m → slice_get m.views k ≡ Some v →
+    after (shown_race values t m) (Look k) ≡ Some (shown_race values t (after_look m k v))
+
+-- a post of a value that is no less than the least value of a piece
+abbrev pub PostIsEvent : Type 0
+PostIsEvent =
+    (t : Terms) (m : Moment) (k : ℕ) (v : View) (value : ℕ) (values : List ℕ) → RaceRule t m → slice_get m.views k ≡ Some v → least values ≤ value →
+    after (shown_race values t m) (Post k value) ≡ Some (shown_race values t (after_post m k v value))
+
+-- a closing look at a piece that the seat took and did not close, whose value is at least the bound
+abbrev pub CloseIsEvent : Type 0
+CloseIsEvent =
+    (t : Terms) (m : Moment) (k : ℕ) (v : View) (piece : ℕ) (values : List ℕ) → RaceRule t m → slice_get m.views k ≡ Some v →
+    IsTrue (is_in v.taken piece) → IsTrue (not (is_in v.closed piece)) → m.bound ≤ slice_index values piece →
+    after (shown_race values t m) (Close k piece) ≡ Some (shown_race values t (after_close m k v piece))

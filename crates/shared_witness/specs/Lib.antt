@@ -3,4 +3,5 @@ pub mod Moment
 pub mod Words
 pub mod Steps
 pub mod Race
+pub mod Shown
 pub mod Laws

@@ -1,5 +1,6 @@
 // The laws of a race that threads share.
 ghost use Rattle.shared_witness.specs.Laws.{OpeningKeeps, TakeKeeps, LookKeeps, PostKeeps, CloseKeeps, SplitKeeps, JoinKeeps};
+ghost use Rattle.shared_witness.specs.Laws.{TicketIsSmall, TakeIsFresh, AllJoined, StartIsShown, TakeIsEvent, LookIsEvent, PostIsEvent, CloseIsEvent};
 
 /// The rule holds when a race is made.
 pub fn opening_keeps()
@@ -34,4 +35,44 @@ pub fn split_keeps()
 /// To join a seat to another keeps the rule.
 pub fn join_keeps()
     ensures { JoinKeeps }
+{}
+
+/// The ticket never wraps.
+pub fn ticket_is_small()
+    ensures { TicketIsSmall }
+{}
+
+/// A take gives a piece that no seat took before, or none where all were taken.
+pub fn take_is_fresh()
+    ensures { TakeIsFresh }
+{}
+
+/// A seat that the seats of all workers were joined to has all pieces and posts.
+pub fn all_joined()
+    ensures { AllJoined }
+{}
+
+/// New seats show the start of the race.
+pub fn start_is_shown()
+    ensures { StartIsShown }
+{}
+
+/// A take is the event of that name.
+pub fn take_is_event()
+    ensures { TakeIsEvent }
+{}
+
+/// A look is the event of that name.
+pub fn look_is_event()
+    ensures { LookIsEvent }
+{}
+
+/// A post is the event of that name.
+pub fn post_is_event()
+    ensures { PostIsEvent }
+{}
+
+/// A closing look is the event of that name.
+pub fn close_is_event()
+    ensures { CloseIsEvent }
 {}

@@ -32,7 +32,7 @@ module _ (t : Terms) (m : Moment) (k : ℕ) (v : View) (values : List ℕ) (h : 
   abbrev worker : Worker
   worker = shown_worker t.first v
 
-  at_worker : (act : Worker → Option Race) → option_and_then act (slice_get shown.workers k) ≡ act worker
+  pub at_worker : (act : Worker → Option Race) → option_and_then act (slice_get shown.workers k) ≡ act worker
   at_worker act = ap (option_and_then act) (slice_get-map (shown_worker t.first) m.views k ∙ ap (option_map (shown_worker t.first)) at)
 
   low : m.bound ≤ t.first

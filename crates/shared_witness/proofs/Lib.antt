@@ -5,3 +5,4 @@ pub mod Told
 pub mod Ends
 pub mod Events
 pub mod Fresh
+pub mod Histories

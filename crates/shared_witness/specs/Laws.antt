@@ -1,13 +1,14 @@
 -- The laws of a race that threads share: each step keeps the rule, and is the event of the race that it is named after.
-use Rattle.std.specs.Prelude.{ℕ, ◌+◌, ◌≡◌, ◌≢◌, ◌≤◌, ◌<◌, ◌↔◌, min, not, IsTrue, List, slice_get, slice_index, length, replicate, Some}
+use Rattle.std.specs.Prelude.{ℕ, ◌+◌, ◌≡◌, ◌≢◌, ◌≤◌, ◌<◌, ◌↔◌, min, not, IsTrue, List, slice_get, slice_index, length, IfSome, Some}
+use Rattle.race_core.specs.declared.event.Event.{Event}
 use Rattle.race_core.specs.declared.event.Event.TheVariants.{Take, Look, Post, Close}
-use Rattle.race_core.specs.Race.{is_in, least, start, after}
+use Rattle.race_core.specs.Race.{is_in, least, start, after, run}
 use Rattle.shared_witness.specs.declared.view.View.{View}
 use Rattle.shared_witness.specs.declared.view.Terms.{Terms}
 use Rattle.shared_witness.specs.Moment.{Moment, RaceRule, EachOnce, times, taken_pieces, opening, after_take, after_look, after_post, after_close, after_split, after_join}
-use Rattle.shared_witness.specs.View.{new_view}
 use Rattle.shared_witness.specs.Words.{AreTerms}
 use Rattle.shared_witness.specs.Shown.{shown_race}
+use Rattle.shared_witness.specs.History.{seated, after_events}
 
 -- ---- the rule holds at the opening, and each kind of step keeps it
 
@@ -60,7 +61,14 @@ AllJoined =
 abbrev pub StartIsShown : Type 0
 StartIsShown =
     (t : Terms) (values : List ℕ) → AreTerms t →
-    shown_race values t record { ticket = 0; bound = t.first; views = replicate t.workers (new_view 1) } ≡ start values t.first t.workers
+    shown_race values t (seated t) ≡ start values t.first t.workers
+
+-- Whatever steps the workers' seats make, in whatever order: the rule holds afterwards. And with any values at which the same
+-- events of the race are enabled, the words and the views show the race after these events.
+abbrev pub HistoryIsShown : Type 0
+HistoryIsShown =
+    (t : Terms) (values : List ℕ) (events : List Event) (m : Moment) → AreTerms t → length values ≡ t.pieces → after_events t (seated t) events ≡ Some m →
+    RaceRule t m × IfSome (run (start values t.first t.workers) events) (λ r. r ≡ shown_race values t m)
 
 -- a take of a seat that is not done
 abbrev pub TakeIsEvent : Type 0

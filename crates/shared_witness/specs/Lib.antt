@@ -4,4 +4,5 @@ pub mod Words
 pub mod Steps
 pub mod Race
 pub mod Shown
+pub mod History
 pub mod Laws

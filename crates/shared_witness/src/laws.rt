@@ -1,6 +1,6 @@
 // The laws of a race that threads share.
 ghost use Rattle.shared_witness.specs.Laws.{OpeningKeeps, TakeKeeps, LookKeeps, PostKeeps, CloseKeeps, SplitKeeps, JoinKeeps};
-ghost use Rattle.shared_witness.specs.Laws.{TicketIsSmall, TakeIsFresh, AllJoined, StartIsShown, TakeIsEvent, LookIsEvent, PostIsEvent, CloseIsEvent};
+ghost use Rattle.shared_witness.specs.Laws.{TicketIsSmall, TakeIsFresh, AllJoined, StartIsShown, HistoryIsShown, TakeIsEvent, LookIsEvent, PostIsEvent, CloseIsEvent};
 
 /// The rule holds when a race is made.
 pub fn opening_keeps()
@@ -55,6 +55,11 @@ pub fn all_joined()
 /// New seats show the start of the race.
 pub fn start_is_shown()
     ensures { StartIsShown }
+{}
+
+/// In whatever order the seats step, the rule holds, and the words and the views show the race after the same events.
+pub fn history_is_shown()
+    ensures { HistoryIsShown }
 {}
 
 /// A take is the event of that name.

@@ -1,16 +1,16 @@
 -- Each step on the words keeps the rule, and is told between which moments it was.
-use Rattle.std.proofs.Common.{◌≡◌, ◌≢◌, ℕ, zero, suc, ◌+◌, ◌-◌, ◌^◌, ◌%◌, ◌≤◌, ◌<◌, min, List, [], ◌∷◌, length, get_or, set, slice_get, sum_by, Some, refl, sym, ap, ◌∙◌, subst, arith, length-set}
-use mathlib.Core.Option.{none, some, some-injective, some-ne-none}
+use Rattle.std.proofs.Common.{◌≡◌, ◌≢◌, ℕ, zero, suc, ◌+◌, ◌^◌, ◌%◌, ◌≤◌, ◌<◌, min, List, [], ◌∷◌, length, get_or, set, slice_get, Some, refl, sym, ap, ◌∙◌, subst, arith, length-set}
+use mathlib.Core.Option.{some, some-injective, some-ne-none}
 use lib.ListN.{get_elem?}
 use Rattle.std.proofs.lemmas.List.{get_or-set_same, get_or-set_other}
 use Rattle.std.proofs.lemmas.List.Sums.{sum_by-le-sum_by}
-use Rattle.atomic_table.specs.Table.{State, Me, keeps, Allows, Splits, Joins, step, opening}
+use Rattle.atomic_table.specs.Table.{State, Me, keeps, Allows, Splits, Joins, opening}
 use Rattle.shared_witness.specs.declared.view.View.{View}
 use Rattle.shared_witness.specs.declared.view.Terms.{Terms}
 use Rattle.shared_witness.specs.View.{new_view, spent_view, view_after_take, view_after_look, view_after_post, view_after_close, view_after_split, joined}
-use Rattle.shared_witness.specs.Moment.{Moment, taken_pieces, ended_takes, times, RaceRule, after_take, after_look, after_post, after_close}
+use Rattle.shared_witness.specs.Moment.{Moment, taken_pieces, times, RaceRule, after_take}
 use Rattle.shared_witness.specs.Words.{moment_of, AreTerms, Holds}
-use Rattle.shared_witness.specs.Steps.{IsStep, Takes, Looks, Posts, Closes}
+use Rattle.shared_witness.specs.Steps.{Takes, Looks, Posts, Closes}
 use Rattle.shared_witness.proofs.Lists.{length_of_once, slice_get-set_same, slice_get-set_other}
 use Rattle.shared_witness.proofs.Keeps.{share, take_keeps, look_keeps, post_keeps, close_keeps, opening_keeps, split_keeps, join_keeps}
 
@@ -29,6 +29,7 @@ ticket_most t m h =
 
 module _ (t : Terms) (slots id : ℕ) (me : Me ℕ View) where
   pub take_allowed : 1 ≤ me.0.may → Allows (Holds t) slots id me 0 (λ n. (n + 1) % 2 ^ 64) (λ found after. (after.1 ≡ me.1) × Takes t me.0 found after.0)
+  unfolding Takes
   take_allowed may s h homes at small =
       let m = moment_of s in
       let n = get_or s.words 0 0 in
@@ -39,11 +40,11 @@ module _ (t : Terms) (slots id : ℕ) (me : Me ℕ View) where
       let two : 0 < length s.words = omega (arith, h.0) in
       let w = view_after_take t.pieces n me.0 in
       let comes : ◌≡◌ {A = Moment} record { ticket = get_or (set s.words 0 ((n + 1) % 2 ^ 64)) 0 0; bound = get_or (set s.words 0 ((n + 1) % 2 ^ 64)) 1 0; views = set s.views id w } (after_take t m id me.0) =
-          λ x. record {
-            ticket = (get_or-set_same s.words 0 ((n + 1) % 2 ^ 64) 0 two ∙ next) x;
-            bound = get_or-set_other s.words 0 1 ((n + 1) % 2 ^ 64) 0 (λ same. omega arith) x;
-            views = set s.views id w;
-          } in (
+      λ x. record {
+        ticket = (get_or-set_same s.words 0 ((n + 1) % 2 ^ 64) 0 two ∙ next) x;
+        bound = get_or-set_other s.words 0 1 ((n + 1) % 2 ^ 64) 0 (λ same. omega arith) x;
+        views = set s.views id w;
+      } in (
         w,
         keeps,
         tt,
@@ -60,6 +61,7 @@ module _ (t : Terms) (slots id : ℕ) (me : Me ℕ View) where
 
   module _ (left : share me.0 ≢ 0) where
     pub look_allowed : Allows (Holds t) slots id me 1 (λ n. n) (λ found after. (after.1 ≡ me.1) × Looks t me.0 found after.0)
+    unfolding Looks
     look_allowed s h homes at small =
         let m = moment_of s in
         let n = get_or s.words 1 0 in
@@ -74,6 +76,7 @@ module _ (t : Terms) (slots id : ℕ) (me : Me ℕ View) where
         )
 
     pub post_allowed : (value : ℕ) → Allows (Holds t) slots id me 1 (λ n. min n value) (λ found after. (after.1 ≡ me.1) × Posts t me.0 found after.0 value)
+    unfolding Posts
     post_allowed value s h homes at small =
         let m = moment_of s in
         let n = get_or s.words 1 0 in
@@ -88,6 +91,7 @@ module _ (t : Terms) (slots id : ℕ) (me : Me ℕ View) where
         )
 
     pub close_allowed : (piece : ℕ) → times me.0.closed piece < times me.0.taken piece → Allows (Holds t) slots id me 1 (λ n. n) (λ found after. (after.1 ≡ me.1) × Closes t me.0 found after.0 piece)
+    unfolding Closes
     close_allowed piece open_piece s h homes at small =
         let m = moment_of s in
         let n = get_or s.words 1 0 in

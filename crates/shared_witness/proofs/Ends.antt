@@ -1,5 +1,5 @@
 -- The end of a race: a seat with all ends has all pieces and posts; and what seats have that are joined in turn.
-use Rattle.std.proofs.Common.{◌≡◌, ◌≢◌, ℕ, zero, suc, ◌+◌, ◌-◌, ◌^◌, ◌≤◌, ◌<◌, ◌==◌, min, cond, nat_lt, List, [], ◌∷◌, ◌++◌, length, get_or, slice_get, sum_by, map, All, Some, refl, sym, ap, ◌∙◌, subst, arith}
+use Rattle.std.proofs.Common.{◌≡◌, ℕ, zero, suc, ◌+◌, ◌≤◌, min, List, [], ◌∷◌, length, get_or, slice_get, sum_by, All, Some, refl, sym, ap, ◌∙◌, subst, arith}
 use mathlib.Core.Option.{some}
 use lib.ListN.{get_elem?}
 use Rattle.std.specs.List.{fold}
@@ -11,10 +11,10 @@ use Rattle.std.proofs.lemmas.List.Sums.{sum_by-cons}
 use Rattle.shared_witness.specs.declared.view.View.{View}
 use Rattle.shared_witness.specs.declared.view.Terms.{Terms}
 use Rattle.shared_witness.specs.View.{highest, spent_view, joined}
-use Rattle.shared_witness.specs.Moment.{Moment, taken_pieces, ended_takes, least_posted, times, EachOnce, RaceRule}
+use Rattle.shared_witness.specs.Moment.{Moment, taken_pieces, least_posted, times, EachOnce, RaceRule}
 use Rattle.shared_witness.specs.Words.{AreTerms, Holds, moment_of}
 use Rattle.shared_witness.specs.Race.{Seated, views_of}
-use Rattle.shared_witness.proofs.Lists.{All-at, sum_at, times-taken, length-taken, least-first}
+use Rattle.shared_witness.proofs.Lists.{All-at, sum_at, times-taken}
 use Rattle.shared_witness.proofs.Allowed.{at_place}
 use Rattle.shared_witness.proofs.Keeps.{share, spent_if_none, between}
 
@@ -109,11 +109,11 @@ joined_seen_first v (w ∷ ws) = let h = joined_seen_first (joined v w) ws in om
 pub joined_seen : (v : View) (vs : List View) → All (λ (u : View). (fold joined v vs).seen ≤ u.seen) (v ∷ vs)
 joined_seen v vs = All-cons (λ (u : View). (fold joined v vs).seen ≤ u.seen) v vs (joined_seen_first v vs) (others v vs)
   where
-  others : (v : View) (vs : List View) → All (λ (u : View). (fold joined v vs).seen ≤ u.seen) vs
-  others v [] = All-nil (λ (u : View). v.seen ≤ u.seen)
-  others v (w ∷ ws) =
-      let h = joined_seen_first (joined v w) ws in
-      All-cons (λ (u : View). (fold joined (joined v w) ws).seen ≤ u.seen) w ws (omega (arith, h)) (others (joined v w) ws)
+    others : (v : View) (vs : List View) → All (λ (u : View). (fold joined v vs).seen ≤ u.seen) vs
+    others v [] = All-nil (λ (u : View). v.seen ≤ u.seen)
+    others v (w ∷ ws) =
+        let h = joined_seen_first (joined v w) ws in
+        All-cons (λ (u : View). (fold joined (joined v w) ws).seen ≤ u.seen) w ws (omega (arith, h)) (others (joined v w) ws)
 
 pub joined_ends : (v : View) (vs : List View) → v.ends ≤ (fold joined v vs).ends
 joined_ends v [] = omega arith
@@ -163,11 +163,11 @@ module _ (seats : List Seated) (s : Seated) (rest : List Seated) (v : View) (who
       let others = All-tail (λ (u : View). all_joined.seen ≤ u.seen) v (views_of rest) each in
       let same : v.seen ≡ s.view.seen = ap (λ (u : View). u.seen) is in
       All-same (λ (d : Seated). n ≤ d.view.seen) seats (s ∷ rest) whole
-          (All-cons (λ (d : Seated). n ≤ d.view.seen) s rest (omega (arith, low, own, same)) (λ k d inside. let here = All-view rest (λ (u : View). all_joined.seen ≤ u.seen) others k d inside in omega (arith, low, here)))
+      (All-cons (λ (d : Seated). n ≤ d.view.seen) s rest (omega (arith, low, own, same)) (λ k d inside. let here = All-view rest (λ (u : View). all_joined.seen ≤ u.seen) others k d inside in omega (arith, low, here)))
     where
-    All-view : (ds : List Seated) (P : View → Type 0) → All P (views_of ds) → All (λ (d : Seated). P d.view) ds
-    All-view [] P all = All-nil (λ (d : Seated). P d.view)
-    All-view (d ∷ ds) P all = All-cons (λ (e : Seated). P e.view) d ds (All-head P d.view (views_of ds) all) (All-view ds P (All-tail P d.view (views_of ds) all))
+      All-view : (ds : List Seated) (P : View → Type 0) → All P (views_of ds) → All (λ (d : Seated). P d.view) ds
+      All-view [] P all = All-nil (λ (d : Seated). P d.view)
+      All-view (d ∷ ds) P all = All-cons (λ (e : Seated). P e.view) d ds (All-head P d.view (views_of ds) all) (All-view ds P (All-tail P d.view (views_of ds) all))
 
   pub seats_ended : All (λ (d : Seated). 1 ≤ d.view.ends) seats → 1 ≤ all_joined.ends
   seats_ended each =

@@ -1,19 +1,18 @@
 -- Any steps of the workers' seats keep the rule, and show the race after the same events.
-use Rattle.std.proofs.Common.{◌≡◌, ◌≢◌, ℕ, zero, suc, ◌+◌, ◌-◌, ◌≤◌, ◌<◌, ◌==◌, ◌&&◌, ◌*◌, min, not, nat_lt, nat_le, Bool, true, false, cond, List, [], ◌∷◌, length, replicate, sum_by, slice_get, slice_index, All, Option, Some, None, IfSome, refl, sym, ap, ◌∙◌, subst, arith, inl, inr}
+use Rattle.std.proofs.Common.{◌≡◌, ◌≢◌, ℕ, zero, suc, ◌+◌, ◌≤◌, ◌==◌, ◌&&◌, min, not, nat_lt, nat_le, Bool, true, cond, List, [], ◌∷◌, length, replicate, slice_get, slice_index, Option, Some, None, IfSome, refl, sym, ap, ◌∙◌, subst, arith, inl, inr}
 use Rattle.std.specs.Option.{option_and_then}
-use Rattle.std.proofs.lemmas.Bool.{cases_Bool, and_parts, and_right, ltb-true, eqb-true, leb-true, leb-false, le-leb, lt-leb, le-ltb, cond-true, cond-false}
+use Rattle.std.proofs.lemmas.Bool.{cases_Bool, and_parts, and_right, ltb-true, eqb-true, leb-true, le-ltb, cond-true, cond-false}
 use Rattle.std.proofs.lemmas.List.Elements.{All-replicate}
 use Rattle.std.proofs.lemmas.List.Folds.{sum_by-replicate}
-use Rattle.std.proofs.lemmas.Option.{slice_get-map}
 use Rattle.race_core.specs.declared.event.Event.{Event}
 use Rattle.race_core.specs.declared.event.Event.TheVariants.{Take, Look, Post, Close}
-use Rattle.race_core.specs.Race.{Worker, Race, is_in, least, start, post, close, after, run}
+use Rattle.race_core.specs.Race.{Race, is_in, least, start, post, close, after, run}
 use Rattle.shared_witness.specs.declared.view.View.{View}
 use Rattle.shared_witness.specs.declared.view.Terms.{Terms}
-use Rattle.shared_witness.specs.View.{highest, new_view, spent_view}
+use Rattle.shared_witness.specs.View.{highest, new_view}
 use Rattle.shared_witness.specs.Moment.{Moment, taken_pieces, ended_takes, least_posted, times, RaceRule, after_take, after_look, after_post, after_close}
 use Rattle.shared_witness.specs.Words.{AreTerms}
-use Rattle.shared_witness.specs.Shown.{shown_worker, shown_race}
+use Rattle.shared_witness.specs.Shown.{shown_race}
 use Rattle.shared_witness.specs.History.{seated, after_event, after_events}
 use Rattle.shared_witness.proofs.Lists.{times-taken, length-taken}
 use Rattle.shared_witness.proofs.Keeps.{share, between, closes_taken, spent_if_none, take_keeps, look_keeps, post_keeps, close_keeps, open_times}
@@ -83,10 +82,10 @@ module _ (t : Terms) (values : List ℕ) (pieces : length values ≡ t.pieces) w
       let left : share v ≢ 0 = λ none. let more = ltb-true 0 (v.ends + v.may) passes in omega (arith, more, none) in
       let o = after (shown_race values t m) (Post k value) in
       let shown : IfSome o (λ r. r ≡ shown_race values t (after_post m k v value)) =
-          elim (cases_Bool (nat_le (least values) value)) [
-            | inl high ↦ shows o (after_post m k v value) (post_is_event t m k v values h at value (leb-true (least values) value high))
-            | inr low ↦ shows_none o (after_post m k v value) (at_worker t m k v values h at (post (shown_race values t m) k value) ∙ cond-false (nat_le (least values) value) _ None low)
-          ] in
+      elim (cases_Bool (nat_le (least values) value)) [
+        | inl high ↦ shows o (after_post m k v value) (post_is_event t m k v values h at value (leb-true (least values) value high))
+        | inr low ↦ shows_none o (after_post m k v value) (at_worker t m k v values h at (post (shown_race values t m) k value) ∙ cond-false (nat_le (least values) value) _ None low)
+      ] in
       subst (Follows o) ends_in (post_keeps t m k v h at left value, shown)
   event_follows m n (Close k piece) h is =
       let (v, at, passes, ends_in) = seat_of (slice_get m.views k) (λ v. nat_lt 0 (v.ends + v.may) && is_in v.taken piece && not (is_in v.closed piece)) (λ v. after_close m k v piece) n is in
@@ -95,10 +94,10 @@ module _ (t : Terms) (values : List ℕ) (pieces : length values ≡ t.pieces) w
       let left : share v ≢ 0 = λ none. let more = ltb-true 0 (v.ends + v.may) first_parts.0 in omega (arith, more, none) in
       let o = after (shown_race values t m) (Close k piece) in
       let shown : IfSome o (λ r. r ≡ shown_race values t (after_close m k v piece)) =
-          elim (cases_Bool (nat_le m.bound (slice_index values piece))) [
-            | inl high ↦ shows o (after_close m k v piece) (close_is_event t m k v values h at piece first_parts.1 parts.1 (leb-true m.bound (slice_index values piece) high))
-            | inr low ↦ shows_none o (after_close m k v piece) (at_worker t m k v values h at (close (shown_race values t m) k piece) ∙ cond-false _ _ None (and_right _ _ low))
-          ] in
+      elim (cases_Bool (nat_le m.bound (slice_index values piece))) [
+        | inl high ↦ shows o (after_close m k v piece) (close_is_event t m k v values h at piece first_parts.1 parts.1 (leb-true m.bound (slice_index values piece) high))
+        | inr low ↦ shows_none o (after_close m k v piece) (at_worker t m k v values h at (close (shown_race values t m) k piece) ∙ cond-false _ _ None (and_right _ _ low))
+      ] in
       subst (Follows o) ends_in (close_keeps t m k v h at left piece (open_times v piece first_parts.1 parts.1), shown)
 
   -- ---- all steps
@@ -108,14 +107,14 @@ module _ (t : Terms) (values : List ℕ) (pieces : length values ≡ t.pieces) w
   events_follow m n (e ∷ es) h is =
       onwards (after_event t m e) (λ u comes rest. let first = event_follows m u e h comes in let others = events_follow u n es first.0 rest in (others.0, joined (after (shown_race values t m) e) u first.1 others.1)) is
     where
-    onwards : (o : Option Moment) → ((u : Moment) → o ≡ Some u → after_events t u es ≡ Some n → Follows (run (shown_race values t m) (e ∷ es)) n) → option_and_then (λ u. after_events t u es) o ≡ Some n
-        → Follows (run (shown_race values t m) (e ∷ es)) n
-    onwards None go begun = cc
-    onwards (Some u) go begun = go u refl begun
+      onwards : (o : Option Moment) → ((u : Moment) → o ≡ Some u → after_events t u es ≡ Some n → Follows (run (shown_race values t m) (e ∷ es)) n) → option_and_then (λ u. after_events t u es) o ≡ Some n
+          → Follows (run (shown_race values t m) (e ∷ es)) n
+      onwards None go begun = cc
+      onwards (Some u) go begun = go u refl begun
 
-    joined : (o : Option Race) (u : Moment) → IfSome o (λ r. r ≡ shown_race values t u) → IfSome (run (shown_race values t u) es) (λ r. r ≡ shown_race values t n) → IfSome (option_and_then (λ r. run r es) o) (λ r. r ≡ shown_race values t n)
-    joined None u first others = tt
-    joined (Some r) u first others = subst (λ x. IfSome (run x es) (λ y. y ≡ shown_race values t n)) (sym first) others
+      joined : (o : Option Race) (u : Moment) → IfSome o (λ r. r ≡ shown_race values t u) → IfSome (run (shown_race values t u) es) (λ r. r ≡ shown_race values t n) → IfSome (option_and_then (λ r. run r es) o) (λ r. r ≡ shown_race values t n)
+      joined None u first others = tt
+      joined (Some r) u first others = subst (λ x. IfSome (run x es) (λ y. y ≡ shown_race values t n)) (sym first) others
 
 pub history_is_shown : (t : Terms) (values : List ℕ) (events : List Event) (m : Moment) → AreTerms t → length values ≡ t.pieces → after_events t (seated t) events ≡ Some m
     → RaceRule t m × IfSome (run (start values t.first t.workers) events) (λ r. r ≡ shown_race values t m)

@@ -1,16 +1,16 @@
 -- Each step keeps the rule.
-use Rattle.std.proofs.Common.{◌≡◌, ◌≢◌, ℕ, zero, suc, ◌+◌, ◌-◌, ◌^◌, ◌≤◌, ◌<◌, ◌==◌, min, Bool, true, false, cond, not, nat_lt, List, [], ◌∷◌, ◌++◌, length, length-append, get_or, set, slice_get, sum_by, All, Some, refl, sym, ap, ◌∙◌, subst, arith, inl, inr}
-use Rattle.std.proofs.lemmas.Bool.{not-true, cond_both, ltb-true, ltb-false, cases_lt, cases_eq, lt-ltb, le-ltb, eq-eqb, ne_eqb}
+use Rattle.std.proofs.Common.{◌≡◌, ◌≢◌, ℕ, zero, suc, ◌+◌, ◌-◌, ◌≤◌, ◌<◌, ◌==◌, min, true, cond, not, nat_lt, [], ◌∷◌, ◌++◌, length, length-append, set, slice_get, Some, refl, sym, ap, ◌∙◌, subst, arith, inl, inr}
+use Rattle.std.proofs.lemmas.Bool.{not-true, cond_both, ltb-true, ltb-false, cases_eq, le-ltb, eq-eqb, ne_eqb}
 use Rattle.std.proofs.lemmas.List.{length_push}
 use Rattle.std.proofs.lemmas.List.Elements.{All-nil, All-cons, All-set, All-push, All-weaker}
 use Rattle.std.proofs.lemmas.List.Sums.{sum_by_push}
 use Rattle.race_core.specs.Race.{is_in}
 use Rattle.shared_witness.specs.declared.view.View.{View}
 use Rattle.shared_witness.specs.declared.view.Terms.{Terms}
-use Rattle.shared_witness.specs.View.{highest, new_view, spent_view, view_after_take, view_after_split, joined}
-use Rattle.shared_witness.specs.Moment.{Moment, taken_pieces, ended_takes, least_posted, times, EachOnce, RaceRule, opening, after_take, after_look, after_post, after_close, after_split, after_join}
+use Rattle.shared_witness.specs.View.{new_view, spent_view, view_after_split, joined}
+use Rattle.shared_witness.specs.Moment.{Moment, taken_pieces, ended_takes, times, RaceRule, opening, after_take, after_look, after_post, after_close, after_split, after_join}
 use Rattle.shared_witness.specs.Words.{AreTerms}
-use Rattle.shared_witness.proofs.Lists.{All-at, sum_set, sum_at, times-taken, length-taken, times-append, times-push, least-set, least-at, least-first, least-push, least-lift, length_of_once, times_none, times_some, slice_get-set_other, slice_get-set_same}
+use Rattle.shared_witness.proofs.Lists.{All-at, sum_set, times-taken, length-taken, times-append, times-push, least-set, least-at, least-first, least-push, least-lift, length_of_once, times_none, times_some, slice_get-set_other, slice_get-set_same}
 
 abbrev pub share : View → ℕ
 share v = v.ends + v.may

@@ -1,5 +1,5 @@
 -- Sums and the least post over the views, when one view changes, is added or is spent.
-use Rattle.std.proofs.Common.{◌≡◌, ◌≢◌, ℕ, zero, suc, ◌+◌, ◌-◌, ◌≤◌, ◌<◌, ◌==◌, min, nat_lt, Bool, true, false, ◌||◌, cond, inl, inr, List, [], ◌∷◌, ◌++◌, length, get_or, set, slice_get, sum_by, count_by, flat_map, All, Some, None, refl, sym, ap, ◌∙◌, subst, arith, length-append}
+use Rattle.std.proofs.Common.{◌≡◌, ◌≢◌, ℕ, zero, suc, ◌+◌, ◌≤◌, ◌<◌, ◌==◌, min, nat_lt, true, false, cond, inl, inr, List, [], ◌∷◌, ◌++◌, length, get_or, set, slice_get, sum_by, count_by, All, Some, refl, sym, ap, ◌∙◌, subst, arith, length-append}
 use Rattle.std.proofs.lemmas.Bool.{or_parts, or_cases, cases_lt, lt-ltb, le-ltb, eq-eqb}
 use Rattle.std.proofs.lemmas.List.Folds.{list_any_at}
 use Rattle.std.proofs.lemmas.List.{get_or_at}
@@ -9,8 +9,8 @@ use Rattle.std.proofs.lemmas.List.Sums.{sum_by-cons, sum_by-append, sum_by-set, 
 use Rattle.std.proofs.lemmas.List.Elements.{All-get_or, All-head, All-tail}
 use Rattle.race_core.specs.Race.{is_in}
 use Rattle.shared_witness.specs.declared.view.View.{View}
-use Rattle.shared_witness.specs.View.{highest, spent_view}
-use Rattle.shared_witness.specs.Moment.{taken_pieces, ended_takes, least_posted, times, EachOnce}
+use Rattle.shared_witness.specs.View.{highest}
+use Rattle.shared_witness.specs.Moment.{taken_pieces, least_posted, times, EachOnce}
 
 -- ---- elements by their place
 

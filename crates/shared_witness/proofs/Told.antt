@@ -1,12 +1,12 @@
 -- What the step of a seat tells of its view and of the word.
-use Rattle.std.proofs.Common.{◌≡◌, ◌≢◌, ℕ, suc, ◌+◌, ◌-◌, ◌^◌, ◌≤◌, ◌<◌, min, Bool, true, false, cond, nat_lt, List, [], ◌∷◌, ◌++◌, set, slice_get, Some, refl, sym, ap, ◌∙◌, arith}
-use Rattle.std.proofs.lemmas.Bool.{cond_both, cond-true, cond-false, ltb-true, ltb-false, lt-ltb, le-ltb, cases_lt}
+use Rattle.std.proofs.Common.{◌≡◌, ℕ, ◌≤◌, min, nat_lt, List, set, slice_get, Some, refl, sym, ap, ◌∙◌, arith}
+use Rattle.std.proofs.lemmas.Bool.{cond_both, cond-false, le-ltb, cases_lt}
 use Rattle.std.proofs.Common.{inl, inr}
 use Rattle.shared_witness.specs.declared.view.View.{View}
 use Rattle.shared_witness.specs.declared.view.Terms.{Terms}
 use Rattle.shared_witness.specs.View.{view_after_take, view_after_look, view_after_post, view_after_close}
-use Rattle.shared_witness.specs.Moment.{Moment, RaceRule, least_posted}
-use Rattle.shared_witness.specs.Steps.{IsStep, Takes, Looks, Posts, Closes}
+use Rattle.shared_witness.specs.Moment.{Moment, RaceRule}
+use Rattle.shared_witness.specs.Steps.{Takes, Looks, Posts, Closes}
 use Rattle.shared_witness.proofs.Lists.{All-at, slice_get-set_same, least-first}
 use Rattle.shared_witness.proofs.Keeps.{between, share}
 
@@ -16,15 +16,19 @@ set_view vs k old w new had has = let same : Some w ≡ Some new = sym (slice_ge
 
 module _ (t : Terms) (old : View) (found : ℕ) (new : View) where
   pub took : Takes t old found new → new ≡ view_after_take t.pieces found old
+  unfolding Takes
   took (m, k, is, step) = set_view m.views k old (view_after_take t.pieces m.ticket old) new step.had step.has ∙ ap (λ n. view_after_take t.pieces n old) (sym is)
 
   pub looked : Looks t old found new → new ≡ view_after_look found old
+  unfolding Looks
   looked (m, k, is, step) = set_view m.views k old (view_after_look m.bound old) new step.had step.has ∙ ap (λ n. view_after_look n old) (sym is)
 
   pub posted : (value : ℕ) → Posts t old found new value → new ≡ view_after_post found value old
+  unfolding Posts
   posted value (m, k, is, step) = set_view m.views k old (view_after_post m.bound value old) new step.had step.has ∙ ap (λ n. view_after_post n value old) (sym is)
 
   pub closed : (piece : ℕ) → Closes t old found new piece → new ≡ view_after_close found piece old
+  unfolding Closes
   closed piece (m, k, is, step) = set_view m.views k old (view_after_close m.bound piece old) new step.had step.has ∙ ap (λ n. view_after_close n piece old) (sym is)
 
   -- the bound is at most the first, and at most what the seat had seen
@@ -35,12 +39,15 @@ module _ (t : Terms) (old : View) (found : ℕ) (new : View) where
       (omega (arith, low, h.bound_is_least), omega (arith, seen.0))
 
   pub looked_low : Looks t old found new → (found ≤ t.first) × (found ≤ old.seen)
+  unfolding Looks
   looked_low (m, k, is, step) = bound_low m k step.held step.had is
 
   pub posted_low : (value : ℕ) → Posts t old found new value → (found ≤ t.first) × (found ≤ old.seen)
+  unfolding Posts
   posted_low value (m, k, is, step) = bound_low m k step.held step.had is
 
   pub closed_low : (piece : ℕ) → Closes t old found new piece → (found ≤ t.first) × (found ≤ old.seen)
+  unfolding Closes
   closed_low piece (m, k, is, step) = bound_low m k step.held step.had is
 
 -- a take goes by the piece that it answers
@@ -48,8 +55,8 @@ pub take_by_piece : (pieces found : ℕ) (v : View) → view_after_take pieces (
 take_by_piece pieces found v = elim (cases_lt found pieces) [
   | inl left ↦ let same : min found pieces ≡ found = omega arith in ap (λ n. view_after_take pieces n v) same
   | inr past ↦
-    let same : min found pieces ≡ pieces = omega arith in
-    cond-false (nat_lt (min found pieces) pieces) _ _ (le-ltb (min found pieces) pieces (omega arith)) ∙ sym (cond-false (nat_lt found pieces) _ _ (le-ltb found pieces past))
+      let same : min found pieces ≡ pieces = omega arith in
+      cond-false (nat_lt (min found pieces) pieces) _ _ (le-ltb (min found pieces) pieces (omega arith)) ∙ sym (cond-false (nat_lt found pieces) _ _ (le-ltb found pieces past))
 ]
 
 pub take_share : (pieces found : ℕ) (v : View) → 1 ≤ v.may → share (view_after_take pieces found v) ≡ share v

@@ -1,5 +1,5 @@
 -- A moment of a race that threads share, between two steps: the rule that holds of it, and the moments after it.
-use Rattle.std.specs.Prelude.{ℕ, ◌+◌, ◌^◌, ◌≡◌, ◌≢◌, ◌≤◌, ◌<◌, ◌==◌, min, nat_lt, if◌then◌else◌, List, [], ◌∷◌, ◌++◌, length, All, sum_by, count_by, flat_map, slice_set}
+use Rattle.std.specs.Prelude.{ℕ, ◌+◌, ◌≡◌, ◌≢◌, ◌≤◌, ◌==◌, min, nat_lt, if◌then◌else◌, List, [], ◌∷◌, ◌++◌, length, All, sum_by, count_by, flat_map, slice_set}
 use Rattle.shared_witness.specs.declared.view.View.{View}
 use Rattle.shared_witness.specs.declared.view.Terms.{Terms}
 use Rattle.shared_witness.specs.View.{new_view, spent_view, view_after_take, view_after_look, view_after_post, view_after_close, view_after_split, joined}

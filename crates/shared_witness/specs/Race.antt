@@ -1,5 +1,5 @@
 -- What clauses see of a race and of a seat.
-use Rattle.std.specs.Prelude.{ℕ, ◌≡◌, ◌≤◌, ◌<◌, ◌^◌, min, nat_lt, if◌then◌else◌, All, map, List, length}
+use Rattle.std.specs.Prelude.{ℕ, ◌≡◌, ◌≤◌, min, map, List}
 use Rattle.atomic_table.specs.Seated.{TableId}
 use Rattle.shared_witness.specs.declared.view.View.{View}
 use Rattle.shared_witness.specs.declared.view.Terms.{Terms}
@@ -30,11 +30,11 @@ abbrev pub new_seat : SharedRace → Seated
 new_seat race = record { race = race.id; view = new_view 1 }
 
 -- the piece that a take answers: the number found, or the number of pieces where that is past all of them
-abbrev pub TakesPiece : Terms → View → ℕ → View → Type 0
+unfoldable pub TakesPiece : Terms → View → ℕ → View → Type 0
 TakesPiece t old piece new = (found : ℕ) × (piece ≡ min found t.pieces) × Takes t old found new
 
 -- the bound that a post answers: the smaller of the bound found and the value
-abbrev pub PostsValue : Terms → View → ℕ → ℕ → View → Type 0
+unfoldable pub PostsValue : Terms → View → ℕ → ℕ → View → Type 0
 PostsValue t old value bound new = (found : ℕ) × (bound ≡ min found value) × Posts t old found new value
 
 abbrev pub views_of : List Seated → List View

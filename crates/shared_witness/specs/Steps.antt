@@ -13,14 +13,14 @@ pub record IsStep (t : Terms) (k : ℕ) (old new : View) (before after : Moment)
 
 -- `found` is the word as the step found it
 module _ (t : Terms) (old : View) (found : ℕ) (new : View) where
-  abbrev pub Takes : Type 0
+  unfoldable pub Takes : Type 0
   Takes = (m : Moment) × (k : ℕ) × (found ≡ m.ticket) × IsStep t k old new m (after_take t m k old)
 
-  abbrev pub Looks : Type 0
+  unfoldable pub Looks : Type 0
   Looks = (m : Moment) × (k : ℕ) × (found ≡ m.bound) × IsStep t k old new m (after_look m k old)
 
-  abbrev pub Posts : ℕ → Type 0
+  unfoldable pub Posts : ℕ → Type 0
   Posts value = (m : Moment) × (k : ℕ) × (found ≡ m.bound) × IsStep t k old new m (after_post m k old value)
 
-  abbrev pub Closes : ℕ → Type 0
+  unfoldable pub Closes : ℕ → Type 0
   Closes piece = (m : Moment) × (k : ℕ) × (found ≡ m.bound) × IsStep t k old new m (after_close m k old piece)

@@ -1,5 +1,5 @@
 -- What a seat knows of a race, and what its own steps make of that.
-use Rattle.std.specs.Prelude.{ℕ, ◌+◌, ◌-◌, ◌^◌, min, nat_lt, if◌then◌else◌, List, [], ◌∷◌, ◌++◌}
+use Rattle.std.specs.Prelude.{ℕ, ◌+◌, ◌-◌, ◌^◌, min, nat_lt, if◌then◌else◌, [], ◌∷◌, ◌++◌}
 use Rattle.shared_witness.specs.declared.view.View.{View}
 
 abbrev pub highest : ℕ

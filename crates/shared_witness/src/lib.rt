@@ -1,11 +1,12 @@
 //! A race whose ticket and bound are two words that threads share: each step of a worker is one atomic step.
 #![tactic(auto)]
 
+pub mod laws;
 mod race;
 mod steps;
+#[cfg(test)]
+mod tests;
 mod view;
-
-pub mod laws;
 
 pub use race::{Race, RaceSeat, Seats};
 pub use view::{Terms, View};

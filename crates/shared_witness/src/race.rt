@@ -92,12 +92,7 @@ impl Race {
         ensures view { seat.new.view ≡ view_after_take self.now.terms.pieces result seat.old.view }
         ensures step { TakesPiece self.now.terms seat.old.view result seat.new.view }
     {
-        let found = take_word::<Brand>(&self.words, &mut seat.seat);
-        if found < u64::from(self.pieces) {
-            found as u32
-        } else {
-            self.pieces
-        }
+        take_word::<Brand>(&self.words, &mut seat.seat).min(u64::from(self.pieces)) as u32
     }
 
     /// Looks at the bound.

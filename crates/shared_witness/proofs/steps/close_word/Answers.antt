@@ -1,4 +1,4 @@
-use Rattle.std.proofs.Common.{arith, rules}
+use Rattle.std.proofs.Common.{arith}
 use Rattle.shared_witness.proofs.Keeps.{open_times}
 use Rattle.shared_witness.proofs.Allowed.{close_allowed}
 use Rattle.shared_witness.proofs.steps.close_word.Goals as goal

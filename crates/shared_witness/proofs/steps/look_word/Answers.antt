@@ -1,4 +1,4 @@
-use Rattle.std.proofs.Common.{arith, rules}
+use Rattle.std.proofs.Common.{arith}
 use Rattle.shared_witness.proofs.Allowed.{look_allowed}
 use Rattle.shared_witness.proofs.steps.look_word.Goals as goal
 

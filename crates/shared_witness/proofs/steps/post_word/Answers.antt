@@ -1,4 +1,4 @@
-use Rattle.std.proofs.Common.{arith, rules}
+use Rattle.std.proofs.Common.{arith}
 use Rattle.shared_witness.proofs.Allowed.{post_allowed}
 use Rattle.shared_witness.proofs.steps.post_word.Goals as goal
 

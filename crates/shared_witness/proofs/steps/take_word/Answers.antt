@@ -1,4 +1,4 @@
-use Rattle.std.proofs.Common.{arith, rules}
+use Rattle.std.proofs.Common.{arith}
 use Rattle.shared_witness.proofs.Allowed.{take_allowed}
 use Rattle.shared_witness.proofs.steps.take_word.Goals as goal
 

@@ -1,4 +1,4 @@
-use Rattle.std.proofs.Common.{◌≡◌, ◌≤◌, ◌∷◌, ◌+◌, List, All, min, nat_lt, ℕ, subst, sym, ap, ◌∙◌, arith}
+use Rattle.std.proofs.Common.{◌≤◌, min, ℕ, subst, sym, ap, ◌∙◌}
 use Rattle.std.specs.Vec.Iter.{into_iter_items}
 use Rattle.atomic_table.specs.Table.{Me}
 use Rattle.shared_witness.specs.declared.view.View.{View}
@@ -28,7 +28,7 @@ returns-clause-seen c =
     let whole = sym c.into_iter-rest.ensures.rest ∙ c.in-Some.ensures.items in
     let is = ap (λ (s : Seated). s.view) c.first.view_is in
     seats_seen c.args.seats.items c.in-Some.first (into_iter_items c.next.new.self) c.first.inside.seat.me.0 whole is c.last_bound.result
-        (subst (λ (me : Me ℕ View). c.last_bound.result ≤ me.0.seen) c.join_seats.ensures.view c.last_bound.ensures.seen)
+    (subst (λ (me : Me ℕ View). c.last_bound.result ≤ me.0.seen) c.join_seats.ensures.view c.last_bound.ensures.seen)
 
 pub returns-clause-taken : goal.returns-clause-taken
 returns-clause-taken c done =

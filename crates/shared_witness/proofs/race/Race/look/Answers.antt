@@ -1,8 +1,6 @@
-use Rattle.std.proofs.Common.{◌≡◌, ◌≤◌, ◌<◌, ◌^◌, min, refl, sym, ap, ◌∙◌, arith, rules}
-use Rattle.shared_witness.specs.declared.view.View.{View}
-use Rattle.shared_witness.specs.View.{view_after_post}
+use Rattle.std.proofs.Common.{ap, ◌∙◌, arith}
 use Rattle.shared_witness.proofs.Keeps.{share}
-use Rattle.shared_witness.proofs.Told.{took, looked, posted, closed, looked_low, posted_low, closed_low, take_by_piece, take_share}
+use Rattle.shared_witness.proofs.Told.{looked, looked_low}
 use Rattle.shared_witness.proofs.race.Race.look.Goals as goal
 
 pub overflow_cast-result : goal.overflow_cast-result

@@ -1,0 +1,33 @@
+use Rattle.std.proofs.Common.{◌≡◌, ◌≤◌, min, sym, ap, ◌∙◌, arith}
+use Rattle.shared_witness.specs.View.{view_after_take}
+use Rattle.shared_witness.specs.Race.{Seated, TakesPiece}
+use Rattle.shared_witness.proofs.Keeps.{share}
+use Rattle.shared_witness.proofs.Told.{took, take_by_piece, take_share}
+use Rattle.shared_witness.proofs.race.Race.take.Goals as goal
+
+pub invariant_of-seat : goal.invariant_of-seat
+invariant_of-seat c =
+    let key = c.self.inside.words.shared.key in
+    let old = c.seat.inside.seat.me.0 in
+    let found = c.take_word.result in
+    let view = took key old found c.take_word.new.seat.me.0 c.take_word.ensures.step in
+    let going : old.ends ≡ 0 = ap (λ (s : Seated). s.view.ends) c.seat.view_is ∙ c.requires.going in
+    let may : 1 ≤ old.may = omega (arith, going, c.seat.invariant.0) in
+    (ap share view ∙ take_share key.pieces found old may ∙ c.seat.invariant.0, c.take_word.ensures.slots ∙ c.seat.invariant.1)
+
+pub returns-clause-view : goal.returns-clause-view
+returns-clause-view c =
+    let key = c.self.inside.words.shared.key in
+    let old = c.seat.inside.seat.me.0 in
+    let found = c.take_word.result in
+    let view = took key old found c.take_word.new.seat.me.0 c.take_word.ensures.step in
+    let piece : c.min.result ≡ min found key.pieces = c.min.ensures ∙ ap (min found) (c.from.ensures ∙ c.self.invariant.same_pieces) in
+    rw (← c.self.view_is, ← c.seat.view_is) (view ∙ sym (take_by_piece key.pieces found old) ∙ ap (λ n. view_after_take key.pieces n old) (sym piece))
+
+pub returns-clause-step : goal.returns-clause-step
+unfolding TakesPiece
+returns-clause-step c =
+    let key = c.self.inside.words.shared.key in
+    let found = c.take_word.result in
+    let piece : c.min.result ≡ min found key.pieces = c.min.ensures ∙ ap (min found) (c.from.ensures ∙ c.self.invariant.same_pieces) in
+    rw (← c.self.view_is, ← c.seat.view_is) (found, piece, c.take_word.ensures.step)

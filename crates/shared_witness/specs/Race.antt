@@ -1,11 +1,12 @@
 -- What clauses see of a race and of a seat.
-use Rattle.std.specs.Prelude.{ℕ, ◌≡◌, ◌≤◌, min, map, List}
+use Rattle.std.specs.Prelude.{ℕ, ◌≡◌, ◌↔◌, ◌≤◌, ◌<◌, min, map, List}
 use Rattle.atomic_table.specs.Seated.{TableId}
 use Rattle.shared_witness.specs.declared.view.View.{View}
 use Rattle.shared_witness.specs.declared.view.Terms.{Terms}
 use Rattle.shared_witness.specs.View.{new_view}
+use Rattle.shared_witness.specs.Moment.{Moment, EachOnce, times, taken_pieces, after_take}
 use Rattle.shared_witness.specs.Words.{AreTerms}
-use Rattle.shared_witness.specs.Steps.{Takes, Posts}
+use Rattle.shared_witness.specs.Steps.{IsStep, Posts}
 
 -- which race it is, and its terms
 pub record SharedRace : Type 0 where
@@ -29,9 +30,11 @@ pub record Seated : Type 0 where
 abbrev pub new_seat : SharedRace → Seated
 new_seat race = record { race = race.id; view = new_view 1 }
 
--- the piece that a take answers: the number found, or the number of pieces where that is past all of them
+-- At some moment the seat took the piece, which no seat had taken; or the number of pieces, exactly where all were taken, each once.
 unfoldable pub TakesPiece : Terms → View → ℕ → View → Type 0
-TakesPiece t old piece new = (found : ℕ) × (piece ≡ min found t.pieces) × Takes t old found new
+TakesPiece t old piece new =
+    (m : Moment) × (k : ℕ) × (piece ≡ min m.ticket t.pieces) × (piece < t.pieces → times (taken_pieces m.views) piece ≡ 0) × ((piece ≡ t.pieces) ↔ EachOnce t.pieces (taken_pieces m.views))
+    × IsStep t k old new m (after_take t m k old)
 
 -- the bound that a post answers: the smaller of the bound found and the value
 unfoldable pub PostsValue : Terms → View → ℕ → ℕ → View → Type 0

@@ -1,7 +1,8 @@
 use Rattle.std.proofs.Common.{◌≡◌, ◌≤◌, min, sym, ap, ◌∙◌, arith}
 use Rattle.shared_witness.specs.View.{view_after_take}
-use Rattle.shared_witness.specs.Race.{Seated, TakesPiece}
+use Rattle.shared_witness.specs.Race.{Seated}
 use Rattle.shared_witness.proofs.Keeps.{share}
+use Rattle.shared_witness.proofs.Fresh.{takes_piece}
 use Rattle.shared_witness.proofs.Told.{took, take_by_piece, take_share}
 use Rattle.shared_witness.proofs.race.Race.take.Goals as goal
 
@@ -25,9 +26,9 @@ returns-clause-view c =
     rw (← c.self.view_is, ← c.seat.view_is) (view ∙ sym (take_by_piece key.pieces found old) ∙ ap (λ n. view_after_take key.pieces n old) (sym piece))
 
 pub returns-clause-step : goal.returns-clause-step
-unfolding TakesPiece
 returns-clause-step c =
     let key = c.self.inside.words.shared.key in
+    let old = c.seat.inside.seat.me.0 in
     let found = c.take_word.result in
     let piece : c.min.result ≡ min found key.pieces = c.min.ensures ∙ ap (min found) (c.from.ensures ∙ c.self.invariant.same_pieces) in
-    rw (← c.self.view_is, ← c.seat.view_is) (found, piece, c.take_word.ensures.step)
+    rw (← c.self.view_is, ← c.seat.view_is) (takes_piece key old found c.take_word.new.seat.me.0 c.min.result piece c.take_word.ensures.step)

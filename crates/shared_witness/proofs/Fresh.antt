@@ -25,7 +25,7 @@ takes_piece t old found new piece answers (m, k, is, step) =
     let here : piece ≡ min m.ticket t.pieces = answers ∙ ap (λ n. min n t.pieces) is in
     let finds = take_is_fresh t m step.held in
     let fresh : piece < t.pieces → times (taken_pieces m.views) piece ≡ 0 =
-        λ left. let same : m.ticket ≡ piece = omega arith in subst (λ n. times (taken_pieces m.views) n ≡ 0) same (finds.0 (omega arith)) in
+    λ left. let same : m.ticket ≡ piece = omega arith in subst (λ n. times (taken_pieces m.views) n ≡ 0) same (finds.0 (omega arith)) in
     let none : piece ≡ t.pieces → EachOnce t.pieces (taken_pieces m.views) = λ last. finds.1.0 (omega arith) in
     let all : EachOnce t.pieces (taken_pieces m.views) → piece ≡ t.pieces = λ once. let past = finds.1.1 once in omega (arith, past) in
     (m, k, here, fresh, (none, all), step)

@@ -11,7 +11,8 @@ use Rattle.std.proofs.lemmas.List.FromFn.{fill_by_all}
 use Rattle.std.proofs.lemmas.Option.{get_or_from_slice_get, slice_get_within, slice_get-get_or}
 use Rattle.race_core.specs.declared.state.Piece.{Piece}
 use Rattle.race_core.specs.declared.state.Entry.{Entry}
-use Rattle.race_core.specs.Race.{Worker, Race, is_in, is_closed, closed_count}
+use Rattle.irv_base.specs.Candidates.{is_in}
+use Rattle.race_core.specs.Race.{Worker, Race, is_closed, closed_count}
 use Rattle.race_core.specs.State.{takers, is_taker, is_marked, shown_worker, numbered, shown_race, IsSound}
 use Rattle.race_core.proofs.Shown.{is_in-filter, slice_get-numbered}
 

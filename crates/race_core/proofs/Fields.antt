@@ -10,7 +10,9 @@ use Rattle.race_core.specs.declared.event.Event.{Event}
 use Rattle.race_core.specs.declared.event.Event.TheVariants.{Take, Look, Post, Close}
 use Rattle.race_core.specs.declared.state.Piece.{Piece}
 use Rattle.race_core.specs.declared.state.Entry.{Entry}
-use Rattle.race_core.specs.Race.{Worker, least, is_in, take_next, look, post, close, step, worker_of, new_worker, start}
+use Rattle.irv_base.specs.Tabulation.{least}
+use Rattle.irv_base.specs.Candidates.{is_in}
+use Rattle.race_core.specs.Race.{Worker, take_next, look, post, close, step, worker_of, new_worker, start}
 use Rattle.race_core.specs.State.{takers, is_taker, shown_worker, numbered, shown_race, ready_entry, open_piece}
 use Rattle.race_core.proofs.Shown.{numbered_set, ready_step, ready_at, closed_after_take, taken_after_take, closed_after_close, is_in-filter, in_range, past_range}
 

@@ -12,7 +12,9 @@ use Rattle.std.proofs.lemmas.List.Sums.{AllPass-from_list_all}
 use Rattle.std.proofs.lemmas.List.FromFn.{get_or-range_with_len, length-range_with_len}
 use Rattle.race_core.specs.declared.event.Event.{Event}
 use Rattle.race_core.specs.declared.event.Event.TheVariants.{Take, Look, Post, Close}
-use Rattle.race_core.specs.Race.{Worker, Race, least, is_in, new_worker, start, take_next, look, post, close, after, run, is_closed, all_closed}
+use Rattle.irv_base.specs.Tabulation.{least}
+use Rattle.irv_base.specs.Candidates.{is_in}
+use Rattle.race_core.specs.Race.{Worker, Race, new_worker, start, take_next, look, post, close, after, run, is_closed, all_closed}
 use Rattle.race_core.specs.Laws.{RaceLaw}
 
 -- what is below each number of a list is below the least

@@ -11,7 +11,8 @@ use Rattle.std.proofs.lemmas.List.Elements.{All-head, All-tail, filter-append}
 use Rattle.std.proofs.lemmas.List.Folds.{list_any_at}
 use Rattle.std.proofs.lemmas.List.FromFn.{get_or-range_with_len, length-range_with_len}
 use Rattle.race_core.specs.declared.state.Entry.{Entry}
-use Rattle.race_core.specs.Race.{Worker, Race, is_in}
+use Rattle.irv_base.specs.Candidates.{is_in}
+use Rattle.race_core.specs.Race.{Worker, Race}
 use Rattle.race_core.specs.State.{is_taker, numbered, ready_entry}
 
 -- ---- workers by number

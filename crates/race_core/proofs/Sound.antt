@@ -6,7 +6,8 @@ use Rattle.std.proofs.lemmas.List.Folds.{list_any-append, list_any_at}
 use Rattle.std.proofs.lemmas.List.Sums.{sum_by-cons, sum_by-set, count_by-le-length}
 use Rattle.race_core.specs.declared.state.Piece.{Piece}
 use Rattle.race_core.specs.declared.state.Entry.{Entry}
-use Rattle.race_core.specs.Race.{least, is_in}
+use Rattle.irv_base.specs.Tabulation.{least}
+use Rattle.irv_base.specs.Candidates.{is_in}
 use Rattle.race_core.specs.State.{takers, is_marked, IsSound, open_piece}
 use Rattle.race_core.proofs.Fields.{same_field, values_of_open}
 

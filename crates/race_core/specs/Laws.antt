@@ -1,7 +1,8 @@
 -- The laws of the race
 use Rattle.std.specs.Prelude.{IsTrue, ◌≡◌, ◌↔◌, ℕ, ◌≤◌, Some, List, length}
 use Rattle.race_core.specs.declared.event.Event.{Event}
-use Rattle.race_core.specs.Race.{Race, least, start, run, all_closed, closed_count}
+use Rattle.irv_base.specs.Tabulation.{least}
+use Rattle.race_core.specs.Race.{Race, start, run, all_closed, closed_count}
 
 -- over every list of events that are enabled, once all pieces are closed the bound is the least value
 abbrev pub RaceLaw : Type 0

@@ -1,7 +1,9 @@
 -- The race: workers take pieces, look at a shared bound, lower it by posts, and close pieces. Each event is one step of one worker.
-use Rattle.std.specs.Prelude.{ℕ, ◌+◌, ◌-◌, ◌^◌, min, Bool, true, false, not, ◌&&◌, ◌==◌, nat_le, nat_lt, if◌then◌else◌, List, [], ◌∷◌, ◌++◌, length, count_by, fold, Option, Some, None, option_and_then, slice_index, slice_get, slice_set, replicate}
+use Rattle.std.specs.Prelude.{ℕ, ◌+◌, ◌-◌, ◌^◌, min, Bool, true, false, not, ◌&&◌, ◌==◌, nat_le, nat_lt, if◌then◌else◌, List, [], ◌∷◌, ◌++◌, length, count_by, Option, Some, None, option_and_then, slice_index, slice_get, slice_set, replicate}
 use Rattle.std.specs.Option.{option_map_or}
 use Rattle.std.specs.List.{list_any, list_all, range_with_len}
+use Rattle.irv_base.specs.Candidates.{is_in}
+use Rattle.irv_base.specs.Tabulation.{least}
 use Rattle.race_core.specs.declared.event.Event.{Event}
 use Rattle.race_core.specs.declared.event.Event.TheVariants.{Take, Look, Post, Close}
 
@@ -20,13 +22,6 @@ pub record Race : Type 0 where
   pub next : ℕ
   pub bound : ℕ
   pub workers : List Worker
-
-abbrev pub least : List ℕ → ℕ
-least [] = 0
-least (x ∷ xs) = fold min x xs
-
-abbrev pub is_in : List ℕ → ℕ → Bool
-is_in pieces p = list_any (λ q. q == p) pieces
 
 -- ---- the start
 

@@ -3,7 +3,9 @@ use Rattle.std.specs.Prelude.{ℕ, ◌-◌, ◌^◌, ◌≡◌, ◌≤◌, ◌<�
 use Rattle.std.specs.List.{range_with_len}
 use Rattle.race_core.specs.declared.state.Piece.{Piece}
 use Rattle.race_core.specs.declared.state.Entry.{Entry}
-use Rattle.race_core.specs.Race.{Worker, Race, least, is_in}
+use Rattle.irv_base.specs.Tabulation.{least}
+use Rattle.irv_base.specs.Candidates.{is_in}
+use Rattle.race_core.specs.Race.{Worker, Race}
 
 -- who took each piece, where it is taken
 abbrev pub takers : List Piece → List ℕ

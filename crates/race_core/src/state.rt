@@ -1,7 +1,8 @@
 // The race as a value that takes one event at a time.
 ghost use Rattle.std.specs.Prelude.{◌≡◌, ◌≤◌, ◌<◌, ◌^◌, IfOk, length, map, take};
 ghost use Rattle.std.specs.Bool.{OnTrue, OnFalse};
-ghost use Rattle.race_core.specs.Race.{least, start, step, run, taken_count, closed_count};
+ghost use Rattle.irv_base.specs.Tabulation.{least};
+ghost use Rattle.race_core.specs.Race.{start, step, run, taken_count, closed_count};
 ghost use Rattle.race_core.specs.Steps.{Steps};
 ghost use Rattle.race_core.specs.State.{ready_entry, open_piece};
 

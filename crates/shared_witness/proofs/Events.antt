@@ -5,7 +5,9 @@ use Rattle.std.proofs.lemmas.Bool.{cases_lt, lt-ltb, le-ltb, le-leb, eq-eqb, ne_
 use Rattle.std.proofs.lemmas.List.{map-set}
 use Rattle.std.proofs.lemmas.Option.{slice_get-map}
 use Rattle.race_core.specs.declared.event.Event.TheVariants.{Take, Look, Post, Close}
-use Rattle.race_core.specs.Race.{Worker, Race, is_in, least, new_worker, start, take_next, look, post, close, after}
+use Rattle.irv_base.specs.Candidates.{is_in}
+use Rattle.irv_base.specs.Tabulation.{least}
+use Rattle.race_core.specs.Race.{Worker, Race, new_worker, start, take_next, look, post, close, after}
 use Rattle.shared_witness.specs.declared.view.View.{View}
 use Rattle.shared_witness.specs.declared.view.Terms.{Terms}
 use Rattle.shared_witness.specs.View.{highest, new_view, view_after_take, view_after_look, view_after_post, view_after_close}

@@ -6,7 +6,9 @@ use Rattle.std.proofs.lemmas.List.Elements.{All-replicate}
 use Rattle.std.proofs.lemmas.List.Folds.{sum_by-replicate}
 use Rattle.race_core.specs.declared.event.Event.{Event}
 use Rattle.race_core.specs.declared.event.Event.TheVariants.{Take, Look, Post, Close}
-use Rattle.race_core.specs.Race.{Race, is_in, least, start, post, close, after, run}
+use Rattle.irv_base.specs.Candidates.{is_in}
+use Rattle.irv_base.specs.Tabulation.{least}
+use Rattle.race_core.specs.Race.{Race, start, post, close, after, run}
 use Rattle.shared_witness.specs.declared.view.View.{View}
 use Rattle.shared_witness.specs.declared.view.Terms.{Terms}
 use Rattle.shared_witness.specs.View.{highest, new_view}

@@ -4,7 +4,7 @@ use Rattle.std.proofs.lemmas.Bool.{not-true, cond_both, ltb-true, ltb-false, cas
 use Rattle.std.proofs.lemmas.List.{length_push}
 use Rattle.std.proofs.lemmas.List.Elements.{All-nil, All-cons, All-set, All-push, All-weaker}
 use Rattle.std.proofs.lemmas.List.Sums.{sum_by_push}
-use Rattle.race_core.specs.Race.{is_in}
+use Rattle.irv_base.specs.Candidates.{is_in}
 use Rattle.shared_witness.specs.declared.view.View.{View}
 use Rattle.shared_witness.specs.declared.view.Terms.{Terms}
 use Rattle.shared_witness.specs.View.{new_view, spent_view, view_after_split, joined}

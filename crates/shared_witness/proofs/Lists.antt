@@ -7,7 +7,7 @@ use Rattle.std.proofs.Math.Numerals.{add-one}
 use Rattle.std.proofs.lemmas.Option.{slice_get_within, get_or_from_slice_get}
 use Rattle.std.proofs.lemmas.List.Sums.{sum_by-cons, sum_by-append, sum_by-set, sum_by_push, get_or-le-sum_by}
 use Rattle.std.proofs.lemmas.List.Elements.{All-get_or, All-head, All-tail}
-use Rattle.race_core.specs.Race.{is_in}
+use Rattle.irv_base.specs.Candidates.{is_in}
 use Rattle.shared_witness.specs.declared.view.View.{View}
 use Rattle.shared_witness.specs.View.{highest}
 use Rattle.shared_witness.specs.Moment.{taken_pieces, least_posted, times, EachOnce}

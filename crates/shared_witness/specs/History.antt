@@ -2,7 +2,7 @@
 use Rattle.std.specs.Prelude.{◌+◌, ◌==◌, ◌&&◌, not, nat_lt, if◌then◌else◌, List, [], ◌∷◌, Option, Some, None, option_and_then, slice_get, replicate}
 use Rattle.race_core.specs.declared.event.Event.{Event}
 use Rattle.race_core.specs.declared.event.Event.TheVariants.{Take, Look, Post, Close}
-use Rattle.race_core.specs.Race.{is_in}
+use Rattle.irv_base.specs.Candidates.{is_in}
 use Rattle.shared_witness.specs.declared.view.Terms.{Terms}
 use Rattle.shared_witness.specs.View.{new_view}
 use Rattle.shared_witness.specs.Moment.{Moment, after_take, after_look, after_post, after_close}

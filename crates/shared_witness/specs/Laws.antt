@@ -2,7 +2,9 @@
 use Rattle.std.specs.Prelude.{ℕ, ◌+◌, ◌≡◌, ◌≢◌, ◌≤◌, ◌<◌, ◌↔◌, min, not, IsTrue, List, slice_get, slice_index, length, IfSome, Some}
 use Rattle.race_core.specs.declared.event.Event.{Event}
 use Rattle.race_core.specs.declared.event.Event.TheVariants.{Take, Look, Post, Close}
-use Rattle.race_core.specs.Race.{is_in, least, start, after, run}
+use Rattle.irv_base.specs.Candidates.{is_in}
+use Rattle.irv_base.specs.Tabulation.{least}
+use Rattle.race_core.specs.Race.{start, after, run}
 use Rattle.shared_witness.specs.declared.view.View.{View}
 use Rattle.shared_witness.specs.declared.view.Terms.{Terms}
 use Rattle.shared_witness.specs.Moment.{Moment, RaceRule, EachOnce, times, taken_pieces, opening, after_take, after_look, after_post, after_close, after_split, after_join}

@@ -1,7 +1,7 @@
 // A race that threads share, and the seats of its workers.
 ghost use Rattle.std.specs.Prelude.{◌≡◌, ◌≢◌, ◌+◌, ◌≤◌, ◌<◌, ◌++◌, ◌∷◌, [], All, IfOk, IsTrue, not, min, length, replicate, fold};
 ghost use Rattle.std.specs.Vec.Iter.{into_iter_items};
-ghost use Rattle.race_core.specs.Race.{is_in};
+ghost use Rattle.irv_base.specs.Candidates.{is_in};
 ghost use Rattle.shared_witness.specs.View.{new_view, view_after_take, view_after_look, view_after_post, view_after_close, view_after_split, joined};
 ghost use Rattle.shared_witness.specs.Moment.{EachOnce, least_posted, taken_pieces};
 ghost use Rattle.shared_witness.specs.Steps.{Takes, Looks, Posts, Closes};

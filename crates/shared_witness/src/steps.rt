@@ -1,7 +1,7 @@
 // The atomic steps on the two words. Each is told the race's terms, for its proof alone.
 ghost use Rattle.std.specs.Prelude.{◌≡◌, ◌≢◌, ◌+◌, ◌≤◌, IsTrue, not};
 ghost use Rattle.shared_witness.specs.Steps.{Takes, Looks, Posts, Closes};
-ghost use Rattle.race_core.specs.Race.{is_in};
+ghost use Rattle.irv_base.specs.Candidates.{is_in};
 
 use crate::view::{BOUND, TICKET, View, WordSeat, Words};
 use atomic_table::Play;

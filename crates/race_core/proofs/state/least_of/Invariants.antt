@@ -1,6 +1,6 @@
 use Rattle.std.proofs.Common.{◌≡◌, min, drop}
 use Rattle.std.specs.List.{fold}
-use Rattle.race_core.specs.Race.{least}
+use Rattle.irv_base.specs.Tabulation.{least}
 use Rattle.race_core.proofs.state.least_of.Given as goal
 
 abbrev pub invariant-loop-value : goal.invariant-loop-value

@@ -1,6 +1,6 @@
 use Rattle.std.proofs.Common.{◌≡◌, ◌<◌, ◌≤◌, map, take, None, Some, refl, arith}
 use Rattle.race_core.specs.declared.event.Event.TheVariants.{Post}
-use Rattle.race_core.specs.Race.{least}
+use Rattle.irv_base.specs.Tabulation.{least}
 use Rattle.race_core.specs.State.{ready_entry}
 use Rattle.race_core.proofs.Shown.{ready_within}
 use Rattle.race_core.proofs.Sound.{sound_entry}

@@ -1,0 +1,83 @@
+-- What an answer of `covered` says.
+use Rattle.std.proofs.Common.{◌≡◌, ◌↔◌, ◌⊎◌, inl, inr, ℕ, ◌<◌, Bool, true, List, Option, Some, None, Ok, refl, sym, ap, ◌∙◌}
+use Rattle.std.specs.List.{list_any, list_all}
+use Rattle.std.proofs.lemmas.Bool.{not-true, not_from_false, cases_Bool, both_ways}
+use Rattle.irv_base.specs.Orders.{is_order, Elects}
+use Rattle.irv_base.specs.Tabulation.{is_possible}
+use Rattle.irv_base.proofs.Members.{from_find, find-member, from_list_all, list_all-each, contains-from_member, member-from_contains}
+use Rattle.assertions.specs.declared.assertion.Assertion.{Assertion}
+use Rattle.assertions.specs.Assertions.{is_proper, is_true}
+use Rattle.assertions.specs.Suffixes.{IsAlternative, alternative_orders, comes_before}
+use Rattle.assertions.specs.Refutation.{refutes, covers}
+use Rattle.assertions.proofs.Elections.{cover_is_sound}
+use Rattle.assertions.proofs.Endings.{alternative_orders_are}
+use Rattle.assertions.proofs.Firsts.{first_alternative}
+use Rattle.suffix_walk.specs.Search.{first_kept, kept_count, searched}
+use Rattle.suffix_walk.specs.Search as walk
+use Rattle.cover_checker.specs.Unrefuted.{stands}
+use Rattle.cover_checker.specs.Covers.{covered_is, first_over, or_spent, verdict_on, standing_order}
+use Rattle.cover_checker.specs.declared.cover.Verdict.{Verdict}
+use Rattle.cover_checker.specs.declared.cover.Verdict.TheVariants.{Covered, Stands}
+
+module _ (n winner nodes : ℕ) (list : List Assertion) where
+  -- an answer is the verdict on that order
+  verdict_is : (verdict : Verdict) → covered_is n winner list nodes ≡ Ok verdict → verdict_on (standing_order n winner list) ≡ verdict
+  verdict_is verdict h = go (first_over n winner list nodes) h where
+    go : (o : Option ℕ) → or_spent o (verdict_on (standing_order n winner list)) ≡ Ok verdict → verdict_on (standing_order n winner list) ≡ verdict
+    go (Some last) e = cc
+    go None e = cc
+
+  none_stands : standing_order n winner list ≡ None → covers n winner list ≡ true
+  none_stands h =
+      list_all-each (λ order. list_any (λ a. refutes a order) list) (alternative_orders n winner) (λ order m.
+      elim (cases_Bool (list_any (λ a. refutes a order) list)) [
+        | inl t ↦ t
+        | inr f ↦ let (found, e) = find-member (stands list) order (alternative_orders n winner) m (not_from_false (list_any (λ a. refutes a order) list) f) in cc
+      ])
+
+  stands_not_covers : (order : List ℕ) → standing_order n winner list ≡ Some order → covers n winner list ≡ true → ⊥
+  stands_not_covers order h t =
+      let (m, s) = from_find (stands list) order (alternative_orders n winner) h in
+      both_ways (list_any (λ a. refutes a order) list) (not-true (list_any (λ a. refutes a order) list) s) (from_list_all (λ order. list_any (λ a. refutes a order) list) m t)
+
+  pub covered_iff_covers : (verdict : Verdict) → covered_is n winner list nodes ≡ Ok verdict → ((verdict ≡ Covered) ↔ (covers n winner list ≡ true))
+  covered_iff_covers verdict h = go (standing_order n winner list) refl (verdict_is verdict h) where
+    go : (o : Option (List ℕ)) → standing_order n winner list ≡ o → verdict_on o ≡ verdict → ((verdict ≡ Covered) ↔ (covers n winner list ≡ true))
+    go None e k = (λ v. none_stands e, λ t. sym k)
+    go (Some order) e k = (λ v. cc, λ t. absurd (stands_not_covers order e t))
+
+  standing_is : (found : List ℕ) → standing_order n winner list ≡ Some found →
+      IsAlternative n winner found × (stands list found ≡ true)
+      × ((order : List ℕ) → IsAlternative n winner order → stands list order ≡ true → (found ≡ order) ⊎ (comes_before found order ≡ true))
+  standing_is found e =
+      let (m, s) = from_find (stands list) found (alternative_orders n winner) e in (
+        (alternative_orders_are n winner found).0 (contains-from_member m),
+        s,
+        λ order q r. first_alternative n winner (stands list) found order e (member-from_contains order (alternative_orders n winner) ((alternative_orders_are n winner order).1 q)) r,
+      )
+
+  pub stands_is_least : (found : List ℕ) → covered_is n winner list nodes ≡ Ok (Stands found) →
+      IsAlternative n winner found × (stands list found ≡ true)
+      × ((order : List ℕ) → IsAlternative n winner order → stands list order ≡ true → (found ≡ order) ⊎ (comes_before found order ≡ true))
+  stands_is_least found h = go (standing_order n winner list) refl (verdict_is (Stands found) h) where
+    go : (o : Option (List ℕ)) → standing_order n winner list ≡ o → verdict_on o ≡ Stands found →
+        IsAlternative n winner found × (stands list found ≡ true)
+        × ((order : List ℕ) → IsAlternative n winner order → stands list order ≡ true → (found ≡ order) ⊎ (comes_before found order ≡ true))
+    go None e k = cc
+    go (Some order) e k = let same : order ≡ found = cc in standing_is found (e ∙ ap Some same)
+
+pub covered_is_sound : (n winner nodes : ℕ) (list : List Assertion) → winner < n → list_all (is_proper n) list ≡ true → covered_is n winner list nodes ≡ Ok Covered →
+    (records : List (List ℕ)) → list_all (is_true records) list ≡ true →
+    (order : List ℕ) → is_order n order ≡ true → is_possible records order ≡ true → Elects order winner
+covered_is_sound n winner nodes list below proper h records true' order o possible =
+    cover_is_sound n winner list below proper ((covered_iff_covers n winner nodes list Covered h).0 refl) records true' order o possible
+
+-- what the walk finds is an order
+pub found-order : (n winner nodes : ℕ) (kept : List ℕ → Bool) (found : List ℕ) → searched n winner nodes kept ≡ Ok (Some found) → is_order n found ≡ true
+found-order n winner nodes kept found h = go (first_kept n winner kept) (walk.first_over n winner nodes (kept_count n kept (first_kept n winner kept))) refl h where
+  go : (o : Option (List ℕ)) (spent : Option ℕ) → first_kept n winner kept ≡ o → walk.or_spent spent o ≡ Ok (Some found) → is_order n found ≡ true
+  go o (Some last) e k = cc
+  go None None e k = cc
+  go (Some order) None e k =
+      let same : order ≡ found = cc in
+      ((alternative_orders_are n winner found).0 (contains-from_member (from_find kept found (alternative_orders n winner) (e ∙ ap Some same)).0)).0

@@ -1,0 +1,50 @@
+// Whether a list of assertions refutes each order that elects another candidate.
+ghost use Rattle.std.specs.Prelude.{◌≡◌, ◌≤◌};
+ghost use Rattle.irv_base.specs.declared.limits.TheConstants.{ROOM};
+ghost use Rattle.cover_checker.specs.Covers.{covered_is};
+
+use crate::unrefuted::Unrefuted;
+use assertions::Assertion;
+use irv_base::{Candidate, Order};
+use suffix_walk::search;
+
+/// What a list of assertions says of the alternative orders: those that elect another candidate than the winner.
+#[derive(Clone, Copy)]
+pub enum Verdict {
+    /// Each of them is refuted.
+    Covered,
+    /// The least of those that aren't, all read backwards.
+    Stands(Order),
+}
+
+/// Why there is no verdict.
+#[derive(Clone, Copy, Debug, PartialEq, Eq)]
+pub enum CoverFault {
+    /// The least alternative winner for whom more suffixes count than the budget has.
+    Spent { last: Candidate },
+}
+
+/// Whether the assertions of the list refute each order of `n` candidates that elects another one than `winner`.
+///
+/// If they don't, the answer is the order that stands: the one that no assertion refutes and that is least when
+/// read backwards. A suffix counts for an alternative winner where it ends in that candidate, isn't a whole order,
+/// is refuted by no assertion, and comes before the order that stands, if there is one, both read backwards. Where
+/// more than `nodes` suffixes count for some alternative winner the answer is `Spent` with the least of these.
+///
+/// The time is at most linear in the list, for each suffix that counts and each of its children. No memory is taken.
+pub fn covered(
+    n: u32,
+    winner: Candidate,
+    list: &[Assertion],
+    nodes: u32,
+) -> Result<Verdict, CoverFault>
+    requires some { 1 ≤ n }
+    requires room { n ≤ ROOM }
+    ensures { result ≡ covered_is n winner list.now nodes }
+{
+    match search(&Unrefuted { n, list }, n, winner, nodes) {
+        Ok(None) => Ok(Verdict::Covered),
+        Ok(Some(order)) => Ok(Verdict::Stands(order.to_order())),
+        Err(last) => Err(CoverFault::Spent { last }),
+    }
+}

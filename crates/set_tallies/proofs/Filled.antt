@@ -1,0 +1,127 @@
+-- What the entries of all candidates say of the records.
+use Rattle.std.proofs.Common.{◌==◌, ◌≡◌, ℕ, suc, zero, ◌+◌, ◌<◌, ◌≤◌, ◌^◌, Bool, true, false, cond, if◌then◌else◌, inl, inr, List, [], ◌∷◌, ◌++◌, All, length, map, get_or, count_by, sum_by, IsPermutation, refl, sym, ap, ap₂, subst, arith, length-append, ◌∙◌}
+use Rattle.std.specs.List.{range_with_len}
+use Rattle.std.proofs.lemmas.Bool.{cases_lt, cases_Bool}
+use Rattle.std.proofs.lemmas.List.{get_or_push, get_or_append_left, get_or_default, get_or-map, length-map}
+use Rattle.std.proofs.lemmas.List.FromFn.{get_or-map-range_with_len, length-map-range_with_len}
+use Rattle.std.proofs.lemmas.List.Sums.{sum_by-cons}
+use Rattle.std.proofs.lemmas.List.Sorted.{sum_by-IsPermutation, length_permutation}
+use Rattle.irv_base.specs.Candidates.{candidates, has}
+use Rattle.irv_base.specs.Records.{top, is_some_of, tally, is_first, is_ahead}
+use Rattle.set_tallies.specs.Bags.{Kept, IsOf, IsKept, Counts, AreOf, AreFilledFrom, IsTable, misses, missing, total, entries_of, everyone, tallies}
+use Rattle.set_tallies.specs.Befores.{before, is_missed, Counted}
+use Rattle.set_tallies.specs.declared.entry.Entry.{Entry}
+use Rattle.set_tallies.proofs.Befores.{missed_top, missed_ahead, missed_first, misses-none, outside}
+
+-- ---- the same count by another test
+pub count-same : {X : Type 0} (p q : X → Bool) (xs : List X) → All (λ x. p x ≡ q x) xs → count_by p xs ≡ count_by q xs
+count-same p q [] h = refl
+count-same {X} p q (x ∷ xs) h =
+    let first : p x ≡ q x = h 0 x (omega arith) in
+    let rest : count_by p xs ≡ count_by q xs = count-same p q xs (λ k d l. h (suc k) d (omega arith)) in
+    sum_by-cons (λ y. cond (p y) 1 0) x xs ∙ ap₂ (λ b n. cond b 1 0 + n) first rest ∙ sym (sum_by-cons (λ y. cond (q y) 1 0) x xs)
+
+pub count-none : {X : Type 0} (p : X → Bool) (xs : List X) → ((x : X) → p x ≡ false) → count_by p xs ≡ 0
+count-none p [] h = refl
+count-none p (x ∷ xs) h = sum_by-cons (λ y. cond (p y) 1 0) x xs ∙ ap₂ (λ b n. cond b 1 0 + n) (h x) (count-none p xs h)
+
+-- ---- the entries of each candidate
+abbrev pub AllCounted : List (List Entry) → List (List ℕ) → Type 0
+AllCounted lists records = (c : ℕ) → c < length lists → Counted (get_or lists c []) records c
+
+pub counted-push : (lists : List (List Entry)) (entries : List Entry) (records : List (List ℕ)) (n : ℕ) → length lists ≡ n → AllCounted lists records → Counted entries records n → AllCounted (lists ++ entries ∷ []) records
+counted-push lists entries records n long h last c l =
+    elim (cases_lt c (length lists)) [
+      | inl k ↦ subst (λ es. Counted es records c) (sym (get_or_append_left lists (entries ∷ []) [] c k)) (h c k)
+      | inr g ↦
+          let wide : length (lists ++ entries ∷ []) ≡ length lists + 1 = length-append lists (entries ∷ []) in
+          let at : n ≡ c = omega (arith, wide, long, g, l) in
+          subst (λ es. Counted es records c) (sym (get_or_push lists entries [] c (long ∙ at))) (subst (Counted entries records) at last)
+    ]
+
+pub bag-of : (n : ℕ) (lists : List (List Entry)) (records : List (List ℕ)) → n ≤ 32 → length lists ≡ n → All (All (λ c. c < n)) records → AllCounted lists records →
+    IsOf (record { n = n; records = length records; entries = lists }) records
+bag-of n lists records room long below h = record {
+  all = refl;
+  tallies = λ set c l inside. (h c (omega (arith, long, l))).missing set ∙ count-same (λ r. is_missed set (before r c)) (λ r. is_some_of (top r set) c) records (λ k d w. missed_top set 0 (get_or records k d) c (misses-none set) inside);
+  firsts = λ w l. (h w (omega (arith, long, l))).missing everyone ∙ count-same (λ r. is_missed everyone (before r w)) (λ r. is_first r w) records (λ k d m. missed_first (get_or records k d) w (λ j e i. let b = below k d m j e i in omega (arith, b, room)));
+  ahead = λ l w k. (h l (omega (arith, long, k))).missing (2 ^ w) ∙ count-same (λ r. is_missed (2 ^ w) (before r l)) (λ r. is_ahead r l w) records (λ k d m. missed_ahead w 0 (get_or records k d) l (misses-none (2 ^ w)));
+}
+
+pub lists-few : (lists : List (List Entry)) (records : List (List ℕ)) → AllCounted lists records → All (λ es. total es ≤ length records) lists
+lists-few lists records h k d l = subst (λ es. total es ≤ length records) (Rattle.std.proofs.lemmas.List.get_or_default lists k [] d l) (h k l).few
+
+-- ---- in another order
+pub order_is_free : (bag : Kept) (records others : List (List ℕ)) → IsPermutation records others → IsOf bag records → IsOf bag others
+order_is_free bag records others p h = record {
+  all = h.all ∙ sym (length_permutation records others p);
+  tallies = λ set c l inside. h.tallies set c l inside ∙ same (λ r. is_some_of (top r set) c);
+  firsts = λ w l. h.firsts w l ∙ same (λ r. is_first r w);
+  ahead = λ l w k. h.ahead l w k ∙ same (λ r. is_ahead r l w);
+}
+  where
+    same : (q : List ℕ → Bool) → count_by q records ≡ count_by q others
+    same q = sym (sum_by-IsPermutation (λ r. cond (q r) 1 0) records others p)
+
+-- ---- the tallies of a set
+pub tally-outside : (records : List (List ℕ)) (set c : ℕ) → has set c ≡ false → 0 ≡ tally records set c
+tally-outside records set c out = sym (count-none (λ r. is_some_of (top r set) c) records (λ r. outside set r c out))
+
+-- ---- reading lists of lists
+pub at-place : {X Y : Type 0} (P : Y → Type 0) (f : X → Y) (xs : List X) (k : ℕ) (d : X) → k < length xs → All P (map f xs) → d ≡ get_or xs k d → P (f d)
+at-place P f xs k d l h at =
+    let within : k < length (map f xs) = rw (length-map xs f) l in
+    subst P (get_or-map f xs k d (f d) l ∙ ap f (sym at)) (h k (f d) within)
+
+pub cell : {X : Type 0} (f : X → List ℕ) (xs : List X) (k j v : ℕ) (d : X) → k < length xs → d ≡ get_or xs k d → j < length (f d) → v ≡ get_or (f d) j v → get_or (get_or (map f xs) k []) j 0 ≡ v
+cell f xs k j v d l at m e = ap (λ r. get_or r j 0) (get_or-map f xs k d [] l ∙ ap f (sym at)) ∙ get_or_default (f d) j 0 v m ∙ sym e
+
+-- ---- rows
+pub map-same : {X : Type 0} (f g : ℕ → X) (a n : ℕ) → ((c : ℕ) → c < a + n → f c ≡ g c) → map f (range_with_len a n) ≡ map g (range_with_len a n)
+map-same f g a zero h = refl
+map-same f g a (suc n) h = ap₂ (λ x xs. x ∷ xs) (h a (omega arith)) (map-same f g (a + 1) n (λ c l. h c (omega arith)))
+
+pub row-tallies : (bag : Kept) (records : List (List ℕ)) (set mask n : ℕ) → mask ≡ set → n ≡ bag.n → IsOf bag records →
+    map (λ c. if has set c then missing mask (entries_of bag c) else 0) (candidates n) ≡ tallies records bag.n set
+row-tallies bag records set mask n same all h =
+    map-same (λ c. if has set c then missing mask (entries_of bag c) else 0) (tally records set) 0 n
+    (λ c l. go c (omega arith) (has set c) refl)
+    ∙ ap (λ k. map (tally records set) (candidates k)) all
+  where
+    go : (c : ℕ) → c < bag.n → (b : Bool) → has set c ≡ b → cond b (missing mask (entries_of bag c)) 0 ≡ tally records set c
+    go c l true e = ap (λ s. missing s (entries_of bag c)) same ∙ h.tallies set c l e
+    go c l false e = tally-outside records set c e
+
+-- ---- the two numbers of NEB's margin
+pub record Filled (bag : Kept) (counts : Counts) : Type 0 where
+  pub same : counts.n ≡ bag.n
+  pub firsts : counts.firsts ≡ map (λ w. missing everyone (entries_of bag w)) (candidates counts.n)
+  pub ahead : counts.ahead ≡ map (λ c. map (λ w. missing (2 ^ w) (entries_of bag c)) (candidates counts.n)) (candidates counts.n)
+
+pub filled-from : (bag : Kept) (counts : Counts) → Filled bag counts → AreFilledFrom bag counts
+filled-from bag counts f = record {
+  same = f.same;
+  own = λ records h. record {
+    firsts = λ w l. ap (λ xs. get_or xs w 0) f.firsts ∙ get_or-map-range_with_len (λ w. missing everyone (entries_of bag w)) 0 counts.n w w 0 l (omega arith) ∙ h.firsts w (omega (arith, f.same, l));
+    ahead = λ c w k l.
+        ap (λ xs. get_or (get_or xs c []) w 0) f.ahead
+        ∙ ap (λ xs. get_or xs w 0) (get_or-map-range_with_len (λ c. map (λ w. missing (2 ^ w) (entries_of bag c)) (candidates counts.n)) 0 counts.n c c [] k (omega arith))
+        ∙ get_or-map-range_with_len (λ w. missing (2 ^ w) (entries_of bag c)) 0 counts.n w w 0 l (omega arith) ∙ h.ahead c w (omega (arith, f.same, k));
+  };
+}
+
+pub table-of : (bag : Kept) (counts : Counts) → counts.n ≤ 32 → Filled bag counts → IsTable counts
+table-of bag counts room f = record {
+  room = room;
+  long = ap length f.firsts ∙ length-map-range_with_len (λ w. missing everyone (entries_of bag w)) 0 counts.n;
+  wide = ap length f.ahead ∙ length-map-range_with_len (λ c. map (λ w. missing (2 ^ w) (entries_of bag c)) (candidates counts.n)) 0 counts.n;
+  square = subst (All (λ row. length row ≡ counts.n)) (sym f.ahead) (rows counts.n);
+}
+  where
+    row : ℕ → List ℕ
+    row c = map (λ w. missing (2 ^ w) (entries_of bag c)) (candidates counts.n)
+
+    rows : (n : ℕ) → All (λ row. length row ≡ counts.n) (map row (candidates n))
+    rows n k d l =
+        let within : k < n = subst (λ m. k < m) (length-map-range_with_len row 0 n) l in
+        ap length (get_or-map-range_with_len row 0 n k k d within (omega arith)) ∙ length-map-range_with_len (λ w. missing (2 ^ w) (entries_of bag k)) 0 counts.n

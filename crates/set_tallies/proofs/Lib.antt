@@ -1,0 +1,4 @@
+pub mod Befores
+pub mod Runs
+pub mod Masks
+pub mod Filled

@@ -1,0 +1,43 @@
+use Rattle.std.proofs.Common.{rules, ◌≡◌, ◌++◌, ◌∷◌, [], ◌^◌, map, true, sym, ap, ap₂, arith, ◌∙◌}
+use Rattle.std.specs.Result.{is_ok}
+use Rattle.std.proofs.lemmas.List.{map-append}
+use Rattle.std.proofs.lemmas.List.FromFn.{map-range_with_len_more}
+use Rattle.irv_base.specs.Candidates.{candidates}
+use Rattle.set_tallies.specs.Bags.{missing, everyone, entries_of}
+use Rattle.set_tallies.proofs.Filled.{Filled, filled-from, table-of}
+use Rattle.set_tallies.proofs.ahead.Ahead.fill.Goals as goal
+
+pub loop-c-preserved : goal.loop-c-preserved
+loop-c-preserved c =
+    let good : is_ok c.push.result ≡ true = search rules in
+    let items = rw good at c.push.ensures.items in
+    let good' : is_ok c.push-in-loop-c.result ≡ true = search rules in
+    let items' = rw good' at c.push-in-loop-c.ensures.items in
+    let bag = c.args.bag.now in
+    record {
+      firsts = items
+          ∙ ap₂ (λ xs x. xs ++ x ∷ []) c.loop-c.invariant.firsts (c.missing.ensures ∙ ap (missing everyone) c.entries-entries.ensures.same)
+          ∙ sym (map-range_with_len_more (λ w. missing everyone (entries_of bag w)) 0 c.loop-c.c c.loop-c.c (omega arith));
+      ahead = ap (map (λ v. v.items)) items'
+          ∙ map-append (λ v. v.items) c.loop-c.ahead.items (c.in_ok-row.field-0 ∷ [])
+          ∙ ap₂ (λ xs x. xs ++ x ∷ []) c.loop-c.invariant.ahead (c.in_ok-row.ensures ∙ ap (λ es. map (λ w. missing (2 ^ w) es) (candidates c.candidates-n.result)) c.entries-entries.ensures.same)
+          ∙ sym (map-range_with_len_more (λ d. map (λ w. missing (2 ^ w) (entries_of bag d)) (candidates c.candidates-n.result)) 0 c.loop-c.c c.loop-c.c (omega arith));
+    }
+
+pub invariant_of-result : goal.invariant_of-result
+invariant_of-result c =
+    let whole : c.loop-c.c ≡ c.candidates-n.result = omega (arith, c.loop-c-test.false, c.loop-c.auto.c-end) in
+    table-of c.args.bag.now _ (omega (arith, c.candidates-n.ensures.room)) (record {
+      same = c.candidates-n.ensures.same;
+      firsts = rw whole at c.loop-c.invariant.firsts;
+      ahead = rw whole at c.loop-c.invariant.ahead;
+    })
+
+pub returns : goal.returns
+returns c =
+    let whole : c.loop-c.c ≡ c.candidates-n.result = omega (arith, c.loop-c-test.false, c.loop-c.auto.c-end) in
+    filled-from c.args.bag.now _ (record {
+      same = c.candidates-n.ensures.same;
+      firsts = rw whole at c.loop-c.invariant.firsts;
+      ahead = rw whole at c.loop-c.invariant.ahead;
+    })

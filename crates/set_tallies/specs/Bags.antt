@@ -1,0 +1,80 @@
+-- What is kept of the records of a contest, and what it has to say of them. Of each candidate a bag keeps the sets of those who
+-- stand before it on a ballot, each with the number of such ballots.
+use Rattle.std.specs.Prelude.{◌≡◌, ℕ, ◌<◌, ◌≤◌, ◌-◌, ◌^◌, Bool, true, ◌==◌, if◌then◌else◌, List, [], length, map, sum_by, count_by, get_or, All, bit_and}
+use Rattle.irv_base.specs.Candidates.{candidates, has}
+use Rattle.irv_base.specs.Records.{tally, is_first, is_ahead}
+use Rattle.irv_base.specs.declared.limits.TheConstants.{FEWEST_CANDIDATES, ROOM, MOST_RECORDS}
+use Rattle.set_tallies.specs.declared.entry.Entry.{Entry}
+
+pub record Kept : Type 0 where
+  -- how many candidates there are
+  pub n : ℕ
+  -- how many records there are
+  pub records : ℕ
+  -- the entries of each candidate
+  pub entries : List (List Entry)
+
+-- no candidate is in both sets
+abbrev pub misses : ℕ → ℕ → Bool
+misses set other = bit_and other set == 0
+
+-- how many ballots have nobody of the set before the candidate
+abbrev pub missing : ℕ → List Entry → ℕ
+missing set entries = sum_by (λ e. if misses set e.before then e.count else 0) entries
+
+abbrev pub total : List Entry → ℕ
+total entries = sum_by (λ e. e.count) entries
+
+abbrev pub entries_of : Kept → ℕ → List Entry
+entries_of bag c = get_or bag.entries c []
+
+-- the set of all candidates for whom there is room
+abbrev pub everyone : ℕ
+everyone = 2 ^ ROOM - 1
+
+-- the bag is one of these records, whatever their order: it has their number, their tallies, and the two numbers of NEB's margin
+pub record IsOf (bag : Kept) (records : List (List ℕ)) : Type 0 where
+  pub all : bag.records ≡ length records
+  pub tallies : (set c : ℕ) → c < bag.n → has set c ≡ true → missing set (entries_of bag c) ≡ tally records set c
+  pub firsts : (w : ℕ) → w < bag.n → missing everyone (entries_of bag w) ≡ count_by (λ ranking. is_first ranking w) records
+  pub ahead : (l w : ℕ) → l < bag.n → missing (2 ^ w) (entries_of bag l) ≡ count_by (λ ranking. is_ahead ranking l w) records
+
+-- what every bag keeps
+pub record IsKept (bag : Kept) : Type 0 where
+  pub fewest : FEWEST_CANDIDATES ≤ bag.n
+  pub room : bag.n ≤ ROOM
+  pub most : bag.records ≤ MOST_RECORDS
+  pub one_each : length bag.entries ≡ bag.n
+  pub few : All (λ entries. total entries ≤ bag.records) bag.entries
+
+-- the tallies of a set: one for each candidate, 0 for those outside
+abbrev pub tallies : List (List ℕ) → ℕ → ℕ → List ℕ
+tallies records n set = map (tally records set) (candidates n)
+
+-- ---- the two numbers of NEB's margin, for all candidates
+
+pub record Counts : Type 0 where
+  pub n : ℕ
+  pub firsts : List ℕ
+  pub ahead : List (List ℕ)
+
+-- as they are of the records
+pub record AreOf (counts : Counts) (records : List (List ℕ)) : Type 0 where
+  pub firsts : (w : ℕ) → w < counts.n → get_or counts.firsts w 0 ≡ count_by (λ ranking. is_first ranking w) records
+  pub ahead : (l w : ℕ) → l < counts.n → w < counts.n → get_or (get_or counts.ahead l []) w 0 ≡ count_by (λ ranking. is_ahead ranking l w) records
+
+-- those of the records that the bag is of
+pub record AreFilledFrom (bag : Kept) (counts : Counts) : Type 0 where
+  pub same : counts.n ≡ bag.n
+  pub own : (records : List (List ℕ)) → IsOf bag records → AreOf counts records
+
+pub record IsTable (counts : Counts) : Type 0 where
+  pub room : counts.n ≤ ROOM
+  pub long : length counts.firsts ≡ counts.n
+  pub wide : length counts.ahead ≡ counts.n
+  pub square : All (λ row. length row ≡ counts.n) counts.ahead
+
+-- what tallies are made from
+pub record Source : Type 0 where
+  pub bag : Kept
+  pub counts : Counts

@@ -1,0 +1,80 @@
+// The two numbers of NEB's margin, for all candidates.
+ghost use Rattle.std.specs.Prelude.{◌≡◌, ℕ, ◌<◌, ◌≤◌, ◌^◌, List, [], map, count_by, get_or, IfOk};
+ghost use Rattle.irv_base.specs.Candidates.{candidates};
+ghost use Rattle.irv_base.specs.Records.{is_first, is_ahead};
+ghost use Rattle.irv_base.specs.declared.limits.TheConstants.{ROOM, MOST_RECORDS};
+ghost use Rattle.set_tallies.specs.Bags.{AreOf, AreFilledFrom, missing, total};
+
+use crate::bag::Bag;
+use crate::count::missing;
+use crate::entry::Entry;
+use irv_base::{Candidate, Memory};
+use std::alloc::Global;
+use std::marker::Model;
+
+/// The two numbers of NEB's margin (RAIRE, section 3), for all candidates: on how many ballots one is first, and on how many
+/// one is ahead of another.
+#[derive(Drop)]
+pub struct Ahead {
+    n: u32,
+    firsts: Vec<u32>,
+    ahead: Vec<Vec<u32>>,
+}
+
+impl Model for Ahead {
+    ghost use Rattle.std.specs.Prelude.{map};
+    ghost use Rattle.set_tallies.specs.Bags.{Counts, IsTable};
+
+    ghost Value = { Counts };
+
+    ghost view = { λ a. record { n = a.n; firsts = a.firsts.items; ahead = map (λ v. v.items) a.ahead.items } };
+
+    ghost invariant = { λ a. IsTable (record { n = a.n; firsts = a.firsts.items; ahead = map (λ v. v.items) a.ahead.items }) };
+}
+
+// On how many ballots the candidate with these entries is ahead of each other one.
+fn row(alloc: Global, entries: &[Entry], n: u32) -> Result<Vec<u32>, Memory>
+    requires room { n ≤ ROOM }
+    requires few { total entries.now ≤ MOST_RECORDS }
+    ensures { IfOk result (λ row. row.items ≡ map (λ w. missing (2 ^ w) entries.now) (candidates n)) }
+{
+    let mut row = Vec::new(alloc);
+    for w in 0..n {
+        row.push(missing(entries, 1 << w))?;
+    }
+    Ok(row)
+}
+
+impl Ahead {
+    /// The numbers of the bag's records.
+    pub fn fill(alloc: Global, bag: &Bag) -> Result<Ahead, Memory>
+        ensures { IfOk result (λ ahead. AreFilledFrom bag.now ahead) }
+    {
+        let n = bag.candidates();
+        let mut firsts = Vec::new(alloc);
+        let mut ahead = Vec::new(alloc);
+        for c in 0..n {
+            let entries = bag.entries(Candidate(c as u8));
+            firsts.push(missing(entries, u32::MAX))?;
+            ahead.push(row(alloc, entries, n)?)?;
+        }
+        Ok(Ahead { n, firsts, ahead })
+    }
+
+    /// On how many ballots `w` is first.
+    pub fn first(&self, w: Candidate) -> u32
+        requires { w < self.now.n }
+        ensures { (records : List (List ℕ)) → AreOf self.now records → result ≡ count_by (λ ranking. is_first ranking w) records }
+    {
+        self.firsts[w.index()]
+    }
+
+    /// How many ballots have `l`, and don't have `w` ahead of it.
+    pub fn ahead(&self, l: Candidate, w: Candidate) -> u32
+        requires loser { l < self.now.n }
+        requires winner { w < self.now.n }
+        ensures { (records : List (List ℕ)) → AreOf self.now records → result ≡ count_by (λ ranking. is_ahead ranking l w) records }
+    {
+        self.ahead[l.index()][w.index()]
+    }
+}

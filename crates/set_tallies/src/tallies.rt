@@ -1,0 +1,88 @@
+// The tallies of sets of candidates.
+ghost use Rattle.std.specs.Prelude.{◌≡◌, ℕ, ◌<◌, ◌≤◌, ◌^◌, List, map, if◌then◌else◌, IfOk};
+ghost use Rattle.irv_base.specs.Candidates.{candidates, has};
+ghost use Rattle.irv_base.specs.declared.limits.TheConstants.{ROOM};
+ghost use Rattle.set_tallies.specs.Bags.{IsOf, AreFilledFrom, entries_of, missing, tallies};
+
+use crate::ahead::Ahead;
+use crate::bag::Bag;
+use crate::count::missing;
+use irv_base::{CandSet, Candidate, Memory, ROOM};
+use std::alloc::Global;
+use std::marker::Model;
+
+/// The tallies of the sets of candidates, over the records of a bag.
+///
+/// To a contract they are what they are made from, the bag and the two numbers of NEB's margin.
+pub struct Tallies<'b> {
+    alloc: Global,
+    bag: &'b Bag,
+    ahead: &'b Ahead,
+}
+
+impl<'b> Model for Tallies<'b> {
+    ghost use Rattle.set_tallies.specs.Bags.{Source, AreFilledFrom};
+
+    ghost Value = { Source };
+
+    ghost view = { λ t. record { bag = t.bag.now; counts = t.ahead.now } };
+
+    ghost invariant = { λ t. AreFilledFrom t.bag.now t.ahead.now };
+}
+
+// The set as a number with a bit each.
+fn mask_of(s: CandSet) -> u32
+    requires { s < 2 ^ 32 }
+    ensures { result ≡ s }
+{
+    let mut mask = 0u32;
+    for c in 0..ROOM {
+        if s.has(Candidate(c)) {
+            mask |= 1 << c;
+        }
+    }
+    mask
+}
+
+fn votes(bag: &Bag, s: CandSet, mask: u32, c: Candidate) -> u32
+    requires { c < bag.now.n }
+    ensures { result ≡ (if has s c then missing mask (entries_of bag.now c) else 0) }
+{
+    if s.has(c) {
+        missing(bag.entries(c), mask)
+    } else {
+        0
+    }
+}
+
+impl<'b> Tallies<'b> {
+    /// The tallies over the records of the bag, which `ahead` was filled from.
+    pub fn new(alloc: Global, bag: &'b Bag, ahead: &'b Ahead) -> Result<Tallies<'b>, Memory>
+        requires { AreFilledFrom bag.now ahead.now }
+        ensures bag { IfOk result (λ t. t.bag ≡ bag.now) }
+        ensures counts { IfOk result (λ t. t.counts ≡ ahead.now) }
+    {
+        Ok(Tallies { alloc, bag, ahead })
+    }
+
+    /// How many candidates there are.
+    pub fn candidates(&self) -> u32
+        ensures same { result ≡ self.now.bag.n }
+    {
+        self.bag.candidates()
+    }
+
+    /// The tallies of the candidates in the set `s`, one number for each candidate, 0 for those outside.
+    pub fn tally(&mut self, s: CandSet) -> Result<Vec<u32>, Memory>
+        requires { s < 2 ^ self.old.bag.n }
+        ensures tallies { IfOk result (λ row. (records : List (List ℕ)) → IsOf self.old.bag records → row.items ≡ tallies records self.old.bag.n s) }
+        ensures same { self.new ≡ self.old }
+    {
+        let mask = mask_of(s);
+        let mut row = Vec::new(self.alloc);
+        for c in 0..self.bag.candidates() {
+            row.push(votes(self.bag, s, mask, Candidate(c as u8)))?;
+        }
+        Ok(row)
+    }
+}

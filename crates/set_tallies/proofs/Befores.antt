@@ -1,5 +1,5 @@
 -- On a ballot a candidate is the first of a set exactly where it is in the set and nobody of the set stands before it.
-use Rattle.std.proofs.Common.{◌==◌, ◌≡◌, ◌≢◌, ℕ, zero, suc, ◌+◌, ◌-◌, ◌*◌, ◌<◌, ◌≤◌, ◌^◌, Bool, true, false, cond, if◌then◌else◌, bit_and, bit_or, inl, inr, List, [], ◌∷◌, Option, Some, None, All, length, get_or, refl, sym, ap, arith, eq-eqb, eqb-true, ◌∙◌}
+use Rattle.std.proofs.Common.{◌==◌, ◌≡◌, ℕ, ◌*◌, ◌<◌, ◌^◌, Bool, true, false, cond, bit_and, bit_or, inl, inr, List, [], ◌∷◌, Some, All, refl, sym, ap, arith, eq-eqb, eqb-true, ◌∙◌}
 use Rattle.std.specs.Int.{bit_at}
 use Rattle.std.specs.Int.Bits.{and_zero_l}
 use Rattle.std.proofs.lemmas.Bool.{cases_Bool, both_ways, eqb-false}

@@ -1,14 +1,14 @@
 -- What the entries of all candidates say of the records.
-use Rattle.std.proofs.Common.{◌==◌, ◌≡◌, ℕ, suc, zero, ◌+◌, ◌<◌, ◌≤◌, ◌^◌, Bool, true, false, cond, if◌then◌else◌, inl, inr, List, [], ◌∷◌, ◌++◌, All, length, map, get_or, count_by, sum_by, IsPermutation, refl, sym, ap, ap₂, subst, arith, length-append, ◌∙◌}
+use Rattle.std.proofs.Common.{◌≡◌, ℕ, suc, zero, ◌+◌, ◌<◌, ◌≤◌, ◌^◌, Bool, true, false, cond, if◌then◌else◌, inl, inr, List, [], ◌∷◌, ◌++◌, All, length, map, get_or, count_by, IsPermutation, refl, sym, ap, ap₂, subst, arith, length-append, ◌∙◌}
 use Rattle.std.specs.List.{range_with_len}
-use Rattle.std.proofs.lemmas.Bool.{cases_lt, cases_Bool}
+use Rattle.std.proofs.lemmas.Bool.{cases_lt}
 use Rattle.std.proofs.lemmas.List.{get_or_push, get_or_append_left, get_or_default, get_or-map, length-map}
 use Rattle.std.proofs.lemmas.List.FromFn.{get_or-map-range_with_len, length-map-range_with_len}
 use Rattle.std.proofs.lemmas.List.Sums.{sum_by-cons}
 use Rattle.std.proofs.lemmas.List.Sorted.{sum_by-IsPermutation, length_permutation}
 use Rattle.irv_base.specs.Candidates.{candidates, has}
 use Rattle.irv_base.specs.Records.{top, is_some_of, tally, is_first, is_ahead}
-use Rattle.set_tallies.specs.Bags.{Kept, IsOf, IsKept, Counts, AreOf, AreFilledFrom, IsTable, misses, missing, total, entries_of, everyone, tallies}
+use Rattle.set_tallies.specs.Bags.{Kept, IsOf, Counts, AreFilledFrom, IsTable, missing, total, entries_of, everyone, tallies}
 use Rattle.set_tallies.specs.Befores.{before, is_missed, Counted}
 use Rattle.set_tallies.specs.declared.entry.Entry.{Entry}
 use Rattle.set_tallies.proofs.Befores.{missed_top, missed_ahead, missed_first, misses-none, outside}

@@ -1,5 +1,5 @@
 -- A set's number, bit by bit.
-use Rattle.std.proofs.Common.{◌≡◌, ◌==◌, ℕ, ◌+◌, ◌*◌, ◌/◌, ◌%◌, ◌^◌, ◌<◌, true, false, bit_or, sym, ap, arith, eqb-true, pow_pos, mod-lt, div-lt_iff_lt-mul, ◌∙◌}
+use Rattle.std.proofs.Common.{◌≡◌, ◌==◌, ℕ, ◌+◌, ◌*◌, ◌/◌, ◌%◌, ◌^◌, ◌<◌, true, false, bit_or, ap, arith, eqb-true, pow_pos, mod-lt, div-lt_iff_lt-mul, ◌∙◌}
 use Rattle.std.specs.Int.{bit_at}
 use Rattle.std.proofs.lemmas.Bool.{eqb-false}
 use Rattle.std.proofs.lemmas.Nat.{mod-pow-add}

@@ -1,7 +1,7 @@
 // The tallies of sets of candidates.
-ghost use Rattle.std.specs.Prelude.{◌≡◌, ℕ, ◌<◌, ◌≤◌, ◌^◌, List, map, if◌then◌else◌, IfOk};
+ghost use Rattle.std.specs.Prelude.{◌≡◌, ℕ, ◌<◌, ◌≤◌, ◌^◌, List, length, map, if◌then◌else◌, IfOk};
 ghost use Rattle.irv_base.specs.Candidates.{candidates, has};
-ghost use Rattle.irv_base.specs.declared.limits.TheConstants.{ROOM};
+ghost use Rattle.irv_base.specs.declared.limits.TheConstants.{FEWEST_CANDIDATES, ROOM, MOST_RECORDS};
 ghost use Rattle.set_tallies.specs.Bags.{IsOf, AreFilledFrom, entries_of, missing, tallies};
 
 use crate::ahead::Ahead;
@@ -14,6 +14,7 @@ use std::marker::Model;
 /// The tallies of the sets of candidates, over the records of a bag.
 ///
 /// To a contract they are what they are made from, the bag and the two numbers of NEB's margin.
+#[derive(Drop)]
 pub struct Tallies<'b> {
     alloc: Global,
     bag: &'b Bag,
@@ -68,8 +69,26 @@ impl<'b> Tallies<'b> {
     /// How many candidates there are.
     pub fn candidates(&self) -> u32
         ensures same { result ≡ self.now.bag.n }
+        ensures fewest { FEWEST_CANDIDATES ≤ result }
+        ensures room { result ≤ ROOM }
     {
         self.bag.candidates()
+    }
+
+    /// How many records there are.
+    pub fn records(&self) -> u32
+        ensures same { (records : List (List ℕ)) → IsOf self.now.bag records → result ≡ length records }
+        ensures most { result ≤ MOST_RECORDS }
+    {
+        self.bag.records()
+    }
+
+    /// The two numbers of NEB's margin over these records.
+    pub fn ahead(&self) -> &Ahead
+        ensures same { result.now ≡ self.now.counts }
+        ensures own { AreFilledFrom self.now.bag self.now.counts }
+    {
+        self.ahead
     }
 
     /// The tallies of the candidates in the set `s`, one number for each candidate, 0 for those outside.

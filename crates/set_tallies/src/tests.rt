@@ -1,18 +1,20 @@
-// Each call that allocates once, on a contest of twelve ballots that was counted by hand.
+// Each call that allocates once, on a contest of three ballots that was counted by hand.
+ghost use Rattle.std.specs.Prelude.{◌≡◌, ◌∷◌, []};
+
 use super::*;
 use irv_base::{CandSet, Candidate, Ranking};
 
-fn first_choice(c: u8) -> Ranking
-    requires { c < 32 }
+fn only(c: Candidate) -> Ranking
+    ensures { result ≡ c ∷ [] }
 {
     let mut ranking = Ranking::empty();
-    ranking.push(Candidate(c));
+    ranking.push(c);
     ranking
 }
 
 #[test]
 fn counts_first_choices(rt: HostRuntime) {
-    let rankings = [first_choice(0), first_choice(1), first_choice(1)];
+    let rankings = [only(Candidate(0)), only(Candidate(1)), only(Candidate(1))];
     let bag = Bag::of(rt.alloc(), 2, rankings.as_slice()).expect(&rt, "bag");
     let ahead = Ahead::fill(rt.alloc(), &bag).expect(&rt, "ahead");
     assert!(rt; ahead.first(Candidate(1)) == 2);

@@ -1,4 +1,4 @@
-use Rattle.std.proofs.Common.{length, ap, arith, sym, ◌∙◌}
+use Rattle.std.proofs.Common.{length, ap, arith}
 use Rattle.set_tallies.proofs.Runs.{length-sets, counted-from}
 use Rattle.set_tallies.proofs.count.entries_of.Goals as goal
 

@@ -1,4 +1,4 @@
-use Rattle.std.proofs.Common.{rules, ◌≡◌, ◌+◌, ◌++◌, ◌∷◌, [], true, get_or, refl, sym, ap, arith, ◌∙◌}
+use Rattle.std.proofs.Common.{rules, ◌≡◌, ◌+◌, ◌++◌, ◌∷◌, [], true, get_or, refl, arith, ◌∙◌}
 use Rattle.std.specs.Result.{is_ok}
 use Rattle.set_tallies.proofs.Runs.{run-longer, run-next, total-push}
 use Rattle.set_tallies.proofs.count.runs.Goals as goal

@@ -4,7 +4,7 @@ use Rattle.std.proofs.lemmas.List.{map-append}
 use Rattle.std.proofs.lemmas.List.FromFn.{map-range_with_len_more}
 use Rattle.irv_base.specs.Candidates.{candidates}
 use Rattle.set_tallies.specs.Bags.{missing, everyone, entries_of}
-use Rattle.set_tallies.proofs.Filled.{Filled, filled-from, table-of}
+use Rattle.set_tallies.proofs.Filled.{filled-from, table-of}
 use Rattle.set_tallies.proofs.ahead.Ahead.fill.Goals as goal
 
 pub loop-c-preserved : goal.loop-c-preserved

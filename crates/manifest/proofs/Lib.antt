@@ -1,0 +1,10 @@
+pub mod Ends
+pub mod Numbers
+pub mod Pairs
+pub mod Judged
+pub mod SoFar
+pub mod CardAt
+pub mod Finding
+pub mod CardIds
+pub mod Places
+pub mod Placed

@@ -1,0 +1,16 @@
+-- What a manifest keeps beside its batches: the number of the first card of each, and the number of all.
+use Rattle.std.specs.Prelude.{◌≡◌, ◌+◌, ◌≤◌, ℕ, List, [], ◌∷◌, length}
+use Rattle.std.specs.List.{sum}
+use Rattle.irv_base.specs.Names.{Id}
+use Rattle.manifest.specs.Cards.{AreBatches}
+
+-- batch after batch, the next card having number a
+abbrev pub firsts_from : ℕ → List ℕ → List ℕ
+firsts_from a [] = []
+firsts_from a (n ∷ counts) = a ∷ firsts_from (a + n) counts
+
+pub record IsManifest (ids : List Id) (counts firsts : List ℕ) (cards : ℕ) : Type 0 where
+  pub batches : AreBatches ids counts
+  pub first_each : firsts ≡ firsts_from 1 counts
+  pub all : cards ≡ sum counts
+  pub some : 1 ≤ length ids

@@ -1,0 +1,88 @@
+// The record of a batch.
+ghost use Rattle.std.specs.Prelude.{◌≡◌, ◌≤◌, ◌∷◌, [], length, IfSome, IfNone, IsTrue, false};
+ghost use Rattle.csv.specs.Records.{fields_of};
+ghost use Rattle.manifest.specs.Cards.{is_batch_id};
+ghost use Rattle.manifest.specs.Fields.{trimmed_fields};
+ghost use Rattle.manifest.specs.Manifest.{batch_of, batch_with, is_header, number_of};
+ghost use Rattle.manifest.specs.declared.limits.TheConstants.{MOST_CARDS};
+
+use crate::fault::MRule;
+use crate::limits::{MOST_BATCH_BYTES, MOST_BATCH_CARDS, MOST_CARDS};
+use crate::number::number_of;
+use crate::trim::trimmed;
+use csv::ByteRecord;
+use indexmap::IndexSet;
+use irv_base::Name;
+
+/// A batch: its id, and how many cards it has.
+#[derive(Clone, Copy)]
+pub struct Batch {
+    pub id: Name,
+    pub cards: u32,
+}
+
+// The two fields of a record that has two.
+fn pair_of(row: &ByteRecord) -> Option<(&[u8], &[u8])>
+    ensures two { IfSome result (λ pair. trimmed_fields (fields_of row.now) ≡ pair.0.now ∷ pair.1.now ∷ []) }
+    ensures not_two { IfNone result (length (fields_of row.now) ≡ 2 → ⊥) }
+{
+    if row.len() != 2 {
+        return None;
+    }
+    Some((trimmed(row.get(0)?), trimmed(row.get(1)?)))
+}
+
+/// The record has the fields `batch` and `cards`.
+pub fn is_header(row: &ByteRecord) -> bool
+    ensures { result ≡ is_header (trimmed_fields (fields_of row.now)) }
+{
+    match pair_of(row) {
+        Some((first, second)) => first == b"batch".as_slice() && second == b"cards".as_slice(),
+        None => false,
+    }
+}
+
+/// The batch id with these bytes, if they are one.
+pub fn batch_id(bytes: &[u8]) -> Option<Name>
+    ensures id { IfSome result (λ id. id ≡ bytes.now) }
+    ensures valid { IfSome result (λ _. IsTrue (is_batch_id bytes.now)) }
+    ensures none { IfNone result (is_batch_id bytes.now ≡ false) }
+{
+    if bytes.len() > MOST_BATCH_BYTES {
+        return None;
+    }
+    Name::read(bytes)
+}
+
+fn batch_with(id: Name, others: u32, number: &[u8]) -> Result<Batch, MRule>
+    requires { others ≤ MOST_CARDS }
+    ensures { result ≡ batch_with id others (number_of number.now) }
+{
+    match number_of(number) {
+        Some(n) if (1..=u64::from(MOST_BATCH_CARDS)).contains(&n) => {
+            let cards = n as u32;
+            if others + cards > MOST_CARDS {
+                return Err(MRule::M5);
+            }
+            Ok(Batch { id, cards })
+        }
+        _ => Err(MRule::M3),
+    }
+}
+
+/// The batch of a record, or the first rule that the record breaks, after batches with these ids and so many cards.
+pub fn batch_of(ids: &IndexSet<Name>, others: u32, row: &ByteRecord) -> Result<Batch, MRule>
+    requires { others ≤ MOST_CARDS }
+    ensures { result ≡ batch_of ids.now.keys others (trimmed_fields (fields_of row.now)) }
+{
+    let Some((id, number)) = pair_of(row) else {
+        return Err(MRule::M2);
+    };
+    let Some(id) = batch_id(id) else {
+        return Err(MRule::M4);
+    };
+    if ids.contains(&id) {
+        return Err(MRule::M4);
+    }
+    batch_with(id, others, number)
+}

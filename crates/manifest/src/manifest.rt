@@ -1,0 +1,141 @@
+// The manifest: batches of cards.
+ghost use Rattle.std.specs.Prelude.{◌≡◌, ◌≤◌, ◌-◌, ◌<◌, ◌==◌, ◌++◌, ◌∷◌, length, slice_get, Some, IsTrue, IfSome, IfNone, false};
+ghost use Rattle.std.specs.List.{list_any, sum};
+ghost use Rattle.manifest.specs.Cards.{AreBatches, NamesNone, card_id, cards_of, place_of, underscore};
+ghost use Rattle.manifest.specs.declared.limits.TheConstants.{MOST_BATCH_CARDS, MOST_CARDS};
+ghost use Rattle.manifest.specs.Firsts.{IsManifest};
+
+use crate::batch::batch_id;
+use crate::card::Card;
+use crate::number::card_number;
+use indexmap::IndexSet;
+use irv_base::Name;
+use std::marker::Model;
+
+/// A ballot manifest: batches of cards, whose ids are all different.
+///
+/// A batch has 1 to `MOST_BATCH_CARDS` cards, and there are 1 to `MOST_CARDS` in all. The cards are numbered from 1 through the
+/// batches in order.
+///
+/// To a contract it is the record of the batches' ids and of their numbers of cards.
+#[derive(Drop)]
+pub struct Manifest {
+    ids: IndexSet<Name>,
+    counts: Vec<u32>,
+    // the number of each batch's first card
+    firsts: Vec<u32>,
+    cards: u32,
+}
+
+impl Model for Manifest {
+    ghost use Rattle.manifest.specs.Cards.{Batches};
+    ghost use Rattle.manifest.specs.Firsts.{IsManifest};
+
+    ghost Value = { Batches };
+
+    ghost view = { λ m. record { ids = m.ids.keys; counts = m.counts.items } };
+
+    ghost invariant = { λ m. IsManifest m.ids.keys m.counts.items m.firsts.items m.cards };
+}
+
+// The bytes before the last underscore, and those after it.
+fn cut(id: &[u8]) -> Option<(&[u8], &[u8])>
+    ensures parts { IfSome result (λ parts. id.now ≡ parts.0.now ++ underscore ∷ parts.1.now) }
+    ensures last { IfSome result (λ parts. list_any (λ b. b == underscore) parts.1.now ≡ false) }
+    ensures none { IfNone result (list_any (λ b. b == underscore) id.now ≡ false) }
+{
+    let mut len = id.len();
+    while len > 0 {
+        len -= 1;
+        if id[len] == b'_' {
+            return Some((&id[..len], &id[len + 1..]));
+        }
+    }
+    None
+}
+
+// The card of some batch that has this id, if one may have it.
+fn card_named(id: &[u8]) -> Option<Card>
+    ensures named { IfSome result (λ card. card_id card ≡ id.now) }
+    ensures first { IfSome result (λ card. 1 ≤ card.k) }
+    ensures most { IfSome result (λ card. card.k ≤ MOST_BATCH_CARDS) }
+    ensures none { IfNone result (NamesNone id.now) }
+{
+    let Some((batch, number)) = cut(id) else {
+        return None;
+    };
+    let Some(batch) = batch_id(batch) else {
+        return None;
+    };
+    let Some(k) = card_number(number) else {
+        return None;
+    };
+    Some(Card { batch, k })
+}
+
+impl Manifest {
+    pub(crate) fn new(
+        ids: IndexSet<Name>,
+        counts: Vec<u32>,
+        firsts: Vec<u32>,
+        cards: u32,
+    ) -> Manifest
+        requires { IsManifest ids.keys counts.items firsts.items cards }
+        ensures { result ≡ record { ids = ids.keys; counts = counts.items } }
+    {
+        Manifest {
+            ids,
+            counts,
+            firsts,
+            cards,
+        }
+    }
+
+    /// How many cards there are.
+    pub fn cards(&self) -> u32
+        ensures all { result ≡ length (cards_of self.now) }
+        ensures some { 1 ≤ result }
+        ensures most { result ≤ MOST_CARDS }
+        ensures batches { AreBatches self.now.ids self.now.counts }
+    {
+        self.cards
+    }
+
+    /// The card with number `i`, from 1.
+    pub fn card(&self, i: u32) -> Card
+        requires first { 1 ≤ i }
+        requires last { i ≤ length (cards_of self.now) }
+        ensures { slice_get (cards_of self.now) (i - 1) ≡ Some result }
+    {
+        let mut left = i - 1;
+        for batch in 0..self.counts.len() {
+            let cards = self.counts[batch];
+            if left < cards {
+                return Card {
+                    batch: self.ids.as_slice()[batch],
+                    k: left + 1,
+                };
+            }
+            left -= cards;
+        }
+        unreachable!()
+    }
+
+    /// The number of the card with that id, from 1: the id of its batch, an underscore, and its number in the batch, from 1, in
+    /// decimal without leading zeros.
+    pub fn place(&self, id: &[u8]) -> Option<u32>
+        ensures { result ≡ place_of (cards_of self.now) id.now }
+    {
+        let ids = &self.ids;
+        let Some(card) = card_named(id) else {
+            return None;
+        };
+        let Some(i) = ids.get_index_of(&card.batch) else {
+            return None;
+        };
+        if card.k > self.counts[i] {
+            return None;
+        }
+        Some(self.firsts[i] + (card.k - 1))
+    }
+}

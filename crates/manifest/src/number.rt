@@ -1,0 +1,50 @@
+// Numbers in a file, and the number of a card in its batch.
+ghost use Rattle.std.specs.Prelude.{◌≡◌, ◌≤◌, ℕ, false, decimal, IfSome, IfNone};
+ghost use Rattle.std.specs.Char.{is_ascii_digit};
+ghost use Rattle.std.specs.List.{list_all};
+ghost use Rattle.irv_base.specs.Names.{is_same};
+ghost use Rattle.manifest.specs.Manifest.{number_of};
+ghost use Rattle.manifest.specs.declared.limits.TheConstants.{MOST_BATCH_CARDS};
+
+use crate::limits::{MOST_BATCH_CARDS, MOST_NUMBER_DIGITS};
+
+fn are_digits(text: &[u8]) -> bool
+    ensures { result ≡ list_all is_ascii_digit text.now }
+{
+    text.iter().all(|b| b.is_ascii_digit())
+}
+
+/// The number that is written in 1 to `MOST_NUMBER_DIGITS` digits.
+pub fn number_of(text: &[u8]) -> Option<u64>
+    ensures { result ≡ number_of text.now }
+{
+    if text.is_empty() || text.len() > MOST_NUMBER_DIGITS {
+        return None;
+    }
+    if !are_digits(text) {
+        return None;
+    }
+    str::from_utf8(text).unwrap().parse::<u64>().ok()
+}
+
+/// The number of a card that is written so, without leading zeros.
+pub fn card_number(text: &[u8]) -> Option<u32>
+    ensures written { IfSome result (λ k. decimal k ≡ text.now) }
+    ensures first { IfSome result (λ k. 1 ≤ k) }
+    ensures most { IfSome result (λ k. k ≤ MOST_BATCH_CARDS) }
+    ensures none { IfNone result ((k : ℕ) → 1 ≤ k → k ≤ MOST_BATCH_CARDS → is_same (decimal k) text.now ≡ false) }
+{
+    if text.is_empty() {
+        return None;
+    }
+    if text[0] == b'0' {
+        return None;
+    }
+    let Some(k) = number_of(text) else {
+        return None;
+    };
+    if k > u64::from(MOST_BATCH_CARDS) {
+        return None;
+    }
+    Some(k as u32)
+}

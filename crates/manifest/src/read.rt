@@ -1,0 +1,89 @@
+// Reading a manifest.
+ghost use Rattle.std.specs.Prelude.{◌≡◌, [], Ok, IfOk, IfErr};
+ghost use Rattle.manifest.specs.Faults.{Refuses};
+ghost use Rattle.manifest.specs.Fields.{numbered, without_mark};
+ghost use Rattle.manifest.specs.Manifest.{batches_after, manifest_of};
+
+use crate::batch::{batch_of, is_header};
+use crate::fault::{MRule, ManifestFault};
+use crate::manifest::Manifest;
+use crate::rows::Rows;
+use csv::ByteRecord;
+use indexmap::IndexSet;
+use std::alloc::Global;
+
+const BYTE_ORDER_MARK: [u8; 3] = [0xEF, 0xBB, 0xBF];
+
+// The record of the first batch, counted from 1: the header stands before it.
+const FIRST_BATCH: u32 = 2;
+
+fn without_mark(bytes: &[u8]) -> &[u8]
+    ensures { result.now ≡ without_mark bytes.now }
+{
+    if bytes.starts_with(&BYTE_ORDER_MARK) {
+        return &bytes[BYTE_ORDER_MARK.len()..];
+    }
+    bytes
+}
+
+// The manifest of the batches in the records that are left.
+fn batches_left(
+    alloc: Global,
+    rows: &mut Rows<'_>,
+    row: &mut ByteRecord,
+) -> Result<Manifest, ManifestFault>
+    ensures read { IfOk result (λ manifest. batches_after [] [] 2 (numbered rows.old) ≡ Ok manifest) }
+    ensures refused { IfErr result (Refuses (batches_after [] [] 2 (numbered rows.old))) }
+{
+    let mut ids = IndexSet::new(alloc);
+    let mut counts = Vec::new(alloc);
+    let mut firsts = Vec::new(alloc);
+    let mut cards = 0;
+    'records: while rows.read_numbered(row)? {
+        let batch = match batch_of(&ids, cards, row) {
+            Ok(batch) => batch,
+            Err(rule) => {
+                return Err(ManifestFault::Refused {
+                    rule,
+                    at: FIRST_BATCH + counts.len() as u32,
+                });
+            }
+        };
+        ids.insert(batch.id)?;
+        counts.push(batch.cards)?;
+        firsts.push(cards + 1)?;
+        cards += batch.cards;
+    }
+    if counts.is_empty() {
+        return Err(ManifestFault::Refused {
+            rule: MRule::M6,
+            at: 1,
+        });
+    }
+    Ok(Manifest::new(ids, counts, firsts, cards))
+}
+
+/// Reads a manifest.
+///
+/// The first record is `batch,cards`. Each other one is a batch id and its number of cards, in 1 to `MOST_NUMBER_DIGITS` digits.
+/// Spaces and tabs round a field are taken off. A record whose only field is empty then is passed over and has no number. A byte
+/// order mark at the front is taken off.
+///
+/// It is refused by the first rule that a record breaks, in the order M2, M4, M3, M5 within a record: by M1 at 1 if the first
+/// record is missing or another, by M2 at a record that hasn't two fields, by M4 where the batch id is no id, is longer than
+/// `MOST_BATCH_BYTES` or stood before, by M3 where the number isn't 1 to `MOST_BATCH_CARDS`, by M5 where the cards so far are more
+/// than `MOST_CARDS`, and by M6 at 1 if there is no batch.
+pub fn read_manifest(alloc: Global, bytes: &[u8]) -> Result<Manifest, ManifestFault>
+    ensures read { IfOk result (λ manifest. manifest_of bytes.now ≡ Ok manifest) }
+    ensures refused { IfErr result (Refuses (manifest_of bytes.now)) }
+{
+    let mut rows = Rows::of(alloc, without_mark(bytes));
+    let mut row = ByteRecord::new(alloc);
+    if !rows.read_numbered(&mut row)? || !is_header(&row) {
+        return Err(ManifestFault::Refused {
+            rule: MRule::M1,
+            at: 1,
+        });
+    }
+    batches_left(alloc, &mut rows, &mut row)
+}

@@ -1,5 +1,5 @@
 -- What follows from how a call went: what was due, and what the sinks took of it.
-use Rattle.std.proofs.Common.{◌≡◌, ◌⊎◌, inl, inr, ⊎_elim, ℕ, List, Option, [], length, None, Some, IfSome, nat_le, if◌then◌else◌, refl, sym, ◌∙◌, ap, subst, arith, append-nil, Bool, true, false, nat_eq, eq-eqb, le-leb, ◌≢◌}
+use Rattle.std.proofs.Common.{◌≡◌, ◌⊎◌, inl, inr, ⊎_elim, ℕ, List, Option, [], length, None, Some, IfSome, nat_le, if◌then◌else◌, refl, sym, ◌∙◌, ap, subst, arith, append-nil, Bool, true, false, nat_eq, le-leb, ◌≢◌}
 use Rattle.std.specs.Io.KnownBytes.{Appends, Keeps}
 use Rattle.desk.specs.Desk.{File, held_bytes}
 use Rattle.raire_cli.specs.Outcome.{Outcome, Kind, Done, Tie, Verdict, Answered, Refused, outcome, status_of, read_fault, out_of_memory, too_long, no_such_file}
@@ -15,7 +15,7 @@ use Rattle.assertion_file.specs.Content.{Content}
 use Rattle.assertion_file.specs.Text.{assertion_file_text}
 use Rattle.raire_cli.proofs.Searches.{found_in-one, won-certificate}
 use Rattle.raire_cli.proofs.TwoRead.{two_read}
-use Rattle.raire_cli.proofs.Headline.{of_answer}
+use Rattle.raire_cli.proofs.Headline.{differ, status_in, of_answer}
 use Rattle.raire_cli.proofs.Scripts.{ended, concludes_may, stops_may, told_reaches, held_or_fault, determined, some_is}
 
 -- each command but a search with a budget is determined
@@ -25,13 +25,6 @@ script_determined (Search name) = λ bytes. found_in-one name (ballots_of bytes)
 line_determined : (files : List File) (line : Option Line) (d e : Outcome) → MayCome (AsHeld files) line d → MayCome (AsHeld files) line e → d ≡ e
 line_determined files None d e p q = p ∙ sym q
 line_determined files (Some line) d e p q = determined files (script_of line) d e (script_determined line) p q
-
-abbrev status_in : Outcome → ℕ
-status_in due = due.status
-
--- two numbers that a test tells apart
-differ : (m n : ℕ) → m ≡ n → nat_eq m n ≡ false → ⊥
-differ m n e test = let yes : nat_eq m n ≡ true = eq-eqb m n e in cc (yes, test)
 
 -- ---- the statuses of what a script comes to
 

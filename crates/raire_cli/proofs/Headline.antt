@@ -10,17 +10,19 @@ use Rattle.raire_cli.specs.Script.{Reading, Bytes, Missing, TooLong, Fault, AsHe
 use Rattle.raire_cli.specs.Search.{candidate_count, FindsIn}
 use Rattle.raire_cli.specs.Confirmation.{ConfirmsAsked}
 use Rattle.raire_cli.specs.Answers.{Line, Search, line_of, MayCome}
+use Rattle.raire_cli.proofs.Scripts.{some_is}
 use Rattle.raire_cli.proofs.Searches.{certificate-confirms}
 use Rattle.raire_cli.proofs.TwoRead.{two_read}
 
-abbrev status_in : Outcome → ℕ
+abbrev pub status_in : Outcome → ℕ
 status_in due = due.status
 
 -- the file of a line confirms the winner, and its text is for `out`
 abbrev Confirmed : List (List ℕ) → List File → Outcome → Type 0
 Confirmed words files due = (file : Content) × ConfirmsAsked words files file × (due.out ≡ assertion_file_text file)
 
-differ : (m n : ℕ) → m ≡ n → nat_eq m n ≡ false → ⊥
+-- two numbers that a test tells apart
+pub differ : (m n : ℕ) → m ≡ n → nat_eq m n ≡ false → ⊥
 differ m n e test = let yes : nat_eq m n ≡ true = eq-eqb m n e in cc (yes, test)
 
 held_whole : (held : Option (List ℕ)) (bytes : List ℕ) → Bytes bytes ≡ reading_of held → held ≡ Some bytes
@@ -54,15 +56,9 @@ of_verdict words files name bytes asked held (Some ballots) is (Refused file tex
 
 stopped : (name : List ℕ) (reading : Reading) (due : Outcome) → stop_of name reading ≡ Some due → due.status ≡ 0 → ⊥
 stopped name (Bytes bytes) due stop zero = cc
-stopped name Missing due stop zero = differ 12 0 (ap status_in (some stop) ∙ zero) refl where
-  some : {A : Type 0} {x y : A} → Some x ≡ Some y → x ≡ y
-  some e = cc
-stopped name TooLong due stop zero = differ 11 0 (ap status_in (some stop) ∙ zero) refl where
-  some : {A : Type 0} {x y : A} → Some x ≡ Some y → x ≡ y
-  some e = cc
-stopped name Fault due stop zero = differ 7 0 (ap status_in (some stop) ∙ zero) refl where
-  some : {A : Type 0} {x y : A} → Some x ≡ Some y → x ≡ y
-  some e = cc
+stopped name Missing due stop zero = differ 12 0 (ap status_in (some_is stop) ∙ zero) refl
+stopped name TooLong due stop zero = differ 11 0 (ap status_in (some_is stop) ∙ zero) refl
+stopped name Fault due stop zero = differ 7 0 (ap status_in (some_is stop) ∙ zero) refl
 
 pub of_answer : (words : List (List ℕ)) (files : List File) (line : Option Line) → line_of words ≡ line → (due : Outcome) → MayCome (AsHeld files) line due → due.status ≡ 0 → Confirmed words files due
 of_answer words files None is due bad zero = absurd (differ 1 0 (sym (ap status_in bad) ∙ zero) refl)

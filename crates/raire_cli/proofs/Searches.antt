@@ -22,6 +22,7 @@ use Rattle.assertions.proofs.Positive.{best_is_positive}
 use Rattle.ballot_reader.specs.Ballots.{BallotFile}
 use Rattle.assertion_file.specs.Content.{Content}
 use Rattle.assertion_file.specs.Text.{assertion_file_text}
+use Rattle.raire_cli.proofs.Scripts.{some_is}
 use Rattle.raire_cli.specs.Outcome.{Verdict, Answered, Refused, Done, Tie}
 use Rattle.raire_cli.specs.Search.{candidate_count, margin_of, certificate_of, tie_text, IsWon, HasTie, IsCertificateOf, HasCertificate, Finds, FindsIn}
 use Rattle.raire_cli.specs.Confirmation.{Holds, Confirms}
@@ -41,16 +42,13 @@ winner-one ballots w v a b =
     let e : a.order ≡ b.order = tabulated_is_one (candidate_count ballots) ballots.rankings a.order b.order a.permutation a.tabulated b.permutation b.tabulated in
     elects-one b.order w v (subst (λ o. Elects o w) e a.elects) b.elects
 
-some-one : {A : Type 0} {x y : A} → Some x ≡ Some y → x ≡ y
-some-one e = cc
-
 certificate-one : (ballots : BallotFile) (f g : Content) → IsCertificateOf ballots f → IsCertificateOf ballots g → f ≡ g
 certificate-one ballots f g a b =
     let n = candidate_count ballots in
     let w : a.winner ≡ b.winner = winner-one ballots a.winner b.winner a.won b.won in
     let least : certificate_order n b.winner (low n ballots.rankings) (margin_of ballots b.winner) ≡ Some a.order =
     subst (λ x. certificate_order n x (low n ballots.rankings) (margin_of ballots x) ≡ Some a.order) w a.least in
-    let o : a.order ≡ b.order = some-one (sym least ∙ b.least) in
+    let o : a.order ≡ b.order = some_is (sym least ∙ b.least) in
     a.is ∙ ap (λ x. certificate_of ballots x a.order) w ∙ ap (certificate_of ballots b.winner) o ∙ sym b.is
 
 tie-one : (ballots : BallotFile) (text other : List ℕ) → HasTie ballots text → HasTie ballots other → text ≡ other
@@ -127,7 +125,7 @@ confirmed : (n : ℕ) (records : List (List ℕ)) (winner : ℕ) (file : Content
 confirmed n records winner file below two positive c =
     let best = best_margin n winner (low n records) in
     let (found, least, among, hard) = order_is n winner (low n records) below two in
-    let same : file.order ≡ found = some-one (sym c.order ∙ least) in
+    let same : file.order ≡ found = some_is (sym c.order ∙ least) in
     let (a, k, e) = certificate_has_best n winner records below two positive in
     record {
       hold = subst (All (Holds n records)) (sym c.claims) (each (Holds n records) (certificate_claims n records winner) (claim-holds n records winner));

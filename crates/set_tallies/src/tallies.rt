@@ -95,6 +95,7 @@ impl<'b> Tallies<'b> {
     pub fn tally(&mut self, s: CandSet) -> Result<Vec<u32>, Memory>
         requires { s < 2 ^ self.old.bag.n }
         ensures tallies { IfOk result (λ row. (records : List (List ℕ)) → IsOf self.old.bag records → row.items ≡ tallies records self.old.bag.n s) }
+        ensures one_each { IfOk result (λ row. length row.items ≡ self.old.bag.n) }
         ensures same { self.new ≡ self.old }
     {
         let mask = mask_of(s);

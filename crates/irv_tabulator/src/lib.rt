@@ -1,0 +1,14 @@
+//! Instant-runoff tabulation: the order in which the candidates of a contest are eliminated, or the first tie.
+#![tactic(auto)]
+
+mod fault;
+mod least;
+mod rounds;
+mod tabulated;
+
+pub use fault::TabFault;
+pub use rounds::tabulate;
+pub use tabulated::Tabulated;
+
+#[cfg(test)]
+mod tests;

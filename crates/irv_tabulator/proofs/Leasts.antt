@@ -1,13 +1,11 @@
 -- The least tally of the remaining candidates.
-use Rattle.std.proofs.Common.{◌==◌, ◌≡◌, ◌≢◌, ℕ, zero, suc, ◌+◌, ◌-◌, ◌<◌, ◌≤◌, ◌^◌, Bool, true, false, not, cond, ◌&&◌, nat_lt, nat_le, inl, inr, List, [], ◌∷◌, ◌++◌, Option, Some, None, length, map, take, drop, filter, get_or, slice_get, slice_index, refl, sym, ap, ap₂, subst, arith, eq-eqb, ne_eqb, eqb-true, lt-ltb, le-leb, ltb-true, leb-true, le_antisymm, length-append, ◌∙◌}
-use Rattle.std.specs.List.{list_all, range_with_len}
-use Rattle.std.proofs.lemmas.Bool.{cases_Bool, cases_eq, cases_lt, both_ways}
+use Rattle.std.proofs.Common.{◌==◌, ◌≡◌, ◌≢◌, ℕ, zero, suc, ◌+◌, ◌-◌, ◌<◌, ◌≤◌, ◌^◌, Bool, true, false, cond, nat_lt, nat_le, inl, inr, List, [], ◌∷◌, ◌++◌, Some, length, map, take, drop, filter, get_or, slice_get, slice_index, refl, sym, ap, ap₂, subst, arith, eq-eqb, lt-ltb, le-leb, ◌∙◌}
+use Rattle.std.proofs.lemmas.Bool.{cases_lt}
 use Rattle.std.proofs.lemmas.List.{take_more}
 use Rattle.std.proofs.lemmas.List.Elements.{filter-append}
 use Rattle.std.proofs.lemmas.List.Sums.{sum_by_push}
 use Rattle.std.proofs.lemmas.List.FromFn.{get_or-map-range_with_len}
-use Rattle.irv_base.specs.Candidates.{candidates, has, is_in, members, set_of}
-use Rattle.irv_base.specs.Orders.{is_order}
+use Rattle.irv_base.specs.Candidates.{candidates, has, members, set_of}
 use Rattle.irv_base.specs.Records.{tally}
 use Rattle.irv_base.specs.Tabulation.{loses, least, least_tally, sharing_least, ties_after, IsFirstTie}
 use Rattle.irv_base.proofs.Members.{Member, here, there, member_at, member_cases, member_nil, member-map, from_map, member-filter, from_filter, list_all-each, member-from_in, in-from_member, none-from_out, member-from_contains, from_candidates}
@@ -15,7 +13,7 @@ use Rattle.irv_base.proofs.Distinct.{Distinct, distinct-head, distinct-tail}
 use Rattle.irv_base.proofs.Sets.{set_of_is, has-set_of}
 use Rattle.irv_base.proofs.Least.{least-member, least_is}
 use Rattle.set_tallies.specs.Bags.{tallies}
-use Rattle.irv_tabulator.proofs.Progress.{IsRest, IsWithout, Shape, Rounds, members-rest, rest-more, stays, drop-done}
+use Rattle.irv_tabulator.proofs.Progress.{IsRest, IsWithout, Shape, Rounds, rest-more, drop-done}
 
 -- ---- the member at a place
 pub got : (xs : List ℕ) (i c : ℕ) → slice_get xs i ≡ Some c → (i < length xs) × (get_or xs i 0 ≡ c)

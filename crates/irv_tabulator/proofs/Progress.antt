@@ -1,9 +1,9 @@
 -- What the rounds so far say of every way to go on.
 use Rattle.std.proofs.Common.{◌==◌, ◌≡◌, ◌≢◌, ℕ, zero, suc, ◌+◌, ◌-◌, ◌<◌, ◌≤◌, ◌^◌, Bool, true, false, not, cond, ◌&&◌, ◌||◌, nat_lt, nat_le, inl, inr, List, [], ◌∷◌, ◌++◌, Option, Some, length, take, drop, filter, get_or, set, slice_get, slice_index, refl, sym, ap, subst, arith, eq-eqb, ne_eqb, eqb-true, lt-ltb, ltb-true, length-append, append_assoc, ◌∙◌}
-use Rattle.std.proofs.lemmas.Bool.{cases_Bool, cases_eq, cases_lt, both_ways, and_parts, and_from}
+use Rattle.std.proofs.lemmas.Bool.{cases_Bool, cases_eq, both_ways, and_parts, and_from}
 use Rattle.std.proofs.lemmas.List.{take_more_set}
-use Rattle.irv_base.specs.Candidates.{candidates, has, is_in, members, set_of}
-use Rattle.irv_base.specs.Orders.{is_order, is_in_range, is_repeated, IsFirstFault, Refuses}
+use Rattle.irv_base.specs.Candidates.{candidates, has, is_in, members}
+use Rattle.irv_base.specs.Orders.{is_order, Refuses}
 use Rattle.irv_base.specs.declared.order.BadOrder.{BadOrder}
 use Rattle.irv_base.specs.declared.order.BadOrder.TheVariants.{Length, Range, Repeated}
 use Rattle.irv_base.specs.Tabulation.{is_tabulated, loses, ties_after}

@@ -1,6 +1,6 @@
-use Rattle.std.proofs.Common.{◌≡◌, ◌<◌, length, arith}
+use Rattle.std.proofs.Common.{◌≡◌, length, arith}
 use Rattle.irv_base.specs.Candidates.{members}
-use Rattle.irv_tabulator.proofs.Leasts.{got-has, lowest-first, lowest-next, lowest-other, lowest-whole, IsLowest}
+use Rattle.irv_tabulator.proofs.Leasts.{got-has, lowest-first, lowest-next, lowest-other, lowest-whole}
 use Rattle.irv_tabulator.proofs.least.lowest.Goals as goal
 use Rattle.irv_tabulator.proofs.least.lowest.Goals.{then-votes, else-votes}
 

@@ -1,4 +1,4 @@
-use Rattle.std.proofs.Common.{◌≡◌, ◌+◌, ◌==◌, ◌++◌, ◌∷◌, [], ℕ, Bool, true, false, filter, take, length, slice_index, sym, ap, arith, eq-eqb, ne_eqb, length-append, ◌∙◌}
+use Rattle.std.proofs.Common.{◌≡◌, ◌==◌, ◌∷◌, [], ℕ, Bool, true, false, filter, take, length, slice_index, sym, ap, arith, eq-eqb, ne_eqb, length-append, ◌∙◌}
 use Rattle.std.proofs.Math.Seq.{take-length}
 use Rattle.irv_base.specs.Candidates.{members, set_of}
 use Rattle.irv_tabulator.proofs.Leasts.{got-has, sharing-yes, sharing-no, new-share, set-push}

@@ -1,6 +1,6 @@
-use Rattle.std.proofs.Common.{◌≡◌, ◌+◌, ◌-◌, ◌<◌, ◌≤◌, ◌^◌, ◌++◌, ◌∷◌, [], ℕ, List, true, length, take, set, refl, sym, ap, subst, arith, ◌∙◌}
+use Rattle.std.proofs.Common.{◌≡◌, ◌+◌, ◌-◌, ◌<◌, ◌^◌, ◌++◌, ◌∷◌, [], length, take, set, refl, sym, ap, subst, arith, ◌∙◌}
 use Rattle.std.proofs.lemmas.List.{length-set}
-use Rattle.irv_base.specs.Candidates.{members, has}
+use Rattle.irv_base.specs.Candidates.{members}
 use Rattle.irv_base.specs.Orders.{is_order}
 use Rattle.irv_base.specs.Tabulation.{is_tabulated, IsFirstTie}
 use Rattle.set_tallies.specs.Bags.{IsOf, tallies}

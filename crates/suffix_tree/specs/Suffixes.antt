@@ -1,0 +1,19 @@
+-- The last candidates of an elimination order, in a contest with n candidates.
+use Rattle.std.specs.Prelude.{ℕ, not, ◌==◌, if◌then◌else◌, List, ◌∷◌, length, map, filter, Option, Some, None}
+use Rattle.irv_base.specs.Candidates.{candidates, is_in}
+
+pub record Suffix : Type 0 where
+  pub n : ℕ
+  pub list : List ℕ
+
+-- with one more candidate in front
+abbrev pub with_front : Suffix → ℕ → Suffix
+with_front t c = record { n = t.n; list = c ∷ t.list }
+
+-- the suffixes that are longer by one, in candidate order
+abbrev pub children : Suffix → List Suffix
+children t = map (with_front t) (filter (λ c. not (is_in t.list c)) (candidates t.n))
+
+-- the whole order that it is, if it has all candidates
+abbrev pub whole : Suffix → Option (List ℕ)
+whole t = if length t.list == t.n then Some t.list else None

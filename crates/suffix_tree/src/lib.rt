@@ -1,0 +1,14 @@
+//! Suffixes of elimination orders with what they have against them: the greatest margin of a true assertion that
+//! refutes a suffix, and the first assertion of that margin. A longer suffix is scored from the one that it grows
+//! from, and one row of tallies.
+#![tactic(auto)]
+
+mod offers;
+mod scored;
+mod tail;
+
+pub use scored::{Scored, expand, score};
+pub use tail::Tail;
+
+
+

@@ -1,0 +1,103 @@
+// What a suffix has against it, and more assertions that are offered to it.
+ghost use Rattle.std.specs.Prelude.{◌≡◌, ℕ, ◌<◌, ◌≤◌, not, List, map, filter, get_or, All};
+ghost use Rattle.irv_base.specs.Candidates.{candidates, has};
+ghost use Rattle.irv_base.specs.declared.limits.TheConstants.{ROOM};
+ghost use Rattle.assertions.specs.declared.assertion.Assertion.TheVariants.{Neb};
+ghost use Rattle.assertions.specs.Assertions.{true_margin};
+ghost use Rattle.assertions.specs.Scores.{offered, all_offered, nens_for};
+ghost use Rattle.set_tallies.specs.Bags.{AreOf, tallies};
+
+use assertions::{Assertion, before};
+use irv_base::{CandSet, Candidate};
+use set_tallies::Ahead;
+use std::marker::Model;
+
+/// A margin and the assertion that has it, or 0 and none.
+#[derive(Clone, Copy)]
+pub struct Score {
+    pub low: u32,
+    pub by: Option<Assertion>,
+}
+
+impl Model for Score {
+    ghost use Rattle.assertions.specs.Scores as scores;
+
+    ghost Value = { scores.Score };
+
+    ghost view = { λ s. record { low = s.low; by = s.by } };
+
+    ghost inverse = { λ s. record { low = s.low; by = s.by } };
+}
+
+/// The better of the score and one more assertion.
+pub fn offer(score: Score, margin: u32, a: Assertion) -> Score
+    ensures { result ≡ offered score margin a }
+{
+    let low = score.low;
+    let by = score.by;
+    let is_better = match by {
+        Some(b) => low < margin || (low == margin && before(&a, &b)),
+        None => low < margin,
+    };
+    if is_better {
+        Score {
+            low: margin,
+            by: Some(a),
+        }
+    } else {
+        score
+    }
+}
+
+fn neb_margin(ahead: &Ahead, w: Candidate, l: Candidate) -> u32
+    requires winner { w < ahead.now.n }
+    requires loser { l < ahead.now.n }
+    ensures { (records : List (List ℕ)) → AreOf ahead.now records → result ≡ true_margin records (Neb w l) }
+{
+    ahead.first(w).saturating_sub(ahead.ahead(l, w))
+}
+
+/// The score after the NEBs of those outside the set over `c`.
+pub fn offer_nebs(start: Score, c: Candidate, set: CandSet, n: u32, ahead: &Ahead) -> Score
+    requires same { n ≡ ahead.now.n }
+    requires room { n ≤ ROOM }
+    requires below { c < n }
+    ensures { (records : List (List ℕ)) → AreOf ahead.now records → result ≡ all_offered records start (map (λ w. Neb w c) (filter (λ w. not (has set w)) (candidates n))) }
+{
+    let mut score = start;
+    for w in 0..n {
+        let winner = Candidate(w as u8);
+        if !set.has(winner) {
+            let claim = Assertion::Neb { w: winner, l: c };
+            score = offer(score, neb_margin(ahead, winner, c), claim);
+        }
+    }
+    score
+}
+
+// The tally of a candidate in a row, or 0 for one that the row hasn't.
+fn votes(row: &[u32], c: Candidate) -> u32
+    ensures { result ≡ get_or row.now c 0 }
+{
+    match row.get(c.index()) {
+        Some(votes) => *votes,
+        None => 0,
+    }
+}
+
+/// The score after the NENs of `c` over those behind it, from the tallies of the set.
+pub fn offer_nens(start: Score, c: Candidate, behind: &[Candidate], set: CandSet, row: &[u32]) -> Score
+    ensures { (n : ℕ) (records : List (List ℕ)) → row.now ≡ tallies records n set → c < n → All (λ l. l < n) behind.now → result ≡ all_offered records start (nens_for c set behind.now) }
+{
+    let for_winner = votes(row, c);
+    let mut score = start;
+    for l in behind {
+        let claim = Assertion::Nen {
+            w: c,
+            l: *l,
+            rest: set,
+        };
+        score = offer(score, for_winner.saturating_sub(votes(row, *l)), claim);
+    }
+    score
+}

@@ -1,0 +1,99 @@
+// Suffixes with their low and their refuter.
+ghost use Rattle.std.specs.Prelude.{◌≡◌, ◌<◌, ◌+◌, map, IfOk, IsFalse, All};
+ghost use Rattle.irv_base.specs.Candidates.{is_in};
+ghost use Rattle.suffix_tree.specs.Suffixes.{with_front, children};
+ghost use Rattle.suffix_tree.specs.Scores.{IsScoredOver};
+
+use crate::offers::{Score, offer_nebs, offer_nens};
+use crate::tail::Tail;
+use assertions::Assertion;
+use irv_base::{Candidate, Memory, Steps};
+use set_tallies::Tallies;
+use std::alloc::Global;
+use std::sync::ledger::Ledger;
+
+/// A suffix, the greatest margin of a true assertion that refutes it, and the first assertion, in the fixed order, that
+/// has it. Where nothing true refutes the suffix, they are 0 and none.
+#[derive(Drop)]
+pub struct Scored {
+    pub tail: Tail,
+    /// The margin, in votes.
+    pub low: u32,
+    pub by: Option<Assertion>,
+}
+
+// The suffix with one more candidate in front, scored from the one without.
+fn child(parent: &Scored, c: Candidate, tallies: &mut Tallies) -> Result<Scored, Memory>
+    requires below { c < parent.now.tail.n }
+    requires other { IsFalse (is_in parent.now.tail.list c) }
+    requires contest { parent.now.tail.n ≡ tallies.old.bag.n }
+    requires scored { IsScoredOver tallies.old.bag parent.now }
+    ensures tail { IfOk result (λ s. s.tail ≡ with_front parent.now.tail c) }
+    ensures scored { IfOk result (IsScoredOver tallies.old.bag) }
+    ensures same { tallies.new ≡ tallies.old }
+{
+    let behind = parent.tail.list();
+    let tail = parent.tail.front(c);
+    let from_parent = Score {
+        low: parent.low,
+        by: parent.by,
+    };
+    let n = tail.candidates();
+    let set = tail.set();
+    let with_nebs = offer_nebs(from_parent, c, set, n, tallies.ahead());
+    let row = tallies.tally(set)?;
+    let score = offer_nens(with_nebs, c, behind, set, &row);
+    Ok(Scored {
+        tail,
+        low: score.low,
+        by: score.by,
+    })
+}
+
+/// The suffix `t` with its score, over the records of the tallies.
+pub fn score(t: &Tail, tallies: &mut Tallies) -> Result<Scored, Memory>
+    requires { t.now.n ≡ tallies.old.bag.n }
+    ensures tail { IfOk result (λ s. s.tail ≡ t.now) }
+    ensures scored { IfOk result (IsScoredOver tallies.old.bag) }
+    ensures same { tallies.new ≡ tallies.old }
+{
+    let list = t.list();
+    let mut scored = Scored {
+        tail: Tail::none(t.candidates()),
+        low: 0,
+        by: None,
+    };
+    let mut at = list.len();
+    while at > 0 {
+        at -= 1;
+        scored = child(&scored, list[at], tallies)?;
+    }
+    Ok(scored)
+}
+
+/// The suffixes that are longer than that of `s` by one candidate, in candidate order, each with its score. One step.
+///
+/// `s` is scored over the records of the tallies. A whole order has no longer ones.
+pub fn expand<L: Ledger>(
+    alloc: Global,
+    s: &Scored,
+    tallies: &mut Tallies,
+    steps: &mut Steps<L>,
+) -> Result<Vec<Scored>, Memory>
+    requires contest { s.now.tail.n ≡ tallies.old.bag.n }
+    requires scored { IsScoredOver tallies.old.bag s.now }
+    ensures tails { IfOk result (λ longer. map (λ child. child.tail) longer.items ≡ children s.now.tail) }
+    ensures scored { IfOk result (λ longer. All (IsScoredOver tallies.old.bag) longer.items) }
+    ensures step { steps.new ≡ steps.old + 1 }
+    ensures same { tallies.new ≡ tallies.old }
+{
+    steps.tick();
+    let mut longer = Vec::new(alloc);
+    for c in 0..s.tail.candidates() {
+        let candidate = Candidate(c as u8);
+        if !s.tail.has(candidate) {
+            longer.push(child(s, candidate, tallies)?)?;
+        }
+    }
+    Ok(longer)
+}

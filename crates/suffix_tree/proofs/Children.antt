@@ -1,5 +1,5 @@
 -- The score of a suffix from that of the one that it grows from, and the children of a suffix as far as they are made.
-use Rattle.std.proofs.Common.{◌≡◌, ℕ, zero, suc, ◌+◌, ◌<◌, Bool, true, false, not, List, [], ◌∷◌, ◌++◌, map, filter, cond, length, get_or, All, None, if◌then◌else◌, append-nil, subst, refl, sym, ap, arith, add-one, zero-add, ◌∙◌}
+use Rattle.std.proofs.Common.{◌≡◌, ℕ, zero, suc, ◌+◌, ◌<◌, Bool, true, false, not, List, [], ◌∷◌, ◌++◌, map, filter, cond, get_or, All, None, if◌then◌else◌, append-nil, subst, refl, sym, ap, arith, add-one, zero-add, ◌∙◌}
 use Rattle.std.proofs.Math.Path.{fun_ext}
 use Rattle.std.specs.List.{range_with_len}
 use Rattle.std.proofs.lemmas.List.{map-append}
@@ -14,7 +14,7 @@ use Rattle.assertions.specs.Scores.{Score, offered, all_offered, score_of, nebs_
 use Rattle.assertions.proofs.Scored.{score_of_more, score_of_none}
 use Rattle.set_tallies.specs.Bags.{Kept}
 use Rattle.suffix_tree.specs.declared.scored.Scored.{Scored}
-use Rattle.suffix_tree.specs.Suffixes.{Suffix, with_front, children}
+use Rattle.suffix_tree.specs.Suffixes.{Suffix, with_front}
 use Rattle.suffix_tree.specs.Scores.{IsScored, IsScoredOver}
 use Rattle.suffix_tree.proofs.Tails.{suffix-has}
 

@@ -1,9 +1,9 @@
 -- Assertions that are offered to a score one after the other, for all records that the numbers are of.
-use Rattle.std.proofs.Common.{◌≡◌, ℕ, suc, ◌+◌, ◌-◌, ◌<◌, Bool, true, false, not, List, [], ◌∷◌, map, filter, cond, length, get_or, drop, All, refl, sym, subst, ap, ap₂, arith, ◌∙◌}
+use Rattle.std.proofs.Common.{◌≡◌, ℕ, suc, ◌+◌, ◌-◌, ◌<◌, Bool, true, false, not, List, ◌∷◌, map, filter, cond, length, get_or, drop, All, refl, sym, subst, ap, ap₂, arith, ◌∙◌}
 use Rattle.std.specs.List.{range_with_len}
 use Rattle.std.proofs.lemmas.List.{drop_more}
 use Rattle.std.proofs.lemmas.List.FromFn.{get_or-map-range_with_len}
-use Rattle.irv_base.specs.Candidates.{candidates, has}
+use Rattle.irv_base.specs.Candidates.{has}
 use Rattle.irv_base.specs.Records.{tally}
 use Rattle.assertions.specs.declared.assertion.Assertion.{Assertion}
 use Rattle.assertions.specs.declared.assertion.Assertion.TheVariants.{Neb, Nen}

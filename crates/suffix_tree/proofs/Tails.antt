@@ -1,5 +1,5 @@
 -- Suffixes, and where a tail keeps them.
-use Rattle.std.proofs.Common.{◌≡◌, ℕ, zero, suc, ◌+◌, ◌-◌, ◌^◌, ◌<◌, ◌≤◌, true, false, not, nat_lt, List, [], ◌∷◌, length, drop, take, set, get_or, All, refl, inl, inr, sym, ap, subst, arith, lt-ltb, ltb-true, eq-eqb, eqb-true, Some, None, if◌then◌else◌, ◌==◌, get_or-set_same, length-set, length-drop, ◌∙◌}
+use Rattle.std.proofs.Common.{◌≡◌, ℕ, zero, suc, ◌+◌, ◌-◌, ◌^◌, ◌<◌, ◌≤◌, true, false, not, nat_lt, List, [], ◌∷◌, length, drop, take, set, get_or, All, refl, inl, inr, sym, ap, subst, arith, lt-ltb, ltb-true, eqb-true, Some, None, if◌then◌else◌, ◌==◌, get_or-set_same, length-set, length-drop, ◌∙◌}
 use Rattle.std.specs.List.{list_all}
 use Rattle.std.proofs.lemmas.List.{drop_more, drop-set-lt}
 use Rattle.std.proofs.lemmas.Bool.{and_parts, and_from, both_ways, cases_Bool, not_from_false, not-true}

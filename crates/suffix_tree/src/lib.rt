@@ -9,6 +9,3 @@ mod tail;
 
 pub use scored::{Scored, expand, score};
 pub use tail::Tail;
-
-
-

@@ -86,7 +86,13 @@ fn votes(row: &[u32], c: Candidate) -> u32
 }
 
 /// The score after the NENs of `c` over those behind it, from the tallies of the set.
-pub fn offer_nens(start: Score, c: Candidate, behind: &[Candidate], set: CandSet, row: &[u32]) -> Score
+pub fn offer_nens(
+    start: Score,
+    c: Candidate,
+    behind: &[Candidate],
+    set: CandSet,
+    row: &[u32],
+) -> Score
     ensures { (n : ℕ) (records : List (List ℕ)) → row.now ≡ tallies records n set → c < n → All (λ l. l < n) behind.now → result ≡ all_offered records start (nens_for c set behind.now) }
 {
     let for_winner = votes(row, c);

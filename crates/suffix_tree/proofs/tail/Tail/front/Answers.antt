@@ -1,6 +1,5 @@
-use Rattle.std.proofs.Common.{◌≡◌, ◌<◌, ◌∷◌, false, drop, ap, sym, ◌∙◌}
+use Rattle.std.proofs.Common.{◌∷◌, ap, ◌∙◌}
 use Rattle.irv_base.specs.Candidates.{is_in}
-use Rattle.suffix_tree.specs.Suffixes.{Suffix}
 use Rattle.suffix_tree.proofs.Tails.{some-before, put-before, with-before}
 use Rattle.suffix_tree.proofs.tail.Tail.front.Goals as goal
 

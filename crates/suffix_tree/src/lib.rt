@@ -9,3 +9,6 @@ mod tail;
 
 pub use scored::{Scored, expand, score};
 pub use tail::Tail;
+
+#[cfg(test)]
+mod tests;

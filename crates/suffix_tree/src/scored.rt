@@ -19,6 +19,7 @@ pub struct Scored {
     pub tail: Tail,
     /// The margin, in votes.
     pub low: u32,
+    /// The assertion, none exactly where `low` is 0.
     pub by: Option<Assertion>,
 }
 
@@ -50,7 +51,8 @@ fn child(parent: &Scored, c: Candidate, tallies: &mut Tallies) -> Result<Scored,
     })
 }
 
-/// The suffix `t` with its score, over the records of the tallies.
+/// The suffix `t` with its score, over the records of the tallies: what RAIRE's search asks of each suffix, exactly and
+/// not as a bound. Its one error is want of memory.
 pub fn score(t: &Tail, tallies: &mut Tallies) -> Result<Scored, Memory>
     requires { t.now.n ≡ tallies.old.bag.n }
     ensures tail { IfOk result (λ s. s.tail ≡ t.now) }
@@ -73,7 +75,7 @@ pub fn score(t: &Tail, tallies: &mut Tallies) -> Result<Scored, Memory>
 
 /// The suffixes that are longer than that of `s` by one candidate, in candidate order, each with its score. One step.
 ///
-/// `s` is scored over the records of the tallies. A whole order has no longer ones.
+/// `s` is scored over the records of the tallies. A whole order has no longer ones. The one error is want of memory.
 pub fn expand<L: Ledger>(
     alloc: Global,
     s: &Scored,

@@ -11,7 +11,6 @@ use assertions::{Assertion, Claim};
 use ballot_reader::Ballots;
 use irv_base::{CandSet, Candidate, Memory, Name, Order, Ranking};
 use std::alloc::{AllocError, Global};
-use std::cmp::Ordering;
 
 /// What a search finds.
 #[derive(Drop)]

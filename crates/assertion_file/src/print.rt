@@ -18,20 +18,12 @@ use std::alloc::{AllocError, Global};
 /// The version of the assertion file's form.
 pub const VERSION: u32 = 1;
 
-// The name as text.
-fn text(name: &Name) -> &str
-    ensures same { result.now ≡ name.now }
-    ensures valid { IsTrue (is_name name.now) }
-{
-    str::from_utf8(name.bytes()).unwrap()
-}
-
 // The id of a candidate.
 fn id_of(names: &[Name], c: Candidate) -> &str
     requires { c < length names.now }
     ensures { result.now ≡ id_of names.now c }
 {
-    text(&names[c.index()])
+    names[c.index()].text()
 }
 
 // The ids of all candidates.
@@ -41,7 +33,7 @@ fn candidates_value(alloc: Global, names: &[Name]) -> Result<Value, AllocError>
 {
     let mut ids = Vec::new(alloc);
     for name in names {
-        ids.push(Value::try_from_str(alloc, text(name))?)?;
+        ids.push(Value::try_from_str(alloc, name.text())?)?;
     }
     Ok(Value::Array(ids))
 }
@@ -66,7 +58,7 @@ fn set_value(alloc: Global, names: &[Name], set: CandSet) -> Result<Value, Alloc
     let mut ids = Vec::new(alloc);
     for (c, name) in names.iter().enumerate() {
         if set.has(Candidate(c as u8)) {
-            ids.push(Value::try_from_str(alloc, text(name))?)?;
+            ids.push(Value::try_from_str(alloc, name.text())?)?;
         }
     }
     Ok(Value::Array(ids))
@@ -132,7 +124,7 @@ fn file_value(alloc: Global, file: &AssertionFile) -> Result<Value, AllocError>
     let names = file.candidates();
     let assertions = claims_value(alloc, names, file.claims())?;
     let candidates = candidates_value(alloc, names)?;
-    let contest = text(file.contest());
+    let contest = file.contest().text();
     let order = order_value(alloc, names, file.order().candidates())?;
     let winner = id_of(names, file.winner());
     json!(in alloc; {

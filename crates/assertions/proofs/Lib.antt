@@ -28,3 +28,4 @@ pub mod Listings
 pub mod Shortest
 pub mod Scored
 pub mod Few
+pub mod Rows

@@ -96,7 +96,8 @@ impl Name {
     }
 
     pub fn text(&self) -> &str
-        ensures { result.now ≡ self.now }
+        ensures same { result.now ≡ self.now }
+        ensures valid { IsTrue (is_name self.now) }
     {
         str::from_utf8(self.bytes()).unwrap()
     }

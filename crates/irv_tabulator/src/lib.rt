@@ -1,4 +1,5 @@
-//! Instant-runoff tabulation: the order in which the candidates of a contest are eliminated, or the first tie.
+//! Instant-runoff tabulation: the order in which the candidates of a contest are eliminated, with its rounds, or the first
+//! tie.
 #![tactic(auto)]
 
 mod fault;
@@ -8,7 +9,7 @@ mod tabulated;
 
 pub use fault::TabFault;
 pub use rounds::tabulate;
-pub use tabulated::Tabulated;
+pub use tabulated::{Round, Tabulated};
 
 #[cfg(test)]
 mod tests;

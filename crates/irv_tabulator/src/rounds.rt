@@ -1,15 +1,17 @@
 // Tabulation, round by round.
-ghost use Rattle.std.specs.Prelude.{◌≡◌, ℕ, ◌<◌, ◌≤◌, List, nat_lt, slice_index, IfOk, IfErr};
+ghost use Rattle.std.specs.Prelude.{◌≡◌, ℕ, ◌<◌, ◌≤◌, ◌-◌, ◌++◌, ◌∷◌, [], List, nat_lt, slice_index, sum, IfOk, IfErr};
 ghost use Rattle.irv_base.specs.Candidates.{has};
 ghost use Rattle.irv_base.specs.declared.limits.TheConstants.{ROOM};
 ghost use Rattle.set_tallies.specs.Bags.{IsOf};
 ghost use Rattle.irv_tabulator.specs.Results.{IsTabulation, Names};
+ghost use Rattle.irv_tabulator.specs.Rounds.{counts_in};
 
 use crate::fault::TabFault;
 use crate::least::{lowest, sharing, votes};
-use crate::tabulated::Tabulated;
-use irv_base::{CandSet, Candidate, Order, ROOM};
+use crate::tabulated::{Round, Tabulated};
+use irv_base::{CandSet, Candidate, Memory, Order, ROOM};
 use set_tallies::Tallies;
+use std::alloc::Global;
 
 fn all_of(n: u32) -> CandSet
     requires { n ≤ ROOM }
@@ -22,21 +24,45 @@ fn all_of(n: u32) -> CandSet
     all
 }
 
-/// The tabulated order of the tallies' contest, or the first tie.
-pub fn tabulate(tallies: &mut Tallies<'_>) -> Result<Tabulated, TabFault>
+// How many of the records none of these tallies counts.
+fn uncounted(row: &[u32], records: u32) -> u32
+    ensures { result ≡ records - sum row.now }
+{
+    let mut left = records;
+    for votes in row {
+        left = left.saturating_sub(*votes);
+    }
+    left
+}
+
+fn note(rounds: &mut Vec<Round>, row: Vec<u32>, exhausted: u32) -> Result<(), Memory>
+    ensures { IfOk result (λ _. counts_in rounds.new.items ≡ counts_in rounds.old.items ++ (record { votes = row.items; exhausted = exhausted }) ∷ []) }
+{
+    let round = Round {
+        tallies: row,
+        exhausted,
+    };
+    rounds.push(round)?;
+    Ok(())
+}
+
+/// The tabulated order of the tallies' contest with its rounds, or the first tie.
+pub fn tabulate(alloc: Global, tallies: &mut Tallies<'_>) -> Result<Tabulated, TabFault>
     ensures tabulated { (records : List (List ℕ)) → IsOf tallies.old.bag records → IfOk result (λ t. IsTabulation tallies.old.bag.n records t) }
     ensures tie { (records : List (List ℕ)) → IsOf tallies.old.bag records → IfErr result (λ fault. Names tallies.old.bag.n records fault) }
     ensures same { tallies.new ≡ tallies.old }
 {
     let n = tallies.candidates();
+    let records = tallies.records();
+    let mut rounds = Vec::new(alloc);
     let mut remaining = all_of(n);
     let mut places = [0u8; ROOM as usize];
     for round in 1..n {
         let row = tallies.tally(remaining)?;
-        let row = row.as_slice();
-        let loser = lowest(row, remaining);
-        let tally = votes(row, loser);
-        let tied = sharing(row, remaining, tally);
+        let counts = row.as_slice();
+        let loser = lowest(counts, remaining);
+        let tally = votes(counts, loser);
+        let tied = sharing(counts, remaining, tally);
         if tied.count > 1 {
             return Err(TabFault::Tie {
                 round,
@@ -46,11 +72,17 @@ pub fn tabulate(tallies: &mut Tallies<'_>) -> Result<Tabulated, TabFault>
         }
         places[round as usize - 1] = loser.0;
         remaining = remaining.without(loser);
+        let exhausted = uncounted(counts, records);
+        note(&mut rounds, row, exhausted)?;
     }
     let winner = remaining.nth(0);
     places[n as usize - 1] = winner.0;
     match Order::read(n, &places[..n as usize]) {
-        Ok(order) => Ok(Tabulated { order, winner }),
+        Ok(order) => Ok(Tabulated {
+            order,
+            winner,
+            rounds,
+        }),
         Err(_) => unreachable!(),
     }
 }

@@ -2,9 +2,19 @@
 
 use irv_base::{Candidate, Order};
 
-/// The tabulated order and the winner, who stands last in it.
-#[derive(Clone, Copy)]
+/// A round of the tabulation, in which one candidate is eliminated.
+#[derive(Drop)]
+pub struct Round {
+    /// For each candidate of the contest its tally among those who remain, and 0 for one who doesn't.
+    pub tallies: Vec<u32>,
+    /// How many records rank none of those who remain.
+    pub exhausted: u32,
+}
+
+/// The tabulated order, the winner, who stands last in it, and the rounds, one for each elimination.
+#[derive(Drop)]
 pub struct Tabulated {
     pub order: Order,
     pub winner: Candidate,
+    pub rounds: Vec<Round>,
 }

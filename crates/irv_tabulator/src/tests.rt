@@ -1,9 +1,17 @@
-// A contest with a winner, and one with a tie.
-ghost use Rattle.std.specs.Prelude.{◌≡◌, ◌∷◌, []};
+// Contests that were counted by hand: two with a winner, and one with a tie.
+ghost use Rattle.std.specs.Prelude.{◌≡◌, ◌≢◌, ◌<◌, ◌∷◌, [], All};
 
 use super::*;
 use irv_base::{Candidate, Ranking};
 use set_tallies::{Ahead, Bag, Tallies};
+
+const ZERO: Candidate = Candidate(0);
+
+const ONE: Candidate = Candidate(1);
+
+const TWO: Candidate = Candidate(2);
+
+const THREE: Candidate = Candidate(3);
 
 fn only(c: Candidate) -> Ranking
     ensures { result ≡ c ∷ [] }
@@ -13,16 +21,25 @@ fn only(c: Candidate) -> Ranking
     ranking
 }
 
+fn both(c: Candidate, d: Candidate) -> Ranking
+    requires { c ≢ d }
+    ensures { result ≡ c ∷ d ∷ [] }
+{
+    let mut ranking = only(c);
+    ranking.push(d);
+    ranking
+}
+
 #[test]
 fn elects_the_second(rt: HostRuntime) {
-    let rankings = [only(Candidate(0)), only(Candidate(1)), only(Candidate(1))];
+    let rankings = [only(ZERO), only(ONE), only(ONE)];
     let bag = Bag::of(rt.alloc(), 2, rankings.as_slice()).expect(&rt, "bag");
     let ahead = Ahead::fill(rt.alloc(), &bag).expect(&rt, "ahead");
     let mut tallies = Tallies::new(rt.alloc(), &bag, &ahead).expect(&rt, "tallies");
-    match tabulate(&mut tallies) {
+    match tabulate(rt.alloc(), &mut tallies) {
         Ok(tabulated) => {
-            assert!(rt; tabulated.winner == Candidate(1));
-            assert!(rt; tabulated.order.candidates() == [Candidate(0), Candidate(1)].as_slice());
+            assert!(rt; tabulated.winner == ONE);
+            assert!(rt; tabulated.order.candidates() == [ZERO, ONE].as_slice());
         }
         Err(_) => assert!(rt; false),
     }
@@ -30,11 +47,11 @@ fn elects_the_second(rt: HostRuntime) {
 
 #[test]
 fn names_a_tie(rt: HostRuntime) {
-    let rankings = [only(Candidate(0)), only(Candidate(1))];
+    let rankings = [only(ZERO), only(ONE)];
     let bag = Bag::of(rt.alloc(), 2, rankings.as_slice()).expect(&rt, "bag");
     let ahead = Ahead::fill(rt.alloc(), &bag).expect(&rt, "ahead");
     let mut tallies = Tallies::new(rt.alloc(), &bag, &ahead).expect(&rt, "tallies");
-    let tabulated = tabulate(&mut tallies);
+    let tabulated = tabulate(rt.alloc(), &mut tallies);
     assert!(rt;
         matches!(
             &tabulated,
@@ -45,4 +62,46 @@ fn names_a_tie(rt: HostRuntime) {
             })
         )
     );
+}
+
+// Four ballots for one candidate, three for the next, and three more.
+fn county() -> [Ranking; 10]
+    ensures { All (λ ranking. All (λ c. c < 4) ranking) result }
+{
+    [
+        only(ONE),
+        only(ONE),
+        only(ONE),
+        only(ONE),
+        only(TWO),
+        only(TWO),
+        only(TWO),
+        both(THREE, TWO),
+        only(THREE),
+        both(ZERO, ONE),
+    ]
+}
+
+// Whether the round has these tallies, and so many exhausted ballots.
+fn says(round: &Round, tallies: [u32; 4], exhausted: u32) -> bool {
+    round.tallies.as_slice() == tallies.as_slice() && round.exhausted == exhausted
+}
+
+#[test]
+fn county_contest(rt: HostRuntime) {
+    let rankings = county();
+    let bag = Bag::of(rt.alloc(), 4, rankings.as_slice()).expect(&rt, "bag");
+    let ahead = Ahead::fill(rt.alloc(), &bag).expect(&rt, "ahead");
+    let mut tallies = Tallies::new(rt.alloc(), &bag, &ahead).expect(&rt, "tallies");
+    match tabulate(rt.alloc(), &mut tallies) {
+        Ok(tabulated) => {
+            let rounds = tabulated.rounds.as_slice();
+            assert!(rt; rounds.len() == 3);
+            assert!(rt; says(&rounds[0], [1, 4, 3, 2], 0));
+            assert!(rt; says(&rounds[1], [0, 5, 3, 2], 0));
+            assert!(rt; says(&rounds[2], [0, 5, 4, 0], 1));
+            assert!(rt; tabulated.order.candidates() == [ZERO, THREE, TWO, ONE].as_slice());
+        }
+        Err(_) => assert!(rt; false),
+    }
 }

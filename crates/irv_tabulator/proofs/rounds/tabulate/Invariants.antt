@@ -1,6 +1,8 @@
 use Rattle.std.proofs.Common.{◌≡◌, ◌-◌, ℕ, List, length, take}
 use Rattle.set_tallies.specs.Bags.{IsOf}
+use Rattle.irv_tabulator.specs.Rounds.{counts_in}
 use Rattle.irv_tabulator.proofs.Progress.{Shape, Rounds}
+use Rattle.irv_tabulator.proofs.Counts.{Noted}
 use Rattle.irv_tabulator.proofs.rounds.tabulate.Given as goal
 
 abbrev pub invariant-loop-round : goal.invariant-loop-round
@@ -9,4 +11,5 @@ invariant-loop-round l = record {
   wide : length l.places ≡ 32;
   shape : Shape l.n (take (l.round - 1) l.places) l.remaining;
   rounds : (records : List (List ℕ)) → IsOf l.fn.tallies.bag records → Rounds records (take (l.round - 1) l.places) l.remaining;
+  noted : (records : List (List ℕ)) → IsOf l.fn.tallies.bag records → Noted l.n records (take (l.round - 1) l.places) l.remaining (counts_in l.rounds.items);
 }

@@ -1,0 +1,31 @@
+-- The rounds of a tabulation: while two or more candidates remain, their tallies, and the records that rank none of them.
+use Rattle.std.specs.Prelude.{ℕ, not, List, [], ◌∷◌, map, count_by, is_some}
+use Rattle.irv_base.specs.Candidates.{set_of}
+use Rattle.irv_base.specs.Records.{top}
+use Rattle.set_tallies.specs.Bags.{tallies}
+use Rattle.irv_tabulator.specs.declared.tabulated.Round.{Round}
+
+pub record Count : Type 0 where
+  -- one for each candidate of the contest, 0 for those who don't remain
+  pub votes : List ℕ
+  pub exhausted : ℕ
+
+-- the records that rank none of the set
+abbrev pub exhausted_of : List (List ℕ) → ℕ → ℕ
+exhausted_of records set = count_by (λ ranking. not (is_some (top ranking set))) records
+
+abbrev pub count_of : ℕ → List (List ℕ) → ℕ → Count
+count_of n records set = record { votes = tallies records n set; exhausted = exhausted_of records set }
+
+-- of an order of n candidates: a round for each place but the last, in which those from there on remain
+abbrev pub rounds_of : ℕ → List (List ℕ) → List ℕ → List Count
+rounds_of n records [] = []
+rounds_of n records (winner ∷ []) = []
+rounds_of n records (c ∷ d ∷ rest) = count_of n records (set_of (c ∷ d ∷ rest)) ∷ rounds_of n records (d ∷ rest)
+
+-- what a round says
+abbrev pub count_in : Round → Count
+count_in round = record { votes = round.tallies.items; exhausted = round.exhausted }
+
+abbrev pub counts_in : List Round → List Count
+counts_in rounds = map count_in rounds

@@ -1,8 +1,12 @@
 // Suffixes with their low and their refuter.
-ghost use Rattle.std.specs.Prelude.{◌≡◌, ◌<◌, ◌+◌, map, IfOk, IsFalse, All};
+ghost use Rattle.std.specs.Prelude.{◌≡◌, ◌==◌, ◌<◌, ◌+◌, map, IfOk, IsFalse, All};
+ghost use Rattle.std.proofs.Common.{rules};
+ghost use Rattle.std.specs.Cmp.Rules.{comparing};
+ghost use Rattle.std.specs.Cmp.{partial_order_from_own_ties};
+ghost use Rattle.std.specs.Ordering.{as_partial_cmp};
 ghost use Rattle.irv_base.specs.Candidates.{is_in};
 ghost use Rattle.suffix_tree.specs.Suffixes.{with_front, children};
-ghost use Rattle.suffix_tree.specs.Scores.{IsScoredOver};
+ghost use Rattle.suffix_tree.specs.Scores.{IsScoredOver, by_low};
 
 use crate::offers::{Score, offer_nebs, offer_nens};
 use crate::tail::Tail;
@@ -10,6 +14,7 @@ use assertions::Assertion;
 use irv_base::{Candidate, Memory, Steps};
 use set_tallies::Tallies;
 use std::alloc::Global;
+use std::cmp::Ordering;
 use std::sync::ledger::Ledger;
 
 /// A suffix, the greatest margin of a true assertion that refutes it, and the first assertion, in the fixed order, that
@@ -21,6 +26,45 @@ pub struct Scored {
     pub low: u32,
     /// The assertion, none exactly where `low` is 0.
     pub by: Option<Assertion>,
+}
+
+// Scored suffixes are compared by their low alone. The least low is the greatest, so that it leaves a heap first.
+impl PartialEq for Scored {
+    ghost eq = { λ a b. a.low == b.low };
+
+    ghost laws = { Prim.search (comparing, rules) };
+
+    fn eq(&self, other: &Scored) -> bool {
+        self.low == other.low
+    }
+}
+
+impl Eq for Scored {
+    ghost laws = { Prim.search (comparing, rules) };
+}
+
+impl Ord for Scored {
+    ghost cmp = { by_low };
+
+    ghost total = { Prim.search (comparing, rules) };
+
+    ghost matches_partial_cmp = { Prim.search (comparing, rules) };
+
+    ghost matches_eq = { Prim.search (comparing, rules) };
+
+    fn cmp(&self, other: &Scored) -> Ordering {
+        other.low.cmp(&self.low)
+    }
+}
+
+impl PartialOrd for Scored {
+    ghost partial_cmp = { as_partial_cmp by_low };
+
+    ghost laws = { partial_order_from_own_ties (Prim.search (comparing, rules)) (Prim.search (comparing, rules)) };
+
+    fn partial_cmp(&self, other: &Scored) -> Option<Ordering> {
+        Some(self.cmp(other))
+    }
 }
 
 // The suffix with one more candidate in front, scored from the one without.

@@ -1,5 +1,5 @@
 // The last candidates of an elimination order.
-ghost use Rattle.std.specs.Prelude.{◌≡◌, ◌<◌, ◌≤◌, ◌∷◌, [], IsTrue, IsFalse};
+ghost use Rattle.std.specs.Prelude.{◌≡◌, ◌<◌, ◌≤◌, ◌==◌, ◌∷◌, [], length, IsTrue, IsFalse};
 ghost use Rattle.irv_base.specs.Candidates.{is_in, set_of};
 ghost use Rattle.irv_base.specs.declared.limits.TheConstants.{ROOM};
 ghost use Rattle.assertions.specs.Suffixes.{is_suffix};
@@ -107,8 +107,27 @@ impl Tail {
         }
     }
 
-    // How many candidates the contest has.
-    pub(crate) fn candidates(&self) -> u32
+    /// Has it all candidates of the contest?
+    pub fn is_whole(&self) -> bool
+        ensures { result ≡ (length self.now.list == self.now.n) }
+    {
+        ROOM as usize - self.start == self.n as usize
+    }
+
+    /// The same suffix once more.
+    pub fn copied(&self) -> Tail
+        ensures { result ≡ self.now }
+    {
+        Tail {
+            n: self.n,
+            start: self.start,
+            set: self.set,
+            places: self.places,
+        }
+    }
+
+    /// How many candidates the contest has.
+    pub fn candidates(&self) -> u32
         ensures same { result ≡ self.now.n }
         ensures some { 1 ≤ result }
         ensures room { result ≤ ROOM }
@@ -116,14 +135,15 @@ impl Tail {
         self.n
     }
 
-    // The set of its candidates.
-    pub(crate) fn set(&self) -> CandSet
+    /// The set of its candidates.
+    pub fn set(&self) -> CandSet
         ensures { result ≡ set_of self.now.list }
     {
         self.set
     }
 
-    pub(crate) fn has(&self, c: Candidate) -> bool
+    /// Is the candidate in it?
+    pub fn has(&self, c: Candidate) -> bool
         ensures { result ≡ is_in self.now.list c }
     {
         self.set.has(c)

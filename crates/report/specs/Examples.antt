@@ -1,0 +1,27 @@
+-- The worked examples.
+use Rattle.std.specs.Prelude.{List, ℕ, [], ◌∷◌, ◌++◌, codes, replicate}
+use Rattle.irv_base.specs.Names.{Id}
+use Rattle.ballot_reader.specs.Ballots.{BallotFile}
+
+abbrev pub three_names : List Id
+three_names = codes "1" ∷ codes "2" ∷ codes "3" ∷ []
+
+-- five ballots 1, four 2,3 and three 3,2
+abbrev pub three_candidates : BallotFile
+three_candidates = record {
+  contest = codes "1";
+  candidates = three_names;
+  ids = [];
+  places = [];
+  rankings = replicate 5 (0 ∷ []) ++ replicate 4 (1 ∷ 2 ∷ []) ++ replicate 3 (2 ∷ 1 ∷ []);
+}
+
+-- four ballots B, three C, and one each of D,C and D and A,B
+abbrev pub county : BallotFile
+county = record {
+  contest = codes "county";
+  candidates = codes "A" ∷ codes "B" ∷ codes "C" ∷ codes "D" ∷ [];
+  ids = [];
+  places = [];
+  rankings = replicate 4 (1 ∷ []) ++ replicate 3 (2 ∷ []) ++ (3 ∷ 2 ∷ []) ∷ (3 ∷ []) ∷ (0 ∷ 1 ∷ []) ∷ [];
+}

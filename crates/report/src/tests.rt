@@ -1,0 +1,74 @@
+// The texts of small contests, byte for byte.
+ghost use Rattle.std.specs.Prelude.{length, IfOk};
+ghost use Rattle.irv_tabulator.specs.Results.{IsTabulation};
+
+use super::*;
+use assertions::Assertion;
+use ballot_reader::{Ballots, read_ballots};
+use irv_base::{CandSet, Candidate, Name, Order};
+use irv_tabulator::{TabFault, Tabulated, tabulate};
+use set_tallies::{Ahead, Bag, Tallies};
+use std::alloc::Global;
+
+const ONE: Candidate = Candidate(0);
+
+const TWO: Candidate = Candidate(1);
+
+const THREE: Candidate = Candidate(2);
+
+fn tabulated(alloc: Global, ballots: &Ballots) -> Result<Tabulated, TabFault>
+    ensures { IfOk result (IsTabulation (length (ballots.now).candidates) (ballots.now).rankings) }
+{
+    let n = ballots.candidates().len() as u32;
+    let bag = Bag::of(alloc, n, ballots.rankings())?;
+    let ahead = Ahead::fill(alloc, &bag)?;
+    let mut tallies = Tallies::new(alloc, &bag, &ahead)?;
+    tabulate(alloc, &mut tallies)
+}
+
+#[test]
+fn two_candidates(rt: HostRuntime) {
+    let file = b"1\nContest,7,2,A,B\n7,b_1,A\n7,b_2,B,A\n7,b_3,B\n7,b_4\n".as_slice();
+    let ballots = read_ballots(rt.alloc(), file, None).expect(&rt, "ballots");
+    match tabulated(rt.alloc(), &ballots) {
+        Ok(t) => {
+            let text = tabulation(rt.alloc(), &ballots, &t).expect(&rt, "text");
+            assert!(rt;
+                text.as_str()
+                    == "contest 7\nrecords 4\nround 1: A=1 B=2 exhausted=1\neliminated A\nwinner B\n"
+            );
+        }
+        Err(_) => assert!(rt; false),
+    }
+}
+
+fn three_names(rt: HostRuntime) -> [Name; 3] {
+    [
+        Name::read(b"1".as_slice()).expect(&rt, "name"),
+        Name::read(b"2".as_slice()).expect(&rt, "name"),
+        Name::read(b"3".as_slice()).expect(&rt, "name"),
+    ]
+}
+
+#[test]
+fn order_of_three(rt: HostRuntime) {
+    let names = three_names(rt);
+    let order = Order::read(3, [1, 0, 2].as_slice()).expect(&rt, "order");
+    let text = order_text(rt.alloc(), names.as_slice(), &order).expect(&rt, "text");
+    assert!(rt; text.as_str() == "2,1,3");
+}
+
+#[test]
+fn assertions_of_three(rt: HostRuntime) {
+    let names = three_names(rt);
+    let neb = Assertion::Neb { w: TWO, l: THREE };
+    let text = assertion_text(rt.alloc(), names.as_slice(), &neb).expect(&rt, "text");
+    assert!(rt; text.as_str() == "NEB 2 3");
+    let nen = Assertion::Nen {
+        w: THREE,
+        l: ONE,
+        rest: CandSet::empty().with(ONE).with(THREE),
+    };
+    let text = assertion_text(rt.alloc(), names.as_slice(), &nen).expect(&rt, "text");
+    assert!(rt; text.as_str() == "NEN 3 1 {1,3}");
+}

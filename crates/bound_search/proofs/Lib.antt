@@ -1,0 +1,5 @@
+pub mod Endings
+pub mod Sifting
+pub mod Keeping
+pub mod Turns
+pub mod Counting

@@ -1,0 +1,98 @@
+-- A front: the open suffixes of one piece, and what its turns say. A piece is the suffixes that end in one, and a bag stands for the
+-- records that it is of, whichever they are.
+use Rattle.std.specs.Prelude.{◌≡◌, ◌⊎◌, ℕ, ◌+◌, ◌<◌, ◌≤◌, min, List, [], ◌∷◌, ◌++◌, length, count_by, All, Contains, IsTrue}
+use Rattle.irv_base.specs.Orders.{is_order, EndsIn}
+use Rattle.assertions.specs.Suffixes.{is_suffix}
+use Rattle.assertions.specs.Hardness.{low}
+use Rattle.set_tallies.specs.Bags.{Kept, IsOf}
+use Rattle.suffix_tree.specs.Suffixes.{Suffix}
+use Rattle.suffix_tree.specs.Scores.{IsScoredOver}
+use Rattle.suffix_tree.specs.declared.scored.Scored.{Scored}
+use Rattle.bound_search.specs.Places.{EndsInOne, is_same, ends_in}
+use Rattle.bound_search.specs.declared.limits.TheConstants.{MOST_EXPANDED}
+use Rattle.bound_search.specs.declared.turn.Turn.{Turn}
+use Rattle.bound_search.specs.declared.turn.Turn.TheVariants.{Closed, Found, More, Spent}
+
+pub record Frontier : Type 0 where
+  pub piece : Suffix
+  -- the open ones
+  pub suffixes : List Scored
+  -- of the last turn
+  pub bound : ℕ
+  -- the least margin that was found
+  pub least : ℕ
+  -- how many suffixes were expanded
+  pub expanded : ℕ
+
+-- a suffix of the piece that isn't a whole order
+pub record IsPart (n : ℕ) (piece s : List ℕ) : Type 0 where
+  pub proper : IsTrue (is_suffix n s)
+  pub inside : EndsIn s piece
+  pub short : length s < n
+
+-- a suffix of the piece with its score
+pub record IsOpen (bag : Kept) (piece : List ℕ) (o : Scored) : Type 0 where
+  pub contest : o.tail.n ≡ bag.n
+  pub proper : IsTrue (is_suffix bag.n o.tail.list)
+  pub inside : EndsIn o.tail.list piece
+  pub scored : IsScoredOver bag o
+
+-- a front that has expanded these suffixes
+pub record IsAfter (bag : Kept) (done : List (List ℕ)) (f : Frontier) : Type 0 where
+  pub contest : f.piece.n ≡ bag.n
+  pub count : length done ≡ f.expanded
+  pub parts : All (IsPart bag.n f.piece.list) done
+  pub each : All (IsOpen bag f.piece.list) f.suffixes
+  -- a whole order is open only alone
+  pub alone : (o : Scored) → Contains f.suffixes o → length o.tail.list ≡ bag.n → f.suffixes ≡ o ∷ []
+  -- each suffix of the piece that is below the bound and the least margin found was expanded or ends in an open one
+  pub covers : (records : List (List ℕ)) → IsOf bag records → (s : List ℕ) → IsTrue (is_suffix bag.n s) → EndsIn s f.piece.list →
+      low bag.n records s < f.bound → low bag.n records s < f.least → Contains done s ⊎ EndsInOne f.suffixes s
+  -- none was expanded twice, or ends in two open ones, or was expanded and ends in an open one
+  pub once : (s : List ℕ) → count_by (is_same s) done + count_by (λ o. ends_in s o.tail.list) f.suffixes ≤ 1
+
+-- a front, whatever it has expanded
+abbrev pub IsFront : Kept → Frontier → Type 0
+IsFront bag f = (done : List (List ℕ)) × IsAfter bag done f
+
+-- below the limit
+abbrev pub AreBelow : Kept → ℕ → List (List ℕ) → Type 0
+AreBelow bag limit suffixes = (records : List (List ℕ)) → IsOf bag records → All (λ s. low bag.n records s < limit) suffixes
+
+-- what was expanded between two fronts under a bound: each ends in a suffix that was open at first, and is below the bound; each suffix
+-- that is open now ends in one that was
+pub record HasGrown (bag : Kept) (done : List (List ℕ)) (bound : ℕ) (old new : Frontier) : Type 0 where
+  pub more : List (List ℕ)
+  pub after : IsAfter bag (done ++ more) new
+  pub were_open : All (EndsInOne old.suffixes) more
+  pub below : AreBelow bag bound more
+  pub from_open : All (λ o. EndsInOne old.suffixes o.tail.list) new.suffixes
+
+abbrev pub Grows : Kept → ℕ → Frontier → Frontier → Type 0
+Grows bag bound old new = (done : List (List ℕ)) → IsAfter bag done old → HasGrown bag done bound old new
+
+-- ---- the answers of a turn
+
+-- an order of the piece, with its hardness
+pub record IsFound (bag : Kept) (piece order : List ℕ) (margin : ℕ) : Type 0 where
+  pub whole : IsTrue (is_order bag.n order)
+  pub inside : EndsIn order piece
+  pub hardness : (records : List (List ℕ)) → IsOf bag records → low bag.n records order ≡ margin
+
+-- no open suffix is below the bound
+abbrev pub IsClosed : Frontier → Type 0
+IsClosed f = All (λ o. f.bound ≤ o.low) f.suffixes
+
+-- one is, and none that is is a whole order
+pub record IsLeft (bag : Kept) (f : Frontier) : Type 0 where
+  pub one : Scored
+  pub still_open : Contains f.suffixes one
+  pub below : one.low < f.bound
+  pub parts : (o : Scored) → Contains f.suffixes o → o.low < f.bound → length o.tail.list < bag.n
+
+-- what a turn says, by the front before and after it
+abbrev pub IsTurn : Kept → ℕ → Frontier → Frontier → Turn → Type 0
+IsTurn bag left old new Closed = (new.least ≡ old.least) × IsClosed new
+IsTurn bag left old new (Found order margin) = IsFound bag old.piece.list order margin × (margin < new.bound) × (new.least ≡ min old.least margin)
+IsTurn bag left old new More = (new.least ≡ old.least) × (new.expanded ≡ old.expanded + MOST_EXPANDED) × IsLeft bag new
+IsTurn bag left old new Spent = (new.least ≡ old.least) × (new.expanded ≡ old.expanded + left) × (left < MOST_EXPANDED) × IsLeft bag new

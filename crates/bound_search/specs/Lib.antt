@@ -1,0 +1,5 @@
+pub mod Places
+pub mod Fronts
+pub mod Sifted
+pub mod Laws
+pub mod Race

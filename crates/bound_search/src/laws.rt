@@ -1,0 +1,17 @@
+// The laws of a front: each holds of every value that it names, and has no code.
+ghost use Rattle.bound_search.specs.Laws.{ClosedAbove, MostExpanded, LeastExpanded};
+
+/// Where no open suffix is below the bound, no order of the piece is below it and below the least margin found.
+pub fn closed_above()
+    ensures { ClosedAbove }
+{}
+
+/// No more were expanded than there are suffixes of the piece below the greatest bound.
+pub fn most_expanded()
+    ensures { MostExpanded }
+{}
+
+/// Where no open suffix is below the bound, no fewer were expanded than there are below it and below the least margin found.
+pub fn least_expanded()
+    ensures { LeastExpanded }
+{}

@@ -3,3 +3,5 @@ pub mod Sifting
 pub mod Keeping
 pub mod Turns
 pub mod Counting
+pub mod Racing
+pub mod Starts

@@ -3,3 +3,4 @@ pub mod Fronts
 pub mod Sifted
 pub mod Laws
 pub mod Race
+pub mod Reached

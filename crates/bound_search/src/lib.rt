@@ -7,11 +7,13 @@ mod ends;
 mod front;
 pub mod laws;
 mod limits;
+mod search;
 mod sift;
 mod turn;
 
 pub use ends::{RaceEnd, RaceFault};
 pub use front::Front;
 pub use limits::MOST_EXPANDED;
+pub use search::race;
 pub use turn::Turn;
 

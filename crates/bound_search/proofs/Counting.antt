@@ -15,7 +15,7 @@ use Rattle.assertions.proofs.Enumerated.{suffix_test, from_suffixes_ending, suff
 use Rattle.assertions.proofs.Listings.{parts_ending_are}
 use Rattle.set_tallies.specs.Bags.{Kept, IsOf}
 use Rattle.suffix_tree.specs.declared.scored.Scored.{Scored}
-use Rattle.bound_search.specs.Places.{is_same, ends_in}
+use Rattle.bound_search.specs.Places.{EndsInOne, is_same, ends_in}
 use Rattle.bound_search.specs.Fronts.{Frontier, IsPart, IsOpen, IsAfter, IsFront, IsClosed, IsLeft, AreBelow}
 use Rattle.bound_search.specs.Laws.{is_part_below, suffixes_of}
 use Rattle.bound_search.proofs.Endings.{bit, low_in, same-self, ends-self, same-from, ends-from, one_place, distinct-filter, order_is_suffix}
@@ -138,7 +138,18 @@ least_expanded bag records f of piece (done, k) closed =
               absurd (omega (arith, e, up, le, l))
         ]
 
--- where no open suffix is below the bound, no order of the piece is below it and below the least margin found
+-- an order of the piece below the bound and below the least margin found ends in an open suffix
+pub orders_stay_open : (bag : Kept) (records : List (List ℕ)) (f : Frontier) → IsOf bag records → IsFront bag f → (s : List ℕ) → is_order bag.n s ≡ true → EndsIn s f.piece.list →
+    low bag.n records s < f.bound → low bag.n records s < f.least → EndsInOne f.suffixes s
+orders_stay_open bag records f of (done, k) s h inside l m =
+    elim (k.covers records of s (order_is_suffix bag.n s h) inside l m) [
+      | inl d ↦
+          let p : IsPart bag.n f.piece.list s = All-contains (IsPart bag.n f.piece.list) done s k.parts d in
+          absurd (omega (arith, p.short, (order_facts bag.n s h).long))
+      | inr o ↦ o
+    ]
+
+-- where no open suffix is below the bound, none is
 pub closed_above : (bag : Kept) (records : List (List ℕ)) (f : Frontier) → IsOf bag records → IsFront bag f → IsClosed f → (s : List ℕ) → is_order bag.n s ≡ true → EndsIn s f.piece.list →
     (f.bound ≤ low bag.n records s) ⊎ (f.least ≤ low bag.n records s)
 closed_above bag records f of (done, k) closed s h inside =
@@ -146,16 +157,12 @@ closed_above bag records f of (done, k) closed s h inside =
       | inr le ↦ inl le
       | inl l ↦ elim (cases_lt (low bag.n records s) f.least) [
         | inr le ↦ inr le
-        | inl m ↦ elim (k.covers records of s (order_is_suffix bag.n s h) inside l m) [
-          | inl d ↦
-              let p : IsPart bag.n f.piece.list s = All-contains (IsPart bag.n f.piece.list) done s k.parts d in
-              absurd (omega (arith, p.short, (order_facts bag.n s h).long))
-          | inr (o, open_one, ends) ↦
-              let e = open_low bag f.piece.list o (All-contains (IsOpen bag f.piece.list) f.suffixes o k.each open_one) records of in
-              let up : f.bound ≤ o.low = All-contains (λ (o : Scored). f.bound ≤ o.low) f.suffixes o closed open_one in
-              let le = low_in bag.n records s o.tail.list (order_is_suffix bag.n s h) ends in
-              absurd (omega (arith, e, up, le, l))
-        ]
+        | inl m ↦
+            let (o, open_one, ends) = orders_stay_open bag records f of (done, k) s h inside l m in
+            let e = open_low bag f.piece.list o (All-contains (IsOpen bag f.piece.list) f.suffixes o k.each open_one) records of in
+            let up : f.bound ≤ o.low = All-contains (λ (o : Scored). f.bound ≤ o.low) f.suffixes o closed open_one in
+            let le = low_in bag.n records s o.tail.list (order_is_suffix bag.n s h) ends in
+            absurd (omega (arith, e, up, le, l))
       ]
     ]
 

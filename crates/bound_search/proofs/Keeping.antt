@@ -16,7 +16,7 @@ use Rattle.suffix_tree.specs.Scores.{IsScoredOver}
 use Rattle.suffix_tree.specs.declared.scored.Scored.{Scored}
 use Rattle.suffix_tree.proofs.Tails.{suffix_more, suffix-short}
 use Rattle.bound_search.specs.Places.{EndsInOne, is_same, ends_in}
-use Rattle.bound_search.specs.Fronts.{Frontier, IsPart, IsOpen, IsAfter, IsFound}
+use Rattle.bound_search.specs.Fronts.{Frontier, IsPart, IsOpen, IsAfter, IsFront, IsFound}
 use Rattle.bound_search.specs.Sifted.{IsPlaced, IsFoundWithin, IsOpenChild, IsFoundChild, Replaced, IsPut, IsNewlyFound, IsExpanded, IsFirst, least_after}
 use Rattle.bound_search.proofs.Endings.{bit, grows, low_in, whole_ends, whole_is_order, ends_more, child-of, child-at, places_of_children}
 use Rattle.bound_search.proofs.Sifting.{one_contained, only_contained, all_from_contained}
@@ -231,6 +231,17 @@ after_start bag f start scored piece items none =
       covers = λ records of s h inside l m. inr (start, subst (λ x. Contains x start) (sym items) (one_contained start), subst (EndsIn s) list inside);
       once = λ s. omega (arith, count_by-le-length (λ (o : Scored). ends_in s o.tail.list) f.suffixes, ap length items);
     }
+
+pub front_start : (bag : Kept) (f : Frontier) (start : Scored) → start.tail.n ≡ bag.n → is_suffix start.tail.n start.tail.list ≡ true → IsScoredOver bag start → f.piece ≡ start.tail → f.suffixes ≡ start ∷ [] → f.expanded ≡ 0 →
+    IsFront bag f
+front_start bag f start number proper scored piece items none =
+    let opened : IsOpen bag start.tail.list start = record {
+      contest = number;
+      proper = subst (λ n. is_suffix n start.tail.list ≡ true) number proper;
+      inside = ([], refl);
+      scored = scored;
+    } in
+    ([], after_start bag f start opened piece items none)
 
 -- ---- a put, as the code gives it
 least_after-le : (m : ℕ) (found : Option Scored) → least_after m found ≤ m

@@ -1,9 +1,10 @@
 -- What a front says of the orders and the suffixes of its piece.
-use Rattle.std.specs.Prelude.{◌⊎◌, ℕ, ◌-◌, ◌≤◌, Bool, ◌&&◌, nat_lt, List, length, min, count_by, IsTrue}
+use Rattle.std.specs.Prelude.{◌⊎◌, ℕ, ◌-◌, ◌<◌, ◌≤◌, Bool, ◌&&◌, nat_lt, List, length, min, count_by, IsTrue}
 use Rattle.irv_base.specs.Orders.{is_order, EndsIn}
 use Rattle.assertions.specs.Suffixes.{is_suffix, suffixes_ending}
 use Rattle.assertions.specs.Hardness.{low}
 use Rattle.set_tallies.specs.Bags.{Kept, IsOf}
+use Rattle.bound_search.specs.Places.{EndsInOne}
 use Rattle.bound_search.specs.Fronts.{Frontier, IsAfter, IsFront, IsClosed, AreBelow}
 
 abbrev pub suffixes_of : ℕ → List ℕ → List (List ℕ)
@@ -12,6 +13,12 @@ suffixes_of n piece = suffixes_ending n (n - length piece) piece
 -- a suffix that isn't a whole order, of a low below the limit
 abbrev pub is_part_below : ℕ → List (List ℕ) → ℕ → List ℕ → Bool
 is_part_below n records limit s = nat_lt (length s) n && nat_lt (low n records s) limit
+
+-- each order of the piece below the bound and below the least margin found ends in an open suffix
+abbrev pub OrdersStayOpen : Type 0
+OrdersStayOpen =
+    (bag : Kept) (records : List (List ℕ)) (f : Frontier) → IsOf bag records → IsFront bag f → (order : List ℕ) → IsTrue (is_order bag.n order) → EndsIn order f.piece.list →
+    low bag.n records order < f.bound → low bag.n records order < f.least → EndsInOne f.suffixes order
 
 -- where no open suffix is below the bound, no order of the piece is below it and below the least margin found
 abbrev pub ClosedAbove : Type 0

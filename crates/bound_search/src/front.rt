@@ -1,5 +1,8 @@
 // The open suffixes of one piece.
 ghost use Rattle.std.specs.Prelude.{◌≡◌, ◌+◌, ◌^◌, ◌<◌, ◌∷◌, [], length, IfOk, OnErr, Some, slice_get};
+ghost use Rattle.set_tallies.specs.Bags.{Kept};
+ghost use Rattle.suffix_tree.specs.Scores.{IsScoredOver};
+ghost use Rattle.bound_search.specs.Fronts.{IsFront};
 ghost use Rattle.bound_search.specs.Sifted.{IsLook, IsPut, IsTaken};
 
 use crate::sift::{lessened, replace_first, sift};
@@ -46,6 +49,7 @@ pub enum Look {
 impl Front {
     /// The suffix alone, open. It is what `score` gives of its tail; all turns are over the tallies that it was scored with.
     pub fn new(alloc: Global, start: Scored) -> Result<Front, Memory>
+        ensures front { IfOk result (λ f. (bag : Kept) → start.tail.n ≡ bag.n → IsScoredOver bag start → IsFront bag f) }
         ensures piece { IfOk result (λ f. f.piece ≡ start.tail) }
         ensures alone { IfOk result (λ f. f.suffixes ≡ start ∷ []) }
         ensures unbounded { IfOk result (λ f. f.bound ≡ u32.MAX) }
@@ -53,6 +57,7 @@ impl Front {
         ensures none_expanded { IfOk result (λ f. f.expanded ≡ 0) }
     {
         let piece = start.tail.copied();
+        let _suffix = start.tail.list();
         let mut suffixes = BinaryHeap::new(alloc);
         suffixes.push(start)?;
         Ok(Front {

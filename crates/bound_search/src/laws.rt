@@ -1,5 +1,10 @@
 // The laws of a front: each holds of every value that it names, and has no code.
-ghost use Rattle.bound_search.specs.Laws.{ClosedAbove, MostExpanded, LeastExpanded};
+ghost use Rattle.bound_search.specs.Laws.{OrdersStayOpen, ClosedAbove, MostExpanded, LeastExpanded};
+
+/// Each order of the piece below the bound and below the least margin found ends in an open suffix.
+pub fn orders_stay_open()
+    ensures { OrdersStayOpen }
+{}
 
 /// Where no open suffix is below the bound, no order of the piece is below it and below the least margin found.
 pub fn closed_above()

@@ -17,3 +17,6 @@ pub use limits::MOST_EXPANDED;
 pub use search::race;
 pub use turn::Turn;
 
+
+#[cfg(test)]
+mod tests;

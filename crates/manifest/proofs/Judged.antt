@@ -1,7 +1,7 @@
 -- What is judged of a batch's record.
 use Rattle.std.proofs.Common.{◌≡◌, ◌∙◌, ◌∷◌, [], ℕ, true, false, List, Err, refl, sym, ap}
 use Rattle.irv_base.specs.Names.{Id, is_among}
-use Rattle.ballot_reader.specs.Rows.{Fields}
+use Rattle.csv_rows.specs.Rows.{Fields}
 use Rattle.manifest.specs.Cards.{is_batch_id}
 use Rattle.manifest.specs.Manifest.{batch_of, batch_with, number_of}
 use Rattle.manifest.specs.declared.fault.MRule.TheVariants.{M4}

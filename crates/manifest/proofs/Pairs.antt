@@ -2,7 +2,7 @@
 use Rattle.std.proofs.Common.{◌≡◌, ◌∷◌, [], ℕ, List, Option, Some, None, length, ap, refl, arith}
 use Rattle.std.specs.Prelude.{IfNone}
 use Rattle.csv.specs.Records.{field_at}
-use Rattle.ballot_reader.specs.Rows.{Fields}
+use Rattle.csv_rows.specs.Rows.{Fields}
 
 pub one_field : (fields : Fields) (a : List ℕ) → length fields ≡ 1 → field_at fields 0 ≡ Some a → fields ≡ a ∷ []
 unfolding field_at

@@ -7,7 +7,7 @@ use Rattle.std.proofs.lemmas.List.Folds.{list_all-append}
 use Rattle.std.proofs.lemmas.List.Sums.{sum_by_push}
 use Rattle.irv_base.specs.Names.{Id, is_among}
 use Rattle.ballot_reader.proofs.Ids.{differ-push}
-use Rattle.ballot_reader.specs.Rows.{Fields}
+use Rattle.csv_rows.specs.Rows.{Fields}
 use Rattle.manifest.proofs.CardAt.{sum-cons}
 use Rattle.manifest.specs.Cards.{AreBatches, is_batch_id, is_count}
 use Rattle.manifest.specs.Firsts.{firsts_from, IsManifest}

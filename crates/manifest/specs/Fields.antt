@@ -1,8 +1,8 @@
 -- The records of a manifest that have a number: their fields without the blanks round them.
 use Rattle.std.specs.Prelude.{ℕ, Bool, false, not, ◌||◌, ◌==◌, nat_eq, if◌then◌else◌, List, [], ◌∷◌, map, filter, drop, length}
 use Rattle.std.specs.List.{list_all, starts_with}
-use Rattle.ballot_reader.specs.FirstForm.{byte_order_mark}
-use Rattle.ballot_reader.specs.Rows.{Fields, records_of}
+use Rattle.csv_rows.specs.Fields.{byte_order_mark}
+use Rattle.csv_rows.specs.Rows.{Fields, records_of}
 
 -- a space or a tab
 abbrev pub is_blank : ℕ → Bool

@@ -3,7 +3,7 @@ use Rattle.std.specs.Prelude.{ℕ, ◌+◌, Bool, false, not, ◌&&◌, ◌||◌
 use Rattle.std.specs.Char.{is_ascii_digit}
 use Rattle.std.specs.List.{list_all, sum}
 use Rattle.std.specs.Str.Parse.{digits_value}
-use Rattle.ballot_reader.specs.Rows.{Fields}
+use Rattle.csv_rows.specs.Rows.{Fields}
 use Rattle.irv_base.specs.Names.{Id, is_same, is_among}
 use Rattle.manifest.specs.Cards.{Batches, is_batch_id, is_count}
 use Rattle.manifest.specs.Fields.{numbered_records}

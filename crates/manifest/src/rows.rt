@@ -1,7 +1,7 @@
 // The records of a manifest, one after the other.
 ghost use Rattle.std.specs.Prelude.{◌≡◌, ◌∷◌, [], if◌then◌else◌, IfOk};
 ghost use Rattle.csv.specs.Records.{fields_of};
-ghost use Rattle.ballot_reader.specs.Rows.{records_of};
+ghost use Rattle.csv_rows.specs.Rows.{records_of};
 ghost use Rattle.manifest.specs.Fields.{is_blank_record, numbered, trimmed_fields};
 
 use crate::trim::trimmed;
@@ -19,7 +19,7 @@ pub struct Rows<'t> {
 
 impl<'t> Model for Rows<'t> {
     ghost use Rattle.std.specs.Prelude.{◌≡◌, false, List};
-    ghost use Rattle.ballot_reader.specs.Rows.{Fields, IsBetweenRecords, records_left};
+    ghost use Rattle.csv_rows.specs.Rows.{Fields, IsBetweenRecords, records_left};
 
     ghost Value = { List Fields };
 

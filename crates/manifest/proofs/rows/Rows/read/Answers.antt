@@ -2,8 +2,8 @@ use Rattle.std.proofs.Common.{not, Bor, List, ℕ, Bool, ◌≡◌, ◌∙◌, �
 use Rattle.std.proofs.lemmas.Bool.{not-false}
 use Rattle.csv.specs.Records.{fields_of}
 use Rattle.csv.specs.declared.reader.Reader.{Reader}
-use Rattle.ballot_reader.specs.Rows.{Fields, records_left, bytes_left}
-use Rattle.ballot_reader.proofs.Reading.{TakesOff, read-takes_off, read-between}
+use Rattle.csv_rows.specs.Rows.{Fields, records_left, bytes_left}
+use Rattle.csv_rows.proofs.Reading.{TakesOff, read-takes_off, read-between}
 use Rattle.manifest.proofs.rows.Rows.read.Goals as goal
 
 -- what is left after a read that takes a record off or comes to the end

@@ -1,0 +1,20 @@
+//! Files of comma-separated records as the suite reads them: without a byte order mark, blank records passed over, and no
+//! blanks round a field.
+#![tactic(auto)]
+
+mod fields;
+mod limits;
+mod mark;
+mod number;
+mod rows;
+mod trim;
+
+pub use fields::Fields;
+pub use limits::MOST_NUMBER_DIGITS;
+pub use mark::without_mark;
+pub use number::number_of;
+pub use rows::Rows;
+pub use trim::trimmed;
+
+#[cfg(test)]
+mod tests;

@@ -1,11 +1,11 @@
 -- How many suffixes a front expands.
-use Rattle.std.proofs.Common.{◌≡◌, inl, inr, ℕ, zero, suc, ◌+◌, ◌-◌, ◌<◌, ◌≤◌, Bool, true, false, not, ◌&&◌, nat_lt, cond, min, List, [], ◌∷◌, ◌++◌, filter, flat_map, length, count_by, if◌then◌else◌, All, Contains, refl, sym, ap, subst, arith, lt-ltb, ltb-true, length-append, ◌⊎◌, ◌∙◌}
+use Rattle.std.proofs.Common.{◌≡◌, inl, inr, ℕ, zero, suc, ◌+◌, ◌-◌, ◌<◌, ◌≤◌, Bool, true, false, not, ◌&&◌, nat_lt, cond, min, List, [], ◌∷◌, ◌++◌, filter, flat_map, length, count_by, if◌then◌else◌, refl, sym, ap, subst, arith, lt-ltb, ltb-true, length-append, ◌⊎◌}
 use Rattle.std.proofs.lemmas.Bool.{and_parts, and_from, cases_Bool, cases_lt}
 use Rattle.std.proofs.lemmas.List.Sums.{sum_by-append, sum_by-cons, length-filter, count_by-le-length}
 use Rattle.std.proofs.lemmas.List.Elements.{All-contains}
 use Rattle.irv_base.specs.Candidates.{candidates, is_in}
 use Rattle.irv_base.specs.Orders.{is_order, EndsIn}
-use Rattle.irv_base.proofs.Members.{Member, here, there, member_cases, member_nil, member-append_left, member-append_right, member-append_cases, from_filter, contains-from_member, member-from_contains}
+use Rattle.irv_base.proofs.Members.{Member, here, there, member_cases, member-append_left, member-append_right, member-append_cases, from_filter, contains-from_member, member-from_contains}
 use Rattle.irv_base.proofs.Distinct.{none, distinct-range}
 use Rattle.irv_base.proofs.Orders.{order_facts}
 use Rattle.assertions.specs.Suffixes.{is_suffix, suffixes_ending, parts_ending}
@@ -18,7 +18,7 @@ use Rattle.suffix_tree.specs.declared.scored.Scored.{Scored}
 use Rattle.bound_search.specs.Places.{EndsInOne, is_same, ends_in}
 use Rattle.bound_search.specs.Fronts.{Frontier, IsPart, IsOpen, IsAfter, IsFront, IsClosed, IsLeft, AreBelow}
 use Rattle.bound_search.specs.Laws.{is_part_below, suffixes_of}
-use Rattle.bound_search.proofs.Endings.{bit, low_in, same-self, ends-self, same-from, ends-from, one_place, distinct-filter, order_is_suffix}
+use Rattle.bound_search.proofs.Endings.{low_in, same-self, ends-self, same-from, one_place, distinct-filter, order_is_suffix}
 use Rattle.bound_search.proofs.Keeping.{open_low}
 
 split : {X : Type 0} {x : X} {ys : List X} → Member x ys → (a : List X) × (b : List X) × (ys ≡ a ++ x ∷ b)
@@ -179,9 +179,10 @@ one_more bag records done limit c f of k below piece inside left le =
           subst (λ (y : List ℕ). Member y (parts_ending bag.n c) × (nat_lt (low bag.n records y) limit ≡ true)) e
           (listed t (record { proper = o.proper; inside = o.inside; short = left.parts left.one left.still_open left.below }), lt-ltb (low bag.n records t) limit low_one)
       | inr m' ↦
-          let d = contains-from_member m' in
-          (listed x (All-contains (IsPart bag.n f.piece.list) done x k.parts d),
-          lt-ltb (low bag.n records x) limit (All-contains (λ s. low bag.n records s < limit) done x (below records of) d))
+          let d = contains-from_member m' in (
+            listed x (All-contains (IsPart bag.n f.piece.list) done x k.parts d),
+            lt-ltb (low bag.n records x) limit (All-contains (λ s. low bag.n records s < limit) done x (below records of) d),
+          )
     ]) in
     omega (arith, all, k.count)
   where

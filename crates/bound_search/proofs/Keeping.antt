@@ -1,23 +1,21 @@
 -- What a front keeps, as suffixes are expanded, orders taken and bounds lowered.
-use Rattle.std.proofs.Common.{◌≡◌, ◌⊎◌, inl, inr, ℕ, ◌+◌, ◌<◌, ◌≤◌, Bool, true, false, ◌==◌, List, [], ◌∷◌, ◌++◌, map, length, count_by, All, Contains, Option, Some, None, IfSome, slice_get, get_or, min, refl, sym, ap, subst, arith, le_trans, length-append, append-nil, append_assoc, eqb-true, eq-eqb, ◌∙◌}
+use Rattle.std.proofs.Common.{◌≡◌, ◌⊎◌, inl, inr, ℕ, ◌+◌, ◌<◌, ◌≤◌, Bool, true, false, ◌==◌, List, [], ◌∷◌, ◌++◌, map, length, count_by, All, Contains, Option, Some, None, IfSome, slice_get, min, refl, sym, ap, subst, arith, le_trans, length-append, eq-eqb, ◌∙◌}
 use Rattle.std.specs.List.Sorted.{IsPermutation}
-use Rattle.std.proofs.lemmas.Bool.{eqb-false, cases_Bool, cases_lt}
+use Rattle.std.proofs.lemmas.Bool.{eqb-false, cases_lt}
 use Rattle.std.proofs.lemmas.List.Sorted.{All-permutation, Contains-permutation, IsPermutation-sym, length_permutation, sum_by_popped, sum_by-IsPermutation}
 use Rattle.std.proofs.lemmas.List.Sums.{sum_by-append, count_by-le-length}
 use Rattle.std.proofs.lemmas.List.Elements.{All-cons, All-nil, All-tail, All-weaker, All-append, All-contains, Contains-append_left, Contains-append_right, Contains-append_cases}
-use Rattle.irv_base.specs.Candidates.{is_in}
-use Rattle.irv_base.specs.Orders.{is_order, EndsIn}
-use Rattle.irv_base.proofs.Orders.{order_facts}
+use Rattle.irv_base.specs.Orders.{EndsIn}
 use Rattle.assertions.specs.Suffixes.{is_suffix}
 use Rattle.assertions.specs.Hardness.{low}
 use Rattle.set_tallies.specs.Bags.{Kept, IsOf}
-use Rattle.suffix_tree.specs.Suffixes.{Suffix, with_front, children}
+use Rattle.suffix_tree.specs.Suffixes.{Suffix, children}
 use Rattle.suffix_tree.specs.Scores.{IsScoredOver}
 use Rattle.suffix_tree.specs.declared.scored.Scored.{Scored}
 use Rattle.suffix_tree.proofs.Tails.{suffix_more, suffix-short}
 use Rattle.bound_search.specs.Places.{EndsInOne, is_same, ends_in}
 use Rattle.bound_search.specs.Fronts.{Frontier, IsPart, IsOpen, IsAfter, IsFront, IsFound}
-use Rattle.bound_search.specs.Sifted.{IsPlaced, IsFoundWithin, IsOpenChild, IsFoundChild, Replaced, IsPut, IsNewlyFound, IsExpanded, IsFirst, least_after}
+use Rattle.bound_search.specs.Sifted.{IsPlaced, IsFoundWithin, IsOpenChild, IsFoundChild, IsPut, IsNewlyFound, IsExpanded, IsFirst, least_after}
 use Rattle.bound_search.proofs.Endings.{bit, grows, low_in, whole_ends, whole_is_order, ends_more, child-of, child-at, places_of_children}
 use Rattle.bound_search.proofs.Sifting.{one_contained, only_contained, all_from_contained}
 
@@ -166,10 +164,10 @@ module _ (bag : Kept) (done : List (List ℕ)) (f : Frontier) (t : Scored) (rest
           once = λ s. subst (λ x. count_by (is_same s) (done ++ t.tail.list ∷ []) + count_by (λ o. ends_in s o.tail.list) x ≤ 1) (sym items) (new_once s);
         }
 
-    pub put_found : (o : Scored) → IsFoundChild cs f.bound o → ((length o.tail.list == o.tail.n) ≡ true) × IsFound bag f.piece.list o.tail.list o.low × (o.low < f.bound)
+    pub put_found : (o : Scored) → IsFoundChild cs f.bound o → ((length o.tail.list == o.tail.n) ≡ true) × IsFound bag f.piece.list o.tail.list o.low × EndsInOne f.suffixes o.tail.list × (o.low < f.bound)
     put_found o h =
         let s = child_open o h.one in
-        (eq-eqb (length o.tail.list) o.tail.n h.whole, open_found bag f.piece.list o s (h.whole ∙ s.contest), h.below)
+        (eq-eqb (length o.tail.list) o.tail.n h.whole, open_found bag f.piece.list o s (h.whole ∙ s.contest), child_from o h.one, h.below)
 
   -- ---- or is a whole order
   no_more : length t.tail.list ≡ bag.n → (o : Scored) → Contains rest o → ⊥
@@ -285,8 +283,8 @@ module _ (bag : Kept) (old new : Frontier) (t : Scored) (cs : List Scored) (foun
   newly done k None e = put.least ∙ ap (least_after old.least) e
   newly done k (Some o) e =
       let one : IsFoundChild cs old.bound o = subst (λ x. IfSome x (IsFoundChild cs old.bound)) e put.found_one in
-      let (a, b, c) = put_found bag done old put.replaced.top put.replaced.rest k put.replaced.taken (top_short done k) put.fresh new.suffixes cs found put.replaced.joined top_children scored put.placed put.stays put.counts o one in
-      (a, b, c, put.least ∙ ap (least_after old.least) e)
+      let (a, b, c, d) = put_found bag done old put.replaced.top put.replaced.rest k put.replaced.taken (top_short done k) put.fresh new.suffixes cs found put.replaced.joined top_children scored put.placed put.stays put.counts o one in
+      (a, b, c, d, put.least ∙ ap (least_after old.least) e)
 
   pub put_expands : (done : List (List ℕ)) → IsAfter bag done old → IsExpanded bag old new found
   put_expands done k = record {

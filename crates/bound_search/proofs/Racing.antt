@@ -1,12 +1,12 @@
 -- Pieces that are searched, and the best margin.
-use Rattle.std.proofs.Common.{◌≡◌, ◌≢◌, ◌⊎◌, inl, inr, ℕ, ◌+◌, ◌<◌, ◌≤◌, Bool, true, false, not, nat_lt, List, [], ◌∷◌, ◌++◌, All, Contains, count_by, refl, sym, ap, subst, arith, le_trans, le_antisymm, length-append, ◌∙◌}
+use Rattle.std.proofs.Common.{◌≡◌, ◌≢◌, inl, inr, ℕ, ◌+◌, ◌<◌, ◌≤◌, Bool, true, false, not, nat_lt, List, [], ◌∷◌, ◌++◌, count_by, refl, sym, ap, subst, arith, le_trans, le_antisymm, length-append, ◌∙◌}
 use Rattle.std.proofs.lemmas.Bool.{cases_eq}
 use Rattle.std.proofs.lemmas.List.Elements.{All-append, All-nil, All-weaker}
 use Rattle.irv_base.specs.Orders.{is_order, EndsIn, Elects}
-use Rattle.irv_base.proofs.Members.{Member, here, member-append_right, member-from_contains}
+use Rattle.irv_base.proofs.Members.{Member, here, member-append_right}
 use Rattle.irv_base.proofs.Orders.{order_facts}
-use Rattle.assertions.specs.Suffixes.{IsAlternative, alternative_orders, parts_ending, is_suffix}
-use Rattle.assertions.specs.Hardness.{low, best_margin, first_bound, start_order}
+use Rattle.assertions.specs.Suffixes.{parts_ending, is_suffix}
+use Rattle.assertions.specs.Hardness.{low, best_margin, first_bound}
 use Rattle.assertions.proofs.Alternatives.{best-le, best_is}
 use Rattle.assertions.proofs.Endings.{from_alternative, alternative-member, one_alone}
 use Rattle.assertions.proofs.Enumerated.{suffix_test}
@@ -14,9 +14,9 @@ use Rattle.set_tallies.specs.Bags.{Kept, IsOf}
 use Rattle.suffix_tree.specs.Scores.{IsScoredOver}
 use Rattle.suffix_tree.specs.declared.scored.Scored.{Scored}
 use Rattle.irv_tabulator.specs.declared.tabulated.Tabulated.{Tabulated}
-use Rattle.bound_search.specs.Fronts.{Frontier, IsOpen, IsAfter, IsFront, IsClosed, AreBelow, HasGrown, Grows, IsFound, IsLeft, IsTurn}
-use Rattle.bound_search.specs.Reached.{IsReached, IsNoWorse, IsSearched, AreSearched, HasMore, IsStopped}
-use Rattle.bound_search.specs.Race.{IsBest, IsSpent, IsTooMuch, work}
+use Rattle.bound_search.specs.Fronts.{Frontier, IsOpen, IsAfter, IsFront, AreBelow, HasGrown, Grows, IsFound, IsTurn}
+use Rattle.bound_search.specs.Reached.{IsReached, IsNoWorse, IsSearched, AreSearched, IsStopped}
+use Rattle.bound_search.specs.Race.{IsBest, IsSpent, work}
 use Rattle.bound_search.specs.declared.ends.RaceEnd.{RaceEnd}
 use Rattle.bound_search.specs.declared.ends.RaceFault.{RaceFault}
 use Rattle.bound_search.specs.declared.ends.RaceFault.TheVariants.{Spent, Memory}
@@ -49,8 +49,7 @@ under_start bag limit c f start below number list scored piece items none =
 
 pub under_turn : (bag : Kept) (limit bound : ℕ) (old new : Frontier) → IsUnder bag limit old → bound ≤ limit → Grows bag bound old new → IsUnder bag limit new
 under_turn bag limit bound old new (done, k, below) le grows =
-    let g : HasGrown bag done bound old new = grows done k in
-    (
+    let g : HasGrown bag done bound old new = grows done k in (
       done ++ g.more,
       g.after,
       λ records of. All-append (λ s. low bag.n records s < limit) done g.more (below records of)
@@ -72,8 +71,8 @@ pub after_found : (bag : Kept) (left c : ℕ) (old new : Frontier) (best end : R
     IsNoWorse bag (c ∷ []) best (record { margin = margin; order = order }) × (margin < end.margin) × (margin ≤ new.least)
 after_found bag left c old new best end t order margin e h piece bound least less =
     let h' : IsTurn bag left old new (Found order margin) = subst (IsTurn bag left old new) e h in
-    let lower : margin < end.margin = omega (arith, h'.1, bound) in
-    (inr (subst (λ p. IsFound bag p order margin) piece h'.0, (omega (arith, lower, less))), lower, (omega (arith, h'.2, lower, least)))
+    let lower : margin < end.margin = omega (arith, h'.2, bound) in
+    (inr (subst (λ p. IsFound bag p order margin) piece h'.0, (omega (arith, lower, less))), lower, (omega (arith, h'.3, lower, least)))
 
 pub after_more : (bag : Kept) (left : ℕ) (old new : Frontier) (t : Turn) → t ≡ More → IsTurn bag left old new t → (new.least ≡ old.least) × (new.expanded ≡ old.expanded + 64)
 after_more bag left old new t e h = let h' : IsTurn bag left old new More = subst (IsTurn bag left old new) e h in (h'.0, h'.1)

@@ -1,5 +1,5 @@
 -- The order that the search starts from, as a suffix that grows from its end.
-use Rattle.std.proofs.Common.{◌≡◌, inl, inr, ℕ, zero, suc, ◌+◌, ◌-◌, ◌<◌, ◌≤◌, Bool, true, false, cond, ◌==◌, List, [], ◌∷◌, ◌++◌, length, drop, get_or, reverse, Contains, Option, Some, None, refl, sym, ap, subst, arith, length-append, append_assoc, ◌∙◌}
+use Rattle.std.proofs.Common.{◌≡◌, inl, inr, ℕ, zero, suc, ◌+◌, ◌-◌, ◌<◌, ◌≤◌, Bool, true, false, cond, ◌==◌, List, [], ◌∷◌, ◌++◌, length, drop, get_or, reverse, Some, None, refl, sym, ap, subst, arith, append_assoc, ◌∙◌}
 use Rattle.std.proofs.lemmas.List.{drop_more, get_or_append_left, get_or-append-add, reverse-append, reverse-reverse}
 use Rattle.std.proofs.Math.Seq.{drop-append_seam}
 use Rattle.irv_base.specs.Candidates.{is_in}
@@ -11,7 +11,7 @@ use Rattle.assertions.specs.Suffixes.{is_suffix, IsAlternative}
 use Rattle.assertions.specs.Hardness.{low, start_order, with_first_two_exchanged}
 use Rattle.assertions.proofs.Endings.{suffix_facts}
 use Rattle.assertions.proofs.Listings.{start_is_alternative}
-use Rattle.set_tallies.specs.Bags.{Kept, IsOf}
+use Rattle.set_tallies.specs.Bags.{Kept}
 use Rattle.suffix_tree.specs.Suffixes.{Suffix, whole}
 use Rattle.suffix_tree.specs.Scores.{IsScoredOver}
 use Rattle.suffix_tree.specs.declared.scored.Scored.{Scored}

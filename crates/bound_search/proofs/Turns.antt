@@ -1,14 +1,13 @@
 -- What the steps of a turn come to.
-use Rattle.std.proofs.Common.{◌≡◌, inl, inr, ℕ, ◌+◌, ◌<◌, ◌≤◌, Bool, true, false, ◌==◌, List, [], ◌∷◌, ◌++◌, length, All, Contains, Option, Some, None, Result, Ok, Err, IfOk, slice_get, min, refl, sym, ap, subst, arith, append-nil, append_assoc, eqb-true, ◌∙◌}
+use Rattle.std.proofs.Common.{◌≡◌, inl, inr, ℕ, ◌<◌, ◌≤◌, true, false, ◌==◌, List, [], ◌∷◌, ◌++◌, length, All, Contains, Option, Some, None, Result, Ok, Err, IfOk, slice_get, refl, sym, subst, arith, append-nil, append_assoc, eqb-true, ◌∙◌}
 use Rattle.std.proofs.lemmas.Bool.{eqb-false, cases_lt}
 use Rattle.std.proofs.lemmas.List.Elements.{All-cons, All-nil, All-weaker, All-append, All-contains}
-use Rattle.irv_base.specs.Orders.{EndsIn}
 use Rattle.assertions.specs.Hardness.{low}
-use Rattle.set_tallies.specs.Bags.{Kept, IsOf}
+use Rattle.set_tallies.specs.Bags.{Kept}
 use Rattle.suffix_tree.specs.declared.scored.Scored.{Scored}
 use Rattle.suffix_tree.proofs.Tails.{suffix-short}
 use Rattle.bound_search.specs.Places.{EndsInOne}
-use Rattle.bound_search.specs.Fronts.{Frontier, IsOpen, IsAfter, IsFront, AreBelow, HasGrown, Grows, IsFound, IsLeft}
+use Rattle.bound_search.specs.Fronts.{Frontier, IsOpen, IsAfter, IsFront, HasGrown, Grows, IsFound, IsLeft}
 use Rattle.bound_search.specs.Sifted.{IsExpanded, IsTaken, IsFirst}
 use Rattle.bound_search.proofs.Endings.{ends_through}
 use Rattle.bound_search.proofs.Sifting.{only_contained, all_from_contained}
@@ -65,6 +64,12 @@ grows_more bag bound start f f' found g same e = λ done k.
       from_open = through_open start.suffixes f.suffixes f'.suffixes now.from_open e.from_open;
     }
 
+-- what ends in an open suffix ends in one that was open at first
+pub was_open : (bag : Kept) (bound : ℕ) (start f : Frontier) (s : List ℕ) → IsFront bag start → Grows bag bound start f → EndsInOne f.suffixes s → EndsInOne start.suffixes s
+was_open bag bound start f s (done, k) g (p, inside, ends) =
+    let (q, inside', ends') = All-contains (λ (x : Scored). EndsInOne start.suffixes x.tail.list) f.suffixes p (g done k).from_open inside in
+    (q, inside', ends_through s p.tail.list q.tail.list ends ends')
+
 -- ---- a whole order is taken
 module _ (bag : Kept) (f f' : Frontier) (order : Scored) (look : IsFirst true f.bound (slice_get f.suffixes 0)) (t : IsTaken f f' order) where
   first_order : (order.low < f.bound) × ((length order.tail.list == order.tail.n) ≡ true)
@@ -81,6 +86,9 @@ module _ (bag : Kept) (f f' : Frontier) (order : Scored) (look : IsFirst true f.
 
   pub taken_whole : (length order.tail.list == order.tail.n) ≡ true
   taken_whole = first_order.1
+
+  pub taken_open : EndsInOne f.suffixes order.tail.list
+  taken_open = ends_in_itself f.suffixes order (first_contained f.suffixes order t.first)
 
   pub front_taken : IsFront bag f → IsFront bag f'
   front_taken (done, k) = (done, taken_after done k)

@@ -90,9 +90,9 @@ pub record IsLeft (bag : Kept) (f : Frontier) : Type 0 where
   pub below : one.low < f.bound
   pub parts : (o : Scored) → Contains f.suffixes o → o.low < f.bound → length o.tail.list < bag.n
 
--- what a turn says, by the front before and after it
+-- what a turn says, by the front before and after it; an order that is found ended in a suffix that was open
 abbrev pub IsTurn : Kept → ℕ → Frontier → Frontier → Turn → Type 0
 IsTurn bag left old new Closed = (new.least ≡ old.least) × IsClosed new
-IsTurn bag left old new (Found order margin) = IsFound bag old.piece.list order margin × (margin < new.bound) × (new.least ≡ min old.least margin)
+IsTurn bag left old new (Found order margin) = IsFound bag old.piece.list order margin × EndsInOne old.suffixes order × (margin < new.bound) × (new.least ≡ min old.least margin)
 IsTurn bag left old new More = (new.least ≡ old.least) × (new.expanded ≡ old.expanded + MOST_EXPANDED) × IsLeft bag new
 IsTurn bag left old new Spent = (new.least ≡ old.least) × (new.expanded ≡ old.expanded + left) × (left < MOST_EXPANDED) × IsLeft bag new

@@ -1,5 +1,5 @@
 -- The places of suffixes: which other suffixes they end in.
-use Rattle.std.specs.Prelude.{◌≡◌, ℕ, Bool, true, false, ◌&&◌, ◌||◌, ◌==◌, List, [], ◌∷◌, Contains}
+use Rattle.std.specs.Prelude.{ℕ, Bool, true, false, ◌&&◌, ◌||◌, ◌==◌, List, [], ◌∷◌, Contains}
 use Rattle.irv_base.specs.Orders.{EndsIn}
 use Rattle.suffix_tree.specs.declared.scored.Scored.{Scored}
 

@@ -58,7 +58,7 @@ pub record IsPut (children : List Scored) (old new : Frontier) (found : Option S
 -- no more was found, or an order below the bound
 abbrev pub IsNewlyFound : Kept → Frontier → Frontier → Option Scored → Type 0
 IsNewlyFound bag old new None = new.least ≡ old.least
-IsNewlyFound bag old new (Some o) = ((length o.tail.list == o.tail.n) ≡ true) × IsFound bag old.piece.list o.tail.list o.low × (o.low < old.bound) × (new.least ≡ min old.least o.low)
+IsNewlyFound bag old new (Some o) = ((length o.tail.list == o.tail.n) ≡ true) × IsFound bag old.piece.list o.tail.list o.low × EndsInOne old.suffixes o.tail.list × (o.low < old.bound) × (new.least ≡ min old.least o.low)
 
 -- one suffix was expanded
 pub record IsExpanded (bag : Kept) (old new : Frontier) (found : Option Scored) : Type 0 where

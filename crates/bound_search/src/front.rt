@@ -57,6 +57,7 @@ impl Front {
         ensures none_expanded { IfOk result (λ f. f.expanded ≡ 0) }
     {
         let piece = start.tail.copied();
+        // Its candidates are distinct, and of the contest.
         let _suffix = start.tail.list();
         let mut suffixes = BinaryHeap::new(alloc);
         suffixes.push(start)?;
@@ -125,7 +126,11 @@ impl Front {
     }
 
     // Puts the children in the place of the first suffix. Where memory is short nothing changes.
-    pub(crate) fn put(&mut self, alloc: Global, children: Vec<Scored>) -> Result<Option<Scored>, Memory>
+    pub(crate) fn put(
+        &mut self,
+        alloc: Global,
+        children: Vec<Scored>,
+    ) -> Result<Option<Scored>, Memory>
         requires some { 0 < length self.old.suffixes }
         requires room { self.old.expanded + 1 < 2 ^ 32 }
         ensures put { IfOk result (IsPut children.items self.old self.new) }

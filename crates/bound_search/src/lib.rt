@@ -1,6 +1,6 @@
 //! The search for the best margin: the least hardness of an order that elects another candidate than the winner. The orders
 //! are cut into pieces, one for each alternative winner, and the suffixes of a piece are expanded best first, under a bound
-//! that falls with each order found (RAIRE, section 4).
+//! that falls with each order found: the search of RAIRE.
 #![tactic(auto)]
 
 mod ends;
@@ -16,7 +16,6 @@ pub use front::Front;
 pub use limits::MOST_EXPANDED;
 pub use search::race;
 pub use turn::Turn;
-
 
 #[cfg(test)]
 mod tests;

@@ -142,7 +142,6 @@ pub fn race<G: Gate>(
     requires filled { AreFilledFrom bag.now ahead.now }
     requires order { IsTrue (is_order bag.now.n tab.now.order) }
     requires winner { Elects tab.now.order tab.now.winner }
-    requires some { 1 ≤ nodes }
     ensures best { IfOk result (λ end. (records : List (List ℕ)) → IsOf bag.now records → IsBest bag.now.n records tab.now.winner end) }
     ensures spent { IfErr result (λ fault. (records : List (List ℕ)) → IsOf bag.now records → IsSpent bag.now.n records tab.now nodes fault) }
 {

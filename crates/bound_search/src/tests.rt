@@ -1,13 +1,12 @@
 // Contests that were counted by hand, and turns of a front of one suffix.
 ghost use Rattle.std.specs.Prelude.{◌≡◌, ◌<◌, ◌≤◌, ◌∷◌, [], All, length, IsTrue, IsFalse};
 ghost use Rattle.irv_base.specs.Candidates.{is_in};
-ghost use Rattle.irv_base.specs.Orders.{is_order, Elects};
 ghost use Rattle.irv_base.specs.declared.limits.TheConstants.{FEWEST_CANDIDATES, ROOM, MOST_RECORDS};
 
 use super::*;
 use desk::Gate;
-use irv_base::{Candidate, Memory, Order, Ranking, Steps};
-use irv_tabulator::Tabulated;
+use irv_base::{Candidate, Memory, Ranking, Steps};
+use irv_tabulator::tabulate;
 use set_tallies::{Ahead, Bag, Tallies};
 use std::alloc::Global;
 use std::cell::Cell;
@@ -58,7 +57,6 @@ fn race_of(
     alloc: Global,
     n: u32,
     rankings: &[Ranking],
-    tab: &Tabulated,
     nodes: u32,
     gate: &Counted,
 ) -> Result<RaceEnd, RaceFault>
@@ -66,13 +64,14 @@ fn race_of(
     requires room { n ≤ ROOM }
     requires most { length rankings.now ≤ MOST_RECORDS }
     requires below { All (λ ranking. All (λ c. c < n) ranking) rankings.now }
-    requires order { IsTrue (is_order n tab.now.order) }
-    requires winner { Elects tab.now.order tab.now.winner }
-    requires some { 1 ≤ nodes }
 {
     let bag = Bag::of(alloc, n, rankings)?;
     let ahead = Ahead::fill(alloc, &bag)?;
-    race(alloc, &bag, &ahead, tab, nodes, gate)
+    let mut tallies = Tallies::new(alloc, &bag, &ahead)?;
+    match tabulate(alloc, &mut tallies) {
+        Ok(tab) => race(alloc, &bag, &ahead, &tab, nodes, gate),
+        Err(_) => Err(RaceFault::Memory),
+    }
 }
 
 #[test]
@@ -80,12 +79,7 @@ fn finds_an_order_less_hard_than_the_start(rt: HostRuntime) {
     let gate = Counted {
         calls: Cell::new(0),
     };
-    let order = Order::read(3, [2, 0, 1].as_slice()).expect(&rt, "order");
-    let tab = Tabulated {
-        order,
-        winner: Candidate(1),
-    };
-    match race_of(rt.alloc(), 3, twelve().as_slice(), &tab, 3, &gate) {
+    match race_of(rt.alloc(), 3, twelve().as_slice(), 3, &gate) {
         Ok(end) => {
             assert!(rt; end.margin == 1);
             let found = end.order.candidates();
@@ -101,12 +95,7 @@ fn spends_one_node(rt: HostRuntime) {
     let gate = Counted {
         calls: Cell::new(0),
     };
-    let order = Order::read(3, [2, 0, 1].as_slice()).expect(&rt, "order");
-    let tab = Tabulated {
-        order,
-        winner: Candidate(1),
-    };
-    match race_of(rt.alloc(), 3, twelve().as_slice(), &tab, 1, &gate) {
+    match race_of(rt.alloc(), 3, twelve().as_slice(), 1, &gate) {
         Err(fault) => match fault {
             RaceFault::Spent { last, upper, .. } => {
                 assert!(rt; last == Candidate(2));
@@ -124,12 +113,7 @@ fn keeps_the_start_of_two(rt: HostRuntime) {
         calls: Cell::new(0),
     };
     let rankings = [only(Candidate(0)), only(Candidate(1)), only(Candidate(0))];
-    let order = Order::read(2, [1, 0].as_slice()).expect(&rt, "order");
-    let tab = Tabulated {
-        order,
-        winner: Candidate(0),
-    };
-    match race_of(rt.alloc(), 2, rankings.as_slice(), &tab, 1, &gate) {
+    match race_of(rt.alloc(), 2, rankings.as_slice(), 1, &gate) {
         Ok(end) => {
             assert!(rt; end.margin == 1);
             let found = end.order.candidates();

@@ -1,9 +1,9 @@
-use Rattle.std.proofs.Common.{rules, ◌≡◌, ◌<◌, ◌≤◌, ◌+◌, ◌-◌, ◌∷◌, [], inl, refl, sym, ap, subst, arith, ◌∙◌}
+use Rattle.std.proofs.Common.{rules, ◌-◌, inl, refl, ap, subst, arith, ◌∙◌}
 use Rattle.std.proofs.lemmas.Grind.{common_steps}
 use Rattle.set_tallies.specs.Bags.{Source}
 use Rattle.suffix_tree.specs.Suffixes.{Suffix}
 use Rattle.bound_search.specs.Fronts.{IsFront, Grows, IsTurn}
-use Rattle.bound_search.proofs.Racing.{IsUnder, under_front, under_start, under_turn, after_closed, after_found, after_more, after_spent, expanded_le}
+use Rattle.bound_search.proofs.Racing.{under_front, under_start, under_turn, after_closed, after_found, after_more, after_spent, expanded_le}
 use Rattle.bound_search.proofs.search.search.Goals as goal
 
 pub turns-init : goal.turns-init

@@ -1,4 +1,4 @@
-use Rattle.std.proofs.Common.{◌≡◌, ◌≢◌, ◌≤◌, ◌+◌, ◌==◌, ◌∷◌, [], ℕ, Err, rules, le_trans, eqb-true, sym, ap, subst, arith, ◌∙◌}
+use Rattle.std.proofs.Common.{◌≡◌, ◌≢◌, ◌≤◌, ◌+◌, ◌==◌, ◌∷◌, [], ℕ, Err, rules, le_trans, eqb-true, sym, subst, arith, ◌∙◌}
 use Rattle.std.proofs.lemmas.Bool.{eqb-false, not-true}
 use Rattle.set_tallies.specs.Bags.{Source}
 use Rattle.bound_search.specs.declared.ends.RaceEnd.{RaceEnd}

@@ -1,5 +1,4 @@
 use Rattle.std.proofs.Common.{◌≡◌, ◌≤◌}
-use Rattle.assertions.specs.Hardness.{start_order}
 use Rattle.bound_search.specs.Reached.{IsReached, AreSearched}
 use Rattle.bound_search.proofs.Racing.{IsUpper}
 use Rattle.bound_search.proofs.search.search_all.Given as goal

@@ -1,4 +1,4 @@
-use Rattle.std.proofs.Common.{◌≡◌, ◌<◌, ◌+◌, ◌∷◌, [], sym, ap, subst, arith, ◌∙◌}
+use Rattle.std.proofs.Common.{◌<◌, ◌∷◌, sym, ap, subst, arith, ◌∙◌}
 use Rattle.irv_base.specs.Candidates.{is_in}
 use Rattle.suffix_tree.specs.Suffixes.{Suffix}
 use Rattle.bound_search.proofs.Starts.{first_below, first_two, next_one}

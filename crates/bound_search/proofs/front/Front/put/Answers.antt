@@ -1,7 +1,5 @@
-use Rattle.std.proofs.Common.{refl, sym, ap, ◌+◌, ◌∙◌}
+use Rattle.std.proofs.Common.{refl}
 use Rattle.std.specs.BinaryHeap.{heap_items}
-use Rattle.bound_search.specs.Sifted.{IsPut}
-use Rattle.bound_search.specs.Fronts.{Frontier}
 use Rattle.bound_search.proofs.front.Front.put.Goals as goal
 
 pub returns-clause-put : goal.returns-clause-put

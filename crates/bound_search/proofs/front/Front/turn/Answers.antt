@@ -1,9 +1,9 @@
-use Rattle.std.proofs.Common.{refl, sym, ap, subst, arith, min, None, ◌≡◌, ◌+◌, ◌∙◌}
+use Rattle.std.proofs.Common.{refl, sym, ap, subst, arith, min, None, Some, ◌∙◌}
 use Rattle.suffix_tree.specs.Suffixes.{Suffix}
 use Rattle.set_tallies.specs.Bags.{Source}
 use Rattle.bound_search.specs.Fronts.{Frontier, IsFound, IsTurn}
 use Rattle.bound_search.specs.Sifted.{IsExpanded, IsNewlyFound}
-use Rattle.bound_search.proofs.Turns.{front_lower, grows_lower, front_more, grows_more, front_taken, grows_taken, taken_found, part_left}
+use Rattle.bound_search.proofs.Turns.{front_lower, grows_lower, front_more, grows_more, front_taken, grows_taken, taken_found, taken_open, was_open, part_left}
 use Rattle.bound_search.proofs.front.Front.turn.Goals as goal
 
 pub loop-self-init : goal.loop-self-init
@@ -34,6 +34,8 @@ returns-in-Whole-clause-turn g c =
     let f = taken_found c.args.tallies.now.bag c.loop-self.self c.take_whole-order.new.self order c.in-Whole.ensures.1 t c.loop-self.invariant.front in
     subst (IsTurn c.args.tallies.now.bag c.args.left c.args.self.now c.take_whole-order.new.self) (sym c.found.ensures) (
       subst (λ (p : Suffix). IsFound c.args.tallies.now.bag p.list order.tail.list order.low) c.loop-self.invariant.piece f.0,
+      was_open c.args.tallies.now.bag c.args.bound c.args.self.now c.loop-self.self order.tail.list c.requires.front c.loop-self.invariant.grows
+          (taken_open c.args.tallies.now.bag c.loop-self.self c.take_whole-order.new.self order c.in-Whole.ensures.1 t),
       (omega (arith, f.1, t.bound)),
       t.least ∙ ap (λ least. min least order.low) c.loop-self.invariant.least,
     )
@@ -53,6 +55,20 @@ returns-then-taken-left-clause-turn g c = (
   (omega (arith, c.if-taken-left.true, c.if-taken-eq-MOST_EXPANDED.false, c.loop-self.invariant.few)),
   part_left c.args.tallies.now.bag c.loop-self.self c.loop-self.invariant.front c.in-Part.ensures.0 c.in-Part.ensures.1,
 )
+
+pub returns-in-Some-clause-turn : goal.returns-in-Some-clause-turn
+returns-in-Some-clause-turn g c =
+    let order = c.in-Some.order in
+    let new = c.expand_first.new.self in
+    let e : IsExpanded c.args.tallies.now.bag c.loop-self.self new c.in_ok-order-in-Part.field-0 =
+    subst (λ (t : Source). IsExpanded t.bag c.loop-self.self new c.in_ok-order-in-Part.field-0) c.loop-self.invariant.same c.in_ok-order-in-Part.ensures.expanded in
+    let f : IsNewlyFound c.args.tallies.now.bag c.loop-self.self new (Some order) = subst (IsNewlyFound c.args.tallies.now.bag c.loop-self.self new) c.in-Some.is e.newly in
+    subst (IsTurn c.args.tallies.now.bag c.args.left c.args.self.now new) (sym c.found-in-Some.ensures) (
+      subst (λ (p : Suffix). IsFound c.args.tallies.now.bag p.list order.tail.list order.low) c.loop-self.invariant.piece f.1,
+      was_open c.args.tallies.now.bag c.args.bound c.args.self.now c.loop-self.self order.tail.list c.requires.front c.loop-self.invariant.grows f.2,
+      (omega (arith, f.3, e.bound)),
+      f.4 ∙ ap (λ least. min least order.low) c.loop-self.invariant.least,
+    )
 
 pub returns-in-Some-clause-grows : goal.returns-in-Some-clause-grows
 returns-in-Some-clause-grows g c =

@@ -2,7 +2,7 @@
 use Rattle.std.proofs.Common.{◌≡◌, List, [], ◌∷◌, ◌++◌, Option, Some, None, refl, sym, ap, ◌∙◌, append_assoc}
 use Rattle.std.specs.Prelude.{option_map, option_and_then}
 use Rattle.std.proofs.lemmas.List.{append-nil}
-use Rattle.ballot_reader.specs.FirstForm.{all_of}
+use Rattle.ballot_reader.specs.Grammar.{all_of}
 
 abbrev pub behind : {B : Type 0} → List B → Option (List B) → Option (List B)
 behind before more = option_map (λ rest. before ++ rest) more

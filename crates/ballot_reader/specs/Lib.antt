@@ -1,5 +1,5 @@
-pub mod Rows
 pub mod Ballots
-pub mod FirstForm
-pub mod Laws
+pub mod Grammar
 pub mod Faults
+pub mod Kept
+pub mod Laws

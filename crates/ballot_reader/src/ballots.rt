@@ -1,11 +1,10 @@
 // The ballots of a contest.
 ghost use Rattle.std.specs.Prelude.{◌≡◌, ◌<◌, ◌≤◌, length, All, IsTrue};
 ghost use Rattle.irv_base.specs.Names.{all_differ};
-ghost use Rattle.ballot_reader.specs.Ballots.{AreBallots};
+ghost use Rattle.ballot_reader.specs.Ballots.{AreBallots, AreCandidates};
 ghost use Rattle.irv_base.specs.Candidates.{is_distinct};
 ghost use Rattle.irv_base.specs.declared.limits.TheConstants.{FEWEST_CANDIDATES, MOST_CANDIDATES, MOST_RECORDS};
 
-use crate::contest::Contest;
 use indexmap::IndexSet;
 use irv_base::{Name, Ranking};
 use std::marker::Model;
@@ -19,7 +18,7 @@ use std::marker::Model;
 #[derive(Drop)]
 pub struct Ballots {
     contest: Name,
-    candidates: Vec<Name>,
+    candidates: IndexSet<Name>,
     ids: IndexSet<Name>,
     places: Vec<u32>,
     rankings: Vec<Ranking>,
@@ -30,24 +29,25 @@ impl Model for Ballots {
 
     ghost Value = { BallotFile };
 
-    ghost view = { λ b. record { contest = b.contest; candidates = b.candidates.items; ids = b.ids.keys; places = b.places.items; rankings = b.rankings.items } };
+    ghost view = { λ b. record { contest = b.contest; candidates = b.candidates.keys; ids = b.ids.keys; places = b.places.items; rankings = b.rankings.items } };
 
-    ghost invariant = { λ b. IsSound (record { contest = b.contest; candidates = b.candidates.items; ids = b.ids.keys; places = b.places.items; rankings = b.rankings.items }) };
+    ghost invariant = { λ b. IsSound (record { contest = b.contest; candidates = b.candidates.keys; ids = b.ids.keys; places = b.places.items; rankings = b.rankings.items }) };
 }
 
 impl Ballots {
     pub(crate) fn new(
-        contest: Contest,
+        contest: Name,
+        candidates: IndexSet<Name>,
         ids: IndexSet<Name>,
         places: Vec<u32>,
         rankings: Vec<Ranking>,
     ) -> Ballots
-        requires { AreBallots (length contest.candidates) ids.keys places.items rankings.items }
-        ensures { result ≡ record { contest = contest.id; candidates = contest.candidates; ids = ids.keys; places = places.items; rankings = rankings.items } }
+        requires candidates { AreCandidates candidates.keys }
+        requires ballots { AreBallots (length candidates.keys) ids.keys places.items rankings.items }
+        ensures { result ≡ record { contest = contest; candidates = candidates.keys; ids = ids.keys; places = places.items; rankings = rankings.items } }
     {
-        let Contest { id, candidates } = contest;
         Ballots {
-            contest: id,
+            contest,
             candidates,
             ids,
             places,

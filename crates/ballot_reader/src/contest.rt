@@ -1,140 +1,96 @@
-// The record of a contest, and those of its ballots.
-ghost use Rattle.std.specs.Prelude.{◌≡◌, ◌<◌, ◌≤◌, length, position, IfOk, IfSome, option_map};
+// The record of a contest.
+ghost use Rattle.std.specs.Prelude.{◌≡◌, ◌≤◌, IfOk, length, option_map, take};
 ghost use Rattle.csv.specs.Records.{fields_of};
-ghost use Rattle.irv_base.specs.declared.limits.TheConstants.{ROOM};
-ghost use Rattle.irv_base.specs.Names.{is_same};
-ghost use Rattle.ballot_reader.specs.FirstForm.{contest_of, ballot_of, candidate_of, ranking_of, is_count, is_one, names_of};
+ghost use Rattle.csv_rows.specs.Fields.{trimmed_fields};
+ghost use Rattle.std.specs.List.{list_any};
+ghost use Rattle.ballot_reader.specs.Grammar.{names_of, has_id, contest_of};
 
-use crate::fields::Fields;
-use crate::limits::{FEWEST_READ, MOST_READ};
+use crate::count::number_up_to;
+use crate::fault::BRule;
+use crate::limits::MOST_LISTED;
 use csv::ByteRecord;
-use irv_base::{Candidate, Memory, Name, Ranking};
+use csv_rows::Fields;
+use indexmap::IndexSet;
+use irv_base::{Memory, Name};
 use std::alloc::Global;
 use std::marker::Model;
 
-/// A contest: its id, and those of its candidates.
+/// A contest: the number of its record, its id, and those of its candidates.
 #[derive(Drop)]
 pub struct Contest {
+    pub at: u32,
     pub id: Name,
-    pub candidates: Vec<Name>,
+    pub candidates: IndexSet<Name>,
 }
 
 impl Model for Contest {
-    ghost use Rattle.ballot_reader.specs.Ballots.{AreCandidates};
-    ghost use Rattle.ballot_reader.specs.FirstForm.{Contest as ContestRecord};
+    ghost use Rattle.std.specs.Prelude.{IsTrue};
+    ghost use Rattle.ballot_reader.specs.Grammar.{are_names, Contest as ContestRecord};
 
     ghost Value = { ContestRecord };
 
-    ghost view = { λ c. record { id = c.id; candidates = c.candidates.items } };
+    ghost view = { λ c. record { at = c.at; id = c.id; candidates = c.candidates.keys } };
 
-    ghost invariant = { λ c. AreCandidates c.candidates.items };
+    ghost invariant = { λ c. IsTrue (are_names c.candidates.keys) };
 }
 
-/// A ballot: its id and its ranking.
-#[derive(Clone, Copy)]
-pub struct Ballot {
-    pub id: Name,
-    pub ranking: Ranking,
-}
-
-// The record has the one field `1`.
-pub fn is_one(row: &ByteRecord) -> bool
-    ensures { result ≡ is_one (fields_of row.now) }
+fn is_contest_id(contests: &[Contest], id: &[u8]) -> bool
+    ensures { result ≡ list_any (has_id id.now) contests.now }
 {
-    let mut fields = Fields::of(row);
-    let Some(number) = fields.next() else {
-        return false;
-    };
-    number == b"1".as_slice() && fields.len() == 0
+    contests.iter().any(|contest| contest.id.bytes() == id)
 }
 
-fn is_count(n: usize, number: &[u8]) -> bool
-    ensures { result ≡ is_count n number.now }
+// The first n fields, if each of them is a name and all are different.
+fn names_of(
+    alloc: Global,
+    n: usize,
+    fields: &mut Fields<'_>,
+) -> Result<Option<IndexSet<Name>>, Memory>
+    requires { n ≤ length fields.now }
+    ensures { IfOk result (λ names. option_map (λ s. s.keys) names ≡ names_of (take n fields.old)) }
 {
-    (FEWEST_READ..=MOST_READ).contains(&n) && number == [b'0' + n as u8].as_slice()
-}
-
-// The names that the fields are, if each is one and all are different.
-fn names_of(alloc: Global, fields: Fields<'_>) -> Result<Option<Vec<Name>>, Memory>
-    ensures { IfOk result (λ names. option_map (λ v. v.items) names ≡ names_of fields.entry) }
-{
-    let mut names = Vec::new(alloc);
-    for field in fields {
+    let mut names = IndexSet::new(alloc);
+    for _ in 0..n {
+        let Some(field) = fields.next() else {
+            unreachable!();
+        };
         let Some(name) = Name::read(field) else {
             return Ok(None);
         };
-        if names.contains(&name) {
+        if !names.insert(name)? {
             return Ok(None);
         }
-        names.push(name)?;
     }
     Ok(Some(names))
 }
 
-/// The contest that a record names, if it has the form of one.
-pub fn contest_of(alloc: Global, row: &ByteRecord) -> Result<Option<Contest>, Memory>
-    ensures { IfOk result (λ contest. contest ≡ contest_of (fields_of row.now)) }
+/// The contest of a record, or the first rule that the record breaks, after these contests.
+pub fn contest_of(
+    alloc: Global,
+    earlier: &[Contest],
+    at: u32,
+    row: &ByteRecord,
+) -> Result<Result<Contest, BRule>, Memory>
+    ensures { IfOk result (λ contest. contest ≡ contest_of earlier.now at (trimmed_fields (fields_of row.now))) }
 {
     let mut fields = Fields::of(row);
     let (Some(word), Some(id), Some(number)) = (fields.next(), fields.next(), fields.next()) else {
-        return Ok(None);
+        return Ok(Err(BRule::B2));
     };
-    if word != b"Contest".as_slice() || !is_count(fields.len(), number) {
-        return Ok(None);
+    if word != b"Contest".as_slice() || is_contest_id(earlier, id) {
+        return Ok(Err(BRule::B2));
+    }
+    let Some(n) = number_up_to(MOST_LISTED, number) else {
+        return Ok(Err(BRule::B3));
+    };
+    if n as usize > fields.len() {
+        return Ok(Err(BRule::B3));
     }
     let Some(id) = Name::read(id) else {
-        return Ok(None);
+        return Ok(Err(BRule::B4));
     };
-    let Some(candidates) = names_of(alloc, fields)? else {
-        return Ok(None);
+    let Some(candidates) = names_of(alloc, n as usize, &mut fields)? else {
+        return Ok(Err(BRule::B4));
     };
-    Ok(Some(Contest { id, candidates }))
-}
-
-fn place_of(names: &[Name], id: &[u8]) -> Option<usize>
-    ensures place { result ≡ position (λ name. is_same name id.now) names.now }
-    ensures within { IfSome result (λ place. place < length names.now) }
-{
-    names.iter().position(|name| name.bytes() == id)
-}
-
-fn candidate_of(candidates: &[Name], id: &[u8]) -> Option<Candidate>
-    requires { length candidates.now ≤ ROOM }
-    ensures { result ≡ candidate_of candidates.now id.now }
-{
-    match place_of(candidates, id) {
-        Some(place) => Some(Candidate(place as u8)),
-        None => None,
-    }
-}
-
-fn ranking_of(candidates: &[Name], preferences: Fields<'_>) -> Option<Ranking>
-    requires { length candidates.now ≤ ROOM }
-    ensures { result ≡ ranking_of candidates.now preferences.entry }
-{
-    let mut ranking = Ranking::empty();
-    for preference in preferences {
-        let candidate = candidate_of(candidates, preference)?;
-        if ranking.contains(candidate) {
-            return None;
-        }
-        ranking.push(candidate);
-    }
-    Some(ranking)
-}
-
-/// The ballot that a record of the contest has, if it has the form of one.
-pub fn ballot_of(contest: &Contest, row: &ByteRecord) -> Option<Ballot>
-    ensures { result ≡ ballot_of contest.now (fields_of row.now) }
-{
-    let mut fields = Fields::of(row);
-    let (Some(of), Some(id)) = (fields.next(), fields.next()) else {
-        return None;
-    };
-    if of != contest.id.bytes() {
-        return None;
-    }
-    let id = Name::read(id)?;
-    let ranking = ranking_of(&contest.candidates, fields)?;
-    Some(Ballot { id, ranking })
+    Ok(Ok(Contest { at, id, candidates }))
 }

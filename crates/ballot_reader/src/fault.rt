@@ -1,17 +1,17 @@
 // Why a ballot file isn't read.
 ghost use Rattle.std.specs.Prelude.{◌≡◌};
+ghost use Rattle.ballot_reader.specs.Faults.{rule_name};
 ghost use Rattle.ballot_reader.specs.declared.fault.BallotFault.TheVariants.{Memory as WantOfMemory};
 
 use irv_base::Memory;
+use std::alloc::AllocFailed;
 
 /// The rules of a ballot file, as the text of a refusal names them.
 #[derive(Clone, Copy, Debug, PartialEq, Eq)]
 pub enum BRule {
-    /// The file hasn't the form that is read so far.
-    B0,
     /// The number of contests.
     B1,
-    /// The fields of a contest's record.
+    /// The form of a contest's record, and that no contest stands twice.
     B2,
     /// The number of candidates.
     B3,
@@ -31,10 +31,30 @@ pub enum BRule {
     B10,
 }
 
+impl BRule {
+    /// The name of the rule in the text of a refusal, as `B3`.
+    pub fn name(self) -> &'static str
+        ensures { result.now ≡ rule_name self }
+    {
+        match self {
+            BRule::B1 => "B1",
+            BRule::B2 => "B2",
+            BRule::B3 => "B3",
+            BRule::B4 => "B4",
+            BRule::B5 => "B5",
+            BRule::B6 => "B6",
+            BRule::B7 => "B7",
+            BRule::B8 => "B8",
+            BRule::B9 => "B9",
+            BRule::B10 => "B10",
+        }
+    }
+}
+
 /// Why a ballot file isn't read.
 #[derive(Clone, Copy, Debug, PartialEq, Eq)]
 pub enum BallotFault {
-    /// The file breaks `rule` in record `at`, counted from 1, or 0 for the file as a whole.
+    /// The file breaks `rule` in record `at`, counted from 1 without the blank ones.
     Refused { rule: BRule, at: u32 },
     /// Memory could not be had.
     Memory,
@@ -44,6 +64,14 @@ impl From<Memory> for BallotFault {
     ghost from_gives = { λ _ fault. fault ≡ WantOfMemory };
 
     fn from(_: Memory) -> Self {
+        BallotFault::Memory
+    }
+}
+
+impl<T: Drop> From<AllocFailed<T>> for BallotFault {
+    ghost from_gives = { λ _ fault. fault ≡ WantOfMemory };
+
+    fn from(_: AllocFailed<T>) -> Self {
         BallotFault::Memory
     }
 }

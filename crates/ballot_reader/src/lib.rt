@@ -1,18 +1,19 @@
-//! Ballot files: comma-separated records of one contest and its ballots.
+//! Ballot files: comma-separated records of contests and their ballots.
 #![tactic(auto)]
 
 mod ballots;
 mod contest;
+mod count;
 mod fault;
-mod fields;
+mod kept;
 pub mod laws;
 mod limits;
+mod preferences;
 mod read;
-mod rows;
 
 pub use ballots::Ballots;
 pub use fault::{BRule, BallotFault};
-pub use limits::{FEWEST_READ, MOST_READ};
+pub use limits::{MOST_CONTESTS, MOST_LISTED};
 pub use read::read_ballots;
 
 #[cfg(test)]

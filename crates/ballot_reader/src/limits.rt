@@ -1,7 +1,7 @@
-// How many candidates a contest may have to be read, so far.
+// The limits of a ballot file, each stated here once.
 
-/// The fewest candidates of a contest that is read.
-pub const FEWEST_READ: usize = 2;
+/// The most contests of a file.
+pub const MOST_CONTESTS: u32 = 64;
 
-/// The most candidates of a contest that is read: one digit.
-pub const MOST_READ: usize = 2;
+/// The most candidates of a contest in a file, audited or not.
+pub const MOST_LISTED: u32 = 1_000;

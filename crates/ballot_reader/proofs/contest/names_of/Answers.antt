@@ -1,18 +1,34 @@
-use Rattle.std.proofs.Common.{◌≡◌, ◌∙◌, true, sym, ap, rules}
-use Rattle.std.specs.Result.{is_ok}
+use Rattle.std.proofs.Common.{◌∙◌, ◌++◌, ◌∷◌, [], take, length, sym, ap, arith}
+use Rattle.std.proofs.lemmas.Bool.{not-true, not-false}
 use Rattle.irv_base.specs.Names.{is_among}
-use Rattle.ballot_reader.proofs.Names.{names-more, names-repeated}
+use Rattle.ballot_reader.proofs.Ids.{among-set}
+use Rattle.ballot_reader.proofs.Names.{first-so_far, names-invalid, names-more, names-repeated}
 use Rattle.ballot_reader.proofs.contest.names_of.Goals as goal
 
-pub returns-then-contains : goal.returns-then-contains
-returns-then-contains c =
-    let again = ap (λ names. is_among names c.in-Some-read.name) (sym c.deref.ensures.value) ∙ sym c.contains.ensures.value ∙ c.if-contains.true in
-    let e = c.in-Some-read.ensures.name in
-    sym (names-repeated c.args.fields c.loop-field.names.items c.in-Some-read.name c.in-Some.field.now c.next.new.self (rw c.in-Some.ensures.steps at c.loop-field.invariant) e again)
+pub returns-in_default-read : goal.returns-in_default-read
+returns-in_default-read c =
+    let fields = c.args.fields.now in
+    let so_far = first-so_far (take c.args.n fields) c.loop.names.keys c.args.n c.loop.counter c.loop.fields c.in-Some.field.now c.next.new.self c.loop.invariant.so_far c.in-Some.ensures.steps c.loop-test.true in
+    sym (names-invalid (take c.args.n fields) c.loop.names.keys c.in-Some.field.now _ so_far c.in_default-read.ensures.none)
 
-pub loop-field-preserved : goal.loop-field-preserved
-loop-field-preserved c =
-    let good : is_ok c.push.result ≡ true = search rules in
-    let items = rw good at c.push.ensures.items in
-    let new = ap (λ names. is_among names c.in-Some-read.name) (sym c.deref.ensures.value) ∙ sym c.contains.ensures.value ∙ c.if-contains.false in
-    rw items (names-more c.args.fields c.loop-field.names.items c.in-Some-read.name c.in-Some.field.now c.next.new.self (rw c.in-Some.ensures.steps at c.loop-field.invariant) c.in-Some-read.ensures.name c.in-Some-read.ensures.valid new)
+pub returns-then-not-branch : goal.returns-then-not-branch
+returns-then-not-branch c =
+    let fields = c.args.fields.now in
+    let names = c.loop.names.keys in
+    let so_far = first-so_far (take c.args.n fields) names c.args.n c.loop.counter c.loop.fields c.in-Some.field.now c.next.new.self c.loop.invariant.so_far c.in-Some.ensures.steps c.loop-test.true in
+    let again = ap (is_among names) (sym c.in-Some-read.ensures.name) ∙ sym (among-set names c.in-Some-read.name) ∙ not-false _ (sym c.in_ok-insert.ensures.added ∙ c.if-not-branch.true) in
+    sym (names-repeated (take c.args.n fields) names c.in-Some.field.now _ so_far again)
+
+pub loop-preserved : goal.loop-preserved
+loop-preserved c =
+    let fields = c.args.fields.now in
+    let names = c.loop.names.keys in
+    let name = c.in-Some-read.name in
+    let so_far = first-so_far (take c.args.n fields) names c.args.n c.loop.counter c.loop.fields c.in-Some.field.now c.next.new.self c.loop.invariant.so_far c.in-Some.ensures.steps c.loop-test.true in
+    let absent = not-true _ (sym c.in_ok-insert.ensures.added ∙ c.if-not-branch.false) in
+    let new = ap (is_among names) (sym c.in-Some-read.ensures.name) ∙ sym (among-set names name) ∙ absent in
+    let keys = rw absent at c.in_ok-insert.ensures.keys ∙ ap (λ id. names ++ id ∷ []) c.in-Some-read.ensures.name in
+    record {
+      so_far = rw keys (names-more (take c.args.n fields) names c.in-Some.field.now _ so_far c.in-Some-read.ensures.valid new);
+      enough = omega (arith, c.loop.invariant.enough, ap length c.in-Some.ensures.steps, c.loop-test.true);
+    }

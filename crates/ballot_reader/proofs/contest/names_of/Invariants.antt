@@ -1,5 +1,9 @@
+use Rattle.std.proofs.Common.{◌≤◌, ◌-◌, take, length}
 use Rattle.ballot_reader.proofs.Names.{NamesSoFar}
 use Rattle.ballot_reader.proofs.contest.names_of.Given as goal
 
-abbrev pub invariant-loop-field : goal.invariant-loop-field
-invariant-loop-field l = NamesSoFar l.fn.fields l.names.items l.field-iterator
+abbrev pub invariant-loop : goal.invariant-loop
+invariant-loop l = record {
+  so_far : NamesSoFar (take l.n l.fn.fields) l.names.keys (take (l.n - l.counter) l.fields);
+  enough : l.n - l.counter ≤ length l.fields;
+}

@@ -1,17 +1,15 @@
-use Rattle.std.proofs.Common.{◌≡◌, List, length}
-use Rattle.std.specs.List.{range_with_len}
-use Rattle.ballot_reader.specs.declared.contest.Ballot.{Ballot}
-use Rattle.ballot_reader.proofs.BallotsSoFar.{BallotsSoFar}
-use Rattle.ballot_reader.proofs.Sound.{ids_of, rankings_of}
+use Rattle.std.proofs.Common.{◌≡◌, List, Some, length, map}
+use Rattle.std.specs.List.{slice_get}
+use Rattle.csv_rows.specs.Fields.{numbered}
+use Rattle.ballot_reader.specs.Grammar.{Ballot, Contest}
+use Rattle.ballot_reader.proofs.Behind.{BallotsSoFar}
 use Rattle.ballot_reader.proofs.read.ballots_left.Given as goal
 
 abbrev pub invariant-records : goal.invariant-records
-invariant-records l = (ballots : List Ballot) × record {
-  so_far : BallotsSoFar l.fn.contest l.fn.rows ballots l.rows;
-  ids : l.ids.keys ≡ ids_of ballots;
-  places : l.places.items ≡ range_with_len 3 (length ballots);
-  rankings : l.rankings.items ≡ rankings_of ballots;
+invariant-records l = (chosen : Contest) × (ballots : List Ballot) × record {
+  there : slice_get l.contests l.audited ≡ Some chosen;
+  so_far : BallotsSoFar l.contests chosen (numbered l.fn.rows) ballots l.at (numbered l.rows) (map (λ s. s.keys) l.kept.ids.items) l.kept.places.items l.kept.rankings.items l.kept.count;
 }
 
 abbrev pub decreases-records : goal.decreases-records
-decreases-records l = length l.rows
+decreases-records l = length (numbered l.rows)

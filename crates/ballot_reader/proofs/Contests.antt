@@ -1,0 +1,82 @@
+-- Contests that are read one record after the other.
+use Rattle.std.proofs.Common.{◌≡◌, ◌<◌, ◌+◌, ◌-◌, ◌∙◌, ◌++◌, ◌∷◌, [], ◌||◌, ℕ, suc, Bool, true, false, not, List, Option, Some, None, Ok, Err, length, drop, refl, sym, ap, arith, length-append, codes}
+use Rattle.std.specs.Prelude.{if◌then◌else◌}
+use Rattle.std.specs.List.{list_any}
+use Rattle.std.proofs.lemmas.List.{map-append}
+use Rattle.csv_rows.specs.Rows.{Fields}
+use Rattle.irv_base.specs.Names.{Id, is_among, is_name, is_same, all_differ}
+use Rattle.ballot_reader.specs.Grammar.{Contest, and_then, contest_named, contest_of, contest_with, contests_in, has_id, listed, names_of, number_up_to, refused}
+use Rattle.ballot_reader.specs.Kept.{contest_ids}
+use Rattle.ballot_reader.specs.declared.fault.BRule.{BRule}
+use Rattle.ballot_reader.specs.declared.fault.BRule.TheVariants.{B2, B4}
+use Rattle.ballot_reader.specs.declared.limits.TheConstants.{MOST_LISTED}
+use Rattle.ballot_reader.proofs.Ids.{differ-push, or-false}
+
+-- ---- a contest that is accepted has a new id
+
+among-ids : (contests : List Contest) (id : Id) → is_among (contest_ids contests) id ≡ list_any (has_id id) contests
+among-ids [] id = refl
+among-ids (c ∷ contests) id = ap (λ b. is_same c.id id || b) (among-ids contests id)
+
+with-id : (at : ℕ) (id : Id) (o : Option (List Id)) (contest : Contest) → contest_with at id o ≡ Ok contest → contest.id ≡ id
+with-id at id None contest h = absurd cc
+with-id at id (Some ids) contest h = by (is_name id) (names_of ids) h where
+  by : (b : Bool) (o : Option (List Id)) → (if b then contest_named at id o else Err B4) ≡ Ok contest → contest.id ≡ id
+  by false o g = absurd cc
+  by true None g = absurd cc
+  by true (Some candidates) g = let s : record { at = at; id = id; candidates = candidates } ≡ contest = cc in ap (λ (c : Contest). c.id) (sym s)
+
+new-id : (earlier : List Contest) (at : ℕ) (row : Fields) (contest : Contest) → contest_of earlier at row ≡ Ok contest → is_among (contest_ids earlier) contest.id ≡ false
+new-id earlier at [] contest h = absurd cc
+new-id earlier at (word ∷ []) contest h = absurd cc
+new-id earlier at (word ∷ id ∷ []) contest h = absurd cc
+new-id earlier at (word ∷ id ∷ number ∷ ids) contest h = by (not (is_same word (codes "Contest")) || list_any (has_id id) earlier) refl h where
+  by : (b : Bool) → (not (is_same word (codes "Contest")) || list_any (has_id id) earlier) ≡ b → (if b then Err B2 else contest_with at id (listed (number_up_to MOST_LISTED number) ids)) ≡ Ok contest
+      → is_among (contest_ids earlier) contest.id ≡ false
+  by true e g = absurd cc
+  by false e g =
+      ap (is_among (contest_ids earlier)) (with-id at id (listed (number_up_to MOST_LISTED number) ids) contest g) ∙ among-ids earlier id
+      ∙ (or-false (not (is_same word (codes "Contest"))) (list_any (has_id id) earlier) e).1
+
+-- ---- the contests so far
+
+-- i of the n records are these contests
+pub record ContestsSoFar (n : ℕ) (rows : List Fields) (contests : List Contest) (i : ℕ) (rest : List Fields) : Type 0 where
+  pub split : contests_in n [] 2 rows ≡ contests_in (n - i) contests (2 + i) rest
+  pub dropped : drop n rows ≡ drop (n - i) rest
+  pub counted : length contests ≡ i
+  pub differ : all_differ (contest_ids contests) ≡ true
+
+pub contests-none : (n : ℕ) (rows : List Fields) → ContestsSoFar n rows [] 0 rows
+contests-none n rows =
+    let e : n ≡ n - 0 = omega arith in
+    record { split = ap (λ m. contests_in m [] 2 rows) e; dropped = ap (λ m. drop m rows) e; counted = refl; differ = refl }
+
+next : (n i : ℕ) → i < n → n - i ≡ suc (n - (i + 1))
+next n i less = omega (arith, less)
+
+pub contests-more : (n : ℕ) (rows : List Fields) (contests : List Contest) (i : ℕ) (row : Fields) (rest : List Fields) (contest : Contest) → ContestsSoFar n rows contests i (row ∷ rest) → i < n
+    → contest_of contests (2 + i) row ≡ Ok contest → ContestsSoFar n rows (contests ++ contest ∷ []) (i + 1) rest
+contests-more n rows contests i row rest contest so_far less h =
+    let at : (2 + i) + 1 ≡ 2 + (i + 1) = omega arith in
+    record {
+      split = so_far.split ∙ ap (λ m. contests_in m contests (2 + i) (row ∷ rest)) (next n i less)
+          ∙ ap (λ o. and_then (2 + i) o (λ (c : Contest). contests_in (n - (i + 1)) (contests ++ c ∷ []) ((2 + i) + 1) rest)) h ∙ ap (λ k. contests_in (n - (i + 1)) (contests ++ contest ∷ []) k rest) at;
+      dropped = so_far.dropped ∙ ap (λ m. drop m (row ∷ rest)) (next n i less);
+      counted = omega (arith, so_far.counted, length-append contests (contest ∷ []));
+      differ = ap all_differ (map-append (λ (c : Contest). c.id) contests (contest ∷ [])) ∙ differ-push (contest_ids contests) contest.id so_far.differ (new-id contests (2 + i) row contest h);
+    }
+
+pub contests-broken : (n : ℕ) (rows : List Fields) (contests : List Contest) (i : ℕ) (row : Fields) (rest : List Fields) (rule : BRule) → ContestsSoFar n rows contests i (row ∷ rest) → i < n
+    → contest_of contests (2 + i) row ≡ Err rule → contests_in n [] 2 rows ≡ refused rule (2 + i)
+contests-broken n rows contests i row rest rule so_far less h =
+    so_far.split ∙ ap (λ m. contests_in m contests (2 + i) (row ∷ rest)) (next n i less)
+    ∙ ap (λ o. and_then (2 + i) o (λ (c : Contest). contests_in (n - (i + 1)) (contests ++ c ∷ []) ((2 + i) + 1) rest)) h
+
+pub contests-missing : (n : ℕ) (rows : List Fields) (contests : List Contest) (i : ℕ) → ContestsSoFar n rows contests i [] → i < n → contests_in n [] 2 rows ≡ refused B2 (2 + i)
+contests-missing n rows contests i so_far less = so_far.split ∙ ap (λ m. contests_in m contests (2 + i) []) (next n i less)
+
+pub contests-end : (n : ℕ) (rows : List Fields) (contests : List Contest) (rest : List Fields) → ContestsSoFar n rows contests n rest → (contests_in n [] 2 rows ≡ Ok contests) × (rest ≡ drop n rows)
+contests-end n rows contests rest so_far =
+    let z : n - n ≡ 0 = omega arith in
+    (so_far.split ∙ ap (λ m. contests_in m contests (2 + n) rest) z, sym (so_far.dropped ∙ ap (λ m. drop m rest) z))

@@ -1,0 +1,161 @@
+// What is kept of the ballots that are read.
+ghost use Rattle.std.specs.Prelude.{ℕ, ◌≡◌, ◌<◌, ◌++◌, ◌∷◌, [], List, Ok, Err, Some, None, IfOk, IfErr, IfSome, IfNone, IsTrue, length, map, replicate, position, slice_get, slice_set, not, true};
+ghost use Rattle.csv.specs.Records.{fields_of};
+ghost use Rattle.csv_rows.specs.Fields.{trimmed_fields};
+ghost use Rattle.irv_base.specs.Names.{Id, all_differ, is_among};
+ghost use Rattle.ballot_reader.specs.Grammar.{Ballot, Contest as ContestRecord, ballot_for, ballot_in, ballot_of, contest_with_id, has_audited_size, has_id};
+ghost use Rattle.ballot_reader.specs.Kept.{IsKept, RefusesRecord, contest_ids};
+
+use crate::contest::Contest;
+use crate::fault::{BRule, BallotFault};
+use crate::preferences::{are_candidates, ranking_of};
+use csv::ByteRecord;
+use csv_rows::Fields;
+use indexmap::IndexSet;
+use irv_base::{MOST_RECORDS, Memory, Name, Ranking};
+use std::alloc::Global;
+
+// The contest of a ballot by its place among the contests, the ballot's id and its preferences.
+#[derive(Drop)]
+struct Head<'r> {
+    contest: usize,
+    id: Name,
+    preferences: Fields<'r>,
+}
+
+/// The place of the contest with that id, from 0.
+pub fn contest_place(contests: &[Contest], id: &[u8]) -> Option<usize>
+    ensures place { result ≡ position (has_id id.now) contests.now }
+    ensures within { IfSome result (λ k. k < length contests.now) }
+{
+    contests.iter().position(|contest| contest.id.bytes() == id)
+}
+
+// The head of a ballot's record, or the first of the rules B6, B4 and B7 that it breaks.
+fn head_of<'r>(contests: &[Contest], row: &'r ByteRecord) -> Result<Head<'r>, BRule>
+    ensures within { IfOk result (λ head. head.contest < length contests.now) }
+    ensures follows { IfOk result (λ head. (earlier : List Ballot) → (at : ℕ) → ballot_in contests.now earlier at (trimmed_fields (fields_of row.now)) ≡ ballot_for earlier at head.id head.preferences (slice_get contests.now head.contest)) }
+    ensures broken { IfErr result (λ rule. (earlier : List Ballot) → (at : ℕ) → ballot_in contests.now earlier at (trimmed_fields (fields_of row.now)) ≡ Err rule) }
+{
+    let mut fields = Fields::of(row);
+    let (Some(of), Some(id)) = (fields.next(), fields.next()) else {
+        return Err(BRule::B6);
+    };
+    let Some(id) = Name::read(id) else {
+        return Err(BRule::B4);
+    };
+    let Some(contest) = contest_place(contests, of) else {
+        return Err(BRule::B7);
+    };
+    Ok(Head {
+        contest,
+        id,
+        preferences: fields,
+    })
+}
+
+/// What is kept of ballots: the ids of each contest's, how many there are, and of those of the audited contest the places and the
+/// rankings.
+#[derive(Drop)]
+pub struct Kept {
+    pub ids: Vec<IndexSet<Name>>,
+    pub count: u32,
+    pub places: Vec<u32>,
+    pub rankings: Vec<Ranking>,
+}
+
+fn empty_sets(alloc: Global, n: usize) -> Result<Vec<IndexSet<Name>>, Memory>
+    ensures { IfOk result (λ sets. map (λ s. s.keys) sets.items ≡ replicate n []) }
+{
+    let mut sets = Vec::new(alloc);
+    for _ in 0..n {
+        sets.push(IndexSet::new(alloc))?;
+    }
+    Ok(sets)
+}
+
+// Notes a ballot's id in the set at a place, unless it is there; tells whether it is new.
+fn note(sets: &mut Vec<IndexSet<Name>>, place: usize, id: Name) -> Result<bool, Memory>
+    requires { place < length sets.now.items }
+    ensures new { IfOk result (λ new. (ids : List Id) → slice_get (map (λ s. s.keys) sets.old.items) place ≡ Some ids → new ≡ not (is_among ids id)) }
+    ensures noted { IfOk result (λ new. (ids : List Id) → slice_get (map (λ s. s.keys) sets.old.items) place ≡ Some ids → new ≡ true
+        → map (λ s. s.keys) sets.new.items ≡ slice_set (map (λ s. s.keys) sets.old.items) place (ids ++ id ∷ [])) }
+{
+    Ok(sets[place].insert(id)?)
+}
+
+impl Kept {
+    /// Nothing, in so many contests.
+    pub fn nothing(alloc: Global, contests: usize) -> Result<Kept, Memory>
+        ensures ids { IfOk result (λ kept. map (λ s. s.keys) kept.ids.items ≡ replicate contests []) }
+        ensures count { IfOk result (λ kept. kept.count ≡ 0) }
+        ensures places { IfOk result (λ kept. kept.places.items ≡ []) }
+        ensures rankings { IfOk result (λ kept. kept.rankings.items ≡ []) }
+    {
+        let ids = empty_sets(alloc, contests)?;
+        Ok(Kept {
+            ids,
+            count: 0,
+            places: Vec::new(alloc),
+            rankings: Vec::new(alloc),
+        })
+    }
+
+    /// Judges the record number `at`, which is a ballot's, and keeps what is to be kept of it.
+    pub fn add(
+        &mut self,
+        contests: &[Contest],
+        audited: usize,
+        at: u32,
+        row: &ByteRecord,
+    ) -> Result<(), BallotFault>
+        requires differ { IsTrue (all_differ (contest_ids contests.now)) }
+        requires within { audited < length contests.now }
+        requires noted { length self.now.ids.items ≡ length contests.now }
+        requires sized { IfSome (slice_get contests.now audited) (λ chosen. IsTrue (has_audited_size chosen.candidates)) }
+        ensures kept { IfOk result (λ _. (chosen : ContestRecord) → (ballots : List Ballot) → slice_get contests.now audited ≡ Some chosen
+            → IsKept contests.now chosen ballots (map (λ s. s.keys) self.old.ids.items) self.old.places.items self.old.rankings.items self.old.count
+            → (ballot : Ballot) × (ballot_of contests.now ballots at (trimmed_fields (fields_of row.now)) ≡ Ok ballot)
+            × IsKept contests.now chosen (ballots ++ ballot ∷ []) (map (λ s. s.keys) self.new.ids.items) self.new.places.items self.new.rankings.items self.new.count) }
+        ensures refused { IfErr result (λ fault. (chosen : ContestRecord) → (ballots : List Ballot) → slice_get contests.now audited ≡ Some chosen
+            → IsKept contests.now chosen ballots (map (λ s. s.keys) self.old.ids.items) self.old.places.items self.old.rankings.items self.old.count
+            → RefusesRecord (ballot_of contests.now ballots at (trimmed_fields (fields_of row.now))) at fault) }
+    {
+        if self.count >= MOST_RECORDS {
+            return Err(BallotFault::Refused {
+                rule: BRule::B10,
+                at,
+            });
+        }
+        let head = match head_of(contests, row) {
+            Ok(head) => head,
+            Err(rule) => return Err(BallotFault::Refused { rule, at }),
+        };
+        if !note(&mut self.ids, head.contest, head.id)? {
+            return Err(BallotFault::Refused {
+                rule: BRule::B9,
+                at,
+            });
+        }
+        self.count += 1;
+        let contest = &contests[head.contest];
+        if head.contest != audited {
+            if are_candidates(&contest.candidates, head.preferences) {
+                return Ok(());
+            }
+            return Err(BallotFault::Refused {
+                rule: BRule::B8,
+                at,
+            });
+        }
+        let Some(ranking) = ranking_of(contest.candidates.as_slice(), head.preferences) else {
+            return Err(BallotFault::Refused {
+                rule: BRule::B8,
+                at,
+            });
+        };
+        self.places.push(at)?;
+        self.rankings.push(ranking)?;
+        Ok(())
+    }
+}

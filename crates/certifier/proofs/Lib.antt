@@ -1,0 +1,10 @@
+pub mod Children
+pub mod Keeping
+pub mod Ends
+pub mod Agreement
+pub mod Budgets
+pub mod Searching
+pub mod Tabulations
+pub mod Together
+pub mod Bags
+pub mod Contests

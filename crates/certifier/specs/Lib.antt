@@ -1,0 +1,5 @@
+pub mod Gathered
+pub mod Walks
+pub mod Pieces
+pub mod Certified
+pub mod Laws

@@ -1,0 +1,22 @@
+//! What the answers of `certify` say together. Each law holds of every value that it names, and has no code.
+ghost use Rattle.certifier.specs.Laws.{CertifiedIsOne, SpentIsOne, NeverBoth, EnoughNodes};
+
+/// The records have one certificate.
+pub fn certified_is_one()
+    ensures { CertifiedIsOne }
+{}
+
+/// One candidate is named.
+pub fn spent_is_one()
+    ensures { SpentIsOne }
+{}
+
+/// No budget has both answers.
+pub fn never_both()
+    ensures { NeverBoth }
+{}
+
+/// A budget of `2 * (n - 1)!` is never spent.
+pub fn enough_nodes()
+    ensures { EnoughNodes }
+{}

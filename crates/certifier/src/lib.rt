@@ -1,0 +1,15 @@
+//! The canonical certificate of a contest: the one set of assertions that the records determine, with its margin, and an
+//! order that no true assertion of larger margin refutes. It is found within a budget of suffixes.
+#![tactic(auto)]
+
+mod certificate;
+mod cover;
+pub mod laws;
+mod order;
+mod search;
+mod task;
+#[cfg(test)]
+mod tests;
+
+pub use certificate::{Certificate, certify};
+pub use task::CertFault;

@@ -1,0 +1,198 @@
+// Contests that were worked by hand.
+ghost use Rattle.std.specs.Prelude.{◌≡◌, ◌≢◌, ◌<◌, ◌≤◌, ◌∷◌, [], ℕ, List, length, All, IsTrue};
+ghost use Rattle.irv_base.specs.Orders.{is_order, Elects};
+ghost use Rattle.irv_base.specs.Tabulation.{is_tabulated};
+ghost use Rattle.irv_base.specs.declared.limits.TheConstants.{FEWEST_CANDIDATES, ROOM, MOST_RECORDS};
+ghost use Rattle.assertions.specs.Hardness.{low, best_margin};
+
+use super::*;
+use assertions::{Assertion, Claim};
+use irv_base::{CandSet, Candidate, Ranking};
+use irv_tabulator::tabulate;
+use set_tallies::{Ahead, Bag, Tallies};
+use std::alloc::Global;
+
+const ZERO: Candidate = Candidate(0);
+
+const ONE: Candidate = Candidate(1);
+
+const TWO: Candidate = Candidate(2);
+
+const THREE: Candidate = Candidate(3);
+
+fn only(c: Candidate) -> Ranking
+    ensures { result ≡ c ∷ [] }
+{
+    let mut ranking = Ranking::empty();
+    ranking.push(c);
+    ranking
+}
+
+fn both(first: Candidate, second: Candidate) -> Ranking
+    requires { first ≢ second }
+    ensures { result ≡ first ∷ second ∷ [] }
+{
+    let mut ranking = only(first);
+    ranking.push(second);
+    ranking
+}
+
+// The certificate, where the best margin is that of whoever is elected.
+fn answer(
+    alloc: Global,
+    n: u32,
+    rankings: &[Ranking],
+    best: u32,
+    nodes: u32,
+) -> Result<Certificate, CertFault>
+    requires fewest { FEWEST_CANDIDATES ≤ n }
+    requires room { n ≤ ROOM }
+    requires most { length rankings.now ≤ MOST_RECORDS }
+    requires below { All (λ ranking. All (λ c. c < n) ranking) rankings.now }
+    requires best { (order : List ℕ) (winner : ℕ) → IsTrue (is_order n order) → IsTrue (is_tabulated rankings.now order) → Elects order winner → best ≡ best_margin n winner (low n rankings.now) }
+{
+    let bag = Bag::of(alloc, n, rankings)?;
+    let ahead = Ahead::fill(alloc, &bag)?;
+    let mut tallies = Tallies::new(alloc, &bag, &ahead)?;
+    match tabulate(alloc, &mut tallies) {
+        Ok(tab) => certify(alloc, &bag, &ahead, &tab, best, nodes),
+        Err(_) => Err(CertFault::Memory),
+    }
+}
+
+// Five ballots 0, four 1,2 and three 2,1.
+fn three(alloc: Global, nodes: u32) -> Result<Certificate, CertFault> {
+    let rankings = [
+        only(ZERO),
+        only(ZERO),
+        only(ZERO),
+        only(ZERO),
+        only(ZERO),
+        both(ONE, TWO),
+        both(ONE, TWO),
+        both(ONE, TWO),
+        both(ONE, TWO),
+        both(TWO, ONE),
+        both(TWO, ONE),
+        both(TWO, ONE),
+    ];
+    answer(alloc, 3, rankings.as_slice(), 1, nodes)
+}
+
+#[test]
+fn three_candidates_canonical_certificate(rt: HostRuntime) {
+    let zero_one = CandSet::empty().with(ZERO).with(ONE);
+    let zero_two = CandSet::empty().with(ZERO).with(TWO);
+    match three(rt.alloc(), 2) {
+        Ok(certificate) => {
+            let claims = [
+                Claim {
+                    assertion: Assertion::Neb { w: ONE, l: TWO },
+                    margin: 1,
+                },
+                Claim {
+                    assertion: Assertion::Nen {
+                        w: ONE,
+                        l: ZERO,
+                        rest: zero_one,
+                    },
+                    margin: 2,
+                },
+                Claim {
+                    assertion: Assertion::Nen {
+                        w: TWO,
+                        l: ZERO,
+                        rest: zero_two,
+                    },
+                    margin: 2,
+                },
+            ];
+            assert!(rt; certificate.claims.as_slice() == claims.as_slice());
+            assert!(rt; certificate.margin == 1);
+            assert!(rt; certificate.order.candidates() == [ONE, ZERO, TWO].as_slice());
+        }
+        Err(_) => assert!(rt; false),
+    }
+}
+
+// Before the order 1,0,2 stand the suffixes 2 and 0,2.
+#[test]
+fn three_candidates_order_over_budget(rt: HostRuntime) {
+    let answer = three(rt.alloc(), 1);
+    assert!(rt; matches!(&answer, Err(CertFault::Spent { last: TWO })));
+}
+
+// The suffix 0 has a low of 0.
+#[test]
+fn three_candidates_cover_over_budget(rt: HostRuntime) {
+    let answer = three(rt.alloc(), 0);
+    assert!(rt; matches!(&answer, Err(CertFault::Spent { last: ZERO })));
+}
+
+// Three ballots 0 and two 1.
+fn two(alloc: Global, nodes: u32) -> Result<Certificate, CertFault> {
+    let rankings = [only(ZERO), only(ZERO), only(ZERO), only(ONE), only(ONE)];
+    answer(alloc, 2, rankings.as_slice(), 1, nodes)
+}
+
+#[test]
+fn two_candidates(rt: HostRuntime) {
+    match two(rt.alloc(), 1) {
+        Ok(certificate) => {
+            let claims = [Claim {
+                assertion: Assertion::Neb { w: ZERO, l: ONE },
+                margin: 1,
+            }];
+            assert!(rt; certificate.claims.as_slice() == claims.as_slice());
+            assert!(rt; certificate.order.candidates() == [ZERO, ONE].as_slice());
+        }
+        Err(_) => assert!(rt; false),
+    }
+}
+
+// Four ballots 1, three 2, and one each of 3,2, of 3 and of 0,1.
+fn county(alloc: Global, nodes: u32) -> Result<Certificate, CertFault> {
+    let rankings = [
+        only(ONE),
+        only(ONE),
+        only(ONE),
+        only(ONE),
+        only(TWO),
+        only(TWO),
+        only(TWO),
+        both(THREE, TWO),
+        only(THREE),
+        both(ZERO, ONE),
+    ];
+    answer(alloc, 4, rankings.as_slice(), 1, nodes)
+}
+
+#[test]
+fn county_contest(rt: HostRuntime) {
+    let one_two = CandSet::empty().with(ONE).with(TWO);
+    match county(rt.alloc(), 12) {
+        Ok(certificate) => {
+            let claims = [
+                Claim {
+                    assertion: Assertion::Neb { w: ONE, l: ZERO },
+                    margin: 3,
+                },
+                Claim {
+                    assertion: Assertion::Neb { w: ONE, l: THREE },
+                    margin: 2,
+                },
+                Claim {
+                    assertion: Assertion::Nen {
+                        w: ONE,
+                        l: TWO,
+                        rest: one_two,
+                    },
+                    margin: 1,
+                },
+            ];
+            assert!(rt; certificate.claims.as_slice() == claims.as_slice());
+            assert!(rt; certificate.order.candidates() == [THREE, ZERO, ONE, TWO].as_slice());
+        }
+        Err(_) => assert!(rt; false),
+    }
+}

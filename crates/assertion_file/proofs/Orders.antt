@@ -4,7 +4,7 @@ use Rattle.irv_base.specs.Orders.{is_order}
 use Rattle.irv_base.proofs.Members.{Member, here, there}
 use Rattle.irv_base.proofs.Orders.{order_facts}
 
-member-get_or : {X : Type 0} (xs : List X) (i : ℕ) (d : X) → i < length xs → Member (get_or xs i d) xs
+pub member-get_or : {X : Type 0} (xs : List X) (i : ℕ) (d : X) → i < length xs → Member (get_or xs i d) xs
 member-get_or [] i d within = absurd (omega arith)
 member-get_or (x ∷ xs) zero d within = here
 member-get_or (x ∷ xs) (suc i) d within = there (member-get_or xs i d (omega arith))

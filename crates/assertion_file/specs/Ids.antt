@@ -1,7 +1,8 @@
 -- Candidates by their ids, in a contest with this list of ids.
 use Rattle.std.specs.Prelude.{ℕ, List, [], length, map, filter, slice_index_or}
+use Rattle.std.specs.List.{position_or_len}
 use Rattle.irv_base.specs.Candidates.{candidates, has}
-use Rattle.irv_base.specs.Names.{Id}
+use Rattle.irv_base.specs.Names.{Id, is_same}
 
 -- the id of candidate c
 abbrev pub id_of : List Id → ℕ → Id
@@ -13,3 +14,12 @@ ids_of ids cs = map (id_of ids) cs
 -- the ids of the candidates in the set, in the order of the list
 abbrev pub ids_in : List Id → ℕ → List Id
 ids_in ids set = ids_of ids (filter (has set) (candidates (length ids)))
+
+-- ---- back from the ids
+
+-- the number of the candidate with that id, or of candidates where there is none
+abbrev pub number_of : List Id → Id → ℕ
+number_of ids id = position_or_len (λ other. is_same other id) ids
+
+abbrev pub numbers_of : List Id → List Id → List ℕ
+numbers_of ids names = map (number_of ids) names

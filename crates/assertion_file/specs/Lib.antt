@@ -1,5 +1,9 @@
 pub mod Ids
 pub mod Content
 pub mod Text
+pub mod Stated
+pub mod Views
+pub mod Reading
+pub mod Faults
 pub mod Laws
 pub mod Examples

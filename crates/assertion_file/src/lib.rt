@@ -2,12 +2,19 @@
 //! check.
 #![tactic(auto)]
 
+mod claims;
 pub mod examples;
+mod fault;
 mod file;
+mod ids;
 pub mod laws;
+mod members;
 mod print;
+mod read;
 #[cfg(test)]
 mod tests;
 
+pub use fault::{FRule, FileFault};
 pub use file::AssertionFile;
 pub use print::{VERSION, print_file};
+pub use read::read_file;

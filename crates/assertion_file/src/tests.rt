@@ -1,4 +1,6 @@
 // The texts of whole files, byte for byte.
+mod reading;
+
 use crate::{AssertionFile, print_file};
 use assertions::{Assertion, Claim};
 use irv_base::{CandSet, Candidate, Name, Order};

@@ -1,0 +1,156 @@
+-- What is said of a file whose own members are there.
+use Rattle.std.proofs.Common.{◌≡◌, ◌==◌, ℕ, ◌<◌, ◌≤◌, ◌&&◌, Bool, true, false, List, length, Some, None, Ok, Err, refl, sym, ap, ap₂, subst, ◌∙◌}
+use Rattle.std.specs.Prelude.{if◌then◌else◌, nat_le, ok_or, Result}
+use Rattle.std.specs.List.{list_all}
+use Rattle.std.specs.Str.{IsUtf8, is_utf8}
+use Rattle.std.proofs.lemmas.Str.{IsUtf8-from_is_utf8, is_utf8-from_IsUtf8}
+use Rattle.std.proofs.lemmas.Bool.{and_parts, leb-true}
+use Rattle.serde_json.specs.Data.{Data}
+use Rattle.serde_json.specs.Read.{read}
+use Rattle.assertions.specs.declared.assertion.Claim.{Claim}
+use Rattle.irv_base.specs.Names.{Id, all_differ, is_among, is_name, is_same}
+use Rattle.irv_base.specs.Orders.{is_order}
+use Rattle.irv_base.specs.declared.limits.TheConstants.{FEWEST_CANDIDATES, MOST_CANDIDATES, MOST_RECORDS}
+use Rattle.assertion_file.specs.Content.{IsMargin}
+use Rattle.assertion_file.specs.Faults.{Refuses}
+use Rattle.assertion_file.specs.Ids.{number_of, numbers_of}
+use Rattle.assertion_file.specs.Stated.{Heading, heading_in}
+use Rattle.assertion_file.specs.Reading.{are_candidates, assertion_file_of, claims_from, content_of, content_with, is_margin, is_record_count, judged_heading, heading_rules, located, ◌>>=◌}
+use Rattle.assertion_file.specs.declared.fault.FRule.{FRule}
+use Rattle.assertion_file.specs.declared.fault.FRule.TheVariants.{F1, F2, F4, F5, F6}
+use Rattle.assertion_file.specs.declared.fault.FileFault.{FileFault}
+use Rattle.assertion_file.specs.declared.fault.FileFault.TheVariants.{Refused, Memory}
+use Rattle.assertion_file.specs.declared.print.TheConstants.{VERSION}
+use Rattle.assertion_file.proofs.Found.{any-within}
+use Rattle.assertion_file.proofs.Judged.{AllHold, all-hold}
+
+pub refuse : {A : Type 0} (said : Result A FRule) (rule : FRule) (fault : FileFault) → said ≡ Err rule → fault ≡ Refused rule 0 → Refuses (located 0 said) fault
+refuse said rule fault h e = subst (Refuses (located 0 said)) (sym e) (ap (located 0) h)
+
+-- ---- rule by rule
+
+pub record HasNames (heading : Heading) : Type 0 where
+  pub version : (heading.version == VERSION) ≡ true
+  pub contest : is_name heading.contest ≡ true
+  pub candidates : are_candidates heading.candidates ≡ true
+
+pub no_winner : (heading : Heading) → HasNames heading → is_among heading.candidates heading.winner ≡ false → judged_heading heading ≡ Err F4
+unfolding judged_heading
+no_winner heading n w = rw (n.version, n.contest, n.candidates, w) refl
+
+pub record HasOrder (heading : Heading) : Type 0 where
+  pub names : HasNames heading
+  pub winner : is_among heading.candidates heading.winner ≡ true
+  pub order : list_all (is_among heading.candidates) heading.order ≡ true
+
+pub no_order : (heading : Heading) → HasOrder heading → is_order (length heading.candidates) (numbers_of heading.candidates heading.order) ≡ false → judged_heading heading ≡ Err F5
+unfolding judged_heading
+no_order heading h o = rw (h.names.version, h.names.contest, h.names.candidates, h.winner, h.order, o) refl
+
+pub no_records : (heading : Heading) → HasOrder heading → is_order (length heading.candidates) (numbers_of heading.candidates heading.order) ≡ true → is_record_count heading.records ≡ false →
+    judged_heading heading ≡ Err F6
+unfolding judged_heading
+no_records heading h o r = rw (h.names.version, h.names.contest, h.names.candidates, h.winner, h.order, o, r) refl
+
+pub no_margin : (heading : Heading) → HasOrder heading → is_order (length heading.candidates) (numbers_of heading.candidates heading.order) ≡ true → is_record_count heading.records ≡ true →
+    is_margin heading.records heading.margin ≡ false → judged_heading heading ≡ Err F6
+unfolding judged_heading
+no_margin heading h o r m = rw (h.names.version, h.names.contest, h.names.candidates, h.winner, h.order, o, r, m) refl
+
+pub kept : (heading : Heading) → HasOrder heading → is_order (length heading.candidates) (numbers_of heading.candidates heading.order) ≡ true → is_record_count heading.records ≡ true →
+    is_margin heading.records heading.margin ≡ true → judged_heading heading ≡ Ok heading
+unfolding judged_heading
+kept heading h o r m = rw (h.names.version, h.names.contest, h.names.candidates, h.winner, h.order, o, r, m) refl
+
+-- ---- a heading that keeps the rules
+
+pub margin-is : (records margin : ℕ) → is_margin records margin ≡ true → IsMargin records margin
+margin-is records margin h =
+    let (some, most) = and_parts (nat_le 1 margin) (nat_le margin records) h in
+    record { some = leb-true 1 margin some; most = leb-true margin records most }
+
+pub record Sound (heading : Heading) : Type 0 where
+  pub contest : is_name heading.contest ≡ true
+  pub names : list_all is_name heading.candidates ≡ true
+  pub fewest : FEWEST_CANDIDATES ≤ length heading.candidates
+  pub most : length heading.candidates ≤ MOST_CANDIDATES
+  pub differ : all_differ heading.candidates ≡ true
+  pub winner : number_of heading.candidates heading.winner < length heading.candidates
+  pub order : is_order (length heading.candidates) (numbers_of heading.candidates heading.order) ≡ true
+  pub some_records : 1 ≤ heading.records
+  pub most_records : heading.records ≤ MOST_RECORDS
+  pub margin : IsMargin heading.records heading.margin
+
+pub sound : (heading : Heading) → judged_heading heading ≡ Ok heading → Sound heading
+unfolding judged_heading
+sound heading h =
+    let all : AllHold (heading_rules heading) = (all-hold (heading_rules heading) heading heading h).0 in
+    let named = all.1 in
+    let candidates = named.1.0 in
+    let winner = named.1.1.0 in
+    let ordered = named.1.1.1.1 in
+    let records = ordered.1.0 in
+    let ids = heading.candidates in
+    let (counted, differ) = and_parts (list_all is_name ids && nat_le FEWEST_CANDIDATES (length ids) && nat_le (length ids) MOST_CANDIDATES) (all_differ ids) candidates in
+    let (some, most) = and_parts (list_all is_name ids && nat_le FEWEST_CANDIDATES (length ids)) (nat_le (length ids) MOST_CANDIDATES) counted in
+    let (names, fewest) = and_parts (list_all is_name ids) (nat_le FEWEST_CANDIDATES (length ids)) some in
+    let (one, million) = and_parts (nat_le 1 heading.records) (nat_le heading.records MOST_RECORDS) records in
+    record {
+      contest = named.0;
+      names = names;
+      fewest = leb-true FEWEST_CANDIDATES (length ids) fewest;
+      most = leb-true (length ids) MOST_CANDIDATES most;
+      differ = differ;
+      winner = any-within (λ other. is_same other heading.winner) ids winner;
+      order = ordered.0;
+      some_records = leb-true 1 heading.records one;
+      most_records = leb-true heading.records MOST_RECORDS million;
+      margin = margin-is heading.records heading.margin ordered.1.1.0;
+    }
+
+-- ---- the file
+
+pub content-none : (value : Data) → heading_in value ≡ None → content_of value ≡ Err (record { rule = F2; at = 0 })
+unfolding content_of
+content-none value h =
+    ap (λ o. located 0 (ok_or o F2 >>= judged_heading) >>= λ heading. claims_from heading.candidates heading.records 1 heading.assertions >>= λ claims. Ok (content_with heading claims)) h
+
+content-some : (value : Data) (heading : Heading) → heading_in value ≡ Some heading →
+    content_of value ≡ (located 0 (judged_heading heading) >>= λ kept. claims_from kept.candidates kept.records 1 kept.assertions >>= λ claims. Ok (content_with kept claims))
+unfolding content_of
+content-some value heading h =
+    ap (λ o. located 0 (ok_or o F2 >>= judged_heading) >>= λ heading. claims_from heading.candidates heading.records 1 heading.assertions >>= λ claims. Ok (content_with heading claims)) h
+
+pub refused_heading : (value : Data) (heading : Heading) (fault : FileFault) → heading_in value ≡ Some heading → Refuses (located 0 (judged_heading heading)) fault → Refuses (content_of value) fault
+refused_heading value heading (Refused rule at) h r =
+    content-some value heading h ∙ ap (λ said. said >>= λ kept. claims_from kept.candidates kept.records 1 kept.assertions >>= λ claims. Ok (content_with kept claims)) r
+refused_heading value heading Memory h r = tt
+
+pub content-kept : (value : Data) (heading : Heading) → heading_in value ≡ Some heading → judged_heading heading ≡ Ok heading →
+    content_of value ≡ (claims_from heading.candidates heading.records 1 heading.assertions >>= λ claims. Ok (content_with heading claims))
+content-kept value heading h k =
+    content-some value heading h ∙ ap (λ said. located 0 said >>= λ kept. claims_from kept.candidates kept.records 1 kept.assertions >>= λ claims. Ok (content_with kept claims)) k
+
+pub refused_claims : (value : Data) (heading : Heading) (fault : FileFault) → heading_in value ≡ Some heading → judged_heading heading ≡ Ok heading →
+    Refuses (claims_from heading.candidates heading.records 1 heading.assertions) fault → Refuses (content_of value) fault
+refused_claims value heading (Refused rule at) h k r = content-kept value heading h k ∙ ap (λ said. said >>= λ claims. Ok (content_with heading claims)) r
+refused_claims value heading Memory h k r = tt
+
+pub content-is : (heading : Heading) (claims : List Claim) (contest : Id) (candidates : List Id) (winner : ℕ) (order : List ℕ) → contest ≡ heading.contest → candidates ≡ heading.candidates →
+    winner ≡ number_of heading.candidates heading.winner → order ≡ numbers_of heading.candidates heading.order →
+    record { contest = contest; candidates = candidates; records = heading.records; winner = winner; margin = heading.margin; order = order; claims = claims } ≡ content_with heading claims
+content-is heading claims contest candidates winner order c cs w o =
+    λ i. record { contest = c i; candidates = cs i; records = heading.records; winner = w i; margin = heading.margin; order = o i; claims = claims }
+
+-- ---- its bytes
+
+pub file-some : (bytes : List ℕ) (value : Data) → IsUtf8 bytes → read bytes ≡ Some value → assertion_file_of bytes ≡ content_of value
+unfolding assertion_file_of
+file-some bytes value text h = ap₂ (λ b o. located 0 (ok_or (if b then o else None) F1) >>= content_of) (is_utf8-from_IsUtf8 bytes text) h
+
+pub file-none : (bytes : List ℕ) → (IsUtf8 bytes → read bytes ≡ None) → assertion_file_of bytes ≡ Err (record { rule = F1; at = 0 })
+unfolding assertion_file_of
+file-none bytes h = ap (λ o. located 0 (ok_or o F1) >>= content_of) (by (is_utf8 bytes) refl) where
+  by : (b : Bool) → is_utf8 bytes ≡ b → (if b then read bytes else None) ≡ None
+  by true e = h (IsUtf8-from_is_utf8 bytes e)
+  by false e = refl

@@ -1,0 +1,133 @@
+-- What an assertion file says, or which rule it breaks first, and where.
+use Rattle.std.specs.Prelude.{ℕ, ◌+◌, Bool, true, not, ◌&&◌, ◌==◌, nat_le, if◌then◌else◌, List, [], ◌∷◌, length, Option, Some, None, ok_or, option_map, unwrap_or, Result, Ok, Err}
+use Rattle.std.specs.List.{list_all}
+use Rattle.serde_json.specs.Data.{Data}
+use Rattle.irv_base.specs.Candidates.{is_distinct, is_in, set_of}
+use Rattle.irv_base.specs.Names.{Id, all_differ, is_among, is_name, is_same}
+use Rattle.irv_base.specs.Orders.{is_order}
+use Rattle.irv_base.specs.declared.limits.TheConstants.{FEWEST_CANDIDATES, MOST_CANDIDATES, MOST_RECORDS}
+use Rattle.assertions.specs.declared.assertion.Assertion.{Assertion}
+use Rattle.assertions.specs.declared.assertion.Assertion.TheVariants.{Neb, Nen}
+use Rattle.assertions.specs.declared.assertion.Claim.{Claim}
+use Rattle.assertion_file.specs.Content.{Content}
+use Rattle.assertion_file.specs.Ids.{number_of, numbers_of}
+use Rattle.assertion_file.specs.Stated.{Heading, heading_in, Entry, entry_in}
+use Rattle.assertion_file.specs.Text.{json_of}
+use Rattle.assertion_file.specs.declared.fault.FRule.{FRule}
+use Rattle.assertion_file.specs.declared.fault.FRule.TheVariants.{F1, F2, F3, F4, F5, F6}
+use Rattle.assertion_file.specs.declared.print.TheConstants.{VERSION}
+
+infixl 10 ◌>>=◌
+abbrev pub ◌>>=◌ : {A B E : Type 0} → Result A E → (A → Result B E) → Result B E
+(Ok x) >>= more = more x
+(Err e) >>= more = Err e
+
+-- the value, or the first rule that doesn't hold
+abbrev pub judged : {A : Type 0} → List (Bool × FRule) → A → Result A FRule
+judged [] value = Ok value
+judged (held ∷ more) value = if held.0 then judged more value else Err held.1
+
+-- ---- the members of the file's object, but for the elements of its assertions
+
+abbrev pub are_candidates : List Id → Bool
+are_candidates ids = list_all is_name ids && nat_le FEWEST_CANDIDATES (length ids) && nat_le (length ids) MOST_CANDIDATES && all_differ ids
+
+abbrev pub is_record_count : ℕ → Bool
+is_record_count n = nat_le 1 n && nat_le n MOST_RECORDS
+
+abbrev pub is_margin : ℕ → ℕ → Bool
+is_margin records margin = nat_le 1 margin && nat_le margin records
+
+-- in this order
+abbrev pub heading_rules : Heading → List (Bool × FRule)
+heading_rules heading =
+    (heading.version == VERSION, F3) ∷
+    (is_name heading.contest, F4) ∷
+    (are_candidates heading.candidates, F4) ∷
+    (is_among heading.candidates heading.winner, F4) ∷
+    (list_all (is_among heading.candidates) heading.order, F4) ∷
+    (is_order (length heading.candidates) (numbers_of heading.candidates heading.order), F5) ∷
+    (is_record_count heading.records, F6) ∷
+    (is_margin heading.records heading.margin, F6) ∷
+    []
+
+unfoldable pub judged_heading : Heading → Result Heading FRule
+judged_heading heading = judged (heading_rules heading) heading
+
+abbrev pub heading_of : Data → Result Heading FRule
+heading_of value = do
+  heading ← ok_or (heading_in value) F2
+  judged_heading heading
+
+-- ---- an assertion, where there are candidates with these ids and so many records
+
+-- a NEN's rest has each of its candidates once, and both the winner and the loser
+abbrev pub is_rest : ℕ → ℕ → Option (List ℕ) → Bool
+is_rest w l None = true
+is_rest w l (Some rest) = is_distinct rest && is_in rest w && is_in rest l
+
+abbrev pub entry_rules : List Id → ℕ → Entry → List (Bool × FRule)
+entry_rules ids records entry =
+    (is_among ids entry.winner, F4) ∷
+    (is_among ids entry.loser, F4) ∷
+    (not (is_same entry.winner entry.loser), F4) ∷
+    (list_all (is_among ids) (unwrap_or entry.rest []), F4) ∷
+    (is_rest (number_of ids entry.winner) (number_of ids entry.loser) (option_map (numbers_of ids) entry.rest), F5) ∷
+    (is_margin records entry.margin, F6) ∷
+    []
+
+abbrev pub assertion_with : ℕ → ℕ → Option (List ℕ) → Assertion
+assertion_with w l None = Neb w l
+assertion_with w l (Some rest) = Nen w l (set_of rest)
+
+abbrev pub claim_with : List Id → Entry → Claim
+claim_with ids entry = record {
+  assertion = assertion_with (number_of ids entry.winner) (number_of ids entry.loser) (option_map (numbers_of ids) entry.rest);
+  margin = entry.margin;
+}
+
+unfoldable pub claim_of : List Id → ℕ → Data → Result Claim FRule
+claim_of ids records value = do
+  entry ← ok_or (entry_in value) F2
+  judged (entry_rules ids records entry) (claim_with ids entry)
+
+-- ---- the file
+
+-- a rule, and the assertion that breaks it, counted from 1, or 0 for the file's own members
+pub record Refusal : Type 0 where
+  pub rule : FRule
+  pub at : ℕ
+
+abbrev pub located : {A : Type 0} → ℕ → Result A FRule → Result A Refusal
+located at (Ok value) = Ok value
+located at (Err rule) = Err (record { rule = rule; at = at })
+
+-- one after the other, the first of them having the number at
+abbrev pub claims_from : List Id → ℕ → ℕ → List Data → Result (List Claim) Refusal
+claims_from ids records at [] = Ok []
+claims_from ids records at (value ∷ values) = do
+  claim ← located at (claim_of ids records value)
+  claims ← claims_from ids records (at + 1) values
+  Ok (claim ∷ claims)
+
+abbrev pub content_with : Heading → List Claim → Content
+content_with heading claims = record {
+  contest = heading.contest;
+  candidates = heading.candidates;
+  records = heading.records;
+  winner = number_of heading.candidates heading.winner;
+  margin = heading.margin;
+  order = numbers_of heading.candidates heading.order;
+  claims = claims;
+}
+
+unfoldable pub content_of : Data → Result Content Refusal
+content_of value = do
+  heading ← located 0 (heading_of value)
+  claims ← claims_from heading.candidates heading.records 1 heading.assertions
+  Ok (content_with heading claims)
+
+unfoldable pub assertion_file_of : List ℕ → Result Content Refusal
+assertion_file_of bytes = do
+  value ← located 0 (ok_or (json_of bytes) F1)
+  content_of value

@@ -1,0 +1,108 @@
+-- What a JSON value states: the members of the file's object, and those of an assertion.
+use Rattle.std.specs.Prelude.{ℕ, List, [], ◌∷◌, map, codes, nat_le, Bool, if◌then◌else◌, Option, Some, None, is_some, unwrap_or, option_map, option_and_then}
+use Rattle.std.specs.List.{list_all}
+use Rattle.serde_json.specs.Data.{Data, Items, no_items, item}
+use Rattle.serde_json.specs.Find.{get, as_number, as_str, as_array, as_u64}
+use Rattle.irv_base.specs.Names.{Id, is_same}
+use Rattle.assertion_file.specs.declared.members.TheConstants.{MOST_NUMBER}
+
+infixl 10 ◌>>=◌
+abbrev pub ◌>>=◌ : {A B : Type 0} → Option A → (A → Option B) → Option B
+found >>= more = option_and_then more found
+
+-- ---- the kinds of members
+
+-- a whole number without a sign, a point or an exponent
+abbrev pub number : Data → Option ℕ
+number value = do
+  any ← as_number value
+  n ← as_u64 any
+  if nat_le n MOST_NUMBER then Some n else None
+
+abbrev pub elements : Items → List Data
+elements no_items = []
+elements (item value values) = value ∷ elements values
+
+abbrev pub list : Data → Option (List Data)
+list value = option_map elements (as_array value)
+
+abbrev pub is_text : Data → Bool
+is_text value = is_some (as_str value)
+
+abbrev pub text_of : Data → List ℕ
+text_of value = unwrap_or (as_str value) []
+
+abbrev pub texts_of : List Data → List (List ℕ)
+texts_of values = map text_of values
+
+-- a list that has texts alone
+abbrev pub texts : Data → Option (List (List ℕ))
+texts value = do
+  values ← list value
+  if list_all is_text values then Some (texts_of values) else None
+
+-- the member of that name, if the value is an object that has one of that kind
+abbrev pub member_as : {A : Type 0} → (Data → Option A) → List ℕ → Data → Option A
+member_as kind name value = do
+  found ← get name value
+  kind found
+
+abbrev pub text_in : List ℕ → Data → Option (List ℕ)
+text_in = member_as as_str
+
+abbrev pub number_in : List ℕ → Data → Option ℕ
+number_in = member_as number
+
+abbrev pub list_in : List ℕ → Data → Option (List Data)
+list_in = member_as list
+
+abbrev pub texts_in : List ℕ → Data → Option (List (List ℕ))
+texts_in = member_as texts
+
+-- ---- the file's object
+
+pub record Heading : Type 0 where
+  pub assertions : List Data
+  pub candidates : List Id
+  pub contest : Id
+  pub margin : ℕ
+  pub order : List Id
+  pub records : ℕ
+  pub version : ℕ
+  pub winner : Id
+
+unfoldable pub heading_in : Data → Option Heading
+heading_in value = do
+  assertions ← list_in (codes "assertions") value
+  candidates ← texts_in (codes "candidates") value
+  contest ← text_in (codes "contest") value
+  margin ← number_in (codes "margin") value
+  order ← texts_in (codes "order") value
+  records ← number_in (codes "records") value
+  version ← number_in (codes "version") value
+  winner ← text_in (codes "winner") value
+  Some (record { assertions = assertions; candidates = candidates; contest = contest; margin = margin; order = order; records = records; version = version; winner = winner })
+
+-- ---- an assertion
+
+-- a NEB has no rest
+pub record Entry : Type 0 where
+  pub winner : Id
+  pub loser : Id
+  pub margin : ℕ
+  pub rest : Option (List Id)
+
+-- the rest of a NEB isn't looked at
+abbrev pub rest_in : Id → Data → Option (Option (List Id))
+rest_in kind value =
+    if is_same kind (codes "NEB") then Some None else
+    (if is_same kind (codes "NEN") then option_map Some (texts_in (codes "rest") value) else None)
+
+unfoldable pub entry_in : Data → Option Entry
+entry_in value = do
+  kind ← text_in (codes "kind") value
+  winner ← text_in (codes "winner") value
+  loser ← text_in (codes "loser") value
+  margin ← number_in (codes "margin") value
+  rest ← rest_in kind value
+  Some (record { winner = winner; loser = loser; margin = margin; rest = rest })

@@ -1,0 +1,122 @@
+// The members of a JSON value that a file and its assertions need.
+ghost use Rattle.std.specs.Prelude.{◌≡◌, map, option_map};
+ghost use Rattle.std.specs.List.{list_all};
+ghost use Rattle.serde_json.specs.View.{view};
+ghost use Rattle.assertion_file.specs.Stated.{heading_in, entry_in, is_text, list_in, number_in, rest_in, text_in, text_of, texts_in, texts_of};
+ghost use Rattle.assertion_file.specs.Views.{stated_heading, stated_entry};
+
+use serde_json::Value;
+
+/// The greatest number that a file may have.
+pub const MOST_NUMBER: u32 = u32::MAX;
+
+/// The members of the file's object. The lists of ids have texts alone.
+#[derive(Clone, Copy)]
+pub struct Heading<'a> {
+    pub assertions: &'a [Value],
+    pub candidates: &'a [Value],
+    pub contest: &'a str,
+    pub margin: u32,
+    pub order: &'a [Value],
+    pub records: u32,
+    pub version: u32,
+    pub winner: &'a str,
+}
+
+/// The members of an assertion. A NEB has no rest, and that of a NEN has texts alone.
+#[derive(Clone, Copy)]
+pub struct Entry<'a> {
+    pub winner: &'a str,
+    pub loser: &'a str,
+    pub margin: u32,
+    pub rest: Option<&'a [Value]>,
+}
+
+/// The text that the value is, or an empty one where it isn't one.
+pub fn text_of(value: &Value) -> &str
+    ensures { result.now ≡ text_of (view value.now) }
+{
+    value.as_str().unwrap_or("")
+}
+
+fn text_in<'a>(value: &'a Value, name: &str) -> Option<&'a str>
+    ensures { option_map (λ text. text.now) result ≡ text_in name.now (view value.now) }
+{
+    value.get(name)?.as_str()
+}
+
+fn number_in(value: &Value, name: &str) -> Option<u32>
+    ensures { result ≡ number_in name.now (view value.now) }
+{
+    let n = value.get(name)?.as_u64()?;
+    if n > u64::from(MOST_NUMBER) {
+        return None;
+    }
+    Some(n as u32)
+}
+
+fn list_in<'a>(value: &'a Value, name: &str) -> Option<&'a [Value]>
+    ensures { option_map (λ values. map view values.now) result ≡ list_in name.now (view value.now) }
+{
+    Some(value.get(name)?.as_array()?.as_slice())
+}
+
+fn are_texts(values: &[Value]) -> bool
+    ensures { result ≡ list_all (λ value. is_text (view value)) values.now }
+{
+    values.iter().all(|value| value.is_string())
+}
+
+#[tactic(auto, using(crate::proofs::Elements::all_texts))]
+fn texts_in<'a>(value: &'a Value, name: &str) -> Option<&'a [Value]>
+    ensures { option_map (λ values. texts_of (map view values.now)) result ≡ texts_in name.now (view value.now) }
+{
+    let values = list_in(value, name)?;
+    if !are_texts(values) {
+        return None;
+    }
+    Some(values)
+}
+
+/// The members of a file, if all are there and of their kind.
+#[tactic(auto, unfolding(crate::specs::Stated::heading_in))]
+pub fn heading_in(value: &Value) -> Option<Heading<'_>>
+    ensures { option_map stated_heading result ≡ heading_in (view value.now) }
+{
+    Some(Heading {
+        assertions: list_in(value, "assertions")?,
+        candidates: texts_in(value, "candidates")?,
+        contest: text_in(value, "contest")?,
+        margin: number_in(value, "margin")?,
+        order: texts_in(value, "order")?,
+        records: number_in(value, "records")?,
+        version: number_in(value, "version")?,
+        winner: text_in(value, "winner")?,
+    })
+}
+
+fn rest_in<'a>(kind: &str, value: &'a Value) -> Option<Option<&'a [Value]>>
+    ensures { option_map (λ rest. option_map (λ values. texts_of (map view values.now)) rest) result ≡ rest_in kind.now (view value.now) }
+{
+    if kind == "NEB" {
+        return Some(None);
+    }
+    if kind != "NEN" {
+        return None;
+    }
+    Some(Some(texts_in(value, "rest")?))
+}
+
+/// The members of an assertion, if all are there and of their kind.
+#[tactic(auto, unfolding(crate::specs::Stated::entry_in))]
+pub fn entry_in(value: &Value) -> Option<Entry<'_>>
+    ensures { option_map stated_entry result ≡ entry_in (view value.now) }
+{
+    let kind = text_in(value, "kind")?;
+    Some(Entry {
+        winner: text_in(value, "winner")?,
+        loser: text_in(value, "loser")?,
+        margin: number_in(value, "margin")?,
+        rest: rest_in(kind, value)?,
+    })
+}

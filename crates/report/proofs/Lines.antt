@@ -1,15 +1,14 @@
 -- The lines of the rounds, one round at a time, and what a tabulation has for them.
-use Rattle.std.proofs.Common.{◌≡◌, ℕ, zero, suc, ◌+◌, ◌-◌, ◌<◌, ◌≤◌, true, List, [], ◌∷◌, ◌++◌, length, map, drop, take, get_or, All, refl, sym, ap, subst, arith, append_assoc, append-nil, ◌∙◌}
+use Rattle.std.proofs.Common.{◌≡◌, ℕ, zero, suc, ◌+◌, ◌-◌, ◌<◌, ◌≤◌, List, [], ◌∷◌, ◌++◌, length, drop, take, get_or, All, refl, sym, ap, subst, arith, append_assoc, append-nil, ◌∙◌}
 use Rattle.std.proofs.lemmas.List.{drop_more, get_or-map, length-map}
 use Rattle.std.proofs.lemmas.List.FromFn.{length-map-range_with_len}
 use Rattle.irv_base.specs.Candidates.{set_of}
 use Rattle.irv_base.specs.Names.{Id}
-use Rattle.irv_base.specs.Orders.{is_order, Elects}
 use Rattle.irv_base.specs.Records.{tally}
 use Rattle.irv_base.proofs.Members.{Member, here, member-append_right}
 use Rattle.irv_base.proofs.Orders.{order_facts}
 use Rattle.irv_tabulator.specs.Results.{IsTabulation}
-use Rattle.irv_tabulator.specs.Rounds.{Count, count_in, count_of, counts_in, rounds_of}
+use Rattle.irv_tabulator.specs.Rounds.{Count, count_in, counts_in, rounds_of}
 use Rattle.irv_tabulator.specs.declared.tabulated.Round.{Round}
 use Rattle.irv_tabulator.specs.declared.tabulated.Tabulated.{Tabulated}
 use Rattle.report.specs.Tabulations.{round_text, rounds_text}

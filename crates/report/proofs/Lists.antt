@@ -1,10 +1,10 @@
 -- Lists of candidates and of their ids, one more at a time.
-use Rattle.std.proofs.Common.{◌≡◌, ◌==◌, ℕ, zero, suc, ◌+◌, ◌<◌, ◌≤◌, Bool, true, false, cond, if◌then◌else◌, List, [], ◌∷◌, ◌++◌, length, map, filter, take, get_or, All, refl, sym, ap, ap₂, arith, append_assoc, append-nil, eq-eqb, ne_eqb, ◌∙◌}
+use Rattle.std.proofs.Common.{◌≡◌, ◌==◌, ℕ, zero, suc, ◌+◌, ◌<◌, ◌≤◌, Bool, true, false, cond, if◌then◌else◌, List, [], ◌∷◌, ◌++◌, length, filter, take, get_or, All, refl, sym, ap, ap₂, arith, append_assoc, append-nil, eq-eqb, ne_eqb, ◌∙◌}
 use Rattle.std.proofs.lemmas.List.{get_or_default, length-map, map-append, take_more}
 use Rattle.std.proofs.lemmas.List.Elements.{filter-append}
 use Rattle.irv_base.specs.Candidates.{candidates}
 use Rattle.irv_base.specs.Names.{Id, comma}
-use Rattle.irv_base.proofs.Members.{Member, from_filter, from_candidates, member-from_contains}
+use Rattle.irv_base.proofs.Members.{from_filter, from_candidates, member-from_contains}
 use Rattle.irv_base.proofs.Ranges.{candidates-more}
 use Rattle.assertion_file.specs.Ids.{id_of, ids_of}
 use Rattle.report.specs.Texts.{joined}

@@ -1,5 +1,5 @@
 -- The worked examples.
-use Rattle.std.specs.Prelude.{List, ℕ, [], ◌∷◌, ◌++◌, codes, replicate}
+use Rattle.std.specs.Prelude.{List, [], ◌∷◌, ◌++◌, codes, replicate}
 use Rattle.irv_base.specs.Names.{Id}
 use Rattle.ballot_reader.specs.Ballots.{BallotFile}
 

@@ -42,33 +42,33 @@ fn two_candidates(rt: HostRuntime) {
     }
 }
 
-fn three_names(rt: HostRuntime) -> [Name; 3] {
-    [
-        Name::read(b"1".as_slice()).expect(&rt, "name"),
-        Name::read(b"2".as_slice()).expect(&rt, "name"),
-        Name::read(b"3".as_slice()).expect(&rt, "name"),
-    ]
-}
-
 #[test]
-fn order_of_three(rt: HostRuntime) {
-    let names = three_names(rt);
+fn order_and_set_of_three(rt: HostRuntime) {
+    let one = Name::read(b"1".as_slice()).expect(&rt, "name");
+    let two = Name::read(b"2".as_slice()).expect(&rt, "name");
+    let three = Name::read(b"3".as_slice()).expect(&rt, "name");
+    let names = [one, two, three];
     let order = Order::read(3, [1, 0, 2].as_slice()).expect(&rt, "order");
-    let text = order_text(rt.alloc(), names.as_slice(), &order).expect(&rt, "text");
+    let text = order_text(rt.alloc(), names.as_slice(), &order).expect(&rt, "order");
     assert!(rt; text.as_str() == "2,1,3");
+    let set = CandSet::empty().with(ONE).with(THREE);
+    let text = set_text(rt.alloc(), names.as_slice(), set).expect(&rt, "set");
+    assert!(rt; text.as_str() == "1,3");
 }
 
 #[test]
-fn assertions_of_three(rt: HostRuntime) {
-    let names = three_names(rt);
-    let neb = Assertion::Neb { w: TWO, l: THREE };
-    let text = assertion_text(rt.alloc(), names.as_slice(), &neb).expect(&rt, "text");
-    assert!(rt; text.as_str() == "NEB 2 3");
+fn assertions_of_two(rt: HostRuntime) {
+    let one = Name::read(b"A".as_slice()).expect(&rt, "name");
+    let two = Name::read(b"B".as_slice()).expect(&rt, "name");
+    let names = [one, two];
+    let neb = Assertion::Neb { w: ONE, l: TWO };
+    let text = assertion_text(rt.alloc(), names.as_slice(), &neb).expect(&rt, "NEB");
+    assert!(rt; text.as_str() == "NEB A B");
     let nen = Assertion::Nen {
-        w: THREE,
+        w: TWO,
         l: ONE,
-        rest: CandSet::empty().with(ONE).with(THREE),
+        rest: CandSet::empty().with(ONE).with(TWO),
     };
-    let text = assertion_text(rt.alloc(), names.as_slice(), &nen).expect(&rt, "text");
-    assert!(rt; text.as_str() == "NEN 3 1 {1,3}");
+    let text = assertion_text(rt.alloc(), names.as_slice(), &nen).expect(&rt, "NEN");
+    assert!(rt; text.as_str() == "NEN B A {A,B}");
 }

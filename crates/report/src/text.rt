@@ -41,11 +41,7 @@ fn joined(alloc: Global, names: &[Name], candidates: &[Candidate]) -> Result<Str
 }
 
 /// Adds the candidate to the list if it is chosen.
-pub(crate) fn choose(
-    list: &mut Vec<Candidate>,
-    c: Candidate,
-    is_chosen: bool,
-) -> Result<(), Memory>
+pub(crate) fn choose(list: &mut Vec<Candidate>, c: Candidate, is_chosen: bool) -> Result<(), Memory>
     ensures { IfOk result (λ _. list.new.items ≡ (if is_chosen then list.old.items ++ c ∷ [] else list.old.items)) }
 {
     if !is_chosen {
@@ -107,12 +103,7 @@ pub fn assertion_text(alloc: Global, names: &[Name], a: &Assertion) -> Result<St
         Assertion::Neb { w, l } => Ok(neb_text(alloc, id_of(names, *w), id_of(names, *l))?),
         Assertion::Nen { w, l, rest } => {
             let rest = set_text(alloc, names, *rest)?;
-            Ok(nen_text(
-                alloc,
-                id_of(names, *w),
-                id_of(names, *l),
-                rest.as_str(),
-            )?)
+            Ok(nen_text(alloc, id_of(names, *w), id_of(names, *l), rest.as_str())?)
         }
     }
 }

@@ -1,4 +1,4 @@
-use Rattle.std.proofs.Common.{◌≡◌, ◌+◌, ◌<◌, ◌++◌, ap, arith, drop, get_or, length, string_bytes, sym, ◌∙◌}
+use Rattle.std.proofs.Common.{◌≡◌, ◌+◌, ◌<◌, ◌++◌, ap, arith, drop, get_or, length, string_bytes, ◌∙◌}
 use Rattle.assertion_file.proofs.Orders.{All-order}
 use Rattle.irv_tabulator.specs.Rounds.{count_in, counts_in}
 use Rattle.report.specs.Tabulations.{round_text, rounds_text}

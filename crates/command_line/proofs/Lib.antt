@@ -1,0 +1,10 @@
+mod Digits
+mod Places
+mod Counts
+mod Kept
+mod Meanings
+mod Taken
+mod Rules
+mod Lines
+mod Texts
+mod Checked

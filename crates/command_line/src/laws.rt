@@ -1,0 +1,12 @@
+//! The laws of lines: each holds of all words, and has no code.
+ghost use Rattle.command_line.specs.Laws.{LinesHaveMeanings, LinesAreChecked};
+
+/// Words are a line exactly where they have a meaning.
+pub fn lines_have_meanings()
+    ensures { LinesHaveMeanings }
+{}
+
+/// The files of a line have names, and its numbers are within their limits.
+pub fn lines_are_checked()
+    ensures { LinesAreChecked }
+{}

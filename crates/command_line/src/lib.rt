@@ -1,0 +1,19 @@
+//! The words of a call: which are a line, and the command with checked arguments that a line asks for.
+#![tactic(auto)]
+
+mod command;
+pub mod laws;
+mod limits;
+mod line;
+mod one_form;
+mod parsed;
+mod pieces;
+mod table;
+mod value;
+
+pub use command::{Command, read};
+pub use limits::{DEFAULT_FLOOR, DEFAULT_NODES, MOST_FLOOR, MOST_NODES};
+pub use line::is_line;
+
+#[cfg(test)]
+mod tests;

@@ -1,30 +1,45 @@
 -- What follows from how a call went: what was due, and what the sinks took of it.
-use Rattle.std.proofs.Common.{◌≡◌, ◌⊎◌, inl, inr, ⊎_elim, ℕ, List, Option, [], length, None, Some, IfSome, nat_le, if◌then◌else◌, refl, sym, ◌∙◌, ap, subst, arith, append-nil, Bool, true, false, nat_eq, le-leb, ◌≢◌}
+use Rattle.std.proofs.Common.{◌≡◌, ◌⊎◌, ◌≤◌, ◌<◌, inl, inr, ⊎_elim, ℕ, List, Option, [], length, None, Some, IfSome, nat_le, if◌then◌else◌, refl, sym, ◌∙◌, ap, subst, arith, append-nil, Bool, true, false, nat_eq, le-leb, ◌≢◌}
+use Rattle.std.proofs.lemmas.Bool.Decides.{leb_tells}
+use Rattle.irv_base.proofs.Ties.{tabulated_is_one}
 use Rattle.std.specs.Io.KnownBytes.{Appends, Keeps}
 use Rattle.desk.specs.Desk.{File, held_bytes}
-use Rattle.raire_cli.specs.Outcome.{Outcome, Kind, Done, Tie, Verdict, Answered, Refused, outcome, status_of, read_fault, out_of_memory, too_long, no_such_file}
-use Rattle.raire_cli.specs.Script.{Reading, Bytes, Missing, TooLong, Fault, Script, Readings, AsHeld, ByDesk, reading_of, stop_of, May, Concludes, IsDetermined, limit}
-use Rattle.ballot_reader.specs.FirstForm.{ballots_of}
-use Rattle.raire_cli.specs.Answers.{Line, Search, line_of, script_of, MayCome, IsDue}
+use Rattle.raire_cli.specs.Outcome.{Outcome, Kind, Done, Tie, Spent, FullCount, Verdict, Answered, Refused, outcome, status_of, read_fault, out_of_memory, too_long, no_such_file}
+use Rattle.raire_cli.specs.Script.{Reading, Bytes, Missing, TooLong, Fault, Script, Readings, AsHeld, ByDesk, reading_of, stop_of, May, Concludes, IsBudgeted, OneIsSpent, IsDetermined, limit}
+use Rattle.ballot_reader.specs.Ballots.{BallotFile}
+use Rattle.ballot_reader.specs.Grammar.{ballots_of}
+use Rattle.command_line.specs.Line.{Line, Search, Tabulate, line_of}
+use Rattle.raire_cli.specs.Answers.{script_of, MayCome, IsDue}
 use Rattle.raire_cli.specs.Ends.{Writing, Took, IsWhole, IsWritten}
-use Rattle.raire_cli.specs.Promises.{IsUndone, IsQuiet, Exactly, TookTexts, IsAnswered, IsNoLine, ComesToRead, HasFile, ComesToVerdict, IsRefused, HasAnswer, IsReadFault, IsWriteFault, IsForErr, IsStatus, IsAccepted, Statuses}
+use Rattle.raire_cli.specs.Promises.{IsUndone, IsQuiet, Exactly, ExactlyInBudget, TookTexts, IsAnswered, IsNoLine, ComesToRead, HasFile, ComesToVerdict, IsRefused, HasAnswer, IsReadFault, IsWriteFault, IsForErr, IsStatus, IsAccepted, Statuses}
 use Rattle.raire_cli.specs.Story.{Story}
-use Rattle.raire_cli.specs.Search.{FindsIn}
-use Rattle.raire_cli.specs.Confirmation.{ConfirmsAsked}
+use Rattle.raire_cli.specs.Contest.{candidate_count, IsWon, IsOther}
+use Rattle.raire_cli.specs.declared.commands.search.Terms.{Terms}
+use Rattle.raire_cli.specs.Search.{certificate_nodes, nodes_for, full_count_text, IsInBudget, HasSpent, Finds, FindsIn}
+use Rattle.raire_cli.specs.Confirmation.{AsksForSearch, ConfirmsAsked, GivesReason}
 use Rattle.assertion_file.specs.Content.{Content}
 use Rattle.assertion_file.specs.Text.{assertion_file_text}
-use Rattle.raire_cli.proofs.Searches.{found_in-one, won-certificate}
-use Rattle.raire_cli.proofs.TwoRead.{two_read}
-use Rattle.raire_cli.proofs.Headline.{differ, status_in, of_answer}
+use Rattle.raire_cli.proofs.Searches.{found_in-one, won-certificate, winner-one}
+use Rattle.raire_cli.proofs.Tabulates.{tabulated_in-one}
+use Rattle.raire_cli.proofs.TwoAtLeast.{two_read}
+use Rattle.raire_cli.proofs.Headline.{differ, status_in, of_answer, gives_reason}
 use Rattle.raire_cli.proofs.Scripts.{ended, concludes_may, stops_may, told_reaches, held_or_fault, determined, some_is}
 
--- each command but a search with a budget is determined
+-- a budget alone leaves a command open
 script_determined : (line : Line) → IsDetermined (script_of line)
-script_determined (Search name) = λ bytes. found_in-one name (ballots_of bytes)
+script_determined (Search name contest nodes floor) = λ bytes. found_in-one (record { nodes = nodes; floor = floor }) name (ballots_of bytes contest)
+script_determined (Tabulate name contest) = λ bytes. tabulated_in-one name (ballots_of bytes contest)
 
-line_determined : (files : List File) (line : Option Line) (d e : Outcome) → MayCome (AsHeld files) line d → MayCome (AsHeld files) line e → d ≡ e
-line_determined files None d e p q = p ∙ sym q
+line_determined : (files : List File) (line : Option Line) (d e : Outcome) → MayCome (AsHeld files) line d → MayCome (AsHeld files) line e → (d ≡ e) ⊎ OneIsSpent d e
+line_determined files None d e p q = inl (p ∙ sym q)
 line_determined files (Some line) d e p q = determined files (script_of line) d e (script_determined line) p q
+
+other_budgeted : (n : ℕ) (d e : Outcome) → e.status ≡ n → OneIsSpent d e → IsBudgeted n
+other_budgeted n d e is (first, other, spent) = subst IsBudgeted is other
+
+first_spent : (n : ℕ) (d e : Outcome) → e.status ≡ n → (n ≡ 4 → ⊥) → OneIsSpent d e → d.status ≡ 4
+first_spent n d e is not_four (first, other, inl four) = four
+first_spent n d e is not_four (first, other, inr four) = absurd (not_four (sym is ∙ four))
 
 -- ---- the statuses of what a script comes to
 
@@ -43,24 +58,45 @@ stop name Fault due is = fault refl (some_is is)
 refused_verdict : (v : Verdict) (due : Outcome) → due ≡ outcome v → due.status ≡ 2 → (name text : List ℕ) × (v ≡ Refused name text)
 refused_verdict (Answered Done text) due is two = absurd (differ 0 2 (sym (ap status_in is) ∙ two) refl)
 refused_verdict (Answered Tie text) due is two = absurd (differ 3 2 (sym (ap status_in is) ∙ two) refl)
+refused_verdict (Answered Spent text) due is two = absurd (differ 4 2 (sym (ap status_in is) ∙ two) refl)
+refused_verdict (Answered FullCount text) due is two = absurd (differ 5 2 (sym (ap status_in is) ∙ two) refl)
 refused_verdict (Refused name text) due is two = (name, text, refl)
 
 answer_verdict : (kind : Kind) (v : Verdict) (due : Outcome) → due ≡ outcome v → due.status ≡ status_of kind → (text : List ℕ) × (v ≡ Answered kind text)
 answer_verdict Done (Answered Done text) due is n = (text, refl)
 answer_verdict Done (Answered Tie text) due is n = absurd (differ 3 0 (sym (ap status_in is) ∙ n) refl)
+answer_verdict Done (Answered Spent text) due is n = absurd (differ 4 0 (sym (ap status_in is) ∙ n) refl)
+answer_verdict Done (Answered FullCount text) due is n = absurd (differ 5 0 (sym (ap status_in is) ∙ n) refl)
 answer_verdict Done (Refused name text) due is n = absurd (differ 2 0 (sym (ap status_in is) ∙ n) refl)
 answer_verdict Tie (Answered Done text) due is n = absurd (differ 0 3 (sym (ap status_in is) ∙ n) refl)
 answer_verdict Tie (Answered Tie text) due is n = (text, refl)
+answer_verdict Tie (Answered Spent text) due is n = absurd (differ 4 3 (sym (ap status_in is) ∙ n) refl)
+answer_verdict Tie (Answered FullCount text) due is n = absurd (differ 5 3 (sym (ap status_in is) ∙ n) refl)
 answer_verdict Tie (Refused name text) due is n = absurd (differ 2 3 (sym (ap status_in is) ∙ n) refl)
+answer_verdict Spent (Answered Done text) due is n = absurd (differ 0 4 (sym (ap status_in is) ∙ n) refl)
+answer_verdict Spent (Answered Tie text) due is n = absurd (differ 3 4 (sym (ap status_in is) ∙ n) refl)
+answer_verdict Spent (Answered Spent text) due is n = (text, refl)
+answer_verdict Spent (Answered FullCount text) due is n = absurd (differ 5 4 (sym (ap status_in is) ∙ n) refl)
+answer_verdict Spent (Refused name text) due is n = absurd (differ 2 4 (sym (ap status_in is) ∙ n) refl)
+answer_verdict FullCount (Answered Done text) due is n = absurd (differ 0 5 (sym (ap status_in is) ∙ n) refl)
+answer_verdict FullCount (Answered Tie text) due is n = absurd (differ 3 5 (sym (ap status_in is) ∙ n) refl)
+answer_verdict FullCount (Answered Spent text) due is n = absurd (differ 4 5 (sym (ap status_in is) ∙ n) refl)
+answer_verdict FullCount (Answered FullCount text) due is n = (text, refl)
+answer_verdict FullCount (Refused name text) due is n = absurd (differ 2 5 (sym (ap status_in is) ∙ n) refl)
 
 no_answer : (kind : Kind) (due : Outcome) → due.status ≡ status_of kind → (due.status ≡ 7) ⊎ (due.status ≡ 11) ⊎ (due.status ≡ 12) → ⊥
 no_answer Done due n cases = omega (arith, n, cases)
 no_answer Tie due n cases = omega (arith, n, cases)
+no_answer Spent due n cases = omega (arith, n, cases)
+no_answer FullCount due n cases = omega (arith, n, cases)
 
 -- the statuses of a verdict
-verdict_status : (v : Verdict) → (status_in (outcome v) ≡ 0) ⊎ (status_in (outcome v) ≡ 2) ⊎ (status_in (outcome v) ≡ 3)
+verdict_status : (v : Verdict) →
+    (status_in (outcome v) ≡ 0) ⊎ (status_in (outcome v) ≡ 2) ⊎ (status_in (outcome v) ≡ 3) ⊎ (status_in (outcome v) ≡ 4) ⊎ (status_in (outcome v) ≡ 5)
 verdict_status (Answered Done text) = inl refl
-verdict_status (Answered Tie text) = inr (inr refl)
+verdict_status (Answered Tie text) = inr (inr (inl refl))
+verdict_status (Answered Spent text) = inr (inr (inr (inl refl)))
+verdict_status (Answered FullCount text) = inr (inr (inr (inr refl)))
 verdict_status (Refused name text) = inr (inl refl)
 
 stop_status : (name : List ℕ) (reading : Reading) (due : Outcome) → Stop name reading due → (due.status ≡ 7) ⊎ (due.status ≡ 11) ⊎ (due.status ≡ 12)
@@ -72,6 +108,8 @@ stop_status name reading due (fault r is) = inl (sym (ap status_in is))
 verdict_out : (v : Verdict) → IsForErr (status_in (outcome v)) → (outcome v).out ≡ []
 verdict_out (Answered Done text) for_err = absurd (omega arith)
 verdict_out (Answered Tie text) for_err = absurd (omega arith)
+verdict_out (Answered Spent text) for_err = absurd (omega arith)
+verdict_out (Answered FullCount text) for_err = absurd (omega arith)
 verdict_out (Refused name text) for_err = refl
 
 stop_out : (name : List ℕ) (reading : Reading) (due : Outcome) → Stop name reading due → due.out ≡ []
@@ -115,9 +153,16 @@ free n a b c (inl e) = differ n 7 e a
 free n a b c (inr (inl e)) = differ n 8 e b
 free n a b c (inr (inr e)) = differ n 9 e c
 
+unbudgeted : (n : ℕ) → nat_eq n 0 ≡ false → nat_eq n 4 ≡ false → nat_eq n 5 ≡ false → IsBudgeted n → ⊥
+unbudgeted n a b c (inl e) = differ n 0 e a
+unbudgeted n a b c (inr (inl e)) = differ n 4 e b
+unbudgeted n a b c (inr (inr e)) = differ n 5 e c
+
 kind_free : (kind : Kind) → IsUndone (status_of kind) → ⊥
 kind_free Done = free 0 refl refl refl
 kind_free Tie = free 3 refl refl refl
+kind_free Spent = free 4 refl refl refl
+kind_free FullCount = free 5 refl refl refl
 
 keeps : (before after : Option (List ℕ)) → Appends before after [] → Keeps before after
 keeps None after took = tt
@@ -145,20 +190,50 @@ module _ (words : List (List ℕ)) (status : ℕ) (out err : Writing) where
         inr (due.out, due.err, subst (MayCome (AsHeld files) (line_of words)) is may, whole.to_out, whole.to_err)
   ]
 
-  -- a status that comes exactly where something is so
+  -- a status that comes only where something is so
+  only : (n : ℕ) (cause : Type 0) (files : List File) (failed : Type 0) (line : Option Line) (due : Outcome) → IsDue (ByDesk (Some files) failed) line due → IsWritten due status out err
+      → (IsUndone n → ⊥) → ((d : Outcome) → MayCome (AsHeld files) line d → d.status ≡ n → cause) → status ≡ n → cause
+  only n cause files failed line due is_due written free from e = elim (told files failed line due is_due written) [
+    | inl undone ↦ absurd (free (subst IsUndone e undone))
+    | inr (may, whole) ↦ from due may (sym whole.ends ∙ e)
+  ]
+
+  -- and where it is so, but for a budget
+  wherever : (n : ℕ) (cause : Type 0) (files : List File) (failed : Type 0) (line : Option Line) (due : Outcome) → IsDue (ByDesk (Some files) failed) line due → IsWritten due status out err
+      → (cause → (d : Outcome) × MayCome (AsHeld files) line d × (d.status ≡ n)) → cause
+      → IsUndone status ⊎ (status ≡ n) ⊎ ((d e : Outcome) × OneIsSpent d e × (e.status ≡ n) × (status ≡ d.status))
+  wherever n cause files failed line due is_due written to so = elim (told files failed line due is_due written) [
+    | inl undone ↦ inl undone
+    | inr (may, whole) ↦
+        let (d, may_d, is_d) = to so in
+        ⊎_elim (λ same. inr (inl (whole.ends ∙ ap status_in same ∙ is_d))) (λ one. inr (inr (due, d, one, is_d, whole.ends))) (line_determined files line due d may may_d)
+  ]
+
   exactly : (n : ℕ) (cause : Type 0) (files : List File) (failed : Type 0) (line : Option Line) (due : Outcome) → IsDue (ByDesk (Some files) failed) line due → IsWritten due status out err
-      → (IsUndone n → ⊥)
+      → (IsUndone n → ⊥) → (IsBudgeted n → ⊥)
       → ((d : Outcome) → MayCome (AsHeld files) line d → d.status ≡ n → cause)
       → (cause → (d : Outcome) × MayCome (AsHeld files) line d × (d.status ≡ n))
       → Exactly n status cause
-  exactly n cause files failed line due is_due written free from to = (
-    λ e. elim (told files failed line due is_due written) [
-      | inl undone ↦ absurd (free (subst IsUndone e undone))
-      | inr (may, whole) ↦ from due may (sym whole.ends ∙ e)
-    ],
-    λ so. elim (told files failed line due is_due written) [
+  exactly n cause files failed line due is_due written free unbudgeted from to = (
+    only n cause files failed line due is_due written free from,
+    λ so. elim (wherever n cause files failed line due is_due written to so) [
       | inl undone ↦ inr undone
-      | inr (may, whole) ↦ let (d, may_d, is_d) = to so in inl (whole.ends ∙ ap status_in (line_determined files line due d may may_d) ∙ is_d)
+      | inr (inl is) ↦ inl is
+      | inr (inr (d, e, one, is, ends)) ↦ absurd (unbudgeted (other_budgeted n d e is one))
+    ],
+  )
+
+  exactly_in_budget : (n : ℕ) (cause : Type 0) (files : List File) (failed : Type 0) (line : Option Line) (due : Outcome) → IsDue (ByDesk (Some files) failed) line due → IsWritten due status out err
+      → (IsUndone n → ⊥) → (n ≡ 4 → ⊥)
+      → ((d : Outcome) → MayCome (AsHeld files) line d → d.status ≡ n → cause)
+      → (cause → (d : Outcome) × MayCome (AsHeld files) line d × (d.status ≡ n))
+      → ExactlyInBudget n status cause
+  exactly_in_budget n cause files failed line due is_due written free not_four from to = (
+    only n cause files failed line due is_due written free from,
+    λ so. elim (wherever n cause files failed line due is_due written to so) [
+      | inl undone ↦ inr (inr undone)
+      | inr (inl is) ↦ inl is
+      | inr (inr (d, e, one, is, ends)) ↦ inr (inl (ends ∙ first_spent n d e is not_four one))
     ],
   )
 
@@ -184,6 +259,8 @@ module _ (words : List (List ℕ)) (status : ℕ) (out err : Writing) where
   answer_from : (files : List File) (kind : Kind) (line : Option Line) → line_of words ≡ line → (d : Outcome) → MayCome (AsHeld files) line d → d.status ≡ status_of kind → HasAnswer words files kind
   answer_from files Done None is_line d bad n = absurd (differ 1 0 (sym (ap status_in bad) ∙ n) refl)
   answer_from files Tie None is_line d bad n = absurd (differ 1 3 (sym (ap status_in bad) ∙ n) refl)
+  answer_from files Spent None is_line d bad n = absurd (differ 1 4 (sym (ap status_in bad) ∙ n) refl)
+  answer_from files FullCount None is_line d bad n = absurd (differ 1 5 (sym (ap status_in bad) ∙ n) refl)
   answer_from files kind (Some line) is_line d may n = elim (ended (AsHeld files) (script_of line) d may) [
     | inl (v, concludes, is) ↦
         let (text, is_v) = answer_verdict kind v d is n in
@@ -260,13 +337,68 @@ if_some : {A : Type 0} (o : Option A) (P Q : A → Type 0) → ((x : A) → P x 
 if_some None P Q f p = tt
 if_some (Some x) P Q f p = f x p
 
--- an accepted file has an answer
-accepted_answer : (words : List (List ℕ)) (files : List File) → IsAccepted words files → HasAnswer words files Done
+-- ---- an accepted file
+
+read_whole : (name : List ℕ) (files : List File) (bytes : List ℕ) → held_bytes name files ≡ Some bytes → length bytes ≤ limit → Bytes bytes ≡ reading_of (held_bytes name files)
+read_whole name files bytes held short =
+    sym (ap reading_of held ∙ ap (λ b. if b then Bytes bytes else TooLong) (le-leb (length bytes) limit short))
+
+same_bytes : (a b : List ℕ) → Bytes a ≡ Bytes b → a ≡ b
+same_bytes a b e = cc
+
+abbrev terms_of : {words : List (List ℕ)} → AsksForSearch words → Terms
+terms_of asked = record { nodes = asked.nodes; floor = asked.floor }
+
+-- what the search of an accepted file ends with is found in its ballots, and what is found there it may end with
+found_there : (words : List (List ℕ)) (files : List File) (ok : IsAccepted words files) (v : Verdict) → ComesToVerdict words files v → Finds (terms_of ok.asks.search) ok.ballots v
+found_there words files ok v (line, is_line, concludes) =
+    let asked = ok.asks.search in
+    let same : line ≡ Search asked.name asked.contest asked.nodes asked.floor = some_is (sym is_line ∙ asked.asked) in
+    let (bytes, there, finds) = subst (λ l. Concludes (AsHeld files) (script_of l) v) same concludes in
+    let whole : bytes ≡ ok.asks.bytes = same_bytes bytes ok.asks.bytes (there ∙ sym (read_whole asked.name files ok.asks.bytes ok.asks.held ok.is_short)) in
+    subst (λ read. FindsIn (terms_of asked) asked.name read v) (ap (λ b. ballots_of b asked.contest) whole ∙ ok.asks.accepted) finds
+
+comes_there : (words : List (List ℕ)) (files : List File) (ok : IsAccepted words files) (v : Verdict) → Finds (terms_of ok.asks.search) ok.ballots v → ComesToVerdict words files v
+comes_there words files ok v finds =
+    let asked = ok.asks.search in (
+      Search asked.name asked.contest asked.nodes asked.floor,
+      asked.asked,
+      (ok.asks.bytes, read_whole asked.name files ok.asks.bytes ok.asks.held ok.is_short, subst (λ read. FindsIn (terms_of asked) asked.name read v) (sym ok.asks.accepted) finds),
+    )
+
+same_tabulated : (ballots : BallotFile) (w v : ℕ) (a : IsWon ballots w) (b : IsWon ballots v) → a.order ≡ b.order
+same_tabulated ballots w v a b = tabulated_is_one (candidate_count ballots) ballots.rankings a.order b.order a.permutation a.tabulated b.permutation b.tabulated
+
+-- its budget isn't spent
+not_spent : (words : List (List ℕ)) (files : List File) (ok : IsAccepted words files) (text : List ℕ) → HasSpent (terms_of ok.asks.search) ok.ballots text → ⊥
+not_spent words files ok text spent =
+    let is = spent.is in
+    let w : is.winner ≡ ok.winner = winner-one ok.ballots is.winner ok.winner is.won ok.asks.won in
+    let other : IsOther ok.ballots ok.winner spent.last = subst (λ v. IsOther ok.ballots v spent.last) w is.named in
+    let enough : nodes_for ok.ballots ok.asks.won.order ok.winner spent.last ≤ ok.asks.search.nodes = ok.budget spent.last other in
+    let above : ok.asks.search.nodes < nodes_for ok.ballots is.won.order is.winner spent.last = is.above in
+    let same = ap (λ order. nodes_for ok.ballots order is.winner spent.last) (same_tabulated ok.ballots is.winner ok.winner is.won ok.asks.won)
+    ∙ ap (λ v. nodes_for ok.ballots ok.asks.won.order v spent.last) w in
+    omega (arith, enough, above, same)
+
+in_budget : (words : List (List ℕ)) (files : List File) (ok : IsAccepted words files) (winner : ℕ) → winner ≡ ok.winner → IsInBudget ok.ballots winner ok.asks.search.nodes
+in_budget words files ok winner w c other =
+    let enough : nodes_for ok.ballots ok.asks.won.order ok.winner c ≤ ok.asks.search.nodes = ok.budget c (subst (λ v. IsOther ok.ballots v c) w other) in
+    let same : certificate_nodes ok.ballots winner c ≡ certificate_nodes ok.ballots ok.winner c = ap (λ v. certificate_nodes ok.ballots v c) w in
+    omega (arith, enough, same)
+
+-- it has an answer, or calls for a full count
+accepted_answer : (words : List (List ℕ)) (files : List File) → IsAccepted words files → HasAnswer words files Done ⊎ HasAnswer words files FullCount
 accepted_answer words files ok =
-    let short : nat_le (length ok.asks.bytes) limit ≡ true = le-leb (length ok.asks.bytes) limit ok.is_short in
-    let read : reading_of (held_bytes ok.asks.name files) ≡ Bytes ok.asks.bytes = ap reading_of ok.asks.held ∙ ap (λ b. if b then Bytes ok.asks.bytes else TooLong) short in
-    let (text, has) = won-certificate ok.ballots ok.winner ok.asks.won (omega (arith, two_read ok.asks.bytes ok.ballots ok.asks.accepted)) in
-    (text, (Search ok.asks.name, ok.asks.asked, (ok.asks.bytes, sym read, subst (λ b. FindsIn ok.asks.name b (Answered Done text)) (sym ok.asks.accepted) has)))
+    let asked = ok.asks.search in
+    let (file, is) = won-certificate ok.ballots ok.winner ok.asks.won (two_read ok.asks.bytes asked.contest ok.ballots ok.asks.accepted) in
+    let budget = in_budget words files ok is.winner (winner-one ok.ballots is.winner ok.winner is.won ok.asks.won) in
+    elim (leb_tells asked.floor file.margin) [
+      | inl (test, le) ↦
+          inl (assertion_file_text file, comes_there words files ok (Answered Done (assertion_file_text file)) (record { file = file; is = is; budget = budget; floor = le; shown = refl }))
+      | inr (test, lt) ↦
+          inr (full_count_text file asked.floor, comes_there words files ok (Answered FullCount (full_count_text file asked.floor)) (record { file = file; is = is; budget = budget; floor = lt; shown = refl }))
+    ]
 
 verdict_known : (v : Verdict) → IsStatus (status_in (outcome v))
 verdict_known (Answered kind text) = inr (inr (kind, refl))
@@ -332,31 +464,58 @@ module _ {words : List (List ℕ)} {held : Option (List File)} {failed : Type 0}
       answer_told (Some files) f due is_due written = answered words status out err files f due is_due written
 
   -- a clause on a status that comes exactly where something is so
-  exactly_clause : (n : ℕ) (cause : List File → Type 0) → (IsUndone n → ⊥)
+  exactly_clause : (n : ℕ) (cause : List File → Type 0) → (IsUndone n → ⊥) → (IsBudgeted n → ⊥)
       → ((files : List File) (d : Outcome) → MayCome (AsHeld files) (line_of words) d → d.status ≡ n → cause files)
       → ((files : List File) → cause files → (d : Outcome) × MayCome (AsHeld files) (line_of words) d × (d.status ≡ n))
       → IfSome held (λ files. Exactly n status (cause files))
-  exactly_clause n cause is_free from to = exactly_told held failed story.due story.is_due story.written
+  exactly_clause n cause is_free unbudgeted from to = exactly_told held failed story.due story.is_due story.written
     where
       exactly_told : (h : Option (List File)) (f : Type 0) (due : Outcome) → IsDue (ByDesk h f) (line_of words) due → IsWritten due status out err → IfSome h (λ files. Exactly n status (cause files))
       exactly_told None f due is_due written = tt
       exactly_told (Some files) f due is_due written =
-          exactly words status out err n (cause files) files f (line_of words) due is_due written is_free (from files) (to files)
+          exactly words status out err n (cause files) files f (line_of words) due is_due written is_free unbudgeted (from files) (to files)
+
+  in_budget_clause : (n : ℕ) (cause : List File → Type 0) → (IsUndone n → ⊥) → (n ≡ 4 → ⊥)
+      → ((files : List File) (d : Outcome) → MayCome (AsHeld files) (line_of words) d → d.status ≡ n → cause files)
+      → ((files : List File) → cause files → (d : Outcome) × MayCome (AsHeld files) (line_of words) d × (d.status ≡ n))
+      → IfSome held (λ files. ExactlyInBudget n status (cause files))
+  in_budget_clause n cause is_free not_four from to = in_budget_told held failed story.due story.is_due story.written
+    where
+      in_budget_told : (h : Option (List File)) (f : Type 0) (due : Outcome) → IsDue (ByDesk h f) (line_of words) due → IsWritten due status out err → IfSome h (λ files. ExactlyInBudget n status (cause files))
+      in_budget_told None f due is_due written = tt
+      in_budget_told (Some files) f due is_due written =
+          exactly_in_budget words status out err n (cause files) files f (line_of words) due is_due written is_free not_four (from files) (to files)
+
+  pub spent_clause : IfSome held (λ files. status ≡ 4 → HasAnswer words files Spent)
+  spent_clause = spent_told held failed story.due story.is_due story.written
+    where
+      spent_told : (h : Option (List File)) (f : Type 0) (due : Outcome) → IsDue (ByDesk h f) (line_of words) due → IsWritten due status out err → IfSome h (λ files. status ≡ 4 → HasAnswer words files Spent)
+      spent_told None f due is_due written = tt
+      spent_told (Some files) f due is_due written =
+          only words status out err 4 (HasAnswer words files Spent) files f (line_of words) due is_due written (kind_free Spent) (answer_from words status out err files Spent (line_of words) refl)
 
   pub refused_clause : IfSome held (λ files. Exactly 2 status (IsRefused words files))
-  refused_clause = exactly_clause 2 (IsRefused words) (free 2 refl refl refl) (λ files. refused_from words status out err files (line_of words) refl)
+  refused_clause = exactly_clause 2 (IsRefused words) (free 2 refl refl refl) (unbudgeted 2 refl refl refl) (λ files. refused_from words status out err files (line_of words) refl)
       (λ files (name, text, comes). verdict_to words status out err files (line_of words) refl (Refused name text) comes)
 
-  pub answer_kind_clause : (kind : Kind) → IfSome held (λ files. Exactly (status_of kind) status (HasAnswer words files kind))
-  answer_kind_clause kind = exactly_clause (status_of kind) (λ files. HasAnswer words files kind) (kind_free kind) (λ files. answer_from words status out err files kind (line_of words) refl)
-      (λ files (text, comes). verdict_to words status out err files (line_of words) refl (Answered kind text) comes)
+  pub tie_clause : IfSome held (λ files. Exactly 3 status (HasAnswer words files Tie))
+  tie_clause = exactly_clause 3 (λ files. HasAnswer words files Tie) (kind_free Tie) (unbudgeted 3 refl refl refl) (λ files. answer_from words status out err files Tie (line_of words) refl)
+      (λ files (text, comes). verdict_to words status out err files (line_of words) refl (Answered Tie text) comes)
+
+  pub done_clause : IfSome held (λ files. ExactlyInBudget 0 status (HasAnswer words files Done))
+  done_clause = in_budget_clause 0 (λ files. HasAnswer words files Done) (kind_free Done) (λ e. differ 0 4 e refl) (λ files. answer_from words status out err files Done (line_of words) refl)
+      (λ files (text, comes). verdict_to words status out err files (line_of words) refl (Answered Done text) comes)
+
+  pub full_count_exactly : IfSome held (λ files. ExactlyInBudget 5 status (HasAnswer words files FullCount))
+  full_count_exactly = in_budget_clause 5 (λ files. HasAnswer words files FullCount) (kind_free FullCount) (λ e. differ 5 4 e refl) (λ files. answer_from words status out err files FullCount (line_of words) refl)
+      (λ files (text, comes). verdict_to words status out err files (line_of words) refl (Answered FullCount text) comes)
 
   pub missing_clause : IfSome held (λ files. Exactly 12 status (HasFile words files Missing))
-  missing_clause = exactly_clause 12 (λ files. HasFile words files Missing) (free 12 refl refl refl) (λ files. missing_from words status out err files (line_of words) refl)
+  missing_clause = exactly_clause 12 (λ files. HasFile words files Missing) (free 12 refl refl refl) (unbudgeted 12 refl refl refl) (λ files. missing_from words status out err files (line_of words) refl)
       (λ files (name, comes, there). stop_to words status out err files (line_of words) refl name Missing (no_such_file name) comes there refl)
 
   pub too_long_clause : IfSome held (λ files. Exactly 11 status (HasFile words files TooLong))
-  too_long_clause = exactly_clause 11 (λ files. HasFile words files TooLong) (free 11 refl refl refl) (λ files. too_long_from words status out err files (line_of words) refl)
+  too_long_clause = exactly_clause 11 (λ files. HasFile words files TooLong) (free 11 refl refl refl) (unbudgeted 11 refl refl refl) (λ files. too_long_from words status out err files (line_of words) refl)
       (λ files (name, comes, there). stop_to words status out err files (line_of words) refl name TooLong (too_long name) comes there refl)
 
   not_seven : IsQuiet failed out err → status ≡ 7 → ⊥
@@ -382,21 +541,47 @@ module _ {words : List (List ℕ)} {held : Option (List File)} {failed : Type 0}
   quiet_clause = if_some held (λ files. IsUndone status ⊎ IsAnswered words files status out err) (λ files. IsQuiet failed out err → status ≢ 9 → IsAnswered words files status out err)
       (λ files answer quiet not_nine. answered_not_nine quiet answer not_nine) answer_clause
 
-  -- status 0 confirms the winner
-  pub headline_clause : IfSome held (λ files. status ≡ 0 → (file : Content) × ConfirmsAsked words files file × Took out (assertion_file_text file))
-  headline_clause = if_some held (λ files. IsUndone status ⊎ IsAnswered words files status out err) (λ files. status ≡ 0 → (file : Content) × ConfirmsAsked words files file × Took out (assertion_file_text file))
-      (λ files answer zero. by_answer files answer zero) answer_clause
+  -- status 0 of a search confirms the winner
+  pub headline_clause : IfSome held (λ files. AsksForSearch words → status ≡ 0 → (file : Content) × ConfirmsAsked words files file × Took out (assertion_file_text file))
+  headline_clause = if_some held (λ files. IsUndone status ⊎ IsAnswered words files status out err)
+      (λ files. AsksForSearch words → status ≡ 0 → (file : Content) × ConfirmsAsked words files file × Took out (assertion_file_text file))
+      by_answer answer_clause
     where
-      by_answer : (files : List File) → IsUndone status ⊎ IsAnswered words files status out err → status ≡ 0 → (file : Content) × ConfirmsAsked words files file × Took out (assertion_file_text file)
-      by_answer files (inl undone) zero = absurd (free 0 refl refl refl (subst IsUndone zero undone))
-      by_answer files (inr (to_out, to_err, may, took, took_err)) zero =
-          let (file, confirms, is) = of_answer words files (line_of words) refl (record { status = status; out = to_out; err = to_err }) may zero in
+      by_answer : (files : List File) → IsUndone status ⊎ IsAnswered words files status out err → AsksForSearch words → status ≡ 0 →
+          (file : Content) × ConfirmsAsked words files file × Took out (assertion_file_text file)
+      by_answer files (inl undone) asked zero = absurd (kind_free Done (subst IsUndone zero undone))
+      by_answer files (inr (to_out, to_err, may, took, took_err)) asked zero =
+          let (file, confirms, is) = of_answer words files asked (record { status = status; out = to_out; err = to_err }) may zero in
           (file, confirms, subst (Took out) is took)
 
+  -- status 5 gives reason for a full count
+  pub full_count_clause : IfSome held (λ files. status ≡ 5 → (text : List ℕ) × GivesReason words files text × Took out text)
+  full_count_clause = if_some held (λ files. IsUndone status ⊎ IsAnswered words files status out err)
+      (λ files. status ≡ 5 → (text : List ℕ) × GivesReason words files text × Took out text) by_answer answer_clause
+    where
+      by_answer : (files : List File) → IsUndone status ⊎ IsAnswered words files status out err → status ≡ 5 → (text : List ℕ) × GivesReason words files text × Took out text
+      by_answer files (inl undone) five = absurd (kind_free FullCount (subst IsUndone five undone))
+      by_answer files (inr (to_out, to_err, may, took, took_err)) five =
+          (to_out, gives_reason words files (line_of words) refl (record { status = status; out = to_out; err = to_err }) may five, took)
+
   -- an accepted file is answered
-  pub complete_clause : IfSome held (λ files. IsAccepted words files → IsQuiet failed out err → (status ≡ 0) ⊎ (status ≡ 9))
-  complete_clause = if_some held (λ files. Exactly 0 status (HasAnswer words files Done)) (λ files. IsAccepted words files → IsQuiet failed out err → (status ≡ 0) ⊎ (status ≡ 9))
-      (λ files exact accepted quiet. quiet_or_nine quiet (exact.1 (accepted_answer words files accepted))) (answer_kind_clause Done)
+  pub complete_clause : IfSome held (λ files. IsAccepted words files → IsQuiet failed out err → (status ≡ 0) ⊎ (status ≡ 5) ⊎ (status ≡ 9))
+  complete_clause = complete_told held done_clause full_count_exactly spent_clause
+    where
+      settled : {n : ℕ} (files : List File) → IsAccepted words files → IsQuiet failed out err → (status ≡ 4 → HasAnswer words files Spent) →
+          (status ≡ n) ⊎ (status ≡ 4) ⊎ IsUndone status → (status ≡ n) ⊎ (status ≡ 9)
+      settled files ok quiet spent (inl is) = inl is
+      settled files ok quiet spent (inr (inl four)) = let (text, comes) = spent four in absurd (not_spent words files ok text (found_there words files ok (Answered Spent text) comes))
+      settled files ok quiet spent (inr (inr undone)) = quiet_or_nine quiet (inr undone)
+
+      complete_told : (h : Option (List File)) → IfSome h (λ files. ExactlyInBudget 0 status (HasAnswer words files Done)) →
+          IfSome h (λ files. ExactlyInBudget 5 status (HasAnswer words files FullCount)) → IfSome h (λ files. status ≡ 4 → HasAnswer words files Spent) →
+          IfSome h (λ files. IsAccepted words files → IsQuiet failed out err → (status ≡ 0) ⊎ (status ≡ 5) ⊎ (status ≡ 9))
+      complete_told None done full spent = tt
+      complete_told (Some files) done full spent = λ ok quiet. elim (accepted_answer words files ok) [
+        | inl answer ↦ ⊎_elim (λ zero. inl zero) (λ nine. inr (inr nine)) (settled files ok quiet spent (done.1 answer))
+        | inr count ↦ ⊎_elim (λ five. inr (inl five)) (λ nine. inr (inr nine)) (settled files ok quiet spent (full.1 count))
+      ]
 
   pub known_clause : IsStatus status
   known_clause = elim story.written [
@@ -407,10 +592,12 @@ module _ {words : List (List ℕ)} {held : Option (List File)} {failed : Type 0}
   pub statuses_clause : Statuses words held failed status out err
   statuses_clause = record {
     known = known_clause;
-    done = answer_kind_clause Done;
+    done = done_clause;
     bad_words = bad_words_clause;
     refused = refused_clause;
-    tie = answer_kind_clause Tie;
+    tie = tie_clause;
+    spent = spent_clause;
+    full_count = full_count_exactly;
     read_fault = read_fault_clause;
     write_fault = write_fault_clause;
     memory = memory_clause;

@@ -1,29 +1,34 @@
--- Status 0 of a search comes with a file that confirms the winner.
-use Rattle.std.proofs.Common.{◌≡◌, ℕ, ◌<◌, List, Option, None, Some, nat_le, nat_eq, length, Bool, true, false, if◌then◌else◌, refl, sym, ap, arith, eq-eqb, inl, inr, ◌∙◌}
+-- Status 0 of a search comes with a file that confirms the winner, and status 5 with reason for a full count.
+use Rattle.std.proofs.Common.{◌≡◌, ℕ, List, Option, None, Some, Result, Ok, Err, nat_le, nat_eq, length, Bool, true, false, if◌then◌else◌, refl, sym, ap, subst, eq-eqb, inl, inr, ◌∙◌}
 use Rattle.desk.specs.Desk.{File, held_bytes}
 use Rattle.ballot_reader.specs.Ballots.{BallotFile}
-use Rattle.ballot_reader.specs.FirstForm.{ballots_of}
+use Rattle.ballot_reader.specs.Grammar.{Refusal, ballots_of}
 use Rattle.assertion_file.specs.Content.{Content}
 use Rattle.assertion_file.specs.Text.{assertion_file_text}
-use Rattle.raire_cli.specs.Outcome.{Outcome, Verdict, Answered, Refused, Done, Tie, outcome}
-use Rattle.raire_cli.specs.Script.{Reading, Bytes, Missing, TooLong, Fault, AsHeld, reading_of, stop_of, limit}
-use Rattle.raire_cli.specs.Search.{candidate_count, FindsIn}
-use Rattle.raire_cli.specs.Confirmation.{ConfirmsAsked}
-use Rattle.raire_cli.specs.Answers.{Line, Search, line_of, MayCome}
+use Rattle.command_line.specs.Line.{Line, Search, Tabulate, line_of}
+use Rattle.raire_cli.specs.Outcome.{Outcome, Verdict, Answered, Refused, Done, Tie, Spent, FullCount, outcome}
+use Rattle.raire_cli.specs.Script.{Reading, Bytes, Missing, TooLong, Fault, AsHeld, May, reading_of, stop_of, limit}
+use Rattle.report.specs.Texts.{order_text}
+use Rattle.raire_cli.specs.Contest.{candidate_count}
+use Rattle.raire_cli.specs.declared.commands.search.Terms.{Terms}
+use Rattle.raire_cli.specs.Search.{HasCertificate, HasFullCount, FindsIn, full_count_lines, search}
+use Rattle.raire_cli.specs.Tabulate.{TabulatesIn}
+use Rattle.raire_cli.specs.Confirmation.{AsksForSearch, ConfirmsAsked, GivesReason}
+use Rattle.raire_cli.specs.Answers.{MayCome}
 use Rattle.raire_cli.proofs.Scripts.{some_is}
-use Rattle.raire_cli.proofs.Searches.{certificate-confirms}
-use Rattle.raire_cli.proofs.TwoRead.{two_read}
+use Rattle.raire_cli.proofs.Searches.{certificate-confirms, confirms-least}
+use Rattle.raire_cli.proofs.TwoAtLeast.{two_read}
 
 abbrev pub status_in : Outcome → ℕ
 status_in due = due.status
 
--- the file of a line confirms the winner, and its text is for `out`
-abbrev Confirmed : List (List ℕ) → List File → Outcome → Type 0
-Confirmed words files due = (file : Content) × ConfirmsAsked words files file × (due.out ≡ assertion_file_text file)
-
 -- two numbers that a test tells apart
 pub differ : (m n : ℕ) → m ≡ n → nat_eq m n ≡ false → ⊥
 differ m n e test = let yes : nat_eq m n ≡ true = eq-eqb m n e in cc (yes, test)
+
+-- the end isn't of this status
+not_so : (m n : ℕ) (verdict : Verdict) (due : Outcome) → due ≡ outcome verdict → status_in (outcome verdict) ≡ m → due.status ≡ n → nat_eq m n ≡ false → ⊥
+not_so m n verdict due ends is ended other = differ m n (sym is ∙ sym (ap status_in ends) ∙ ended) other
 
 held_whole : (held : Option (List ℕ)) (bytes : List ℕ) → Bytes bytes ≡ reading_of held → held ≡ Some bytes
 held_whole None bytes e = cc
@@ -32,36 +37,107 @@ held_whole (Some all) bytes e = by_length (nat_le (length all) limit) e where
   by_length true e = cc
   by_length false e = cc
 
-of_verdict : (words : List (List ℕ)) (files : List File) (name bytes : List ℕ) → line_of words ≡ Some (Search name) → held_bytes name files ≡ Some bytes →
-    (read : Option BallotFile) → ballots_of bytes ≡ read → (verdict : Verdict) → FindsIn name read verdict → (due : Outcome) → due ≡ outcome verdict → due.status ≡ 0 →
-    Confirmed words files due
-of_verdict words files name bytes asked held None is verdict finds due ends zero = absurd (differ 2 0 (sym (ap status_in (ends ∙ ap outcome finds)) ∙ zero) refl)
-of_verdict words files name bytes asked held (Some ballots) is (Answered Done text) (file, c, shown) due ends zero =
-    let two : 1 < candidate_count ballots = omega (arith, two_read bytes ballots is) in (
-      file,
+pub stopped : (status : ℕ) (name : List ℕ) (reading : Reading) (due : Outcome) → stop_of name reading ≡ Some due → due.status ≡ status →
+    nat_eq 12 status ≡ false → nat_eq 11 status ≡ false → nat_eq 7 status ≡ false → ⊥
+stopped status name (Bytes bytes) due stop is a b c = cc
+stopped status name Missing due stop is a b c = differ 12 status (ap status_in (some_is stop) ∙ is) a
+stopped status name TooLong due stop is a b c = differ 11 status (ap status_in (some_is stop) ∙ is) b
+stopped status name Fault due stop is a b c = differ 7 status (ap status_in (some_is stop) ∙ is) c
+
+-- ---- a search whose file was read
+
+module _ (words : List (List ℕ)) (files : List File) (asked : AsksForSearch words) where
+  abbrev terms : Terms
+  terms = record { nodes = asked.nodes; floor = asked.floor }
+
+  -- the file of a line confirms the winner, and its text is for `out`
+  abbrev Confirmed : Outcome → Type 0
+  Confirmed due = (file : Content) × ConfirmsAsked words files file × (due.out ≡ assertion_file_text file)
+
+  confirmed : (bytes : List ℕ) (ballots : BallotFile) (text : List ℕ) (due : Outcome) → held_bytes asked.name files ≡ Some bytes → ballots_of bytes asked.contest ≡ Ok ballots →
+      HasCertificate terms ballots text → due.out ≡ text → Confirmed due
+  confirmed bytes ballots text due held is has out =
+      let c = has.is in (
+        has.file,
+        record {
+          ballots = ballots;
+          winner = c.winner;
+          asks = record { search = asked; bytes = bytes; held = held; accepted = is; won = c.won };
+          contest = ap (λ (f : Content). f.contest) c.is;
+          candidates = ap (λ (f : Content). f.candidates) c.is;
+          records = ap (λ (f : Content). f.records) c.is;
+          named = ap (λ (f : Content). f.winner) c.is;
+          floor = has.floor;
+          confirms = certificate-confirms ballots has.file (two_read bytes asked.contest ballots is) c;
+        },
+        out ∙ has.shown,
+      )
+
+  reasoned : (bytes : List ℕ) (ballots : BallotFile) (text : List ℕ) → held_bytes asked.name files ≡ Some bytes → ballots_of bytes asked.contest ≡ Ok ballots →
+      HasFullCount terms ballots text → GivesReason words files text
+  reasoned bytes ballots text held is has =
+      let c = has.is in
+      let confirms = certificate-confirms ballots has.file (two_read bytes asked.contest ballots is) c in
       record {
         ballots = ballots;
         winner = c.winner;
-        asks = record { name = name; bytes = bytes; asked = asked; held = held; accepted = is; won = c.won };
-        contest = ap (λ (f : Content). f.contest) c.is;
-        candidates = ap (λ (f : Content). f.candidates) c.is;
-        records = ap (λ (f : Content). f.records) c.is;
-        named = ap (λ (f : Content). f.winner) c.is;
-        confirms = certificate-confirms ballots file two c;
-      },
-      ap (λ (o : Outcome). o.out) ends ∙ shown,
-    )
-of_verdict words files name bytes asked held (Some ballots) is (Answered Tie text) finds due ends zero = absurd (differ 3 0 (sym (ap status_in ends) ∙ zero) refl)
-of_verdict words files name bytes asked held (Some ballots) is (Refused file text) finds due ends zero = absurd finds
+        asks = record { search = asked; bytes = bytes; held = held; accepted = is; won = c.won };
+        order = has.file.order;
+        margin = has.file.margin;
+        below = has.floor;
+        reason = confirms.order;
+        least = confirms-least (candidate_count ballots) ballots.rankings c.winner has.file confirms;
+        shown = has.shown ∙ ap (λ names. full_count_lines (order_text names has.file.order) has.file.margin asked.floor) (ap (λ (f : Content). f.candidates) c.is);
+      }
 
-stopped : (name : List ℕ) (reading : Reading) (due : Outcome) → stop_of name reading ≡ Some due → due.status ≡ 0 → ⊥
-stopped name (Bytes bytes) due stop zero = cc
-stopped name Missing due stop zero = differ 12 0 (ap status_in (some_is stop) ∙ zero) refl
-stopped name TooLong due stop zero = differ 11 0 (ap status_in (some_is stop) ∙ zero) refl
-stopped name Fault due stop zero = differ 7 0 (ap status_in (some_is stop) ∙ zero) refl
+  of_done : (bytes : List ℕ) (read : Result BallotFile Refusal) (verdict : Verdict) (due : Outcome) → held_bytes asked.name files ≡ Some bytes → ballots_of bytes asked.contest ≡ read →
+      FindsIn terms asked.name read verdict → due ≡ outcome verdict → due.status ≡ 0 → Confirmed due
+  of_done bytes (Err refusal) verdict due held is finds ends zero = absurd (not_so 2 0 verdict due ends (ap (λ v. status_in (outcome v)) finds) zero refl)
+  of_done bytes (Ok ballots) (Answered Done text) due held is finds ends zero = confirmed bytes ballots text due held is finds (ap (λ (o : Outcome). o.out) ends)
+  of_done bytes (Ok ballots) (Answered Tie text) due held is finds ends zero = absurd (not_so 3 0 (Answered Tie text) due ends refl zero refl)
+  of_done bytes (Ok ballots) (Answered Spent text) due held is finds ends zero = absurd (not_so 4 0 (Answered Spent text) due ends refl zero refl)
+  of_done bytes (Ok ballots) (Answered FullCount text) due held is finds ends zero = absurd (not_so 5 0 (Answered FullCount text) due ends refl zero refl)
+  of_done bytes (Ok ballots) (Refused name text) due held is finds ends zero = absurd finds
 
-pub of_answer : (words : List (List ℕ)) (files : List File) (line : Option Line) → line_of words ≡ line → (due : Outcome) → MayCome (AsHeld files) line due → due.status ≡ 0 → Confirmed words files due
-of_answer words files None is due bad zero = absurd (differ 1 0 (sym (ap status_in bad) ∙ zero) refl)
-of_answer words files (Some (Search name)) is due (inl (reading, there, stop)) zero = absurd (stopped name reading due stop zero)
-of_answer words files (Some (Search name)) is due (inr (bytes, there, (verdict, finds, ends))) zero =
-    of_verdict words files name bytes is (held_whole (held_bytes name files) bytes there) (ballots_of bytes) refl verdict finds due ends zero
+  of_full_count : (bytes : List ℕ) (read : Result BallotFile Refusal) (verdict : Verdict) (due : Outcome) → held_bytes asked.name files ≡ Some bytes → ballots_of bytes asked.contest ≡ read →
+      FindsIn terms asked.name read verdict → due ≡ outcome verdict → due.status ≡ 5 → GivesReason words files due.out
+  of_full_count bytes (Err refusal) verdict due held is finds ends five = absurd (not_so 2 5 verdict due ends (ap (λ v. status_in (outcome v)) finds) five refl)
+  of_full_count bytes (Ok ballots) (Answered Done text) due held is finds ends five = absurd (not_so 0 5 (Answered Done text) due ends refl five refl)
+  of_full_count bytes (Ok ballots) (Answered Tie text) due held is finds ends five = absurd (not_so 3 5 (Answered Tie text) due ends refl five refl)
+  of_full_count bytes (Ok ballots) (Answered Spent text) due held is finds ends five = absurd (not_so 4 5 (Answered Spent text) due ends refl five refl)
+  of_full_count bytes (Ok ballots) (Answered FullCount text) due held is finds ends five =
+      subst (GivesReason words files) (sym (ap (λ (o : Outcome). o.out) ends)) (reasoned bytes ballots text held is finds)
+  of_full_count bytes (Ok ballots) (Refused name text) due held is finds ends five = absurd finds
+
+  search_done : (due : Outcome) → May (AsHeld files) (search asked.name asked.contest terms) due → due.status ≡ 0 → Confirmed due
+  search_done due (inl (reading, there, stop)) zero = absurd (stopped 0 asked.name reading due stop zero refl refl refl)
+  search_done due (inr (bytes, there, (verdict, finds, ends))) zero =
+      of_done bytes (ballots_of bytes asked.contest) verdict due (held_whole (held_bytes asked.name files) bytes there) refl finds ends zero
+
+  search_full_count : (due : Outcome) → May (AsHeld files) (search asked.name asked.contest terms) due → due.status ≡ 5 → GivesReason words files due.out
+  search_full_count due (inl (reading, there, stop)) five = absurd (stopped 5 asked.name reading due stop five refl refl refl)
+  search_full_count due (inr (bytes, there, (verdict, finds, ends))) five =
+      of_full_count bytes (ballots_of bytes asked.contest) verdict due (held_whole (held_bytes asked.name files) bytes there) refl finds ends five
+
+  -- ---- by the words
+  pub of_answer : (due : Outcome) → MayCome (AsHeld files) (line_of words) due → due.status ≡ 0 → Confirmed due
+  of_answer due may zero = search_done due (subst (λ l. MayCome (AsHeld files) l due) asked.asked may) zero
+
+-- ---- status 5 is of a search
+
+tabulates_no_full_count : (name : List ℕ) (read : Result BallotFile Refusal) (verdict : Verdict) (due : Outcome) → TabulatesIn name read verdict → due ≡ outcome verdict → due.status ≡ 5 → ⊥
+tabulates_no_full_count name (Err refusal) verdict due finds ends five = not_so 2 5 verdict due ends (ap (λ v. status_in (outcome v)) finds) five refl
+tabulates_no_full_count name (Ok ballots) (Answered Done text) due finds ends five = not_so 0 5 (Answered Done text) due ends refl five refl
+tabulates_no_full_count name (Ok ballots) (Answered Tie text) due finds ends five = not_so 3 5 (Answered Tie text) due ends refl five refl
+tabulates_no_full_count name (Ok ballots) (Answered Spent text) due finds ends five = finds
+tabulates_no_full_count name (Ok ballots) (Answered FullCount text) due finds ends five = finds
+tabulates_no_full_count name (Ok ballots) (Refused file text) due finds ends five = finds
+
+pub gives_reason : (words : List (List ℕ)) (files : List File) (line : Option Line) → line_of words ≡ line → (due : Outcome) → MayCome (AsHeld files) line due → due.status ≡ 5 →
+    GivesReason words files due.out
+gives_reason words files None is due bad five = absurd (differ 1 5 (sym (ap status_in bad) ∙ five) refl)
+gives_reason words files (Some (Search name contest nodes floor)) is due may five =
+    search_full_count words files (record { name = name; contest = contest; nodes = nodes; floor = floor; asked = is }) due may five
+gives_reason words files (Some (Tabulate name contest)) is due (inl (reading, there, stop)) five = absurd (stopped 5 name reading due stop five refl refl refl)
+gives_reason words files (Some (Tabulate name contest)) is due (inr (bytes, there, (verdict, finds, ends))) five =
+    absurd (tabulates_no_full_count name (ballots_of bytes contest) verdict due finds ends five)

@@ -1,9 +1,11 @@
 mod Scripts
 mod Steps
+mod TwoAtLeast
 mod Searches
-mod TwoRead
+mod Tabulates
 mod Headline
 mod ReadFiles
-mod Two
+mod Found
 mod Ended
+mod Nodes
 mod Clauses

@@ -1,29 +1,15 @@
 -- What the words of a call ask for, and the answers to it.
-use Rattle.std.specs.Prelude.{◌≡◌, ◌⊎◌, ℕ, Bool, false, not, ◌&&◌, ◌==◌, List, [], ◌∷◌, Option, None, Some, if◌then◌else◌, codes}
-use Rattle.std.specs.Str.{bytes_eq}
+use Rattle.std.specs.Prelude.{◌≡◌, ◌⊎◌, ℕ, List, Option, None, Some}
 use Rattle.desk.specs.Desk.{File}
+use Rattle.command_line.specs.Line.{Line, Search, Tabulate, line_of}
 use Rattle.raire_cli.specs.Outcome.{Outcome, bad_words, out_of_memory}
 use Rattle.raire_cli.specs.Script.{Script, Readings, AsHeld, May}
 use Rattle.raire_cli.specs.Search.{search}
-
--- a command and its arguments
-pub data Line : Type 0 where
-  Search : List ℕ → Line
-
--- a word that names a file: it isn't empty, and doesn't begin with a hyphen
-abbrev pub is_file_word : List ℕ → Bool
-is_file_word [] = false
-is_file_word (first ∷ rest) = not (first == 0x2D)
-
--- the words as a line
-abbrev pub line_of : List (List ℕ) → Option Line
-line_of [] = None
-line_of (word ∷ []) = None
-line_of (word ∷ file ∷ []) = if bytes_eq word (codes "search") && is_file_word file then Some (Search file) else None
-line_of (word ∷ file ∷ another ∷ rest) = None
+use Rattle.raire_cli.specs.Tabulate.{tabulate}
 
 abbrev pub script_of : Line → Script
-script_of (Search file) = search file
+script_of (Search file contest nodes floor) = search file contest (record { nodes = nodes; floor = floor })
+script_of (Tabulate file contest) = tabulate file contest
 
 -- A line, or words that are none, may come to this.
 abbrev pub MayCome : Readings → Option Line → Outcome → Type 0

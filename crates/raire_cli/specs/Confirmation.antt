@@ -1,5 +1,5 @@
 -- What it means that assertions confirm the winner of some records.
-use Rattle.std.specs.Prelude.{◌≡◌, ◌≤◌, ℕ, List, All, Contains, Some, IsTrue, length}
+use Rattle.std.specs.Prelude.{◌≡◌, ◌≤◌, ◌<◌, ℕ, List, All, Contains, Option, Some, Ok, IsTrue, length}
 use Rattle.desk.specs.Desk.{File, held_bytes}
 use Rattle.assertions.specs.declared.assertion.Assertion.{Assertion}
 use Rattle.assertions.specs.declared.assertion.Claim.{Claim}
@@ -7,16 +7,30 @@ use Rattle.assertions.specs.Assertions.{is_proper, is_true, true_margin}
 use Rattle.assertions.specs.Refutation.{refutes}
 use Rattle.assertions.specs.Suffixes.{IsAlternative}
 use Rattle.ballot_reader.specs.Ballots.{BallotFile}
-use Rattle.ballot_reader.specs.FirstForm.{ballots_of}
+use Rattle.ballot_reader.specs.Grammar.{ballots_of}
 use Rattle.assertion_file.specs.Content.{Content}
-use Rattle.raire_cli.specs.Search.{candidate_count, IsWon}
-use Rattle.raire_cli.specs.Answers.{Search, line_of}
+use Rattle.command_line.specs.Line.{Search, line_of}
+use Rattle.irv_base.specs.Names.{Id}
+use Rattle.raire_cli.specs.Contest.{candidate_count, IsWon}
+use Rattle.report.specs.Texts.{order_text}
+use Rattle.raire_cli.specs.Search.{full_count_lines}
 
 -- an assertion among n candidates that is true of the records, by the margin that is claimed
 pub record Holds (n : ℕ) (records : List (List ℕ)) (claim : Claim) : Type 0 where
   pub proper : IsTrue (is_proper n claim.assertion)
   pub holds : IsTrue (is_true records claim.assertion)
   pub margin : claim.margin ≡ true_margin records claim.assertion
+
+-- the order elects another candidate, and no true assertion of larger margin refutes it
+pub record IsHardest (n : ℕ) (records : List (List ℕ)) (winner : ℕ) (order : List ℕ) (margin : ℕ) : Type 0 where
+  pub alternative : IsAlternative n winner order
+  pub hardest : (a : Assertion) → IsTrue (is_proper n a) → IsTrue (is_true records a) → IsTrue (refutes a order) → true_margin records a ≤ margin
+
+-- each order that elects another candidate is refuted by a true assertion of at least this margin
+abbrev pub IsLeast : ℕ → List (List ℕ) → ℕ → ℕ → Type 0
+IsLeast n records winner margin =
+    (order : List ℕ) → IsAlternative n winner order →
+    (a : Assertion) × IsTrue (is_proper n a) × IsTrue (is_true records a) × IsTrue (refutes a order) × (margin ≤ true_margin records a)
 
 pub record Confirms (n : ℕ) (records : List (List ℕ)) (winner : ℕ) (file : Content) : Type 0 where
   -- the assertions are all true of the records
@@ -26,20 +40,27 @@ pub record Confirms (n : ℕ) (records : List (List ℕ)) (winner : ℕ) (file :
   -- the margin is the smallest of theirs
   pub reached : (claim : Claim) × Contains file.claims claim × (claim.margin ≡ file.margin)
   pub smallest : All (λ claim. file.margin ≤ claim.margin) file.claims
-  -- the order elects another candidate, and no true assertion of larger margin refutes it
-  pub alternative : IsAlternative n winner file.order
-  pub hardest : (a : Assertion) → IsTrue (is_proper n a) → IsTrue (is_true records a) → IsTrue (refutes a file.order) → true_margin records a ≤ file.margin
+  pub order : IsHardest n records winner file.order file.margin
 
--- the words ask for a search of a file that is held and accepted, and its contest has this winner
-pub record AsksFor (words : List (List ℕ)) (files : List File) (ballots : BallotFile) (winner : ℕ) : Type 0 where
+-- ---- a search
+
+-- the words ask for a search
+pub record AsksForSearch (words : List (List ℕ)) : Type 0 where
   pub name : List ℕ
+  pub contest : Option Id
+  pub nodes : ℕ
+  pub floor : ℕ
+  pub asked : line_of words ≡ Some (Search name contest nodes floor)
+
+-- its file is held and accepted, and the contest has this winner
+pub record AsksFor (words : List (List ℕ)) (files : List File) (ballots : BallotFile) (winner : ℕ) : Type 0 where
+  pub search : AsksForSearch words
   pub bytes : List ℕ
-  pub asked : line_of words ≡ Some (Search name)
-  pub held : held_bytes name files ≡ Some bytes
-  pub accepted : ballots_of bytes ≡ Some ballots
+  pub held : held_bytes search.name files ≡ Some bytes
+  pub accepted : ballots_of bytes search.contest ≡ Ok ballots
   pub won : IsWon ballots winner
 
--- this is a file that confirms the winner of the contest that was asked for
+-- this is a file that confirms the winner of the contest that was asked for, by a margin that reaches the floor
 pub record ConfirmsAsked (words : List (List ℕ)) (files : List File) (file : Content) : Type 0 where
   pub ballots : BallotFile
   pub winner : ℕ
@@ -48,4 +69,19 @@ pub record ConfirmsAsked (words : List (List ℕ)) (files : List File) (file : C
   pub candidates : file.candidates ≡ ballots.candidates
   pub records : file.records ≡ length ballots.rankings
   pub named : file.winner ≡ winner
+  pub floor : asks.search.floor ≤ file.margin
   pub confirms : Confirms (candidate_count ballots) ballots.rankings winner file
+
+-- this is a text that gives an order as reason for a full count: it elects another candidate than the winner of the contest that was
+-- asked for, and no true assertion whose margin reaches the floor refutes it
+pub record GivesReason (words : List (List ℕ)) (files : List File) (text : List ℕ) : Type 0 where
+  pub ballots : BallotFile
+  pub winner : ℕ
+  pub asks : AsksFor words files ballots winner
+  pub order : List ℕ
+  pub margin : ℕ
+  pub below : margin < asks.search.floor
+  pub reason : IsHardest (candidate_count ballots) ballots.rankings winner order margin
+  -- each such order is refuted by a true assertion of at least that margin
+  pub least : IsLeast (candidate_count ballots) ballots.rankings winner margin
+  pub shown : text ≡ full_count_lines (order_text ballots.candidates order) margin asks.search.floor

@@ -1,13 +1,15 @@
-pub mod Words
 pub mod Outcome
+pub mod Refusals
 pub mod Script
+pub mod Contest
 pub mod Search
+pub mod Tabulate
 pub mod Confirmation
 pub mod Answers
 pub mod Ends
 pub mod Accounts
 pub mod Said
-pub mod Command
 pub mod Found
 pub mod Promises
 pub mod Story
+pub mod Laws

@@ -10,10 +10,14 @@ pub record Outcome : Type 0 where
 pub data Kind : Type 0 where
   Done : Kind
   Tie : Kind
+  Spent : Kind
+  FullCount : Kind
 
 abbrev pub status_of : Kind → ℕ
 status_of Done = 0
 status_of Tie = 3
+status_of Spent = 4
+status_of FullCount = 5
 
 -- what a command comes to once it has read its files: a text for `out`, or what is wrong with a file
 pub data Verdict : Type 0 where

@@ -1,11 +1,14 @@
 -- What `run` promises by its status.
 use Rattle.std.specs.Prelude.{◌≡◌, ◌⊎◌, ◌≤◌, ℕ, List, Option, None, Some, IfSome, length}
 use Rattle.desk.specs.Desk.{File}
-use Rattle.raire_cli.specs.Outcome.{Outcome, Kind, Done, Tie, status_of, Verdict, Answered, Refused, read_fault, out_of_memory}
+use Rattle.raire_cli.specs.Outcome.{Outcome, Kind, Done, Tie, Spent, FullCount, status_of, Verdict, Answered, Refused, read_fault, out_of_memory}
 use Rattle.raire_cli.specs.Script.{Readings, Reading, TooLong, Missing, ByDesk, AsHeld, AsTold, Reaches, Concludes, limit}
 use Rattle.ballot_reader.specs.Ballots.{BallotFile}
+use Rattle.command_line.specs.Line.{Line, line_of}
+use Rattle.raire_cli.specs.Contest.{IsOther}
+use Rattle.raire_cli.specs.Search.{nodes_for}
 use Rattle.raire_cli.specs.Confirmation.{AsksFor}
-use Rattle.raire_cli.specs.Answers.{Line, line_of, script_of, Answers, IsDue}
+use Rattle.raire_cli.specs.Answers.{script_of, Answers, IsDue}
 use Rattle.raire_cli.specs.Ends.{Writing, Took, TookPrefix, Failed}
 
 -- 7, 8 and 9: a fault of the desk, a fault of a sink, want of memory
@@ -15,6 +18,10 @@ IsUndone status = (status ≡ 7) ⊎ (status ≡ 8) ⊎ (status ≡ 9)
 -- The call ends with this status only where that is so, and where it is so, with this status or undone.
 abbrev pub Exactly : ℕ → ℕ → Type 0 → Type 0
 Exactly status result cause = (result ≡ status → cause) × (cause → (result ≡ status) ⊎ IsUndone result)
+
+-- The same of an answer that a budget may have kept a search from.
+abbrev pub ExactlyInBudget : ℕ → ℕ → Type 0 → Type 0
+ExactlyInBudget status result cause = (result ≡ status → cause) × (cause → (result ≡ status) ⊎ (result ≡ 4) ⊎ IsUndone result)
 
 -- the sinks took the texts of an outcome
 abbrev pub TookTexts : Outcome → Writing → Writing → Type 0
@@ -78,21 +85,25 @@ IsForErr status = (status ≡ 1) ⊎ (status ≡ 2) ⊎ (status ≡ 7) ⊎ (stat
 abbrev pub IsStatus : ℕ → Type 0
 IsStatus status = IsForErr status ⊎ (status ≡ 8) ⊎ ((kind : Kind) × (status ≡ status_of kind))
 
--- The words ask for a search of a file that is held, not too long and accepted, and its contest has no tie.
+-- The words ask for a search of a file that is held, not too long and accepted. Its contest has no tie, and the budget has as
+-- many nodes as may be needed for each candidate who didn't win.
 pub record IsAccepted (words : List (List ℕ)) (files : List File) : Type 0 where
   pub ballots : BallotFile
   pub winner : ℕ
   pub asks : AsksFor words files ballots winner
   pub is_short : length asks.bytes ≤ limit
+  pub budget : (c : ℕ) → IsOther ballots winner c → nodes_for ballots asks.won.order winner c ≤ asks.search.nodes
 
 -- When each status comes, and what the sinks then took.
 pub record Statuses (words : List (List ℕ)) (held : Option (List File)) (failed : Type 0) (status : ℕ) (out err : Writing) : Type 0 where
   -- there is no other
   pub known : IsStatus status
-  pub done : IfSome held (λ files. Exactly 0 status (HasAnswer words files Done))
+  pub done : IfSome held (λ files. ExactlyInBudget 0 status (HasAnswer words files Done))
   pub bad_words : Exactly 1 status (IsNoLine words)
   pub refused : IfSome held (λ files. Exactly 2 status (IsRefused words files))
   pub tie : IfSome held (λ files. Exactly 3 status (HasAnswer words files Tie))
+  pub spent : IfSome held (λ files. status ≡ 4 → HasAnswer words files Spent)
+  pub full_count : IfSome held (λ files. ExactlyInBudget 5 status (HasAnswer words files FullCount))
   pub read_fault : status ≡ 7 → IsReadFault words held failed out err
   pub write_fault : status ≡ 8 → IsWriteFault (ByDesk held failed) words out err
   -- it may come at any time

@@ -1,10 +1,13 @@
 -- What the code's answers and refusals stand for.
 use Rattle.std.specs.Prelude.{◌≡◌, ◌⊎◌, ℕ, List, Result, Ok, Err, Vec, string_bytes, []}
 use Rattle.std.specs.declared.alloc.Global.{Global}
-use Rattle.raire_cli.specs.Outcome.{Outcome, Kind, Done, Tie, Verdict, Answered, outcome, bad_words, out_of_memory}
+use Rattle.raire_cli.specs.Outcome.{Outcome, Kind, Done, Tie, Spent, FullCount, Verdict, Answered, outcome, bad_words, out_of_memory}
+use Rattle.ballot_reader.specs.Ballots.{BallotFile}
+use Rattle.ballot_reader.specs.Grammar as Grammar
+use Rattle.raire_cli.specs.Refusals.{refused}
 use Rattle.raire_cli.specs.Script.{Readings, Bytes, MayStop}
 use Rattle.raire_cli.specs.declared.outcome.AnswerKind.{AnswerKind}
-use Rattle.raire_cli.specs.declared.outcome.AnswerKind.TheVariants.{Done as DoneKind, Tie as TieKind}
+use Rattle.raire_cli.specs.declared.outcome.AnswerKind.TheVariants.{Done as DoneKind, Tie as TieKind, Spent as SpentKind, FullCount as FullCountKind}
 use Rattle.raire_cli.specs.declared.outcome.RefusalKind.{RefusalKind}
 use Rattle.raire_cli.specs.declared.outcome.RefusalKind.TheVariants.{Input, ReadFault, TooLong, Missing}
 use Rattle.raire_cli.specs.declared.outcome.Answer.{Answer}
@@ -14,6 +17,8 @@ use Rattle.raire_cli.specs.declared.outcome.Refusal.TheVariants.{Words, Memory, 
 abbrev pub kind_of : AnswerKind → Kind
 kind_of DoneKind = Done
 kind_of TieKind = Tie
+kind_of SpentKind = Spent
+kind_of FullCountKind = FullCount
 
 abbrev pub code_of : RefusalKind → ℕ
 code_of Input = 2
@@ -47,3 +52,8 @@ IsOrMemory defined outcome = (outcome ≡ defined) ⊎ (outcome ≡ out_of_memor
 -- one of these verdicts, or want of memory
 abbrev pub IsOneOrMemory : (Verdict → Type 0) → Outcome → Type 0
 IsOneOrMemory verdicts due = ((verdict : Verdict) × verdicts verdict × (due ≡ outcome verdict)) ⊎ (due ≡ out_of_memory)
+
+-- a file's ballots, or its refusal
+abbrev pub IsBallotsOf : List ℕ → Result BallotFile Grammar.Refusal → Result BallotFile Refusal → Type 0
+IsBallotsOf name read (Ok ballots) = read ≡ Ok ballots
+IsBallotsOf name read (Err refusal) = ((why : Grammar.Refusal) × (read ≡ Err why) × (due_refusal refusal ≡ outcome (refused name why))) ⊎ (due_refusal refusal ≡ out_of_memory)

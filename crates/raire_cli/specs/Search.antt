@@ -1,50 +1,37 @@
--- `search FILE`: the assertions that together confirm the winner of a ballot file's contest, or its tie.
-use Rattle.std.specs.Prelude.{◌≡◌, ◌≤◌, ℕ, true, List, [], ◌∷◌, ◌++◌, length, Option, None, Some, codes}
+-- `search FILE`: the assertions that together confirm the winner of a ballot file's contest, or why there are none.
+use Rattle.std.specs.Prelude.{◌≡◌, ◌≤◌, ◌<◌, ℕ, max, List, ◌++◌, length, Option, None, Some, Result, Ok, Err, codes}
 use Rattle.std.specs.Fmt.{decimal}
-use Rattle.irv_base.specs.Names.{Id, comma}
-use Rattle.irv_base.specs.Orders.{is_order, Elects}
-use Rattle.irv_base.specs.Tabulation.{is_tabulated, IsFirstTie}
-use Rattle.assertions.specs.Certificate.{certificate_claims, certificate_order}
-use Rattle.assertions.specs.Hardness.{low, best_margin}
+use Rattle.irv_base.specs.Names.{Id}
+use Rattle.assertions.specs.Certificate.{certificate_claims, certificate_order, cover_count, order_count}
+use Rattle.assertions.specs.Hardness.{low, best_margin, first_bound}
+use Rattle.assertions.specs.Suffixes.{IsAlternative}
+use Rattle.bound_search.specs.Race.{work}
 use Rattle.ballot_reader.specs.Ballots.{BallotFile}
-use Rattle.ballot_reader.specs.FirstForm.{ballots_of}
+use Rattle.ballot_reader.specs.Grammar.{Refusal, ballots_of}
 use Rattle.assertion_file.specs.Content.{Content}
-use Rattle.assertion_file.specs.Ids.{ids_in}
+use Rattle.assertion_file.specs.Ids.{id_of}
 use Rattle.assertion_file.specs.Text.{assertion_file_text}
-use Rattle.raire_cli.specs.Outcome.{Done, Tie, Verdict, Answered, Refused}
+use Rattle.report.specs.Texts.{order_text}
+use Rattle.raire_cli.specs.declared.commands.search.Terms.{Terms}
+use Rattle.raire_cli.specs.Contest.{candidate_count, IsWon, IsOther, HasTie}
+use Rattle.raire_cli.specs.Refusals.{refused}
+use Rattle.raire_cli.specs.Outcome.{Done, Tie, Spent, FullCount, Verdict, Answered, Refused}
 use Rattle.raire_cli.specs.Script.{Script, Read, Ends}
 
-abbrev pub candidate_count : BallotFile → ℕ
-candidate_count ballots = length ballots.candidates
+-- ---- the certificate
 
--- ---- a tie
-
-abbrev pub joined : List Id → List ℕ
-joined [] = []
-joined (id ∷ []) = id
-joined (id ∷ next ∷ rest) = id ++ comma ∷ joined (next ∷ rest)
-
-abbrev pub tie_lines : ℕ → List ℕ → ℕ → List ℕ
-tie_lines round tied votes = codes "tie\nround " ++ decimal round ++ codes "\ntied " ++ tied ++ codes "\ntally " ++ decimal votes ++ codes "\n"
-
--- the round, the candidates who share the least tally, and that tally
-abbrev pub tie_text : List Id → ℕ → ℕ → ℕ → List ℕ
-tie_text ids round tied votes = tie_lines round (joined (ids_in ids tied)) votes
-
-pub record HasTie (ballots : BallotFile) (text : List ℕ) : Type 0 where
-  pub round : ℕ
-  pub tied : ℕ
-  pub votes : ℕ
-  pub counted : 1 ≤ round
-  pub first : IsFirstTie (candidate_count ballots) ballots.rankings round tied votes
-  pub shown : text ≡ tie_text ballots.candidates round tied votes
-
--- ---- a certificate
+-- over the records of the contest
+abbrev pub low_of : BallotFile → List ℕ → ℕ
+low_of ballots = low (candidate_count ballots) ballots.rankings
 
 abbrev pub margin_of : BallotFile → ℕ → ℕ
-margin_of ballots winner = let n = candidate_count ballots in best_margin n winner (low n ballots.rankings)
+margin_of ballots winner = best_margin (candidate_count ballots) winner (low_of ballots)
 
--- what is said of the contest that this candidate has won, with an order that no true assertion of larger margin refutes
+-- of the orders that elect another candidate, the one that is printed: no true assertion of larger margin refutes it
+abbrev pub order_of : BallotFile → ℕ → Option (List ℕ)
+order_of ballots winner = certificate_order (candidate_count ballots) winner (low_of ballots) (margin_of ballots winner)
+
+-- what is said of the contest that this candidate has won, with that order
 abbrev pub certificate_of : BallotFile → ℕ → List ℕ → Content
 certificate_of ballots winner order = record {
   contest = ballots.contest;
@@ -56,35 +43,92 @@ certificate_of ballots winner order = record {
   claims = certificate_claims (candidate_count ballots) ballots.rankings winner;
 }
 
--- the contest has no tie, and this winner
-pub record IsWon (ballots : BallotFile) (winner : ℕ) : Type 0 where
-  pub order : List ℕ
-  pub permutation : is_order (candidate_count ballots) order ≡ true
-  pub tabulated : is_tabulated ballots.rankings order ≡ true
-  pub elects : Elects order winner
-
 -- the canonical certificate of a contest without a tie
 pub record IsCertificateOf (ballots : BallotFile) (file : Content) : Type 0 where
   pub winner : ℕ
   pub won : IsWon ballots winner
   pub order : List ℕ
-  pub least : certificate_order (candidate_count ballots) winner (low (candidate_count ballots) ballots.rankings) (margin_of ballots winner) ≡ Some order
+  pub least : order_of ballots winner ≡ Some order
   pub is : file ≡ certificate_of ballots winner order
 
-abbrev pub HasCertificate : BallotFile → List ℕ → Type 0
-HasCertificate ballots text = (file : Content) × IsCertificateOf ballots file × (text ≡ assertion_file_text file)
+-- ---- the budget
+
+-- the order count of c, once there is the order
+abbrev pub order_count_of : BallotFile → ℕ → Option (List ℕ) → ℕ → ℕ
+order_count_of ballots margin None c = 0
+order_count_of ballots margin (Some order) c = order_count (candidate_count ballots) (low_of ballots) margin order c
+
+-- the nodes that the certificate needs for c: its cover count or its order count
+abbrev pub certificate_nodes : BallotFile → ℕ → ℕ → ℕ
+certificate_nodes ballots winner c =
+    max (cover_count (candidate_count ballots) (low_of ballots) (margin_of ballots winner) c)
+    (order_count_of ballots (margin_of ballots winner) (order_of ballots winner) c)
+
+-- the most nodes that a search may need for c, where this is the tabulated order
+abbrev pub nodes_for : BallotFile → List ℕ → ℕ → ℕ → ℕ
+nodes_for ballots tabulated winner c = max (work (candidate_count ballots) ballots.rankings tabulated c) (certificate_nodes ballots winner c)
+
+abbrev pub IsInBudget : BallotFile → ℕ → ℕ → Type 0
+IsInBudget ballots winner nodes = (c : ℕ) → IsOther ballots winner c → certificate_nodes ballots winner c ≤ nodes
+
+-- ---- the texts
+
+abbrev pub spent_lines : List ℕ → List ℕ → ℕ → List ℕ
+spent_lines last order margin = codes "spent\ncandidate " ++ last ++ codes "\norder " ++ order ++ codes "\nmargin " ++ decimal margin ++ codes "\n"
+
+abbrev pub full_count_lines : List ℕ → ℕ → ℕ → List ℕ
+full_count_lines order margin floor = codes "full count\norder " ++ order ++ codes "\nmargin " ++ decimal margin ++ codes "\nfloor " ++ decimal floor ++ codes "\n"
+
+abbrev pub full_count_text : Content → ℕ → List ℕ
+full_count_text file floor = full_count_lines (order_text file.candidates file.order) file.margin floor
+
+-- ---- how a search ends
+
+-- with the certificate, where its margin reaches the floor
+pub record HasCertificate (terms : Terms) (ballots : BallotFile) (text : List ℕ) : Type 0 where
+  pub file : Content
+  pub is : IsCertificateOf ballots file
+  pub budget : IsInBudget ballots is.winner terms.nodes
+  pub floor : terms.floor ≤ file.margin
+  pub shown : text ≡ assertion_file_text file
+
+-- with its order alone, where it doesn't
+pub record HasFullCount (terms : Terms) (ballots : BallotFile) (text : List ℕ) : Type 0 where
+  pub file : Content
+  pub is : IsCertificateOf ballots file
+  pub budget : IsInBudget ballots is.winner terms.nodes
+  pub floor : file.margin < terms.floor
+  pub shown : text ≡ full_count_text file terms.floor
+
+-- a search is spent at this candidate, with an order that elects another candidate than the winner, no harder than the first that is tried
+pub record IsSpent (nodes : ℕ) (ballots : BallotFile) (last : ℕ) (order : List ℕ) (margin : ℕ) : Type 0 where
+  pub winner : ℕ
+  pub won : IsWon ballots winner
+  pub named : IsOther ballots winner last
+  pub above : nodes < nodes_for ballots won.order winner last
+  pub alternative : IsAlternative (candidate_count ballots) winner order
+  pub hardness : margin ≡ low_of ballots order
+  pub within : margin ≤ first_bound (candidate_count ballots) ballots.rankings won.order
+
+pub record HasSpent (terms : Terms) (ballots : BallotFile) (text : List ℕ) : Type 0 where
+  pub last : ℕ
+  pub order : List ℕ
+  pub margin : ℕ
+  pub is : IsSpent terms.nodes ballots last order margin
+  pub shown : text ≡ spent_lines (id_of ballots.candidates last) (order_text ballots.candidates order) margin
+
+abbrev pub Finds : Terms → BallotFile → Verdict → Type 0
+Finds terms ballots (Answered Done text) = HasCertificate terms ballots text
+Finds terms ballots (Answered Tie text) = HasTie ballots text
+Finds terms ballots (Answered Spent text) = HasSpent terms ballots text
+Finds terms ballots (Answered FullCount text) = HasFullCount terms ballots text
+Finds terms ballots (Refused name text) = ⊥
 
 -- ---- the command
 
-abbrev pub Finds : BallotFile → Verdict → Type 0
-Finds ballots (Answered Done text) = HasCertificate ballots text
-Finds ballots (Answered Tie text) = HasTie ballots text
-Finds ballots (Refused name text) = ⊥
+abbrev pub FindsIn : Terms → List ℕ → Result BallotFile Refusal → Verdict → Type 0
+FindsIn terms name (Err refusal) verdict = verdict ≡ refused name refusal
+FindsIn terms name (Ok ballots) verdict = Finds terms ballots verdict
 
--- a file of another form than is read so far is refused as a whole
-abbrev pub FindsIn : List ℕ → Option BallotFile → Verdict → Type 0
-FindsIn name None verdict = verdict ≡ Refused name (codes "B0 at 0")
-FindsIn name (Some ballots) verdict = Finds ballots verdict
-
-abbrev pub search : List ℕ → Script
-search name = Read name (λ bytes. Ends (FindsIn name (ballots_of bytes)))
+abbrev pub search : List ℕ → Option Id → Terms → Script
+search name contest terms = Read name (λ bytes. Ends (FindsIn terms name (ballots_of bytes contest)))

@@ -3,7 +3,8 @@ use Rattle.std.specs.Prelude.{ℕ, List, Option}
 use Rattle.desk.specs.Desk.{File}
 use Rattle.raire_cli.specs.Outcome.{Outcome}
 use Rattle.raire_cli.specs.Script.{ByDesk}
-use Rattle.raire_cli.specs.Answers.{line_of, IsDue}
+use Rattle.command_line.specs.Line.{line_of}
+use Rattle.raire_cli.specs.Answers.{IsDue}
 use Rattle.raire_cli.specs.Ends.{Writing, IsWritten}
 
 -- an outcome was due, and the sinks took it, or a part of it

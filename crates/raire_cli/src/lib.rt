@@ -5,6 +5,8 @@ mod call;
 mod commands;
 mod deliver;
 mod files;
+pub mod laws;
 mod outcome;
 
 pub use call::run;
+pub use command_line::is_line;

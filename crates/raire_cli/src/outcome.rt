@@ -12,6 +12,8 @@ use std::alloc::{AllocError, AllocFailed};
 pub(crate) enum AnswerKind {
     Done,
     Tie,
+    Spent,
+    FullCount,
 }
 
 impl AnswerKind {
@@ -21,6 +23,8 @@ impl AnswerKind {
         match self {
             AnswerKind::Done => 0,
             AnswerKind::Tie => 3,
+            AnswerKind::Spent => 4,
+            AnswerKind::FullCount => 5,
         }
     }
 }

@@ -1,0 +1,5 @@
+use Rattle.raire_cli.proofs.Ended.{refusal_of}
+use Rattle.raire_cli.proofs.commands.contest.ballots_in.Goals as goal
+
+pub returns-in-Err-Refused : goal.returns-in-Err-Refused
+returns-in-Err-Refused c = refusal_of c.args.file.now _ _ _ _ _ (rw c.in-Err-Refused.field-0-is at c.in-Err-Refused.ensures.refused) c.name.ensures c.refuse_at.ensures

@@ -1,0 +1,12 @@
+// The laws of the top call: each holds of every value that it names, and has no code.
+ghost use Rattle.raire_cli.specs.Laws.{NodesAreFew, DefaultSuffices};
+
+/// No search needs more nodes for a candidate than twice the factorial of the number of the other candidates.
+pub fn nodes_are_few()
+    ensures { NodesAreFew }
+{}
+
+/// With the default number of nodes no search of up to nine candidates is spent.
+pub fn default_suffices()
+    ensures { DefaultSuffices }
+{}

@@ -1,8 +1,14 @@
 #!/usr/bin/env python3
-"""Times `raire search` on ballot files of two candidates, beside `cksum` on the same files.
+"""Times `raire search` and `raire tabulate` on ballot files that are made the same at every run.
 
-Makes files of 10,000, 100,000 and 1,000,000 records, the same at every run, and prints for each the time, the bytes
-read a second and the peak memory of the built program. Run it as bench/search.py; numbers of records may be given.
+For each contest it prints the size of the file, the seconds of `tabulate` and of `search`, and how these are made up:
+reading (the time that the same file takes to be refused at its last record), tabulating (what `tabulate` takes beside
+that), and searching with certifying (what `search` takes beside `tabulate`); then the bytes read a second, the peak
+memory of `search`, its status, and the time of `cksum` on the file. The least of three runs counts.
+
+    bench/search.py            all contests, a minute or two
+    bench/search.py 4 10000    one realistic contest: candidates and ballots
+    bench/search.py equal 15   one near-equal contest of so many candidates and 100,000 ballots
 """
 import os
 import sys
@@ -12,17 +18,47 @@ import time
 TOP = os.path.dirname(os.path.dirname(os.path.abspath(__file__)))
 PROGRAM = os.path.join(TOP, "crates/raire/out/raire")
 
+REALISTIC = [(2, 1_000_000), (4, 10_000), (10, 200_000), (14, 940_000)]
+NEAR_EQUAL = [12, 15, 20]
 
-def write_ballots(path, records):
-    """One contest of two candidates; the state is the generator of Knuth's MMIX."""
-    state = 0
+
+class Draws:
+    """The generator of Knuth's MMIX."""
+
+    def __init__(self, state):
+        self.state = state
+
+    def below(self, n):
+        self.state = (self.state * 6364136223846793005 + 1442695040888963407) % 2**64
+        return (self.state >> 33) % n
+
+
+def pool(draws, weights, size, most):
+    """Rankings of up to so many candidates, each next one drawn by its weight."""
+    rankings = []
+    for _ in range(size):
+        left, ranking = list(range(len(weights))), []
+        for _ in range(min(1 + draws.below(most), len(left))):
+            at = draws.below(sum(weights[c] for c in left))
+            for c in left:
+                at -= weights[c]
+                if at < 0:
+                    break
+            ranking.append(c)
+            left.remove(c)
+        rankings.append(",".join(str(15 + c) for c in ranking))
+    return rankings
+
+
+def write_ballots(path, candidates, ballots, is_equal):
+    draws = Draws(candidates)
+    weights = [1000 if is_equal else int(1000 * 0.75**c) for c in range(candidates)]
+    rankings = pool(draws, weights, 50_000, candidates if is_equal else 5)
     with open(path, "w") as file:
-        file.write("1\nContest,339,2,15,16\n")
-        for number in range(records):
-            state = (state * 6364136223846793005 + 1442695040888963407) % 2**64
-            ranking = ("15", "16", "15,16", "16,15", "15")[(state >> 33) % 5]
+        file.write(f"1\nContest,339,{candidates},{','.join(str(15 + c) for c in range(candidates))}\n")
+        for number in range(ballots):
             batch, place = divmod(number, 500)
-            file.write(f"339,{99813 + batch}_1_{place + 1},{ranking}\n")
+            file.write(f"339,{99813 + batch}_1_{place + 1},{rankings[draws.below(len(rankings))]}\n")
 
 
 def run(command):
@@ -32,23 +68,45 @@ def run(command):
     if pid == 0:
         null = os.open(os.devnull, os.O_WRONLY)
         os.dup2(null, 1)
+        os.dup2(null, 2)
         os.execvp(command[0], command)
     _, status, usage = os.wait4(pid, 0)
     return time.monotonic() - start, usage.ru_maxrss * 1024, os.waitstatus_to_exitcode(status)
 
 
+def least(*command):
+    return min(run(command) for _ in range(3))
+
+
+def time_contest(name, candidates, ballots, is_equal):
+    with tempfile.NamedTemporaryFile(suffix=".raire") as file, tempfile.NamedTemporaryFile(suffix=".raire") as cut:
+        write_ballots(file.name, candidates, ballots, is_equal)
+        os.system(f"cp {file.name} {cut.name} && echo nothing >> {cut.name}")
+        size = os.path.getsize(file.name)
+        read, _, refused = least(PROGRAM, "tabulate", cut.name)
+        tabulate, _, _ = least(PROGRAM, "tabulate", file.name)
+        search, peak, status = least(PROGRAM, "search", file.name)
+        cksum, _, _ = least("cksum", file.name)
+        if refused != 2 or status not in (0, 3, 4):
+            sys.exit(f"{name}: the program ended with {refused} and {status}")
+        print(
+            f"{name:<28} {size / 1e6:>6.1f} {tabulate:>9.3f} {search:>8.3f} | {read:>7.3f} {tabulate - read:>7.3f} {search - tabulate:>8.3f} |"
+            f" {size / 1e6 / read:>6.0f} {peak / 1e6:>8.1f} {status:>6} {cksum:>7.3f}",
+            flush=True,
+        )
+
+
 def main():
-    sizes = [int(word) for word in sys.argv[1:]] or [10_000, 100_000, 1_000_000]
-    print(f"{'records':>9} {'MB':>6} {'seconds':>8} {'MB/s':>7} {'peak MB':>8} {'cksum s':>8}")
-    for records in sizes:
-        with tempfile.NamedTemporaryFile(suffix=".raire") as file:
-            write_ballots(file.name, records)
-            size = os.path.getsize(file.name)
-            seconds, peak, status = min(run([PROGRAM, "search", file.name]) for _ in range(3))
-            if status != 0:
-                sys.exit(f"the program ended with status {status}")
-            cksum, _, _ = min(run(["cksum", file.name]) for _ in range(3))
-            print(f"{records:>9} {size / 1e6:>6.1f} {seconds:>8.3f} {size / 1e6 / seconds:>7.1f} {peak / 1e6:>8.1f} {cksum:>8.3f}")
+    words = sys.argv[1:]
+    print(f"{'contest':<28} {'MB':>6} {'tabulate':>9} {'search':>8} | {'reading':>7} {'tally':>7} {'rest':>8} | {'MB/s':>6} {'peak MB':>8} {'status':>6} {'cksum':>7}")
+    if words[:1] == ["equal"]:
+        contests = [(int(words[1]), 100_000, True)]
+    elif words:
+        contests = [(int(words[0]), int(words[1]), False)]
+    else:
+        contests = [(n, ballots, False) for n, ballots in REALISTIC] + [(n, 100_000, True) for n in NEAR_EQUAL]
+    for n, ballots, is_equal in contests:
+        time_contest(f"{'near-equal ' if is_equal else ''}{n}, {ballots:,} ballots", n, ballots, is_equal)
 
 
 if __name__ == "__main__":

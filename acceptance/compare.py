@@ -1,0 +1,80 @@
+#!/usr/bin/env python3
+"""Compares what the built program prints with plain.py, on contests that are made by a fixed generator.
+
+acceptance/compare.py PROGRAM [CONTESTS] searches and tabulates so many contests of 2 to 6 candidates, 400 if no number
+is given, and a few of 8 to 12. The last line says how many agreed.
+"""
+import os
+import subprocess
+import sys
+import tempfile
+
+import plain
+
+
+class Draws:
+    """The generator of Knuth's MMIX."""
+
+    def __init__(self, state):
+        self.state = state
+
+    def below(self, n):
+        self.state = (self.state * 6364136223846793005 + 1442695040888963407) % 2**64
+        return (self.state >> 33) % n
+
+
+def contest_of(draws, n, ballots):
+    """Candidates with small numbers are ranked more often; up to n preferences a ballot, possibly none."""
+    rankings = []
+    for _ in range(ballots):
+        ranking = []
+        for _ in range(draws.below(n + 1)):
+            c = min(draws.below(n), draws.below(n))
+            if c not in ranking:
+                ranking.append(c)
+        rankings.append(tuple(ranking))
+    return rankings
+
+
+def write(path, ids, rankings):
+    with open(path, "w") as file:
+        file.write(f"1\nContest,9,{len(ids)},{','.join(ids)}\n")
+        for number, ranking in enumerate(rankings):
+            file.write(",".join(["9", f"b_{number + 1}"] + [ids[c] for c in ranking]) + "\n")
+
+
+def wanted(contest, make):
+    try:
+        return 0, make(contest)
+    except plain.Tie as tie:
+        return 3, str(tie)
+
+
+def differs(program, path, contest, make, command):
+    status, text = wanted(contest, make)
+    ran = subprocess.run([program, command, path], capture_output=True, text=True)
+    if (ran.returncode, ran.stdout, ran.stderr) == (status, text, ""):
+        return False
+    print(f"{command} of {path}: wanted {status}\n{text}got {ran.returncode}\n{ran.stdout}{ran.stderr}")
+    return True
+
+
+def main():
+    program, contests = sys.argv[1], int(sys.argv[2]) if len(sys.argv) > 2 else 400
+    sizes = [2 + number % 5 for number in range(contests)] + [8, 8, 9, 9, 10, 12]
+    draws, failed = Draws(20), 0
+    with tempfile.TemporaryDirectory() as folder:
+        for number, n in enumerate(sizes):
+            ids = [str(11 + c) for c in range(n)]
+            rankings = contest_of(draws, n, 20 + draws.below(100) if n < 8 else 3000)
+            path = os.path.join(folder, f"{number}.raire")
+            write(path, ids, rankings)
+            contest = plain.Contest("9", ids, rankings)
+            search = plain.certificate if n < 7 else plain.certificate_by_bound
+            failed += differs(program, path, contest, search, "search") or differs(program, path, contest, plain.tabulation, "tabulate")
+    print(f"{len(sizes) - failed} contests agree, {failed} don't")
+    sys.exit(1 if failed else 0)
+
+
+if __name__ == "__main__":
+    main()

@@ -8,7 +8,8 @@ use Rattle.std.proofs.lemmas.Fmt.{decimal_injective, digits_decimal}
 use Rattle.irv_base.specs.Names.{Id, is_same}
 use Rattle.manifest.specs.Cards.{NamesNone, card_id, is_batch_id, underscore}
 use Rattle.manifest.proofs.Finding.{Names, card}
-use Rattle.manifest.proofs.Numbers.{AreDigits, own, same-equal}
+use Rattle.csv_rows.proofs.Numbers.{AreDigits, own}
+use Rattle.manifest.proofs.Numbers.{same-equal}
 
 abbrev pub has_underscore : List ℕ → Bool
 has_underscore text = list_any (λ b. b == underscore) text

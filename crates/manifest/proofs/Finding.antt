@@ -18,7 +18,7 @@ use Rattle.manifest.proofs.Numbers.{same-equal}
 lt-zero : (n m : ℕ) → m ≡ 1 + n → nat_lt 0 m ≡ true
 lt-zero n m h = grind arith
 
-here : {X : Type 0} (p : X → Bool) (x : X) (xs : List X) → p x ≡ true → position p (x ∷ xs) ≡ Some 0
+pub here : {X : Type 0} (p : X → Bool) (x : X) (xs : List X) → p x ≡ true → position p (x ∷ xs) ≡ Some 0
 here p x xs h = rw h (ap (λ b. cond b (Some 0) None) (lt-zero (length xs) (length (x ∷ xs)) (omega arith)))
 
 later-by : (b : Bool) (a : ℕ) → cond b (Some (1 + a)) None ≡ option_map (λ i. 1 + i) (cond b (Some a) None)
@@ -28,7 +28,7 @@ later-by false a = refl
 lt-suc : (a n m : ℕ) → m ≡ 1 + n → nat_lt (1 + a) m ≡ nat_lt a n
 lt-suc a n m h = grind arith
 
-later : {X : Type 0} (p : X → Bool) (x : X) (xs : List X) → p x ≡ false → position p (x ∷ xs) ≡ option_map (λ i. 1 + i) (position p xs)
+pub later : {X : Type 0} (p : X → Bool) (x : X) (xs : List X) → p x ≡ false → position p (x ∷ xs) ≡ option_map (λ i. 1 + i) (position p xs)
 later p x xs h = rw h (ap (λ b. cond b (Some (1 + position_or_len p xs)) None) (lt-suc (position_or_len p xs) (length xs) (length (x ∷ xs)) (omega arith)) ∙ later-by (nat_lt (position_or_len p xs) (length xs)) (position_or_len p xs))
 
 pub some_first : {X : Type 0} (p : X → Bool) (xs ys : List X) (i : ℕ) → position p xs ≡ Some i → position p (xs ++ ys) ≡ Some i
@@ -50,7 +50,7 @@ unshifted : (o : Option ℕ) → o ≡ option_map (λ i. 0 + i) o
 unshifted None = refl
 unshifted (Some i) = ap Some (omega arith)
 
-none_first : {X : Type 0} (p : X → Bool) (xs ys : List X) → position p xs ≡ None → position p (xs ++ ys) ≡ option_map (λ i. length xs + i) (position p ys)
+pub none_first : {X : Type 0} (p : X → Bool) (xs ys : List X) → position p xs ≡ None → position p (xs ++ ys) ≡ option_map (λ i. length xs + i) (position p ys)
 none_first p [] ys h = unshifted (position p ys)
 none_first p (x ∷ xs) ys h = by (p x) refl (none_first p xs ys) where
   of_none : (o : Option ℕ) → option_map (λ i. 1 + i) o ≡ None → o ≡ None

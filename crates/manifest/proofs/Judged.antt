@@ -3,7 +3,8 @@ use Rattle.std.proofs.Common.{◌≡◌, ◌∙◌, ◌∷◌, [], ℕ, true, fa
 use Rattle.irv_base.specs.Names.{Id, is_among}
 use Rattle.csv_rows.specs.Rows.{Fields}
 use Rattle.manifest.specs.Cards.{is_batch_id}
-use Rattle.manifest.specs.Manifest.{batch_of, batch_with, number_of}
+use Rattle.csv_rows.specs.Numbers.{number_of}
+use Rattle.manifest.specs.Manifest.{batch_of, batch_with}
 use Rattle.manifest.specs.declared.fault.MRule.TheVariants.{M4}
 
 pub accepted : (ids : List Id) (others : ℕ) (fields : Fields) (id name number : Id) → fields ≡ id ∷ number ∷ [] → name ≡ id → is_batch_id id ≡ true → is_among ids name ≡ false

@@ -1,4 +1,3 @@
-pub mod Ends
 pub mod Numbers
 pub mod Pairs
 pub mod Judged
@@ -8,3 +7,6 @@ pub mod Finding
 pub mod CardIds
 pub mod Places
 pub mod Placed
+pub mod Linking
+pub mod LinkLaws
+pub mod Records

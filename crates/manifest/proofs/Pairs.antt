@@ -1,14 +1,8 @@
--- Records of one field, and of two.
-use Rattle.std.proofs.Common.{◌≡◌, ◌∷◌, [], ℕ, List, Option, Some, None, length, ap, refl, arith}
+-- Records of two fields.
+use Rattle.std.proofs.Common.{◌≡◌, ◌∷◌, [], ℕ, List, Option, Some, None, length, refl, arith}
 use Rattle.std.specs.Prelude.{IfNone}
 use Rattle.csv.specs.Records.{field_at}
 use Rattle.csv_rows.specs.Rows.{Fields}
-
-pub one_field : (fields : Fields) (a : List ℕ) → length fields ≡ 1 → field_at fields 0 ≡ Some a → fields ≡ a ∷ []
-unfolding field_at
-one_field [] a l h = absurd cc
-one_field (x ∷ []) a l h = let e : x ≡ a = cc in ap (λ f. f ∷ []) e
-one_field (x ∷ y ∷ r) a l h = absurd (omega (arith, l))
 
 pub two_fields : (fields : Fields) (a b : List ℕ) → length fields ≡ 2 → field_at fields 0 ≡ Some a → field_at fields 1 ≡ Some b → fields ≡ a ∷ b ∷ []
 unfolding field_at
@@ -27,11 +21,6 @@ unfolding field_at
 no_second [] h l = omega (arith, l)
 no_second (x ∷ []) h l = omega (arith, l)
 no_second (x ∷ y ∷ r) h l = cc
-
-pub no_only : (fields : Fields) → field_at fields 0 ≡ None → length fields ≡ 1 → ⊥
-unfolding field_at
-no_only [] h l = omega (arith, l)
-no_only (x ∷ r) h l = cc
 
 pub always : {X P : Type 0} (o : Option X) → P → IfNone o P
 always None p = p

@@ -11,7 +11,8 @@ use Rattle.csv_rows.specs.Rows.{Fields}
 use Rattle.manifest.proofs.CardAt.{sum-cons}
 use Rattle.manifest.specs.Cards.{AreBatches, is_batch_id, is_count}
 use Rattle.manifest.specs.Firsts.{firsts_from, IsManifest}
-use Rattle.manifest.specs.Manifest.{and_then, at_end, batch_of, batch_with, batches_after, number_of, refused}
+use Rattle.csv_rows.specs.Numbers.{number_of}
+use Rattle.manifest.specs.Manifest.{and_then, at_end, batch_of, batch_with, batches_after, refused}
 use Rattle.manifest.specs.declared.batch.Batch.{Batch}
 use Rattle.manifest.specs.declared.fault.MRule.{MRule}
 use Rattle.manifest.specs.declared.fault.MRule.TheVariants.{M6}

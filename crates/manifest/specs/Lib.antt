@@ -1,6 +1,7 @@
-pub mod Fields
 pub mod Cards
 pub mod Manifest
 pub mod Faults
 pub mod Firsts
 pub mod Laws
+pub mod Linked
+pub mod BallotNumbers

@@ -1,16 +1,15 @@
 -- What a manifest says, or why and where it is refused.
-use Rattle.std.specs.Prelude.{ℕ, ◌+◌, Bool, false, not, ◌&&◌, ◌||◌, nat_le, if◌then◌else◌, List, [], ◌∷◌, ◌++◌, length, Option, Some, None, Result, Ok, Err, codes}
-use Rattle.std.specs.Char.{is_ascii_digit}
-use Rattle.std.specs.List.{list_all, sum}
-use Rattle.std.specs.Str.Parse.{digits_value}
+use Rattle.std.specs.Prelude.{ℕ, ◌+◌, Bool, false, not, ◌&&◌, ◌||◌, nat_le, if◌then◌else◌, List, [], ◌∷◌, ◌++◌, Option, Some, None, Result, Ok, Err, codes}
+use Rattle.std.specs.List.{sum}
+use Rattle.csv_rows.specs.Fields.{numbered_records}
+use Rattle.csv_rows.specs.Numbers.{number_of}
 use Rattle.csv_rows.specs.Rows.{Fields}
 use Rattle.irv_base.specs.Names.{Id, is_same, is_among}
 use Rattle.manifest.specs.Cards.{Batches, is_batch_id, is_count}
-use Rattle.manifest.specs.Fields.{numbered_records}
 use Rattle.manifest.specs.declared.batch.Batch.{Batch}
 use Rattle.manifest.specs.declared.fault.MRule.{MRule}
 use Rattle.manifest.specs.declared.fault.MRule.TheVariants.{M1, M2, M3, M4, M5, M6}
-use Rattle.manifest.specs.declared.limits.TheConstants.{MOST_CARDS, MOST_NUMBER_DIGITS}
+use Rattle.manifest.specs.declared.limits.TheConstants.{MOST_CARDS}
 
 -- ---- the first record
 
@@ -21,9 +20,6 @@ is_header (first ∷ second ∷ []) = is_same first (codes "batch") && is_same s
 is_header (first ∷ second ∷ next ∷ rest) = false
 
 -- ---- a batch's record: its id, and the number of its cards
-
-abbrev pub number_of : List ℕ → Option ℕ
-number_of text = if nat_le 1 (length text) && nat_le (length text) MOST_NUMBER_DIGITS && list_all is_ascii_digit text then Some (digits_value 10 text) else None
 
 -- that many cards after so many others
 abbrev pub batch_with : Id → ℕ → Option ℕ → Result Batch MRule

@@ -1,16 +1,16 @@
 // The record of a batch.
 ghost use Rattle.std.specs.Prelude.{◌≡◌, ◌≤◌, ◌∷◌, [], length, IfSome, IfNone, IsTrue, false};
 ghost use Rattle.csv.specs.Records.{fields_of};
+ghost use Rattle.csv_rows.specs.Fields.{trimmed_fields};
+ghost use Rattle.csv_rows.specs.Numbers.{number_of};
 ghost use Rattle.manifest.specs.Cards.{is_batch_id};
-ghost use Rattle.manifest.specs.Fields.{trimmed_fields};
-ghost use Rattle.manifest.specs.Manifest.{batch_of, batch_with, is_header, number_of};
+ghost use Rattle.manifest.specs.Manifest.{batch_of, batch_with, is_header};
 ghost use Rattle.manifest.specs.declared.limits.TheConstants.{MOST_CARDS};
 
 use crate::fault::MRule;
 use crate::limits::{MOST_BATCH_BYTES, MOST_BATCH_CARDS, MOST_CARDS};
-use crate::number::number_of;
-use crate::trim::trimmed;
 use csv::ByteRecord;
+use csv_rows::{number_of, trimmed};
 use indexmap::IndexSet;
 use irv_base::Name;
 

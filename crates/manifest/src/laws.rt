@@ -1,5 +1,5 @@
-//! The laws of cards and their ids. None has code.
-ghost use Rattle.manifest.specs.Laws.{CardIdsDiffer, CardUndoesPlace, PlaceUndoesCard};
+//! The laws of cards, their ids and their ballots. None has code.
+ghost use Rattle.manifest.specs.Laws.{BallotsAreLinked, CardIdsDiffer, CardUndoesPlace, LinksDiffer, PlaceUndoesCard};
 
 /// The id of each card is placed at its number.
 pub fn place_undoes_card()
@@ -14,4 +14,14 @@ pub fn card_undoes_place()
 /// The ids of the cards are all different.
 pub fn card_ids_differ()
     ensures { CardIdsDiffer }
+{}
+
+/// The ranking of each ballot is recorded of the card that its id names.
+pub fn ballots_are_linked()
+    ensures { BallotsAreLinked }
+{}
+
+/// Distinct ballots are linked to distinct cards.
+pub fn links_differ()
+    ensures { LinksDiffer }
 {}

@@ -6,17 +6,21 @@ mod card;
 mod fault;
 pub mod laws;
 mod limits;
+mod link_fault;
+mod linked;
 mod manifest;
 mod number;
 mod read;
-mod rows;
-mod trim;
+mod recorded;
 
 pub use card::Card;
 pub use fault::{MRule, ManifestFault};
-pub use limits::{MOST_BATCH_BYTES, MOST_BATCH_CARDS, MOST_CARDS, MOST_NUMBER_DIGITS};
+pub use limits::{MOST_BATCH_BYTES, MOST_BATCH_CARDS, MOST_CARDS};
+pub use link_fault::LinkFault;
+pub use linked::{Linked, link};
 pub use manifest::Manifest;
 pub use read::read_manifest;
+pub use recorded::Recorded;
 
 #[cfg(test)]
 mod tests;

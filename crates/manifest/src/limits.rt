@@ -8,6 +8,3 @@ pub const MOST_BATCH_CARDS: u32 = 1_000_000;
 
 /// The most cards of a manifest.
 pub const MOST_CARDS: u32 = 10_000_000;
-
-/// The most digits of a number in a file.
-pub const MOST_NUMBER_DIGITS: usize = 10;

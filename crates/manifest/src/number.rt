@@ -1,31 +1,10 @@
-// Numbers in a file, and the number of a card in its batch.
+// The number of a card in its batch.
 ghost use Rattle.std.specs.Prelude.{◌≡◌, ◌≤◌, ℕ, false, decimal, IfSome, IfNone};
-ghost use Rattle.std.specs.Char.{is_ascii_digit};
-ghost use Rattle.std.specs.List.{list_all};
 ghost use Rattle.irv_base.specs.Names.{is_same};
-ghost use Rattle.manifest.specs.Manifest.{number_of};
 ghost use Rattle.manifest.specs.declared.limits.TheConstants.{MOST_BATCH_CARDS};
 
-use crate::limits::{MOST_BATCH_CARDS, MOST_NUMBER_DIGITS};
-
-fn are_digits(text: &[u8]) -> bool
-    ensures { result ≡ list_all is_ascii_digit text.now }
-{
-    text.iter().all(|b| b.is_ascii_digit())
-}
-
-/// The number that is written in 1 to `MOST_NUMBER_DIGITS` digits.
-pub fn number_of(text: &[u8]) -> Option<u64>
-    ensures { result ≡ number_of text.now }
-{
-    if text.is_empty() || text.len() > MOST_NUMBER_DIGITS {
-        return None;
-    }
-    if !are_digits(text) {
-        return None;
-    }
-    str::from_utf8(text).unwrap().parse::<u64>().ok()
-}
+use crate::limits::MOST_BATCH_CARDS;
+use csv_rows::number_of;
 
 /// The number of a card that is written so, without leading zeros.
 pub fn card_number(text: &[u8]) -> Option<u32>

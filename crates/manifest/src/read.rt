@@ -1,30 +1,19 @@
 // Reading a manifest.
 ghost use Rattle.std.specs.Prelude.{◌≡◌, [], Ok, IfOk, IfErr};
+ghost use Rattle.csv_rows.specs.Fields.{numbered};
 ghost use Rattle.manifest.specs.Faults.{Refuses};
-ghost use Rattle.manifest.specs.Fields.{numbered, without_mark};
 ghost use Rattle.manifest.specs.Manifest.{batches_after, manifest_of};
 
 use crate::batch::{batch_of, is_header};
 use crate::fault::{MRule, ManifestFault};
 use crate::manifest::Manifest;
-use crate::rows::Rows;
 use csv::ByteRecord;
+use csv_rows::{Rows, without_mark};
 use indexmap::IndexSet;
 use std::alloc::Global;
 
-const BYTE_ORDER_MARK: [u8; 3] = [0xEF, 0xBB, 0xBF];
-
 // The record of the first batch, counted from 1: the header stands before it.
 const FIRST_BATCH: u32 = 2;
-
-fn without_mark(bytes: &[u8]) -> &[u8]
-    ensures { result.now ≡ without_mark bytes.now }
-{
-    if bytes.starts_with(&BYTE_ORDER_MARK) {
-        return &bytes[BYTE_ORDER_MARK.len()..];
-    }
-    bytes
-}
 
 // The manifest of the batches in the records that are left.
 fn batches_left(
@@ -65,7 +54,7 @@ fn batches_left(
 
 /// Reads a manifest.
 ///
-/// The first record is `batch,cards`. Each other one is a batch id and its number of cards, in 1 to `MOST_NUMBER_DIGITS` digits.
+/// The first record is `batch,cards`. Each other one is a batch id and its number of cards, in 1 to `csv_rows::MOST_NUMBER_DIGITS` digits.
 /// Spaces and tabs round a field are taken off. A record whose only field is empty then is passed over and has no number. A byte
 /// order mark at the front is taken off.
 ///

@@ -1,5 +1,7 @@
 // Manifests as an office may export them, and what is refused.
 use super::*;
+use ballot_reader::read_ballots;
+use irv_base::{Candidate, Ranking};
 
 #[test]
 fn reads_a_manifest(rt: HostRuntime) {
@@ -50,4 +52,58 @@ fn refuses_other_files(rt: HostRuntime) {
     assert!(rt; is_refused(&rt, b"batch,cards\nb,1000001".as_slice(), MRule::M3, 2));
     assert!(rt; is_refused(&rt, b"batch,cards\nb,1\nb,0".as_slice(), MRule::M4, 3));
     assert!(rt; is_refused(&rt, b"batch,cards".as_slice(), MRule::M6, 1));
+}
+
+// The cards of a manifest linked to the ballots of a file, if both are read.
+fn linked(rt: &HostRuntime, manifest: &[u8], file: &[u8]) -> Option<Result<Linked, LinkFault>> {
+    let Ok(manifest) = read_manifest(rt.alloc(), manifest) else {
+        return None;
+    };
+    let Ok(ballots) = read_ballots(rt.alloc(), file, None) else {
+        return None;
+    };
+    Some(link(rt.alloc(), &manifest, &ballots))
+}
+
+// The candidates of the card's ballot, if it has one.
+fn ranked(recorded: &Recorded) -> Option<&[Candidate]> {
+    match recorded {
+        Recorded::Ranked(ranking) => Some(ranking.candidates()),
+        Recorded::Without => None,
+    }
+}
+
+#[test]
+fn links_ballots(rt: HostRuntime) {
+    let file = b"1\nContest,7,2,1,2\n7,99813_1_3,2,1\n7,99813_1_1,1\n7,99813_1_2";
+    let read = linked(&rt, b"batch,cards\n99813_1,10".as_slice(), file.as_slice());
+    let linked = read.expect(&rt, "two files").expect(&rt, "linked cards");
+    assert!(rt; linked.cards() == 10);
+    assert!(rt; ranked(&linked.recorded(1)) == Some([Candidate(0)].as_slice()));
+    assert!(rt; ranked(&linked.recorded(2)) == Some(Ranking::empty().candidates()));
+    assert!(rt; ranked(&linked.recorded(3)) == Some([Candidate(1), Candidate(0)].as_slice()));
+    assert!(rt; ranked(&linked.recorded(4)).is_none());
+    assert!(rt; ranked(&linked.recorded(10)).is_none());
+}
+
+fn lacks_card(rt: &HostRuntime, file: &[u8], place: u32) -> bool {
+    let Some(read) = linked(rt, b"batch,cards\nb,1".as_slice(), file) else {
+        return false;
+    };
+    match read {
+        Err(LinkFault::NoCard { at }) => at == place,
+        _ => false,
+    }
+}
+
+#[test]
+fn refuses_ballots_without_a_card(rt: HostRuntime) {
+    assert!(rt; lacks_card(&rt, b"1\nContest,7,2,1,2\n7,b_2,1".as_slice(), 3));
+    assert!(rt;
+        lacks_card(
+            &rt,
+            b"1\nContest,7,2,1,2\n7,b_1,1\n\n7,b_01,1\n7,c,1".as_slice(),
+            4
+        )
+    );
 }

@@ -1,6 +1,6 @@
 use Rattle.std.proofs.Common.{◌∙◌, sym, ap, arith, refl}
 use Rattle.csv.specs.Records.{fields_of}
-use Rattle.manifest.specs.Fields.{trimmed_fields}
+use Rattle.csv_rows.specs.Fields.{trimmed_fields}
 use Rattle.manifest.proofs.Pairs.{two_fields, no_first, no_second, always}
 use Rattle.manifest.proofs.batch.pair_of.Goals as goal
 

@@ -1,6 +1,6 @@
 use Rattle.std.proofs.Common.{◌∙◌, sym, arith}
 use Rattle.csv.specs.Records.{fields_of}
-use Rattle.manifest.specs.Fields.{numbered, trimmed_fields}
+use Rattle.csv_rows.specs.Fields.{numbered, trimmed_fields}
 use Rattle.manifest.proofs.SoFar.{goes_on, is_next, length-le-sum}
 use Rattle.ballot_reader.proofs.Ids.{among-set}
 use Rattle.manifest.proofs.read.batches_left.Goals as goal

@@ -1,5 +1,5 @@
 use Rattle.std.proofs.Common.{length}
-use Rattle.manifest.specs.Fields.{numbered}
+use Rattle.csv_rows.specs.Fields.{numbered}
 use Rattle.manifest.proofs.SoFar.{BatchesSoFar}
 use Rattle.manifest.proofs.read.batches_left.Given as goal
 

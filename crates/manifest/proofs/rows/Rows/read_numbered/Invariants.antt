@@ -1,9 +1,0 @@
-use Rattle.std.proofs.Common.{◌≡◌, length}
-use Rattle.manifest.specs.Fields.{numbered}
-use Rattle.manifest.proofs.rows.Rows.read_numbered.Given as goal
-
-abbrev pub invariant-loop-row : goal.invariant-loop-row
-invariant-loop-row l = numbered l.self ≡ numbered l.fn.self
-
-abbrev pub decreases-loop-row : goal.decreases-loop-row
-decreases-loop-row l = length l.self

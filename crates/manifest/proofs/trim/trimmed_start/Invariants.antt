@@ -1,6 +1,0 @@
-use Rattle.std.proofs.Common.{◌≡◌, drop}
-use Rattle.manifest.specs.Fields.{trimmed_start}
-use Rattle.manifest.proofs.trim.trimmed_start.Given as goal
-
-abbrev pub invariant-loop-i : goal.invariant-loop-i
-invariant-loop-i l = trimmed_start (drop l.i l.text) ≡ trimmed_start l.text

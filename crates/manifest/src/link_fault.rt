@@ -1,0 +1,22 @@
+// Why ballots aren't linked to cards.
+ghost use Rattle.std.specs.Prelude.{◌≡◌};
+ghost use Rattle.manifest.specs.declared.link_fault.LinkFault.TheVariants.{Memory as WantOfMemory};
+
+use std::alloc::AllocError;
+
+/// Why ballots aren't linked to the cards of a manifest.
+#[derive(Clone, Copy, Debug, PartialEq, Eq)]
+pub enum LinkFault {
+    /// Rule M7: the ballot in record `at` of the ballot file, counted from 1, names no card.
+    NoCard { at: u32 },
+    /// Memory could not be had.
+    Memory,
+}
+
+impl From<AllocError> for LinkFault {
+    ghost from_gives = { λ _ fault. fault ≡ WantOfMemory };
+
+    fn from(_: AllocError) -> Self {
+        LinkFault::Memory
+    }
+}

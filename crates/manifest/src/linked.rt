@@ -1,0 +1,102 @@
+// The cards of a manifest with what a ballot file has of them.
+ghost use Rattle.std.specs.Prelude.{◌≡◌, ◌≤◌, ◌-◌, length, slice_get, Some, None, IfOk, IfErr};
+ghost use Rattle.manifest.specs.Cards.{cards_of};
+ghost use Rattle.manifest.specs.Linked.{RefusesLink, first_without_card, linked_of};
+ghost use Rattle.manifest.specs.BallotNumbers.{AreNumbers, ballot_numbers};
+ghost use Rattle.manifest.specs.declared.limits.TheConstants.{MOST_CARDS};
+
+use crate::link_fault::LinkFault;
+use crate::manifest::Manifest;
+use crate::recorded::Recorded;
+use ballot_reader::Ballots;
+use irv_base::Ranking;
+use std::alloc::{AllocError, Global};
+use std::marker::Model;
+
+// The number of a card's ballot where it has none. Others count from 1.
+const NO_BALLOT: u32 = 0;
+
+/// The cards of a manifest, each with what a ballot file has of it.
+///
+/// To a contract it is the list of what is recorded of each card, in the order of the cards.
+#[derive(Drop)]
+pub struct Linked {
+    numbers: Vec<u32>,
+    rankings: Vec<Ranking>,
+}
+
+impl Model for Linked {
+    ghost use Rattle.std.specs.Prelude.{List, map};
+    ghost use Rattle.manifest.specs.BallotNumbers.{AreNumbers, recorded_at};
+    ghost use Rattle.manifest.specs.declared.recorded.Recorded.{Recorded};
+
+    ghost Value = { List Recorded };
+
+    ghost view = { λ l. map (recorded_at l.rankings.items) l.numbers.items };
+
+    ghost invariant = { λ l. AreNumbers l.rankings.items l.numbers.items };
+}
+
+impl Linked {
+    /// How many cards there are.
+    pub fn cards(&self) -> u32
+        ensures all { result ≡ length self.now }
+        ensures most { result ≤ MOST_CARDS }
+    {
+        self.numbers.len() as u32
+    }
+
+    /// What is recorded of the card with number `i`, from 1.
+    pub fn recorded(&self, i: u32) -> Recorded
+        requires first { 1 ≤ i }
+        requires last { i ≤ length self.now }
+        ensures { slice_get self.now (i - 1) ≡ Some result }
+    {
+        let number = self.numbers[i as usize - 1];
+        if number == NO_BALLOT {
+            return Recorded::Without;
+        }
+        Recorded::Ranked(self.rankings[number as usize - 1])
+    }
+}
+
+// The number of the ballot of each card.
+fn numbers_of(alloc: Global, m: &Manifest, b: &Ballots) -> Result<Vec<u32>, LinkFault>
+    ensures numbers { IfOk result (λ numbers. numbers.items ≡ ballot_numbers b.now.ids (cards_of m.now)) }
+    ensures placed { IfOk result (λ _. first_without_card m.now b.now ≡ None) }
+    ensures kept { IfOk result (λ numbers. AreNumbers b.now.rankings numbers.items) }
+    ensures no_card { IfErr result (RefusesLink (first_without_card m.now b.now)) }
+{
+    let mut numbers = vec![in alloc; NO_BALLOT; m.cards() as usize]?;
+    let ids = b.ids();
+    let places = b.places();
+    for i in 0..b.rankings().len() {
+        let Some(card) = m.place(ids[i].bytes()) else {
+            return Err(LinkFault::NoCard { at: places[i] });
+        };
+        numbers[card as usize - 1] = i as u32 + 1;
+    }
+    Ok(numbers)
+}
+
+// The rankings of the ballots.
+fn rankings_of(alloc: Global, b: &Ballots) -> Result<Vec<Ranking>, AllocError>
+    ensures { IfOk result (λ rankings. rankings.items ≡ b.now.rankings) }
+{
+    let mut rankings = Vec::new(alloc);
+    rankings.extend_from_slice(b.rankings())?;
+    Ok(rankings)
+}
+
+/// Links the ballots of a file to the cards of a manifest: a card has the ballot whose id is the card's.
+///
+/// Rule M7 asks that the id of each ballot is that of a card. It is answered with the record of the first ballot that breaks it.
+pub fn link(alloc: Global, m: &Manifest, b: &Ballots) -> Result<Linked, LinkFault>
+    ensures linked { IfOk result (λ linked. linked ≡ linked_of m.now b.now) }
+    ensures all_placed { IfOk result (λ _. first_without_card m.now b.now ≡ None) }
+    ensures no_card { IfErr result (RefusesLink (first_without_card m.now b.now)) }
+{
+    let numbers = numbers_of(alloc, m, b)?;
+    let rankings = rankings_of(alloc, b)?;
+    Ok(Linked { numbers, rankings })
+}

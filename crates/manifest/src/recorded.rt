@@ -1,0 +1,12 @@
+// What is recorded of a card.
+
+use irv_base::Ranking;
+
+/// What a ballot file has of a card.
+#[derive(Clone, Copy)]
+pub enum Recorded {
+    /// The card has a ballot, with this ranking.
+    Ranked(Ranking),
+    /// The card has no ballot.
+    Without,
+}

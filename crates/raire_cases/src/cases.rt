@@ -6,12 +6,15 @@ use raire_cli::run;
 use std::alloc::{AllocError, Global};
 use std::test::Fail;
 
+// Bytes that a sink has room for.
+const SINK_ROOM: u32 = 20_000;
+
 /// What a call came to.
 #[derive(Drop)]
-struct Ran {
-    status: u8,
-    out: Vec<u8>,
-    err: Vec<u8>,
+pub(crate) struct Ran {
+    pub(crate) status: u8,
+    pub(crate) out: Vec<u8>,
+    pub(crate) err: Vec<u8>,
 }
 
 fn words_of(alloc: Global, words: &[&str]) -> Result<Vec<String>, AllocError> {
@@ -33,8 +36,8 @@ fn held(alloc: Global) -> Result<Vec<Named>, AllocError> {
     Ok(files)
 }
 
-// Runs the words over some files, where these calls of the desk and these writes of both sinks fail.
-fn ran_over(
+/// Runs the words over some files, where these calls of the desk and these writes of both sinks fail.
+pub(crate) fn ran_over(
     rt: &HostRuntime,
     files: Vec<Named>,
     words: &[&str],
@@ -55,7 +58,7 @@ fn ran_over(
 }
 
 fn sink(alloc: Global, fails: &[u32]) -> Result<MemorySink, AllocError> {
-    match MemorySink::new(alloc, 8000, fails.to_vec(alloc)?) {
+    match MemorySink::new(alloc, SINK_ROOM, fails.to_vec(alloc)?) {
         Ok(sink) => Ok(sink),
         Err(_) => Err(AllocError),
     }

@@ -1,7 +1,13 @@
-//! Worked cases of the top call, over files and sinks in memory.
+//! Worked cases of the top call, over files and sinks in memory, and a comparison with a plain program.
 #![tactic(auto)]
 
 #[cfg(test)]
 mod cases;
+#[cfg(test)]
+mod compared;
+#[cfg(test)]
+mod contests;
+#[cfg(test)]
+mod plain;
 #[cfg(test)]
 mod table;

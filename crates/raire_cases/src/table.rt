@@ -1,4 +1,5 @@
-// The worked cases: the files, and what a call over them comes to.
+// The worked cases: the files, and what a call over them comes to. Certificates and rounds were worked out by hand or by a plain program
+// (acceptance/plain.py), which shares no code with the suite.
 
 /// A file of a case.
 pub struct File {
@@ -68,7 +69,7 @@ const ROW1: &str =
 
 const BAD_WORDS: &str = "raire: bad words\n";
 
-pub const CASES: [Case; 35] = [
+pub const CASES: [Case; 36] = [
     Case {
         words: &["search", "five.raire"],
         desk_fails: &[],
@@ -147,6 +148,14 @@ pub const CASES: [Case; 35] = [
         sink_fails: &[],
         status: 3,
         out: "tie\nround 1\ntied 1,2,3\ntally 0\n",
+        err: "",
+    },
+    Case {
+        words: &["search", "row1.raire", "--nodes", "2"],
+        desk_fails: &[],
+        sink_fails: &[],
+        status: 4,
+        out: "spent\ncandidate 3\norder 3,2,1\nmargin 2\n",
         err: "",
     },
     Case {

@@ -1,0 +1,66 @@
+// The search, compared with the plain program.
+use crate::cases::{Ran, ran_over};
+use crate::contests::{ballot_file, generated};
+use crate::plain::{Contest, Plain, search};
+use desk::Named;
+use irv_base::Name;
+use std::alloc::{AllocError, Global};
+use std::test::Fail;
+
+// The file of a contest.
+const FILE: &str = "generated.raire";
+
+fn file_of(alloc: Global, contest: &Contest) -> Result<Vec<Named>, AllocError> {
+    let mut files = Vec::new(alloc);
+    if let Some(name) = Name::read(FILE.as_bytes()) {
+        let text = ballot_file(alloc, contest)?;
+        let bytes = text.as_bytes().to_vec(alloc)?;
+        files.push(Named { name, bytes })?;
+    }
+    Ok(files)
+}
+
+fn searched(rt: &HostRuntime, contest: &Contest) -> Result<Ran, AllocError> {
+    let files = file_of(rt.alloc(), contest)?;
+    ran_over(rt, files, &["search", FILE], &[], &[])
+}
+
+// The call came to the status and the bytes of the plain program, and to no word of a fault.
+fn is_same(ran: &Ran, plain: &Plain) -> bool {
+    let (status, text) = match plain {
+        Plain::Certificate(text) => (0, text.as_str()),
+        Plain::Tie(text) => (3, text.as_str()),
+    };
+    ran.status == status && ran.out.as_slice() == text.as_bytes() && ran.err.is_empty()
+}
+
+fn agree(rt: &HostRuntime, number: u64) -> Result<bool, AllocError> {
+    let contest = generated(rt.alloc(), number)?;
+    let plain = search(rt.alloc(), &contest)?;
+    let ran = searched(rt, &contest)?;
+    Ok(is_same(&ran, &plain))
+}
+
+#[test]
+fn a_hundred_contests(rt: HostRuntime) -> Result<(), Fail> {
+    for number in 0..100 {
+        assert!(rt; agree(&rt, number)?, "contest {number}");
+    }
+    Ok(())
+}
+
+#[test]
+fn a_second_hundred(rt: HostRuntime) -> Result<(), Fail> {
+    for number in 100..200 {
+        assert!(rt; agree(&rt, number)?, "contest {number}");
+    }
+    Ok(())
+}
+
+#[test]
+fn a_third_hundred(rt: HostRuntime) -> Result<(), Fail> {
+    for number in 200..300 {
+        assert!(rt; agree(&rt, number)?, "contest {number}");
+    }
+    Ok(())
+}

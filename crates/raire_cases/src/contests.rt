@@ -1,0 +1,98 @@
+// Contests that a fixed generator makes.
+
+use crate::plain::Contest;
+use irv_base::{Candidate, Ranking};
+use std::alloc::{AllocError, Global};
+
+// The most candidates of a contest.
+const MOST: u8 = 6;
+
+// How many numbers of candidates there are, from 2.
+const SIZES: u64 = 5;
+
+// The id of the contest.
+const CONTEST: u32 = 9;
+
+// The id of the first candidate.
+const FIRST: u32 = 11;
+
+// The generator of Knuth's MMIX.
+#[derive(Drop)]
+struct Draws {
+    state: u64,
+}
+
+impl Draws {
+    // A number below `n`, and 0 if there is none.
+    fn below(&mut self, n: u64) -> u64 {
+        self.state = self
+            .state
+            .wrapping_mul(6364136223846793005)
+            .wrapping_add(1442695040888963407);
+        (self.state >> 33).checked_rem(n).unwrap_or(0)
+    }
+}
+
+// The first candidates, so many of them.
+fn candidates(alloc: Global, n: u64) -> Result<Vec<Candidate>, AllocError> {
+    let mut list = Vec::new(alloc);
+    for c in 0..MOST {
+        if u64::from(c) < n {
+            list.push(Candidate(c))?;
+        }
+    }
+    Ok(list)
+}
+
+// Candidates with small numbers are ranked more often.
+fn ranking(draws: &mut Draws, candidates: &[Candidate]) -> Ranking {
+    let n = candidates.len() as u64;
+    let mut ranking = Ranking::empty();
+    for _ in 0..draws.below(n.saturating_add(1)) {
+        let place = draws.below(n).min(draws.below(n));
+        if let Some(c) = candidates.get(place as usize) {
+            ranking.push(*c);
+        }
+    }
+    ranking
+}
+
+/// The contest of this number.
+pub fn generated(alloc: Global, number: u64) -> Result<Contest, AllocError> {
+    let mut draws = Draws { state: number };
+    let candidates = candidates(alloc, 2 + number % SIZES)?;
+    let mut rankings = Vec::new(alloc);
+    for _ in 0..draws.below(100).saturating_add(20) {
+        rankings.push(ranking(&mut draws, &candidates))?;
+    }
+    Ok(Contest {
+        id: CONTEST,
+        first_id: FIRST,
+        candidates,
+        rankings,
+    })
+}
+
+/// The contest as the text of a ballot file.
+pub fn ballot_file(alloc: Global, contest: &Contest) -> Result<String, AllocError> {
+    let id = contest.id;
+    let n = contest.candidates.len();
+    let mut text = format!(in alloc; "1\nContest,{id},{n}")?;
+    add_fields(&mut text, contest, &contest.candidates)?;
+    let mut number = 0u32;
+    for ranking in &contest.rankings {
+        number = number.saturating_add(1);
+        write!(text, "{id},b_{number}")?;
+        add_fields(&mut text, contest, ranking.candidates())?;
+    }
+    Ok(text)
+}
+
+// Adds the ids as the last fields of a line.
+fn add_fields(text: &mut String, contest: &Contest, list: &[Candidate]) -> Result<(), AllocError> {
+    for c in list {
+        let id = contest.id_of(*c);
+        write!(text, ",{id}")?;
+    }
+    text.push_str("\n")
+}

@@ -23,7 +23,7 @@ fn takes_lines(rt: HostRuntime) -> Result<(), Fail> {
         "search --contest 1 row1.raire",
         "search --contest=1 -- row1.raire",
         "search row1.raire --nodes 200000 --floor=0000000001",
-        "check --nodes=3 a --contest 7 -- --nodes",
+        "tabulate --contest 7 -- --nodes",
     ];
     for line in lines {
         assert!(rt; is_taken(rt.alloc(), line)?);

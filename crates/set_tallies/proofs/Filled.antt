@@ -1,8 +1,8 @@
 -- What the entries of all candidates say of the records.
-use Rattle.std.proofs.Common.{◌≡◌, ℕ, suc, zero, ◌+◌, ◌<◌, ◌≤◌, ◌^◌, Bool, true, false, cond, if◌then◌else◌, inl, inr, List, [], ◌∷◌, ◌++◌, All, length, map, get_or, count_by, IsPermutation, refl, sym, ap, ap₂, subst, arith, length-append, ◌∙◌}
+use Rattle.std.proofs.Common.{◌≡◌, ℕ, suc, zero, ◌+◌, ◌%◌, ◌<◌, ◌≤◌, ◌^◌, Bool, true, false, cond, if◌then◌else◌, inl, inr, Option, Some, None, IfSome, List, [], ◌∷◌, ◌++◌, All, length, map, get_or, replicate, count_by, IsPermutation, refl, sym, ap, ap₂, subst, arith, mod-lt, length-append, ◌∙◌}
 use Rattle.std.specs.List.{range_with_len}
 use Rattle.std.proofs.lemmas.Bool.{cases_lt}
-use Rattle.std.proofs.lemmas.List.{get_or_push, get_or_append_left, get_or_default, get_or-map, length-map}
+use Rattle.std.proofs.lemmas.List.{get_or_push, get_or_append_left, get_or_default, get_or-map, length-map, length-replicate, get_or-replicate}
 use Rattle.std.proofs.lemmas.List.FromFn.{get_or-map-range_with_len, length-map-range_with_len}
 use Rattle.std.proofs.lemmas.List.Sums.{sum_by-cons}
 use Rattle.std.proofs.lemmas.List.Sorted.{sum_by-IsPermutation, length_permutation}
@@ -10,7 +10,9 @@ use Rattle.irv_base.specs.Candidates.{candidates, has}
 use Rattle.irv_base.specs.Records.{top, is_some_of, tally, is_first, is_ahead}
 use Rattle.set_tallies.specs.Bags.{Kept, IsOf, Counts, AreFilledFrom, IsTable, missing, total, entries_of, everyone, tallies}
 use Rattle.set_tallies.specs.Befores.{before, is_missed, Counted}
+use Rattle.set_tallies.specs.Rows.{votes_of, IsRow, AreRows, AreTallies}
 use Rattle.set_tallies.specs.declared.entry.Entry.{Entry}
+use Rattle.set_tallies.specs.declared.rows.Row.{Row}
 use Rattle.set_tallies.proofs.Befores.{missed_top, missed_ahead, missed_first, misses-none, outside}
 
 -- ---- the same count by another test
@@ -81,16 +83,34 @@ pub map-same : {X : Type 0} (f g : ℕ → X) (a n : ℕ) → ((c : ℕ) → c <
 map-same f g a zero h = refl
 map-same f g a (suc n) h = ap₂ (λ x xs. x ∷ xs) (h a (omega arith)) (map-same f g (a + 1) n (λ c l. h c (omega arith)))
 
-pub row-tallies : (bag : Kept) (records : List (List ℕ)) (set mask n : ℕ) → mask ≡ set → n ≡ bag.n → IsOf bag records →
-    map (λ c. if has set c then missing mask (entries_of bag c) else 0) (candidates n) ≡ tallies records bag.n set
-row-tallies bag records set mask n same all h =
-    map-same (λ c. if has set c then missing mask (entries_of bag c) else 0) (tally records set) 0 n
-    (λ c l. go c (omega arith) (has set c) refl)
-    ∙ ap (λ k. map (tally records set) (candidates k)) all
+pub row-tallies : (bag : Kept) (records : List (List ℕ)) (set : ℕ) → IsOf bag records → votes_of bag set ≡ tallies records bag.n set
+row-tallies bag records set h = map-same (λ c. if has set c then missing set (entries_of bag c) else 0) (tally records set) 0 bag.n (λ c l. go c (omega arith) (has set c) refl)
   where
-    go : (c : ℕ) → c < bag.n → (b : Bool) → has set c ≡ b → cond b (missing mask (entries_of bag c)) 0 ≡ tally records set c
-    go c l true e = ap (λ s. missing s (entries_of bag c)) same ∙ h.tallies set c l e
+    go : (c : ℕ) → c < bag.n → (b : Bool) → has set c ≡ b → cond b (missing set (entries_of bag c)) 0 ≡ tally records set c
+    go c l true e = h.tallies set c l e
     go c l false e = tally-outside records set c e
+
+pub row-long : (bag : Kept) (set : ℕ) → length (votes_of bag set) ≡ bag.n
+row-long bag set = length-map-range_with_len (λ c. if has set c then missing set (entries_of bag c) else 0) 0 bag.n
+
+-- the row that stands at the place of its set
+pub row-kept : (bag : Kept) (places : List (Option Row)) (row : Row) (set : ℕ) → 0 < length places → AreRows bag places → row.set ≡ set → get_or places (set % length places) None ≡ Some row → row.votes.items ≡ votes_of bag set
+row-kept bag places row set some rows own there =
+    subst (λ place. IfSome place (IsRow bag)) there (rows (set % length places) None (mod-lt set some)) ∙ ap (votes_of bag) own
+
+-- no row is kept
+pub are-tallies : (bag : Kept) (counts : Counts) (n : ℕ) (places : List (Option Row)) → 0 < n → places ≡ replicate n None → AreFilledFrom bag counts → AreTallies bag counts places
+are-tallies bag counts n places some empty filled = record {
+  filled = filled;
+  some = omega (arith, ap length empty, long, some);
+  rows = subst (AreRows bag) (sym empty) (λ k d l. subst (λ place. IfSome place (IsRow bag)) (sym (get_or-replicate n k none d (omega (arith, long, l)))) tt);
+}
+  where
+    none : Option Row
+    none = None
+
+    long : length (replicate n none) ≡ n
+    long = length-replicate n none
 
 -- ---- the two numbers of NEB's margin
 pub record Filled (bag : Kept) (counts : Counts) : Type 0 where

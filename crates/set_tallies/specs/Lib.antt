@@ -1,3 +1,4 @@
 pub mod Bags
 pub mod Befores
 pub mod Laws
+pub mod Rows

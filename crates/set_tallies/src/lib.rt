@@ -1,4 +1,5 @@
 //! The records of a contest, counted: the tallies of each set of candidates, and the two numbers of NEB's margin.
+//! Rows of tallies that were counted are kept, for a set that is asked for again.
 #![tactic(auto)]
 
 mod ahead;
@@ -6,6 +7,7 @@ mod bag;
 mod count;
 mod entry;
 pub mod laws;
+mod rows;
 mod tallies;
 
 pub use ahead::Ahead;

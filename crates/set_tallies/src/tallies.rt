@@ -1,34 +1,40 @@
 // The tallies of sets of candidates.
-ghost use Rattle.std.specs.Prelude.{◌≡◌, ℕ, ◌<◌, ◌≤◌, ◌^◌, List, length, map, if◌then◌else◌, IfOk};
+ghost use Rattle.std.specs.Prelude.{◌≡◌, ℕ, ◌<◌, ◌≤◌, ◌^◌, List, length, map, if◌then◌else◌, min, IfOk};
 ghost use Rattle.irv_base.specs.Candidates.{candidates, has};
 ghost use Rattle.irv_base.specs.declared.limits.TheConstants.{FEWEST_CANDIDATES, ROOM, MOST_RECORDS};
 ghost use Rattle.set_tallies.specs.Bags.{IsOf, AreFilledFrom, entries_of, missing, tallies};
+ghost use Rattle.set_tallies.specs.Rows.{votes_of};
+ghost use Rattle.set_tallies.specs.declared.rows.TheConstants.{MOST_ROWS};
 
 use crate::ahead::Ahead;
 use crate::bag::Bag;
 use crate::count::missing;
+use crate::rows::{MOST_ROWS, Row, keep, kept, places};
 use irv_base::{CandSet, Candidate, Memory, ROOM};
 use std::alloc::Global;
 use std::marker::Model;
 
 /// The tallies of the sets of candidates, over the records of a bag.
 ///
-/// To a contract they are what they are made from, the bag and the two numbers of NEB's margin.
+/// A row that was counted is kept until another set's takes its place. To a contract they are what they are made from, the bag and
+/// the two numbers of NEB's margin.
 #[derive(Drop)]
 pub struct Tallies<'b> {
     alloc: Global,
     bag: &'b Bag,
     ahead: &'b Ahead,
+    rows: Vec<Option<Row>>,
 }
 
 impl<'b> Model for Tallies<'b> {
-    ghost use Rattle.set_tallies.specs.Bags.{Source, AreFilledFrom};
+    ghost use Rattle.set_tallies.specs.Bags.{Source};
+    ghost use Rattle.set_tallies.specs.Rows.{AreTallies};
 
     ghost Value = { Source };
 
     ghost view = { λ t. record { bag = t.bag.now; counts = t.ahead.now } };
 
-    ghost invariant = { λ t. AreFilledFrom t.bag.now t.ahead.now };
+    ghost invariant = { λ t. AreTallies t.bag.now t.ahead.now t.rows.items };
 }
 
 // The set as a number with a bit each.
@@ -56,6 +62,26 @@ fn votes(bag: &Bag, s: CandSet, mask: u32, c: Candidate) -> u32
     }
 }
 
+// The tallies of the set `s`, counted. `mask` is its number.
+fn row_of(alloc: Global, bag: &Bag, s: CandSet, mask: u32) -> Result<Vec<u32>, Memory>
+    requires { mask ≡ s }
+    ensures { IfOk result (λ row. row.items ≡ votes_of bag.now mask) }
+{
+    let mut row = Vec::new(alloc);
+    for c in 0..bag.candidates() {
+        row.push(votes(bag, s, mask, Candidate(c as u8)))?;
+    }
+    Ok(row)
+}
+
+// A place for each set of `n` candidates, as far as places go.
+fn places_for(n: u32) -> usize
+    requires { n ≤ ROOM }
+    ensures { result ≡ min (2 ^ n) MOST_ROWS }
+{
+    MOST_ROWS.min(1 << n)
+}
+
 impl<'b> Tallies<'b> {
     /// The tallies over the records of the bag, which `ahead` was filled from.
     pub fn new(alloc: Global, bag: &'b Bag, ahead: &'b Ahead) -> Result<Tallies<'b>, Memory>
@@ -63,7 +89,13 @@ impl<'b> Tallies<'b> {
         ensures bag { IfOk result (λ t. t.bag ≡ bag.now) }
         ensures counts { IfOk result (λ t. t.counts ≡ ahead.now) }
     {
-        Ok(Tallies { alloc, bag, ahead })
+        let rows = places(alloc, places_for(bag.candidates()))?;
+        Ok(Tallies {
+            alloc,
+            bag,
+            ahead,
+            rows,
+        })
     }
 
     /// How many candidates there are.
@@ -99,10 +131,12 @@ impl<'b> Tallies<'b> {
         ensures same { self.new ≡ self.old }
     {
         let mask = mask_of(s);
-        let mut row = Vec::new(self.alloc);
-        for c in 0..self.bag.candidates() {
-            row.push(votes(self.bag, s, mask, Candidate(c as u8)))?;
+        if let Some(row) = kept(&self.rows, mask) {
+            return Ok(Vec::from_slice(self.alloc, &row.votes)?);
         }
-        Ok(row)
+        let votes = row_of(self.alloc, self.bag, s, mask)?;
+        let answer = Vec::from_slice(self.alloc, &votes)?;
+        keep(&mut self.rows, Row { set: mask, votes });
+        Ok(answer)
     }
 }

@@ -1,30 +1,31 @@
-use Rattle.std.proofs.Common.{rules, ◌≡◌, ◌++◌, ◌∷◌, [], true, if◌then◌else◌, length, sym, ap, ap₂, arith, ◌∙◌}
-use Rattle.std.specs.Result.{is_ok}
-use Rattle.std.proofs.lemmas.List.FromFn.{map-range_with_len_more, length-map-range_with_len}
-use Rattle.irv_base.specs.Candidates.{has}
-use Rattle.set_tallies.specs.Bags.{missing, entries_of, tallies}
-use Rattle.set_tallies.proofs.Filled.{row-tallies}
+use Rattle.std.proofs.Common.{◌≡◌, length, ap, ◌∙◌}
+use Rattle.set_tallies.specs.Bags.{tallies}
+use Rattle.set_tallies.specs.Rows.{votes_of}
+use Rattle.set_tallies.proofs.Filled.{row-tallies, row-long, row-kept}
 use Rattle.set_tallies.proofs.tallies.Tallies.tally.Goals as goal
 
-pub loop-c-preserved : goal.loop-c-preserved
-loop-c-preserved c =
-    let good : is_ok c.push.result ≡ true = search rules in
-    let items = rw good at c.push.ensures.items in
-    items
-    ∙ ap₂ (λ xs x. xs ++ x ∷ []) c.loop-c.invariant c.votes.ensures
-    ∙ sym (map-range_with_len_more (λ d. if has c.args.s d then missing c.mask_of-mask.result (entries_of c.self.inside.bag.now d) else 0) 0 c.loop-c.c c.loop-c.c (omega arith))
+-- the row that was kept
+kept-votes : (c : goal.In_ok-from_slice) → c.in_ok-from_slice.field-0.items ≡ votes_of c.self.inside.bag.now c.mask_of-mask.result
+kept-votes c =
+    c.in_ok-from_slice.ensures.items ∙ c.deref-in-Some.ensures.value
+    ∙ row-kept c.self.inside.bag.now c.self.inside.rows.items c.in-Some.row.now c.mask_of-mask.result c.self.invariant.some c.self.invariant.rows c.in-Some.ensures.own (rw c.deref.ensures.value at c.in-Some.ensures.there)
+
+-- the row that is counted
+counted-votes : (c : goal.After-keep) → c.in_ok-answer.answer.items ≡ votes_of c.self.inside.bag.now c.mask_of-mask.result
+counted-votes c = c.in_ok-answer.ensures.items ∙ c.deref-2.ensures.value ∙ c.in_ok-votes.ensures
+
+pub returns-in-Some-clause-tallies : goal.returns-in-Some-clause-tallies
+returns-in-Some-clause-tallies c = λ records h.
+    let now = ap (λ t. t.bag) c.self.view_is in
+    kept-votes c ∙ ap (votes_of c.self.inside.bag.now) c.mask_of-mask.ensures ∙ row-tallies c.self.inside.bag.now records c.args.s (rw now h) ∙ ap (λ b. tallies records b.n c.args.s) now
+
+pub returns-in-Some-clause-one_each : goal.returns-in-Some-clause-one_each
+returns-in-Some-clause-one_each c = ap length (kept-votes c) ∙ row-long c.self.inside.bag.now c.mask_of-mask.result ∙ ap (λ t. t.bag.n) c.self.view_is
 
 pub returns-clause-tallies : goal.returns-clause-tallies
 returns-clause-tallies c = λ records h.
     let now = ap (λ t. t.bag) c.self.view_is in
-    let whole : c.loop-c.c ≡ c.self.inside.bag.now.n = omega (arith, c.loop-c-test.false, c.loop-c.auto.c-end, c.candidates-c-end.ensures.same) in
-    c.loop-c.invariant
-    ∙ row-tallies c.self.inside.bag.now records c.args.s c.mask_of-mask.result c.loop-c.c c.mask_of-mask.ensures whole (rw now h)
-    ∙ ap (λ b. tallies records b.n c.args.s) now
+    counted-votes c ∙ ap (votes_of c.self.inside.bag.now) c.mask_of-mask.ensures ∙ row-tallies c.self.inside.bag.now records c.args.s (rw now h) ∙ ap (λ b. tallies records b.n c.args.s) now
 
 pub returns-clause-one_each : goal.returns-clause-one_each
-returns-clause-one_each c =
-    let now = ap (λ t. t.bag.n) c.self.view_is in
-    ap length c.loop-c.invariant
-    ∙ length-map-range_with_len (λ d. if has c.args.s d then missing c.mask_of-mask.result (entries_of c.self.inside.bag.now d) else 0) 0 c.loop-c.c
-    ∙ omega (arith, c.loop-c-test.false, c.loop-c.auto.c-end, c.candidates-c-end.ensures.same, now)
+returns-clause-one_each c = ap length (counted-votes c) ∙ row-long c.self.inside.bag.now c.mask_of-mask.result ∙ ap (λ t. t.bag.n) c.self.view_is

@@ -4,11 +4,15 @@
 Rankings are tuples of candidate numbers, orders and suffixes are tuples with the first eliminated first. A contest is
 searched by walking all suffixes in full (`certificate`) or, for larger ones, from the end under a bound
 (`certificate_by_bound`); both give the text that `raire search` prints. `tabulation` gives that of `raire tabulate`.
+`judge` reads an assertion file and walks all orders; it gives the status and the text of `raire check`, or the rule
+that the file breaks and its place.
 
-    acceptance/plain.py search FILE      acceptance/plain.py tabulate FILE
+    acceptance/plain.py search BALLOTS      acceptance/plain.py tabulate BALLOTS
+    acceptance/plain.py check BALLOTS ASSERTIONS
 """
 import itertools
 import json
+import re
 import sys
 from collections import Counter
 
@@ -209,6 +213,217 @@ def certificate_by_bound(contest):
     return text_of(contest, winner, best, order, claims)
 
 
+# ---- assertion files
+
+MOST_NUMBER, MOST_RECORDS, MOST_DEPTH, NODES = 2**32 - 1, 1_000_000, 127, 100_000
+
+
+class Refused(Exception):
+    """The rule that a file breaks first, and the assertion that breaks it, counted from 1, or 0 for the file's own members."""
+
+    def __init__(self, rule, at):
+        super().__init__(f"{rule} at {at}")
+
+
+def whole(digits):
+    """A whole number, or the float that stands for one with a sign or above 64 bits: that is no number of the form."""
+    if digits.isdigit() and int(digits) < 2**64:
+        return int(digits)
+    return finite(digits)
+
+
+def finite(digits):
+    value = float(digits)
+    if value in (float("inf"), float("-inf")):
+        raise ValueError("a number out of range")
+    return value
+
+
+def no_constant(word):
+    raise ValueError(f"{word} is no JSON")
+
+
+def text_alone(value):
+    """The value, if no text in it has half of a surrogate pair."""
+    json.dumps(value, ensure_ascii=False).encode()
+    return value
+
+
+def depth(text):
+    """The deepest nesting of brackets that stand outside of texts."""
+    deepest = level = 0
+    for token in re.findall(r'"(?:[^"\\]|\\.)*"|[\[{]|[\]}]', text, re.DOTALL):
+        level += {"[": 1, "{": 1, "]": -1, "}": -1}.get(token, 0)
+        deepest = max(deepest, level)
+    return deepest
+
+
+def json_value(data):
+    """The value of the bytes. Of a repeated name the last member stands, but each has to be JSON."""
+    text = data.decode()
+    if depth(text) > MOST_DEPTH:
+        raise ValueError("nested too deep")
+    return text_alone(json.loads(
+        text, parse_int=whole, parse_float=finite, parse_constant=no_constant,
+        object_pairs_hook=lambda pairs: dict(text_alone(pairs)),
+    ))
+
+
+def is_id(text):
+    plain = all(" " <= c <= "~" and c not in ',"' for c in text)
+    return 1 <= len(text) <= 64 and plain and text == text.strip(" ")
+
+
+def is_text(value):
+    return type(value) is str
+
+
+def is_number(value):
+    return type(value) is int and value <= MOST_NUMBER
+
+
+def is_list(value):
+    return type(value) is list
+
+
+def are_texts(value):
+    return is_list(value) and all(is_text(element) for element in value)
+
+
+def has(value, kinds):
+    """The value is an object that has each of these members, of its kind."""
+    return type(value) is dict and all(name in value and kind(value[name]) for name, kind in kinds.items())
+
+
+HEADING = {
+    "assertions": is_list, "candidates": are_texts, "contest": is_text, "margin": is_number, "order": are_texts,
+    "records": is_number, "version": is_number, "winner": is_text,
+}
+ENTRY = {"kind": lambda kind: kind in ("NEB", "NEN"), "winner": is_text, "loser": is_text, "margin": is_number}
+
+
+def judge_heading(value):
+    if not has(value, HEADING):
+        raise Refused("F2", 0)
+    if value["version"] != 1:
+        raise Refused("F3", 0)
+    ids = value["candidates"]
+    if not (is_id(value["contest"]) and all(map(is_id, ids)) and 2 <= len(ids) <= 20 and len(set(ids)) == len(ids)):
+        raise Refused("F4", 0)
+    if not {value["winner"], *value["order"]} <= set(ids):
+        raise Refused("F4", 0)
+    if sorted(value["order"]) != sorted(ids):
+        raise Refused("F5", 0)
+    if not (1 <= value["records"] <= MOST_RECORDS and 1 <= value["margin"] <= value["records"]):
+        raise Refused("F6", 0)
+
+
+def claim_of(value, ids, records, at):
+    """The assertion and the margin that is claimed for it."""
+    if not has(value, ENTRY) or (value["kind"] == "NEN" and not has(value, {"rest": are_texts})):
+        raise Refused("F2", at)
+    winner, loser = value["winner"], value["loser"]
+    rest = value["rest"] if value["kind"] == "NEN" else [winner, loser]
+    if winner == loser or not {winner, loser, *rest} <= set(ids):
+        raise Refused("F4", at)
+    if len(set(rest)) < len(rest) or not {winner, loser} <= set(rest):
+        raise Refused("F5", at)
+    if not 1 <= value["margin"] <= records:
+        raise Refused("F6", at)
+    assertion = (value["kind"], ids.index(winner), ids.index(loser))
+    if value["kind"] == "NEN":
+        assertion += (frozenset(map(ids.index, rest)),)
+    return assertion, value["margin"]
+
+
+def read_assertions(data):
+    """The members of an assertion file, with a list of assertions and claimed margins."""
+    try:
+        value = json_value(data)
+    except (ValueError, RecursionError):
+        raise Refused("F1", 0) from None
+    judge_heading(value)
+    ids, records = value["candidates"], value["records"]
+    claims = [claim_of(entry, ids, records, at) for at, entry in enumerate(value["assertions"], 1)]
+    return {**value, "assertions": claims}
+
+
+# ---- whether an assertion file holds
+
+def refutes(assertion, suffix):
+    kind, w, l = assertion[:3]
+    if kind == "NEB":
+        return l in suffix and w not in suffix[suffix.index(l):]
+    return w in suffix and frozenset(suffix[suffix.index(w):]) == assertion[3]
+
+
+def shown(contest, assertion):
+    text = f"{assertion[0]} {contest.ids[assertion[1]]} {contest.ids[assertion[2]]}"
+    if assertion[0] == "NEN":
+        text += " {" + ",".join(contest.ids[c] for c in sorted(assertion[3])) + "}"
+    return text
+
+
+def least_standing(contest, winner, claims):
+    """Of the orders that elect another candidate and that no claim refutes, the least read backwards, or None."""
+    standing = [
+        order for order in itertools.permutations(range(contest.n))
+        if order[-1] != winner and not any(refutes(assertion, order) for assertion, _ in claims)
+    ]
+    return min(standing, key=lambda order: order[::-1], default=None)
+
+
+def standing_count(contest, last, claims, before):
+    """The suffixes that end in the candidate, aren't whole, and that no claim refutes; just those before this order."""
+    others = [c for c in range(contest.n) if c != last]
+    suffixes = [front + (last,) for size in range(contest.n - 1) for front in itertools.permutations(others, size)]
+    return sum(
+        (before is None or suffix[::-1] < before[::-1]) and not any(refutes(assertion, suffix) for assertion, _ in claims)
+        for suffix in suffixes
+    )
+
+
+def difference(contest, file, nodes):
+    """The status and the text of the first difference, or None."""
+    if (file["contest"], file["candidates"], file["records"]) != (contest.name, contest.ids, contest.records):
+        return 6, "no: contest differs\n"
+    try:
+        winner = tabulated(contest)[0][-1]
+    except Tie as tie:
+        return 3, str(tie)
+    if file["winner"] != contest.ids[winner]:
+        return 6, f"no: winner is {contest.ids[winner]}\n"
+    claims = file["assertions"]
+    for number, (assertion, claimed) in enumerate(claims, 1):
+        if contest.margin(assertion) != claimed:
+            return 6, f"no: assertion {number} has margin {contest.margin(assertion)}\n"
+    standing = least_standing(contest, winner, claims)
+    for last in range(contest.n):
+        if last != winner and standing_count(contest, last, claims, standing) > nodes:
+            return 4, f"spent\ncandidate {contest.ids[last]}\n"
+    if standing:
+        return 6, f"no: order {','.join(contest.ids[c] for c in standing)} stands\n"
+    smallest = min(margin for _, margin in claims)
+    if smallest != file["margin"]:
+        return 6, f"no: smallest margin is {smallest}\n"
+    order = tuple(map(contest.ids.index, file["order"]))
+    if order[-1] == winner:
+        return 6, "no: order elects the winner\n"
+    low, refuter = Lows(contest).low(order)
+    if low > file["margin"]:
+        return 6, f"no: order is refuted by {shown(contest, refuter)} margin {low}\n"
+    return None
+
+
+def judge(contest, data, nodes=NODES):
+    """The status and the text of a check of the assertion file with these bytes. It may be Refused."""
+    file = read_assertions(data)
+    accepted = 0, f"yes\nassertions {len(file['assertions'])}\nmargin {file['margin']}\n"
+    return difference(contest, file, nodes) or accepted
+
+
+# ---- the command
+
 def read(path):
     """A file of one contest with plain fields."""
     with open(path) as file:
@@ -218,14 +433,28 @@ def read(path):
     return Contest(name, ids, [tuple(ids.index(field) for field in row[2:]) for row in rows[2:]])
 
 
-def main():
-    command, path = sys.argv[1:]
-    contest = read(path)
+def checked(contest, path):
+    with open(path, "rb") as file:
+        try:
+            return judge(contest, file.read())
+        except Refused as refused:
+            return 2, f"{refused}\n"
+
+
+def answer(command, contest, *paths):
+    if command == "check":
+        return checked(contest, *paths)
     try:
-        print({"search": certificate_by_bound, "tabulate": tabulation}[command](contest), end="")
+        return 0, {"search": certificate_by_bound, "tabulate": tabulation}[command](contest)
     except Tie as tie:
-        print(tie, end="")
-        sys.exit(3)
+        return 3, str(tie)
+
+
+def main():
+    command, ballots, *paths = sys.argv[1:]
+    status, text = answer(command, read(ballots), *paths)
+    print(text, end="")
+    sys.exit(status)
 
 
 if __name__ == "__main__":

@@ -25,13 +25,24 @@ fn words_of(alloc: Global, words: &[&str]) -> Result<Vec<String>, AllocError> {
     Ok(all)
 }
 
+/// Adds a file of this name with this text.
+pub(crate) fn hold(
+    alloc: Global,
+    files: &mut Vec<Named>,
+    name: &str,
+    text: &str,
+) -> Result<(), AllocError> {
+    if let Some(name) = Name::read(name.as_bytes()) {
+        let bytes = text.as_bytes().to_vec(alloc)?;
+        files.push(Named { name, bytes })?;
+    }
+    Ok(())
+}
+
 fn held(alloc: Global) -> Result<Vec<Named>, AllocError> {
     let mut files = Vec::new(alloc);
     for file in &FILES {
-        if let Some(name) = Name::read(file.name.as_bytes()) {
-            let bytes = file.text.as_bytes().to_vec(alloc)?;
-            files.push(Named { name, bytes })?;
-        }
+        hold(alloc, &mut files, file.name, file.text)?;
     }
     Ok(files)
 }

@@ -1,9 +1,8 @@
 // The search, compared with the plain program.
-use crate::cases::{Ran, ran_over};
+use crate::cases::{Ran, hold, ran_over};
 use crate::contests::{ballot_file, generated};
 use crate::plain::{Contest, Plain, search};
 use desk::Named;
-use irv_base::Name;
 use std::alloc::{AllocError, Global};
 use std::test::Fail;
 
@@ -12,11 +11,8 @@ const FILE: &str = "generated.raire";
 
 fn file_of(alloc: Global, contest: &Contest) -> Result<Vec<Named>, AllocError> {
     let mut files = Vec::new(alloc);
-    if let Some(name) = Name::read(FILE.as_bytes()) {
-        let text = ballot_file(alloc, contest)?;
-        let bytes = text.as_bytes().to_vec(alloc)?;
-        files.push(Named { name, bytes })?;
-    }
+    let text = ballot_file(alloc, contest)?;
+    hold(alloc, &mut files, FILE, text.as_str())?;
     Ok(files)
 }
 

@@ -1,13 +1,21 @@
 // The worked cases: the files, and what a call over them comes to. Certificates and rounds were worked out by hand or by a plain program
 // (acceptance/plain.py), which shares no code with the suite.
 
+/// The ballots of row1.raire.
+pub const BALLOTS: &str =
+    "1\nContest,1,3,1,2,3\n1,t_1,1\n1,t_2,1\n1,t_3,1\n1,t_4,1\n1,t_5,1\n1,t_6,2,3\n1,t_7,2,3\n1,t_8,2,3\n1,t_9,2,3\n1,t_10,3,2\n1,t_11,3,2\n1,t_12,3,2\n";
+
+/// The assertion file that a search prints of them.
+pub const PRINTED: &str =
+    "{\"assertions\":[{\"kind\":\"NEB\",\"loser\":\"3\",\"margin\":1,\"winner\":\"2\"},{\"kind\":\"NEN\",\"loser\":\"1\",\"margin\":2,\"rest\":[\"1\",\"2\"],\"winner\":\"2\"},{\"kind\":\"NEN\",\"loser\":\"1\",\"margin\":2,\"rest\":[\"1\",\"3\"],\"winner\":\"3\"}],\"candidates\":[\"1\",\"2\",\"3\"],\"contest\":\"1\",\"margin\":1,\"order\":[\"2\",\"1\",\"3\"],\"records\":12,\"version\":1,\"winner\":\"2\"}\n";
+
 /// A file of a case.
 pub struct File {
     pub name: &'static str,
     pub text: &'static str,
 }
 
-pub const FILES: [File; 11] = [
+pub const FILES: [File; 16] = [
     File {
         name: "five.raire",
         text: "1\nContest,1,2,1,2\n1,t_1,1\n1,t_2,1\n1,t_3,1\n1,t_4,2\n1,t_5,2\n",
@@ -22,7 +30,7 @@ pub const FILES: [File; 11] = [
     },
     File {
         name: "row1.raire",
-        text: "1\nContest,1,3,1,2,3\n1,t_1,1\n1,t_2,1\n1,t_3,1\n1,t_4,1\n1,t_5,1\n1,t_6,2,3\n1,t_7,2,3\n1,t_8,2,3\n1,t_9,2,3\n1,t_10,3,2\n1,t_11,3,2\n1,t_12,3,2\n",
+        text: BALLOTS,
     },
     File {
         name: "county.raire",
@@ -52,6 +60,26 @@ pub const FILES: [File; 11] = [
         name: "cut.raire",
         text: "1\nContest,1,3,1,2",
     },
+    File {
+        name: "row1.json",
+        text: PRINTED,
+    },
+    File {
+        name: "no_neb.json",
+        text: "{\"assertions\":[{\"kind\":\"NEN\",\"loser\":\"1\",\"margin\":2,\"rest\":[\"1\",\"2\"],\"winner\":\"2\"},{\"kind\":\"NEN\",\"loser\":\"1\",\"margin\":2,\"rest\":[\"1\",\"3\"],\"winner\":\"3\"}],\"candidates\":[\"1\",\"2\",\"3\"],\"contest\":\"1\",\"margin\":1,\"order\":[\"2\",\"1\",\"3\"],\"records\":12,\"version\":1,\"winner\":\"2\"}\n",
+    },
+    File {
+        name: "empty.json",
+        text: "{\"assertions\":[],\"candidates\":[\"1\",\"2\",\"3\"],\"contest\":\"1\",\"margin\":1,\"order\":[\"2\",\"1\",\"3\"],\"records\":12,\"version\":1,\"winner\":\"2\"}\n",
+    },
+    File {
+        name: "rest_of_one.json",
+        text: "{\"assertions\":[{\"kind\":\"NEB\",\"loser\":\"3\",\"margin\":1,\"winner\":\"2\"},{\"kind\":\"NEN\",\"loser\":\"1\",\"margin\":2,\"rest\":[\"1\"],\"winner\":\"2\"},{\"kind\":\"NEN\",\"loser\":\"1\",\"margin\":2,\"rest\":[\"1\",\"3\"],\"winner\":\"3\"}],\"candidates\":[\"1\",\"2\",\"3\"],\"contest\":\"1\",\"margin\":1,\"order\":[\"2\",\"1\",\"3\"],\"records\":12,\"version\":1,\"winner\":\"2\"}\n",
+    },
+    File {
+        name: "tie.json",
+        text: "{\"assertions\":[{\"kind\":\"NEB\",\"loser\":\"c\\\\d\",\"margin\":1,\"winner\":\"a b\"}],\"candidates\":[\"a b\",\"c\\\\d\"],\"contest\":\"7\",\"margin\":1,\"order\":[\"a b\",\"c\\\\d\"],\"records\":2,\"version\":1,\"winner\":\"a b\"}\n",
+    },
 ];
 
 /// A case: the words, the failing calls of the desk and of the sinks, and what is wanted.
@@ -64,12 +92,9 @@ pub struct Case {
     pub err: &'static str,
 }
 
-const ROW1: &str =
-    "{\"assertions\":[{\"kind\":\"NEB\",\"loser\":\"3\",\"margin\":1,\"winner\":\"2\"},{\"kind\":\"NEN\",\"loser\":\"1\",\"margin\":2,\"rest\":[\"1\",\"2\"],\"winner\":\"2\"},{\"kind\":\"NEN\",\"loser\":\"1\",\"margin\":2,\"rest\":[\"1\",\"3\"],\"winner\":\"3\"}],\"candidates\":[\"1\",\"2\",\"3\"],\"contest\":\"1\",\"margin\":1,\"order\":[\"2\",\"1\",\"3\"],\"records\":12,\"version\":1,\"winner\":\"2\"}\n";
-
 const BAD_WORDS: &str = "raire: bad words\n";
 
-pub const CASES: [Case; 36] = [
+pub const CASES: [Case; 52] = [
     Case {
         words: &["search", "five.raire"],
         desk_fails: &[],
@@ -99,7 +124,7 @@ pub const CASES: [Case; 36] = [
         desk_fails: &[],
         sink_fails: &[],
         status: 0,
-        out: ROW1,
+        out: PRINTED,
         err: "",
     },
     Case {
@@ -107,7 +132,7 @@ pub const CASES: [Case; 36] = [
         desk_fails: &[],
         sink_fails: &[],
         status: 0,
-        out: ROW1,
+        out: PRINTED,
         err: "",
     },
     Case {
@@ -171,7 +196,7 @@ pub const CASES: [Case; 36] = [
         desk_fails: &[],
         sink_fails: &[],
         status: 0,
-        out: ROW1,
+        out: PRINTED,
         err: "",
     },
     Case {
@@ -179,7 +204,7 @@ pub const CASES: [Case; 36] = [
         desk_fails: &[],
         sink_fails: &[],
         status: 0,
-        out: ROW1,
+        out: PRINTED,
         err: "",
     },
     Case {
@@ -187,7 +212,7 @@ pub const CASES: [Case; 36] = [
         desk_fails: &[],
         sink_fails: &[],
         status: 0,
-        out: ROW1,
+        out: PRINTED,
         err: "",
     },
     Case {
@@ -235,7 +260,7 @@ pub const CASES: [Case; 36] = [
         desk_fails: &[],
         sink_fails: &[],
         status: 0,
-        out: ROW1,
+        out: PRINTED,
         err: "",
     },
     Case {
@@ -243,7 +268,7 @@ pub const CASES: [Case; 36] = [
         desk_fails: &[],
         sink_fails: &[],
         status: 0,
-        out: ROW1,
+        out: PRINTED,
         err: "",
     },
     Case {
@@ -352,6 +377,142 @@ pub const CASES: [Case; 36] = [
     },
     Case {
         words: &["search"],
+        desk_fails: &[],
+        sink_fails: &[1],
+        status: 8,
+        out: "",
+        err: "",
+    },
+    Case {
+        words: &["check", "row1.raire", "row1.json"],
+        desk_fails: &[],
+        sink_fails: &[],
+        status: 0,
+        out: "yes\nassertions 3\nmargin 1\n",
+        err: "",
+    },
+    Case {
+        words: &[
+            "check",
+            "--nodes=1",
+            "--contest",
+            "1",
+            "--",
+            "row1.raire",
+            "row1.json",
+        ],
+        desk_fails: &[],
+        sink_fails: &[],
+        status: 0,
+        out: "yes\nassertions 3\nmargin 1\n",
+        err: "",
+    },
+    Case {
+        words: &["check", "row1.raire", "no_neb.json"],
+        desk_fails: &[],
+        sink_fails: &[],
+        status: 6,
+        out: "no: order 2,1,3 stands\n",
+        err: "",
+    },
+    Case {
+        words: &["check", "row1.raire", "empty.json", "--nodes", "2"],
+        desk_fails: &[],
+        sink_fails: &[],
+        status: 6,
+        out: "no: order 3,2,1 stands\n",
+        err: "",
+    },
+    Case {
+        words: &["check", "row1.raire", "empty.json", "--nodes", "1"],
+        desk_fails: &[],
+        sink_fails: &[],
+        status: 4,
+        out: "spent\ncandidate 1\n",
+        err: "",
+    },
+    Case {
+        words: &["check", "tie.raire", "tie.json"],
+        desk_fails: &[],
+        sink_fails: &[],
+        status: 3,
+        out: "tie\nround 1\ntied a b,c\\d\ntally 1\n",
+        err: "",
+    },
+    Case {
+        words: &["check", "tie.raire", "row1.json"],
+        desk_fails: &[],
+        sink_fails: &[],
+        status: 6,
+        out: "no: contest differs\n",
+        err: "",
+    },
+    Case {
+        words: &["check", "row1.raire", "rest_of_one.json"],
+        desk_fails: &[],
+        sink_fails: &[],
+        status: 2,
+        out: "",
+        err: "raire: rest_of_one.json: F5 at 2\n",
+    },
+    Case {
+        words: &["check", "row1.raire", "row1.raire"],
+        desk_fails: &[],
+        sink_fails: &[],
+        status: 2,
+        out: "",
+        err: "raire: row1.raire: F1 at 0\n",
+    },
+    Case {
+        words: &["check", "cut.raire", "none.json"],
+        desk_fails: &[],
+        sink_fails: &[],
+        status: 2,
+        out: "",
+        err: "raire: cut.raire: B3 at 2\n",
+    },
+    Case {
+        words: &["check", "row1.raire", "none.json"],
+        desk_fails: &[],
+        sink_fails: &[],
+        status: 12,
+        out: "",
+        err: "raire: none.json: no such file\n",
+    },
+    Case {
+        words: &["check", "row1.raire"],
+        desk_fails: &[],
+        sink_fails: &[],
+        status: 1,
+        out: "",
+        err: BAD_WORDS,
+    },
+    Case {
+        words: &["check", "row1.raire", "row1.json", "--floor", "1"],
+        desk_fails: &[],
+        sink_fails: &[],
+        status: 1,
+        out: "",
+        err: BAD_WORDS,
+    },
+    Case {
+        words: &["check", "row1.raire", "row1.json"],
+        desk_fails: &[2],
+        sink_fails: &[],
+        status: 7,
+        out: "",
+        err: "raire: row1.raire: read fault\n",
+    },
+    Case {
+        words: &["check", "row1.raire", "row1.json"],
+        desk_fails: &[5],
+        sink_fails: &[],
+        status: 7,
+        out: "",
+        err: "raire: row1.json: read fault\n",
+    },
+    Case {
+        words: &["check", "row1.raire", "row1.json"],
         desk_fails: &[],
         sink_fails: &[1],
         status: 8,

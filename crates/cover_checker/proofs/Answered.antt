@@ -14,7 +14,10 @@ use Rattle.cover_checker.specs.declared.checked.CheckFault.TheVariants.{Tie, Spe
 
 -- where the file is about the contest
 module _ (nodes : ℕ) (ballots : BallotFile) (file : Content) (about : is_about ballots file ≡ true) where
-  judged : (answer : Answer) → Judges nodes ballots file answer → IsAnswer nodes ballots file answer
+  pub from_answer : (answer : Answer) → IsAnswer nodes ballots file answer → Judges nodes ballots file answer
+  from_answer answer h = subst (λ b. MatchBool b (Judges nodes ballots file answer) (answer ≡ Ok OtherContest)) about h
+
+  pub judged : (answer : Answer) → Judges nodes ballots file answer → IsAnswer nodes ballots file answer
   judged answer j = subst (λ b. MatchBool b (Judges nodes ballots file answer) (answer ≡ Ok OtherContest)) (sym about) j
 
   pub tie-fault : (n : ℕ) → n ≡ length ballots.candidates → (fault : CheckFault) → IsTied n ballots.rankings fault → IsFault nodes ballots file fault

@@ -1,5 +1,5 @@
 -- What is found of a file, as the answer.
-use Rattle.std.proofs.Common.{◌≡◌, ℕ, true, List, ◌∷◌, length, Option, Some, None, Ok, Err, IfOk, IfErr, MatchBool, refl, sym, ap, subst, ◌∙◌}
+use Rattle.std.proofs.Common.{◌≡◌, ℕ, true, length, Ok, Err, IfOk, IfErr, MatchBool, refl, sym, subst}
 use Rattle.irv_base.specs.Tabulation.{IsFirstTie}
 use Rattle.ballot_reader.specs.Ballots.{BallotFile}
 use Rattle.assertion_file.specs.Content.{Content}
@@ -7,7 +7,6 @@ use Rattle.cover_checker.specs.Outcomes.{Won, Tied, IsWinner}
 use Rattle.cover_checker.specs.Findings.{Answer, is_about}
 use Rattle.cover_checker.specs.Checks.{Judges, IsAnswer, IsFault, findings, first_found}
 use Rattle.cover_checker.specs.Found.{IsErrOf, IsTied}
-use Rattle.cover_checker.specs.declared.checked.Checked.{Checked}
 use Rattle.cover_checker.specs.declared.checked.Checked.TheVariants.{OtherContest, Accepted}
 use Rattle.cover_checker.specs.declared.checked.CheckFault.{CheckFault}
 use Rattle.cover_checker.specs.declared.checked.CheckFault.TheVariants.{Tie, Spent, Memory}

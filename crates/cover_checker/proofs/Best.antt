@@ -1,10 +1,10 @@
 -- The margin of a file that holds is the best.
-use Rattle.std.proofs.Common.{◌≡◌, ℕ, ◌<◌, ◌≤◌, true, List, Contains, pos, ◌<ℤ◌, sym, arith, ◌∙◌, Ok, refl}
+use Rattle.std.proofs.Common.{◌≡◌, ℕ, ◌≤◌, List, pos, ◌<ℤ◌, arith, ◌∙◌, Ok, refl}
 use Rattle.std.proofs.lemmas.Int.{ints}
 use Rattle.std.proofs.lemmas.List.Elements.{All-contains}
 use Rattle.irv_base.proofs.Members.{Member}
 use Rattle.assertions.specs.declared.assertion.Claim.{Claim}
-use Rattle.assertions.specs.Assertions.{is_proper, is_true, margin, true_margin}
+use Rattle.assertions.specs.Assertions.{margin, true_margin}
 use Rattle.assertions.specs.Hardness.{low, best_margin}
 use Rattle.assertions.specs.Suffixes.{alternative_orders}
 use Rattle.assertions.proofs.Alternatives.{best-le, best_is}

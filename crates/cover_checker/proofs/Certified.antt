@@ -1,17 +1,16 @@
 -- The canonical certificate of ballots is accepted.
-use Rattle.std.proofs.Common.{◌≡◌, ◌≢◌, ℕ, ◌<◌, ◌≤◌, Bool, true, false, not, ◌&&◌, ◌==◌, nat_lt, List, [], ◌∷◌, map, find, count_by, Option, Some, None, Ok, All, Contains, pos, refl, sym, ap, subst, arith, ◌∙◌, inl, inr, ◌⊎◌, ltb-true, lt-ltb, le-ltb, eqb-true}
+use Rattle.std.proofs.Common.{◌≡◌, ◌≢◌, ℕ, ◌<◌, ◌≤◌, true, false, not, ◌&&◌, ◌==◌, nat_lt, List, [], ◌∷◌, map, count_by, Option, Some, None, Ok, Contains, refl, sym, ap, subst, arith, ◌∙◌, inl, inr, ltb-true, lt-ltb, le-ltb, eqb-true}
 use Rattle.std.specs.List.{list_any}
-use Rattle.std.proofs.lemmas.Bool.{cases_Bool, cases_lt, both_ways, not_from_false, not_from_true, not-true, eqb-false}
+use Rattle.std.proofs.lemmas.Bool.{cases_Bool, cases_lt, not-true, eqb-false}
 use Rattle.irv_base.specs.Candidates.{candidates, all_but}
-use Rattle.irv_base.specs.Orders.{Elects}
 use Rattle.irv_base.proofs.Members.{Member, member-map, from_map, contains-from_member, member-from_contains, from_list_all, from_find, from_filter, from_candidates}
 use Rattle.assertions.specs.declared.assertion.Assertion.{Assertion}
 use Rattle.assertions.specs.declared.assertion.Claim.{Claim}
-use Rattle.assertions.specs.Assertions.{is_true, margin, true_margin}
+use Rattle.assertions.specs.Assertions.{is_true, true_margin}
 use Rattle.assertions.specs.Certificate.{certificate_assertions, claim_of, cover_count}
 use Rattle.assertions.specs.Hardness.{low, best_margin}
-use Rattle.assertions.specs.Refutation.{refutes, covers}
-use Rattle.assertions.specs.Suffixes.{IsAlternative, is_suffix, alternative_orders, parts_ending}
+use Rattle.assertions.specs.Refutation.{refutes}
+use Rattle.assertions.specs.Suffixes.{IsAlternative, alternative_orders, parts_ending}
 use Rattle.assertions.proofs.Certificates.{certificate_is_true, certificate-le, certificate_covers, certificate_has_best}
 use Rattle.assertions.proofs.Elections.{from_covers}
 use Rattle.assertions.proofs.Endings.{from_alternative, alternative-member}
@@ -58,8 +57,8 @@ module _ (n winner nodes : ℕ) (records : List (List ℕ)) (positive : 0 < best
       let refuted = certificate_refutes n winner c records suffix positive proper elects ne in
       elim (cases_lt (low n records suffix) best) [
         | inl lt ↦
-          let free : list_any (λ a. refutes a suffix) listed ≡ false = elim (cases_Bool (list_any (λ a. refutes a suffix) listed)) [ inl t ↦ absurd (omega (arith, lt, refuted.0 t)) | inr f ↦ f ] in
-          ap (λ b. not b && true) free ∙ sym (lt-ltb (low n records suffix) best lt)
+            let free : list_any (λ a. refutes a suffix) listed ≡ false = elim (cases_Bool (list_any (λ a. refutes a suffix) listed)) [ inl t ↦ absurd (omega (arith, lt, refuted.0 t)) | inr f ↦ f ] in
+            ap (λ b. not b && true) free ∙ sym (lt-ltb (low n records suffix) best lt)
         | inr ge ↦ ap (λ b. not b && true) (refuted.1 ge) ∙ sym (le-ltb (low n records suffix) best ge)
       ]
 

@@ -1,27 +1,23 @@
 -- A file is accepted exactly where it holds, and its margin is then the best.
-use Rattle.std.proofs.Common.{◌≡◌, ◌≢◌, ◌↔◌, ℕ, ◌+◌, ◌-◌, ◌<◌, ◌≤◌, Bool, true, false, ◌==◌, List, [], ◌∷◌, ◌++◌, length, map, Option, Some, None, Result, Ok, Err, All, Contains, MatchBool, ℤ, pos, ◌<ℤ◌, refl, sym, ap, subst, arith, ◌∙◌, ne_eqb, inl, inr, ◌⊎◌}
+use Rattle.std.proofs.Common.{◌≡◌, ◌↔◌, ℕ, ◌<◌, ◌≤◌, true, false, ◌==◌, List, [], ◌∷◌, length, map, Option, Some, None, Result, Ok, Err, All, Contains, MatchBool, refl, sym, ap, subst, arith, ◌∙◌, ne_eqb, inl, inr, ◌⊎◌}
 use Rattle.std.specs.List.{list_any}
 use Rattle.std.proofs.lemmas.Bool.{cases_Bool, eqb-false}
 use Rattle.std.proofs.lemmas.List.Elements.{All-nil, All-cons, All-contains}
-use Rattle.irv_base.specs.Orders.{is_order, Elects}
+use Rattle.irv_base.specs.Orders.{is_order}
 use Rattle.irv_base.specs.Tabulation.{least}
 use Rattle.irv_base.proofs.Least.{least-member, least_is}
-use Rattle.irv_base.proofs.Members.{Member, here, there, member-map, from_map, contains-from_member, member-from_contains, from_list_any, list_any-member, list_all-each}
+use Rattle.irv_base.proofs.Members.{Member, here, there, member-map, from_map, contains-from_member, member-from_contains, list_any-member, list_all-each}
 use Rattle.irv_base.proofs.Orders.{last_split, order_facts}
 use Rattle.assertions.specs.declared.assertion.Assertion.{Assertion}
 use Rattle.assertions.specs.declared.assertion.Claim.{Claim}
-use Rattle.assertions.specs.Assertions.{is_proper, is_true, margin, true_margin}
-use Rattle.assertions.specs.Hardness.{low, best_margin}
+use Rattle.assertions.specs.Hardness.{low}
 use Rattle.assertions.specs.Refutation.{refutes, covers}
 use Rattle.assertions.specs.Suffixes.{IsAlternative, alternative_orders}
-use Rattle.assertions.proofs.Alternatives.{some_alternative, best-le, best_is}
+use Rattle.assertions.proofs.Alternatives.{some_alternative}
 use Rattle.assertions.proofs.Elections.{from_covers}
 use Rattle.assertions.proofs.Endings.{from_alternative, alternative-member}
-use Rattle.assertions.proofs.Lows.{low-refuter}
-use Rattle.assertions.proofs.Positive.{elects-same}
-use Rattle.assertions.proofs.Sums.{true_margin_is}
 use Rattle.ballot_reader.specs.Ballots.{BallotFile}
-use Rattle.assertion_file.specs.Content.{Content, IsSound, IsSoundClaim, candidate_count}
+use Rattle.assertion_file.specs.Content.{Content, IsSound, candidate_count}
 use Rattle.cover_checker.specs.Covers.{covered_is}
 use Rattle.cover_checker.specs.Outcomes.{Outcome, Won, Tied, IsOutcome, IsWinner}
 use Rattle.cover_checker.specs.Findings.{Answer, is_about, assertions_of, unless_covered, uncovered, smallest_margin, elects, other_winner, other_margin, other_smallest, elected, harder}
@@ -33,7 +29,6 @@ use Rattle.cover_checker.specs.declared.cover.CoverFault.{CoverFault}
 use Rattle.cover_checker.specs.declared.cover.CoverFault.TheVariants.{Spent as CoverSpent}
 use Rattle.cover_checker.specs.declared.checked.Checked.{Checked}
 use Rattle.cover_checker.specs.declared.checked.Checked.TheVariants.{OtherContest, Accepted}
-use Rattle.cover_checker.specs.declared.checked.CheckFault.{CheckFault}
 use Rattle.cover_checker.proofs.Nothing.{NeverAccepts, HasItsMargin, winner-none, none-winner, winner-never, margins-none, none-margins, margins-never, covered-none, covered-never, smallest-none, none-smallest, smallest-never, elects-last, elected-none, none-elected, elected-never, harder-none, none-harder, harder-never}
 use Rattle.cover_checker.proofs.Answered.{from_answer, judged}
 use Rattle.cover_checker.proofs.OneAnswer.{one_winner, answer_is_one}
@@ -165,12 +160,12 @@ module _ (ballots : BallotFile) (file : Content) where
         winner = subst (λ w. IsWinner (candidate_count file) ballots.rankings w) (sym f.same) won;
         margins = f.margins;
         cover = λ order alternative.
-          let (a, m, r) = from_covers (candidate_count file) file.winner (assertions_of file) order cover (alternative-member (candidate_count file) file.winner alternative.1.0 order alternative.0 alternative.1.1 alternative.1.2) in
-          refuting_claim file.claims order a m r;
+            let (a, m, r) = from_covers (candidate_count file) file.winner (assertions_of file) order cover (alternative-member (candidate_count file) file.winner alternative.1.0 order alternative.0 alternative.1.1 alternative.1.2) in
+            refuting_claim file.claims order a m r;
         reached = reached two cover (some_alternative (candidate_count file) file.winner sound.winner two);
         smallest = all-from_members (λ claim. file.margin ≤ claim.margin) file.claims (λ claim m.
-          let le : smallest_margin file ≤ claim.margin = least-member claim.margin (map margin_in file.claims) (member-map margin_in m) in
-          omega (arith, le, f.smallest));
+            let le : smallest_margin file ≤ claim.margin = least-member claim.margin (map margin_in file.claims) (member-map margin_in m) in
+            omega (arith, le, f.smallest));
         alternative = other-alternative (candidate_count file) file.winner file.order (omega (arith, two)) sound.order f.other;
         hardest = f.hardest;
       }

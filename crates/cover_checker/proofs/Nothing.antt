@@ -1,5 +1,5 @@
 -- When nothing is found.
-use Rattle.std.proofs.Common.{◌≡◌, ℕ, ◌+◌, ◌-◌, ◌≤◌, Bool, true, false, not, ◌==◌, nat_lt, if◌then◌else◌, List, [], ◌∷◌, ◌++◌, length, slice_index, Option, Some, None, Result, Ok, Err, All, pos, refl, sym, ap, arith, ◌∙◌, ltb-true, ltb-false, le-ltb, eqb-true, eq-eqb, length-append}
+use Rattle.std.proofs.Common.{◌≡◌, ℕ, ◌+◌, ◌-◌, ◌≤◌, Bool, true, false, ◌==◌, nat_lt, if◌then◌else◌, List, [], ◌∷◌, ◌++◌, length, slice_index, Option, Some, None, Result, Ok, Err, All, pos, refl, ap, arith, ◌∙◌, ltb-true, ltb-false, le-ltb, eqb-true, eq-eqb, length-append}
 use Rattle.std.proofs.lemmas.Bool.{not-false, not_from_true}
 use Rattle.std.proofs.lemmas.Bool.Decides.{Decides-int_eq}
 use Rattle.std.proofs.lemmas.List.Elements.{All-nil, All-cons, All-head, All-tail}
@@ -16,7 +16,7 @@ use Rattle.cover_checker.specs.declared.cover.Verdict.{Verdict}
 use Rattle.cover_checker.specs.declared.cover.Verdict.TheVariants.{Covered, Stands as OrderStands}
 use Rattle.cover_checker.specs.declared.cover.CoverFault.{CoverFault}
 use Rattle.cover_checker.specs.declared.cover.CoverFault.TheVariants.{Spent as CoverSpent}
-use Rattle.cover_checker.specs.declared.checked.Checked.TheVariants.{Accepted, OtherWinner, OtherMargin, NotLeast, NotAlternative, Harder}
+use Rattle.cover_checker.specs.declared.checked.Checked.TheVariants.{Accepted, OtherWinner, OtherMargin, NotLeast, NotAlternative}
 
 -- ---- what is found by a test
 unless-none : {X : Type 0} (b : Bool) (x : X) → (if b then None else Some x) ≡ None → b ≡ true

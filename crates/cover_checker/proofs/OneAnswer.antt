@@ -1,5 +1,5 @@
 -- There is one answer to a file.
-use Rattle.std.proofs.Common.{◌≡◌, ℕ, Bool, true, false, List, ◌∷◌, [], Ok, length, is_some, MatchBool, sym, ap, ◌∙◌}
+use Rattle.std.proofs.Common.{◌≡◌, ℕ, Bool, true, false, List, Ok, length, MatchBool, sym, ap, ◌∙◌}
 use Rattle.irv_base.proofs.Ties.{tabulated_is_one, first_tie_is_one, tabulated_or_tie}
 use Rattle.assertions.proofs.Positive.{elects-same}
 use Rattle.ballot_reader.specs.Ballots.{BallotFile}

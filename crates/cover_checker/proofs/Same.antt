@@ -1,6 +1,5 @@
 -- Ids and lists of ids that are tested to be the same are so.
-use Rattle.std.proofs.Common.{◌≡◌, ℕ, true, List, ◌&&◌, ◌==◌, length, refl, sym, ap, ◌∙◌, eqb-true, eq-eqb, nat_eq}
-use Rattle.std.specs.Cmp.Lexicographic.{pointwise}
+use Rattle.std.proofs.Common.{◌≡◌, true, List, ◌&&◌, ◌==◌, length, refl, eqb-true, eq-eqb}
 use Rattle.std.proofs.lemmas.Bool.{and_parts, and_from}
 use Rattle.std.proofs.lemmas.Bool.Decides.{Decides-eqb}
 use Rattle.std.proofs.lemmas.Slice.Eq.{slice_eq-Decides}

@@ -1,5 +1,5 @@
 -- What `covered` answers for the claims of a file, as what is found.
-use Rattle.std.proofs.Common.{◌≡◌, ℕ, List, Option, Result, Ok, Err, option_map, length, sym, ap, ◌∙◌}
+use Rattle.std.proofs.Common.{◌≡◌, ℕ, List, Option, Ok, Err, sym, ap, ◌∙◌}
 use Rattle.assertions.specs.declared.assertion.Assertion.{Assertion}
 use Rattle.assertion_file.specs.Content.{Content, candidate_count}
 use Rattle.cover_checker.specs.Covers.{covered_is}
@@ -9,8 +9,6 @@ use Rattle.cover_checker.specs.Found.{IsFindingOf}
 use Rattle.cover_checker.specs.declared.cover.Verdict.{Verdict}
 use Rattle.cover_checker.specs.declared.cover.CoverFault.{CoverFault}
 use Rattle.cover_checker.specs.declared.cover.CoverFault.TheVariants.{Spent}
-use Rattle.cover_checker.specs.declared.checked.Checked.{Checked}
-use Rattle.cover_checker.specs.declared.checked.CheckFault.{CheckFault}
 
 -- where these are the number of candidates, the winner and the assertions of the file
 module _ (nodes : ℕ) (file : Content) (n winner : ℕ) (list : List Assertion) (number : n ≡ candidate_count file) (same : winner ≡ file.winner) (listed : list ≡ assertions_of file) where

@@ -61,6 +61,7 @@ fn assertions_of(alloc: Global, claims: &[Claim]) -> Result<Vec<Assertion>, Memo
     Ok(claims.iter().map(|claim| claim.assertion).collect(alloc)?)
 }
 
+// The order that stands, if there is one.
 fn standing(verdict: Verdict) -> Option<Checked>
     ensures { option_map Ok result ≡ unless_covered (Ok verdict) }
 {

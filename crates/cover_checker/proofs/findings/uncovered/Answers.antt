@@ -1,4 +1,4 @@
-use Rattle.std.proofs.Common.{◌≡◌, length, map, option_map, Ok, sym, ap, ◌∙◌}
+use Rattle.std.proofs.Common.{◌≡◌, length, map, option_map, Ok, ap, ◌∙◌}
 use Rattle.std.proofs.lemmas.Result.{err_from_is_err_and}
 use Rattle.assertion_file.specs.Content.{candidate_count}
 use Rattle.cover_checker.specs.Findings.{assertions_of}

@@ -1,8 +1,12 @@
-//! Worked examples: the answer at three candidates, computed by the checker.
-ghost use Rattle.std.specs.Prelude.{◌≡◌, [], ◌∷◌, Ok, Err};
+//! Worked examples: the answers at three candidates, computed by the checker.
+ghost use Rattle.std.specs.Prelude.{◌≡◌, [], ◌∷◌, Ok, Err, drop};
+ghost use Rattle.assertions.specs.Contests as contests;
+ghost use Rattle.assertion_file.specs.Examples as files;
 ghost use Rattle.cover_checker.specs.Covers.{covered_is};
+ghost use Rattle.cover_checker.specs.Outcomes.{Won};
+ghost use Rattle.cover_checker.specs.Checks.{checked_is};
 
-use crate::{CoverFault, Verdict};
+use crate::{Checked, CoverFault, Verdict};
 use assertions::Assertion;
 
 /// NEB(1,2), NEN(1,0,{0,1}) and NEN(2,0,{0,2}) prove the winner 1. Only the suffix 0 counts.
@@ -21,4 +25,12 @@ pub fn without_neb()
 pub fn nothing_asserted()
     ensures stands { covered_is 3 1 [] 2 ≡ Ok (Verdict.Stands (2 ∷ 1 ∷ 0 ∷ [])) }
     ensures spent { covered_is 3 1 [] 1 ≡ Err (CoverFault.Spent 0) }
+{}
+
+/// The certificate of three candidates is accepted within one node. Without its NEB the order 1,0,2 stands. The order 2,1,0 is
+/// refuted by more than the file's margin.
+pub fn certificate()
+    ensures accepted { checked_is 1 contests.three_candidates files.three_candidates (Won 1) ≡ Ok Checked.Accepted }
+    ensures without_neb { checked_is 2 contests.three_candidates (record files.three_candidates { claims = drop 1 files.three_candidates.claims }) (Won 1) ≡ Ok (Checked.Stands (1 ∷ 0 ∷ 2 ∷ [])) }
+    ensures other_order { checked_is 1 contests.three_candidates (record files.three_candidates { order = 2 ∷ 1 ∷ 0 ∷ [] }) (Won 1) ≡ Ok (Checked.Harder (Assertion.Nen 1 0 3) 2) }
 {}

@@ -1,13 +1,19 @@
-//! The checker: whether a list of assertions refutes every order that elects another candidate.
+//! The checker: whether a list of assertions refutes every order that elects another candidate, and whether an assertion file
+//! holds of some ballots.
 //!
-//! It stands on no search, so that who trusts the checker alone can trust a list that it calls covered.
+//! It stands on no search, so that who trusts the checker alone can trust a list that it calls covered, and a file that it accepts.
 #![tactic(auto)]
 
+mod checked;
+mod checks;
 mod cover;
 pub mod examples;
+mod findings;
 pub mod laws;
 #[cfg(test)]
 mod tests;
 mod unrefuted;
 
+pub use checked::{CheckFault, Checked};
+pub use checks::check;
 pub use cover::{CoverFault, Verdict, covered};

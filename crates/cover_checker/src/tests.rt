@@ -1,4 +1,6 @@
 // Budgets at twenty and at nine candidates, and a certificate of three.
+mod files;
+
 use crate::{CoverFault, Verdict, covered};
 use assertions::Assertion;
 use irv_base::{CandSet, Candidate};

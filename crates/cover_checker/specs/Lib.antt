@@ -2,4 +2,8 @@ pub mod Unrefuted
 pub mod Shorter
 pub mod Newly
 pub mod Covers
+pub mod Outcomes
+pub mod Findings
+pub mod Checks
+pub mod Holds
 pub mod Laws

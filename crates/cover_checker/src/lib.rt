@@ -1,8 +1,11 @@
-//! The checker: whether a list of assertions refutes every order that elects another candidate.
+//! The checker: whether a list of assertions refutes every order that elects another candidate, and whether an assertion file
+//! holds of some ballots.
 //!
-//! It stands on no search, so that who trusts the checker alone can trust a list that it calls covered.
+//! It stands on no search, so that who trusts the checker alone can trust a list that it calls covered, and a file that it accepts.
 #![tactic(auto)]
 
+mod checked;
+mod checks;
 mod cover;
 pub mod examples;
 pub mod laws;
@@ -10,4 +13,6 @@ pub mod laws;
 mod tests;
 mod unrefuted;
 
+pub use checked::{CheckFault, Checked};
+pub use checks::check;
 pub use cover::{CoverFault, Verdict, covered};

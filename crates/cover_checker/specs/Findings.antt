@@ -1,0 +1,90 @@
+-- What can be found wrong with an assertion file.
+use Rattle.std.specs.Prelude.{ℕ, ◌+◌, ◌-◌, Bool, not, ◌&&◌, ◌==◌, nat_lt, if◌then◌else◌, List, [], ◌∷◌, length, map, slice_index, pos, Option, Some, None, Result, Ok, Err}
+use Rattle.std.specs.Cmp.Lexicographic.{pointwise}
+use Rattle.std.specs.Ordering.{int_eq}
+use Rattle.irv_base.specs.Names.{Id, is_same}
+use Rattle.irv_base.specs.Tabulation.{least}
+use Rattle.assertions.specs.declared.assertion.Assertion.{Assertion}
+use Rattle.assertions.specs.declared.assertion.Claim.{Claim}
+use Rattle.assertions.specs.Assertions.{margin}
+use Rattle.assertions.specs.Hardness.{low, refuter}
+use Rattle.ballot_reader.specs.Ballots.{BallotFile}
+use Rattle.assertion_file.specs.Content.{Content, candidate_count}
+use Rattle.cover_checker.specs.Covers.{covered_is}
+use Rattle.cover_checker.specs.declared.cover.Verdict.{Verdict}
+use Rattle.cover_checker.specs.declared.cover.Verdict.TheVariants.{Covered, Stands as OrderStands}
+use Rattle.cover_checker.specs.declared.cover.CoverFault.{CoverFault}
+use Rattle.cover_checker.specs.declared.cover.CoverFault.TheVariants.{Spent as CoverSpent}
+use Rattle.cover_checker.specs.declared.checked.Checked.{Checked}
+use Rattle.cover_checker.specs.declared.checked.Checked.TheVariants.{OtherWinner, OtherMargin, Stands, NotLeast, NotAlternative, Harder}
+use Rattle.cover_checker.specs.declared.checked.CheckFault.{CheckFault}
+use Rattle.cover_checker.specs.declared.checked.CheckFault.TheVariants.{Spent}
+
+abbrev pub Answer : Type 0
+Answer = Result Checked CheckFault
+
+-- ---- the contest
+
+abbrev pub are_same : List Id → List Id → Bool
+are_same ids others = pointwise is_same ids others
+
+-- the file is about the contest of the ballots: its id, its candidates, and how many records it has
+abbrev pub is_about : BallotFile → Content → Bool
+is_about ballots file = is_same file.contest ballots.contest && are_same file.candidates ballots.candidates && (file.records == length ballots.rankings)
+
+-- ---- the winner
+
+abbrev pub other_winner : ℕ → Content → Option Answer
+other_winner winner file = if file.winner == winner then None else Some (Ok (OtherWinner winner))
+
+-- ---- the claims
+
+-- the margin over the records is another one
+abbrev pub has_other_margin : List (List ℕ) → Claim → Bool
+has_other_margin records claim = not (int_eq (pos claim.margin) (margin records claim.assertion))
+
+-- the first such claim, where the claims are counted from this number on
+abbrev pub other_margin_from : List (List ℕ) → ℕ → List Claim → Option Answer
+other_margin_from records at [] = None
+other_margin_from records at (claim ∷ claims) =
+    if has_other_margin records claim then Some (Ok (OtherMargin at (margin records claim.assertion))) else other_margin_from records (at + 1) claims
+
+abbrev pub other_margin : List (List ℕ) → Content → Option Answer
+other_margin records file = other_margin_from records 1 file.claims
+
+abbrev pub assertions_of : Content → List Assertion
+assertions_of file = map (λ claim. claim.assertion) file.claims
+
+abbrev pub unless_covered : Result Verdict CoverFault → Option Answer
+unless_covered (Ok Covered) = None
+unless_covered (Ok (OrderStands order)) = Some (Ok (Stands order))
+unless_covered (Err (CoverSpent last)) = Some (Err (Spent last))
+
+-- the order that no claim refutes, or a budget that doesn't suffice to tell
+abbrev pub uncovered : ℕ → Content → Option Answer
+uncovered nodes file = unless_covered (covered_is (candidate_count file) file.winner (assertions_of file) nodes)
+
+-- ---- the margin and the order of the file
+
+abbrev pub smallest_margin : Content → ℕ
+smallest_margin file = least (map (λ claim. claim.margin) file.claims)
+
+abbrev pub other_smallest : Content → Option Answer
+other_smallest file = if smallest_margin file == file.margin then None else Some (Ok (NotLeast (smallest_margin file)))
+
+-- it stands last
+abbrev pub elects : List ℕ → ℕ → Bool
+elects order c = slice_index order (length order - 1) == c
+
+abbrev pub elected : Content → Option Answer
+elected file = if elects file.order file.winner then Some (Ok NotAlternative) else None
+
+abbrev pub refuted_by : ℕ → Option Assertion → Option Answer
+refuted_by margin None = None
+refuted_by margin (Some assertion) = Some (Ok (Harder assertion margin))
+
+-- the assertion of the greatest margin that refutes the order, and the first of these, where that margin is above the file's
+abbrev pub harder : List (List ℕ) → Content → Option Answer
+harder records file =
+    let hardness = low (candidate_count file) records file.order in
+    if nat_lt file.margin hardness then refuted_by hardness (refuter (candidate_count file) records file.order) else None

@@ -1,0 +1,28 @@
+-- What it is for an assertion file to hold of some ballots.
+use Rattle.std.specs.Prelude.{◌≡◌, ◌≤◌, ℕ, List, length, All, Contains, pos, IsTrue}
+use Rattle.assertions.specs.declared.assertion.Claim.{Claim}
+use Rattle.assertions.specs.Assertions.{margin}
+use Rattle.assertions.specs.Hardness.{low}
+use Rattle.assertions.specs.Refutation.{refutes}
+use Rattle.assertions.specs.Suffixes.{IsAlternative}
+use Rattle.ballot_reader.specs.Ballots.{BallotFile}
+use Rattle.assertion_file.specs.Content.{Content, candidate_count}
+use Rattle.cover_checker.specs.Outcomes.{IsWinner}
+
+pub record Holds (ballots : BallotFile) (file : Content) : Type 0 where
+  -- it is about their contest
+  pub contest : file.contest ≡ ballots.contest
+  pub candidates : file.candidates ≡ ballots.candidates
+  pub records : file.records ≡ length ballots.rankings
+  -- which has no tie, and this winner
+  pub winner : IsWinner (candidate_count file) ballots.rankings file.winner
+  -- each claim has its assertion's margin
+  pub margins : All (λ claim. pos claim.margin ≡ margin ballots.rankings claim.assertion) file.claims
+  -- together the claims refute every elimination order that elects another candidate
+  pub cover : (order : List ℕ) → IsAlternative (candidate_count file) file.winner order → (claim : Claim) × Contains file.claims claim × IsTrue (refutes claim.assertion order)
+  -- the margin is the smallest of theirs
+  pub reached : (claim : Claim) × Contains file.claims claim × (claim.margin ≡ file.margin)
+  pub smallest : All (λ claim. file.margin ≤ claim.margin) file.claims
+  -- the order elects another candidate, and no true assertion of larger margin refutes it
+  pub alternative : IsAlternative (candidate_count file) file.winner file.order
+  pub hardest : low (candidate_count file) ballots.rankings file.order ≤ file.margin

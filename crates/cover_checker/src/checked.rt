@@ -1,0 +1,54 @@
+// What a check of an assertion file answers.
+ghost use Rattle.std.specs.Prelude.{◌≡◌};
+ghost use Rattle.cover_checker.specs.declared.checked.CheckFault.TheVariants.{Memory as WantOfMemory};
+
+use assertions::Assertion;
+use irv_base::{CandSet, Candidate, Memory, Order};
+
+/// Whether an assertion file holds of some ballots. Where it doesn't, the first that is found in this order.
+#[derive(Clone, Copy)]
+pub enum Checked {
+    /// It is about another contest: another id, other candidates, or another number of records.
+    OtherContest,
+    /// The winner of the contest is this one.
+    OtherWinner(Candidate),
+    /// The claim with this number, from 1, is the first whose margin isn't that of its assertion, which is `found`, in votes.
+    OtherMargin { index: u64, found: i64 },
+    /// The claims don't refute this order, which elects another candidate: the least of these, all read backwards.
+    Stands(Order),
+    /// The smallest margin of the claims isn't the file's, but `found`.
+    NotLeast { found: u32 },
+    /// The file's order elects the winner.
+    NotAlternative,
+    /// An assertion whose margin is above the file's refutes the file's order. It is the one of the largest margin, and the
+    /// first of these in the fixed order.
+    Harder { assertion: Assertion, margin: u32 },
+    /// It holds.
+    Accepted,
+}
+
+/// Why it isn't known whether an assertion file holds.
+#[derive(Clone, Copy)]
+pub enum CheckFault {
+    /// In this round, from 1, the candidates in the set share the least tally; in each round before it one candidate alone has it.
+    Tie {
+        round: u32,
+        tied: CandSet,
+        tally: u32,
+    },
+    /// Of the candidates who didn't win this is the least for whom the budget doesn't suffice to tell whether the claims refute
+    /// all orders.
+    Spent {
+        last: Candidate,
+    },
+    /// Memory could not be had.
+    Memory,
+}
+
+impl From<Memory> for CheckFault {
+    ghost from_gives = { λ _ fault. fault ≡ WantOfMemory };
+
+    fn from(_: Memory) -> Self {
+        CheckFault::Memory
+    }
+}

@@ -35,7 +35,7 @@ module _ (n winner nodes : ℕ) (list : List Assertion) where
         | inr f ↦ let (found, e) = find-member (stands list) order (alternative_orders n winner) m (not_from_false (list_any (λ a. refutes a order) list) f) in cc
       ])
 
-  stands_not_covers : (order : List ℕ) → standing_order n winner list ≡ Some order → covers n winner list ≡ true → ⊥
+  pub stands_not_covers : (order : List ℕ) → standing_order n winner list ≡ Some order → covers n winner list ≡ true → ⊥
   stands_not_covers order h t =
       let (m, s) = from_find (stands list) order (alternative_orders n winner) h in
       both_ways (list_any (λ a. refutes a order) list) (not-true (list_any (λ a. refutes a order) list) s) (from_list_all (λ order. list_any (λ a. refutes a order) list) m t)

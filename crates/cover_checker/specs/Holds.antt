@@ -1,8 +1,9 @@
--- What it is for an assertion file to hold of some ballots.
-use Rattle.std.specs.Prelude.{◌≡◌, ◌≤◌, ℕ, List, length, All, Contains, pos, IsTrue}
+-- What it is for an assertion file to hold of some ballots, and to be their canonical certificate.
+use Rattle.std.specs.Prelude.{◌≡◌, ◌≤◌, ℕ, List, length, Some, All, Contains, pos, IsTrue}
 use Rattle.assertions.specs.declared.assertion.Claim.{Claim}
 use Rattle.assertions.specs.Assertions.{margin}
-use Rattle.assertions.specs.Hardness.{low}
+use Rattle.assertions.specs.Certificate.{certificate_claims, certificate_order}
+use Rattle.assertions.specs.Hardness.{low, best_margin}
 use Rattle.assertions.specs.Refutation.{refutes}
 use Rattle.assertions.specs.Suffixes.{IsAlternative}
 use Rattle.ballot_reader.specs.Ballots.{BallotFile}
@@ -26,3 +27,13 @@ pub record Holds (ballots : BallotFile) (file : Content) : Type 0 where
   -- the order elects another candidate, and no true assertion of larger margin refutes it
   pub alternative : IsAlternative (candidate_count file) file.winner file.order
   pub hardest : low (candidate_count file) ballots.rankings file.order ≤ file.margin
+
+-- the file says what the canonical certificate of the ballots does
+pub record IsCertificateOf (ballots : BallotFile) (file : Content) : Type 0 where
+  pub contest : file.contest ≡ ballots.contest
+  pub candidates : file.candidates ≡ ballots.candidates
+  pub records : file.records ≡ length ballots.rankings
+  pub winner : IsWinner (candidate_count file) ballots.rankings file.winner
+  pub margin : file.margin ≡ best_margin (candidate_count file) file.winner (low (candidate_count file) ballots.rankings)
+  pub order : certificate_order (candidate_count file) file.winner (low (candidate_count file) ballots.rankings) file.margin ≡ Some file.order
+  pub claims : file.claims ≡ certificate_claims (candidate_count file) ballots.rankings file.winner

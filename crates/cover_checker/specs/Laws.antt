@@ -1,5 +1,5 @@
 -- What an answer of `covered` says of the list, and of elections; and what an answer of `check` says of the file.
-use Rattle.std.specs.Prelude.{◌≡◌, ◌≢◌, ◌↔◌, ◌⊎◌, ℕ, ◌<◌, ◌≤◌, List, length, Some, Ok, IsTrue}
+use Rattle.std.specs.Prelude.{◌≡◌, ◌≢◌, ◌↔◌, ◌⊎◌, ℕ, ◌<◌, ◌≤◌, List, Ok, IsTrue}
 use Rattle.std.specs.List.{list_all}
 use Rattle.irv_base.specs.Orders.{is_order, Elects}
 use Rattle.irv_base.specs.Tabulation.{is_possible}
@@ -8,15 +8,14 @@ use Rattle.assertions.specs.Assertions.{is_proper, is_true}
 use Rattle.assertions.specs.Suffixes.{IsAlternative, comes_before}
 use Rattle.assertions.specs.Refutation.{covers}
 use Rattle.assertions.specs.Hardness.{low, best_margin}
-use Rattle.assertions.specs.Certificate.{certificate_claims, certificate_order, cover_count}
+use Rattle.assertions.specs.Certificate.{cover_count}
 use Rattle.ballot_reader.specs.Ballots.{BallotFile}
 use Rattle.assertion_file.specs.Content.{Content, IsSound, candidate_count}
 use Rattle.cover_checker.specs.Unrefuted.{stands}
 use Rattle.cover_checker.specs.Covers.{covered_is}
-use Rattle.cover_checker.specs.Outcomes.{IsWinner}
 use Rattle.cover_checker.specs.Findings.{Answer}
 use Rattle.cover_checker.specs.Checks.{IsAnswer}
-use Rattle.cover_checker.specs.Holds.{Holds}
+use Rattle.cover_checker.specs.Holds.{Holds, IsCertificateOf}
 use Rattle.cover_checker.specs.declared.cover.Verdict.{Verdict}
 use Rattle.cover_checker.specs.declared.cover.Verdict.TheVariants.{Covered, Stands}
 use Rattle.cover_checker.specs.declared.checked.Checked.{Checked}
@@ -57,23 +56,13 @@ AcceptedIffHolds =
     (nodes : ℕ) (ballots : BallotFile) (file : Content) (checked : Checked) → IsSound file → IsAnswer nodes ballots file (Ok checked) →
     ((checked ≡ Accepted) ↔ Holds ballots file)
 
--- the margin of a file that holds is the best: no claims that are true of the records and refute the same orders have a larger one
-abbrev pub HeldMarginIsBest : Type 0
-HeldMarginIsBest =
-    (ballots : BallotFile) (file : Content) → IsSound file → Holds ballots file →
+-- the margin of an accepted file is the best: no claims that are true of the records and refute the same orders have a larger one
+abbrev pub AcceptedMarginIsBest : Type 0
+AcceptedMarginIsBest =
+    (nodes : ℕ) (ballots : BallotFile) (file : Content) → IsSound file → IsAnswer nodes ballots file (Ok Accepted) →
     file.margin ≡ best_margin (candidate_count file) file.winner (low (candidate_count file) ballots.rankings)
 
--- the file says what the canonical certificate of the ballots does
-pub record IsCertificateOf (ballots : BallotFile) (file : Content) : Type 0 where
-  pub contest : file.contest ≡ ballots.contest
-  pub candidates : file.candidates ≡ ballots.candidates
-  pub records : file.records ≡ length ballots.rankings
-  pub winner : IsWinner (candidate_count file) ballots.rankings file.winner
-  pub margin : file.margin ≡ best_margin (candidate_count file) file.winner (low (candidate_count file) ballots.rankings)
-  pub order : certificate_order (candidate_count file) file.winner (low (candidate_count file) ballots.rankings) file.margin ≡ Some file.order
-  pub claims : file.claims ≡ certificate_claims (candidate_count file) ballots.rankings file.winner
-
--- it is accepted within the nodes that it took to find its claims
+-- the canonical certificate is accepted within the nodes that it took to find its claims
 abbrev pub CertificateIsAccepted : Type 0
 CertificateIsAccepted =
     (nodes : ℕ) (ballots : BallotFile) (file : Content) → IsSound file → IsCertificateOf ballots file →

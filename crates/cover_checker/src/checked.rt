@@ -1,7 +1,9 @@
 // What a check of an assertion file answers.
 ghost use Rattle.std.specs.Prelude.{◌≡◌};
 ghost use Rattle.cover_checker.specs.declared.checked.CheckFault.TheVariants.{Memory as WantOfMemory};
+ghost use Rattle.cover_checker.specs.Faults.{as_check_fault};
 
+use crate::cover::CoverFault;
 use assertions::Assertion;
 use irv_base::{CandSet, Candidate, Memory, Order};
 
@@ -50,5 +52,14 @@ impl From<Memory> for CheckFault {
 
     fn from(_: Memory) -> Self {
         CheckFault::Memory
+    }
+}
+
+impl From<CoverFault> for CheckFault {
+    ghost from_gives = { λ of_cover fault. fault ≡ as_check_fault of_cover };
+
+    fn from(of_cover: CoverFault) -> Self {
+        let CoverFault::Spent { last } = of_cover;
+        CheckFault::Spent { last }
     }
 }

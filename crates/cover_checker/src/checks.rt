@@ -1,13 +1,70 @@
 // Whether an assertion file holds of some ballots.
-ghost use Rattle.std.specs.Prelude.{◌≡◌, length, IfOk, IfErr};
+ghost use Rattle.std.specs.Prelude.{◌≡◌, ℕ, List, length, IfOk, IfErr};
 ghost use Rattle.set_tallies.specs.Bags.{IsOf};
-ghost use Rattle.cover_checker.specs.Checks.{IsAnswer, IsFault};
+ghost use Rattle.assertion_file.specs.Content.{candidate_count};
+ghost use Rattle.cover_checker.specs.Checks.{IsAnswer, IsFault, findings, first_found};
+ghost use Rattle.cover_checker.specs.Outcomes.{IsWinner};
+ghost use Rattle.cover_checker.specs.Found.{IsErrOf, IsTied};
 
 use crate::checked::{CheckFault, Checked};
+use crate::findings::{
+    elected, harder, is_about, other_margin, other_smallest, other_winner, uncovered,
+};
 use assertion_file::AssertionFile;
 use ballot_reader::Ballots;
+use irv_base::Candidate;
+use irv_tabulator::{TabFault, tabulate};
 use set_tallies::Tallies;
 use std::alloc::Global;
+
+// The winner of the tallies' contest, or its first tie.
+fn winner_of(alloc: Global, tallies: &mut Tallies<'_>) -> Result<Candidate, CheckFault>
+    ensures winner { (records : List (List ℕ)) → IsOf tallies.old.bag records → IfOk result (IsWinner tallies.old.bag.n records) }
+    ensures tie { (records : List (List ℕ)) → IsOf tallies.old.bag records → IfErr result (IsTied tallies.old.bag.n records) }
+    ensures same { tallies.new ≡ tallies.old }
+{
+    match tabulate(alloc, tallies) {
+        Ok(tabulated) => Ok(tabulated.winner),
+        Err(fault) => match fault {
+            TabFault::Tie { round, tied, tally } => Err(CheckFault::Tie { round, tied, tally }),
+            TabFault::Memory => Err(CheckFault::Memory),
+        },
+    }
+}
+
+// What is found first in a file about the tallies' contest, whose winner is this one.
+fn judge(
+    alloc: Global,
+    tallies: &mut Tallies<'_>,
+    winner: Candidate,
+    file: &AssertionFile,
+    nodes: u32,
+) -> Result<Checked, CheckFault>
+    requires { candidate_count file.now ≡ tallies.old.bag.n }
+    ensures checked { (records : List (List ℕ)) → IsOf tallies.old.bag records → IfOk result (λ checked. first_found (findings nodes records file.now winner) (Ok Checked.Accepted) ≡ Ok checked) }
+    ensures fault { (records : List (List ℕ)) → IsOf tallies.old.bag records → IfErr result (IsErrOf (first_found (findings nodes records file.now winner) (Ok Checked.Accepted))) }
+    ensures same { tallies.new ≡ tallies.old }
+{
+    if let Some(found) = other_winner(winner, file) {
+        return Ok(found);
+    }
+    if let Some(found) = other_margin(file.claims(), tallies)? {
+        return Ok(found);
+    }
+    if let Some(found) = uncovered(alloc, file, nodes)? {
+        return Ok(found);
+    }
+    if let Some(found) = other_smallest(file) {
+        return Ok(found);
+    }
+    if let Some(found) = elected(file) {
+        return Ok(found);
+    }
+    if let Some(found) = harder(file, tallies)? {
+        return Ok(found);
+    }
+    Ok(Checked::Accepted)
+}
 
 /// Whether the file holds of the ballots, whose tallies these are. If it doesn't, the answer is the first that is found, in the
 /// order of `Checked`; a tie comes after `OtherContest`, and a budget is spent where `covered` says so for the claims.
@@ -26,5 +83,9 @@ pub fn check(
     ensures fault { IfErr result (IsFault nodes ballots.now file.now) }
     ensures same { tallies.new ≡ tallies.old }
 {
-    Err(CheckFault::Memory)
+    if !is_about(ballots, file) {
+        return Ok(Checked::OtherContest);
+    }
+    let winner = winner_of(alloc, tallies)?;
+    judge(alloc, tallies, winner, file, nodes)
 }

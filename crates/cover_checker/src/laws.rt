@@ -1,5 +1,5 @@
 //! What an answer of `covered` says. Each law holds of every value that it names, and has no code.
-ghost use Rattle.cover_checker.specs.Laws.{CoveredIsSound, CoveredIffCovers, StandsIsLeast};
+ghost use Rattle.cover_checker.specs.Laws.{CoveredIsSound, CoveredIffCovers, StandsIsLeast, AnswerIsOne, AcceptedIffHolds, AcceptedMarginIsBest, CertificateIsAccepted};
 
 /// `Covered` alone proves the winner: for every list of records of which all assertions of the list are true, every
 /// possible order elects the winner, however ties are broken. The assertions must be proper.
@@ -15,4 +15,24 @@ pub fn covered_iff_covers()
 /// An order that stands is an alternative one that nothing refutes, and the least of these, read backwards.
 pub fn stands_is_least()
     ensures { StandsIsLeast }
+{}
+
+/// A file has one answer.
+pub fn answer_is_one()
+    ensures { AnswerIsOne }
+{}
+
+/// A file is accepted exactly where it holds of the ballots, if their contest has no tie and no budget is spent.
+pub fn accepted_iff_holds()
+    ensures { AcceptedIffHolds }
+{}
+
+/// The margin of an accepted file is the best of the contest.
+pub fn accepted_margin_is_best()
+    ensures { AcceptedMarginIsBest }
+{}
+
+/// The canonical certificate of the ballots is accepted, within the nodes that it took to find its claims.
+pub fn certificate_is_accepted()
+    ensures { CertificateIsAccepted }
 {}

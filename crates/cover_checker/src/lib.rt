@@ -8,6 +8,7 @@ mod checked;
 mod checks;
 mod cover;
 pub mod examples;
+mod findings;
 pub mod laws;
 #[cfg(test)]
 mod tests;

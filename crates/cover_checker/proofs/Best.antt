@@ -1,0 +1,59 @@
+-- The margin of a file that holds is the best.
+use Rattle.std.proofs.Common.{◌≡◌, ℕ, ◌<◌, ◌≤◌, true, List, Contains, pos, ◌<ℤ◌, sym, arith, ◌∙◌, Ok, refl}
+use Rattle.std.proofs.lemmas.Int.{ints}
+use Rattle.std.proofs.lemmas.List.Elements.{All-contains}
+use Rattle.irv_base.proofs.Members.{Member}
+use Rattle.assertions.specs.declared.assertion.Claim.{Claim}
+use Rattle.assertions.specs.Assertions.{is_proper, is_true, margin, true_margin}
+use Rattle.assertions.specs.Hardness.{low, best_margin}
+use Rattle.assertions.specs.Suffixes.{alternative_orders}
+use Rattle.assertions.proofs.Alternatives.{best-le, best_is}
+use Rattle.assertions.proofs.Endings.{from_alternative, alternative-member}
+use Rattle.assertions.proofs.Lows.{low-refuter}
+use Rattle.assertions.proofs.Sums.{true_margin_is}
+use Rattle.ballot_reader.specs.Ballots.{BallotFile}
+use Rattle.assertion_file.specs.Content.{Content, IsSound, IsSoundClaim, candidate_count}
+use Rattle.cover_checker.specs.Checks.{IsAnswer}
+use Rattle.cover_checker.specs.Holds.{Holds}
+use Rattle.cover_checker.specs.declared.checked.Checked.TheVariants.{Accepted}
+use Rattle.cover_checker.proofs.Held.{accepted_iff_holds}
+use Rattle.cover_checker.proofs.Nothing.{HasItsMargin}
+
+pos-same : (m k : ℕ) → pos m ≡ pos k → m ≡ k
+pos-same m k e = omega (arith, ints)
+
+-- a margin above 0 is that of a true assertion
+its-margin : (records : List (List ℕ)) (claim : Claim) → 1 ≤ claim.margin → HasItsMargin records claim → claim.margin ≡ true_margin records claim.assertion
+its-margin records claim some e =
+    let t = true_margin_is records claim.assertion in
+    let above : pos 0 <ℤ margin records claim.assertion = omega (arith, ints) in
+    pos-same claim.margin (true_margin records claim.assertion) (e ∙ t.1 (t.0.1 above))
+
+module _ (ballots : BallotFile) (file : Content) (sound : IsSound file) (h : Holds ballots file) where
+  abbrev best : ℕ
+  best = best_margin (candidate_count file) file.winner (low (candidate_count file) ballots.rankings)
+
+  best-reached : best ≤ file.margin
+  best-reached =
+      let (whole, (c, ne, elects)) = h.alternative in
+      let le : best ≤ low (candidate_count file) ballots.rankings file.order =
+      best-le (candidate_count file) file.winner (low (candidate_count file) ballots.rankings) file.order (alternative-member (candidate_count file) file.winner c file.order whole ne elects) in
+      omega (arith, le, h.hardest)
+
+  margin-reached : file.margin ≤ best
+  margin-reached = at_best (best_is (candidate_count file) file.winner (low (candidate_count file) ballots.rankings) sound.winner (omega (arith, sound.fewest))) where
+    at_best : (order : List ℕ) × Member order (alternative_orders (candidate_count file) file.winner) × (low (candidate_count file) ballots.rankings order ≡ best) → file.margin ≤ best
+    at_best (order, m, e) =
+        let (claim, k, r) = h.cover order (from_alternative (candidate_count file) file.winner order m) in
+        let proper : IsSoundClaim (candidate_count file) file.records claim = All-contains (IsSoundClaim (candidate_count file) file.records) file.claims claim sound.claims k in
+        let its = its-margin ballots.rankings claim proper.margin.some (All-contains (HasItsMargin ballots.rankings) file.claims claim h.margins k) in
+        let below = low-refuter (candidate_count file) ballots.rankings order claim.assertion proper.proper r in
+        let above = All-contains (λ claim. file.margin ≤ claim.margin) file.claims claim h.smallest k in
+        omega (arith, its, below, above, e)
+
+  held_is_best : file.margin ≡ best
+  held_is_best = omega (arith, best-reached, margin-reached)
+
+pub accepted_margin_is_best : (nodes : ℕ) (ballots : BallotFile) (file : Content) → IsSound file → IsAnswer nodes ballots file (Ok Accepted) →
+    file.margin ≡ best_margin (candidate_count file) file.winner (low (candidate_count file) ballots.rankings)
+accepted_margin_is_best nodes ballots file sound answer = held_is_best ballots file sound ((accepted_iff_holds nodes ballots file Accepted sound answer).0 refl)

@@ -1,0 +1,152 @@
+// What can be found wrong with an assertion file.
+ghost use Rattle.std.specs.Prelude.{◌≡◌, ◌-◌, ℕ, List, length, map, option_map, All, IfOk, IfErr, IsTrue};
+ghost use Rattle.irv_base.specs.Tabulation.{least};
+ghost use Rattle.set_tallies.specs.Bags.{IsOf};
+ghost use Rattle.assertions.specs.Assertions.{is_proper};
+ghost use Rattle.assertion_file.specs.Content.{candidate_count};
+ghost use Rattle.cover_checker.specs.Findings.{is_about, other_winner, other_margin_from, uncovered, unless_covered, other_smallest, elected, harder};
+ghost use Rattle.cover_checker.specs.Found.{IsFindingOf};
+
+use crate::checked::{CheckFault, Checked};
+use crate::cover::{Verdict, covered};
+use assertion_file::AssertionFile;
+use assertions::{Assertion, Claim, margin};
+use ballot_reader::Ballots;
+use irv_base::{Candidate, Memory, Order};
+use set_tallies::Tallies;
+use std::alloc::Global;
+use suffix_tree::{Tail, score};
+
+/// Whether the file is about the contest of the ballots.
+pub fn is_about(ballots: &Ballots, file: &AssertionFile) -> bool
+    ensures { result ≡ is_about ballots.now file.now }
+{
+    file.contest() == ballots.contest()
+        && file.candidates() == ballots.candidates()
+        && file.records() as usize == ballots.rankings().len()
+}
+
+/// The winner of the contest, if the file has another one.
+pub fn other_winner(winner: Candidate, file: &AssertionFile) -> Option<Checked>
+    ensures { option_map Ok result ≡ other_winner winner file.now }
+{
+    if file.winner() == winner {
+        None
+    } else {
+        Some(Checked::OtherWinner(winner))
+    }
+}
+
+/// The first of the claims, if there is one, whose margin isn't that of its assertion.
+pub fn other_margin(claims: &[Claim], tallies: &mut Tallies<'_>) -> Result<Option<Checked>, Memory>
+    requires { All (λ claim. IsTrue (is_proper tallies.old.bag.n claim.assertion)) claims.now }
+    ensures found { (records : List (List ℕ)) → IsOf tallies.old.bag records → IfOk result (λ found. option_map Ok found ≡ other_margin_from records 1 claims.now) }
+    ensures same { tallies.new ≡ tallies.old }
+{
+    for (i, claim) in claims.iter().enumerate() {
+        let found = margin(&claim.assertion, tallies)?;
+        if found != i64::from(claim.margin) {
+            return Ok(Some(Checked::OtherMargin {
+                index: i as u64 + 1,
+                found,
+            }));
+        }
+    }
+    Ok(None)
+}
+
+fn assertions_of(alloc: Global, claims: &[Claim]) -> Result<Vec<Assertion>, Memory>
+    ensures { IfOk result (λ list. list.items ≡ map (λ claim. claim.assertion) claims.now) }
+{
+    Ok(claims.iter().map(|claim| claim.assertion).collect(alloc)?)
+}
+
+fn standing(verdict: Verdict) -> Option<Checked>
+    ensures { option_map Ok result ≡ unless_covered (Ok verdict) }
+{
+    match verdict {
+        Verdict::Covered => None,
+        Verdict::Stands(order) => Some(Checked::Stands(order)),
+    }
+}
+
+/// The order that the claims don't refute, if there is one, or the budget that doesn't suffice to tell.
+pub fn uncovered(
+    alloc: Global,
+    file: &AssertionFile,
+    nodes: u32,
+) -> Result<Option<Checked>, CheckFault>
+    ensures found { IfOk result (λ found. option_map Ok found ≡ uncovered nodes file.now) }
+    ensures fault { IfErr result (IsFindingOf (uncovered nodes file.now)) }
+{
+    let list = assertions_of(alloc, file.claims())?;
+    let n = file.candidates().len() as u32;
+    let verdict = covered(n, file.winner(), &list, nodes)?;
+    Ok(standing(verdict))
+}
+
+// The smallest margin of the claims, or 0 where there are none.
+fn smallest_margin(claims: &[Claim]) -> u32
+    ensures { result ≡ least (map (λ claim. claim.margin) claims.now) }
+{
+    claims.iter().map(|claim| claim.margin).min().unwrap_or(0)
+}
+
+/// The smallest margin of the claims, if the file's is another one.
+pub fn other_smallest(file: &AssertionFile) -> Option<Checked>
+    ensures { option_map Ok result ≡ other_smallest file.now }
+{
+    let found = smallest_margin(file.claims());
+    if found == file.margin() {
+        None
+    } else {
+        Some(Checked::NotLeast { found })
+    }
+}
+
+/// That the file's order elects the winner, if it does.
+pub fn elected(file: &AssertionFile) -> Option<Checked>
+    ensures { option_map Ok result ≡ elected file.now }
+{
+    let order = file.order();
+    if order.at(order.len() - 1) == file.winner() {
+        Some(Checked::NotAlternative)
+    } else {
+        None
+    }
+}
+
+// The whole order as a suffix.
+fn tail_of(order: &Order) -> Tail
+    ensures number { result.n ≡ length order.now }
+    ensures list { result.list ≡ order.now }
+{
+    let candidates = order.candidates();
+    let n = order.len();
+    let mut at = candidates.len() - 1;
+    let mut tail = Tail::last(n, candidates[at]);
+    while at > 0 {
+        at -= 1;
+        tail = tail.front(candidates[at]);
+    }
+    tail
+}
+
+/// The assertion that refutes the file's order by more than the file's margin, if there is one.
+pub fn harder(file: &AssertionFile, tallies: &mut Tallies<'_>) -> Result<Option<Checked>, Memory>
+    requires { candidate_count file.now ≡ tallies.old.bag.n }
+    ensures found { (records : List (List ℕ)) → IsOf tallies.old.bag records → IfOk result (λ found. option_map Ok found ≡ harder records file.now) }
+    ensures same { tallies.new ≡ tallies.old }
+{
+    let tail = tail_of(file.order());
+    let scored = score(&tail, tallies)?;
+    let margin = scored.low;
+    if margin <= file.margin() {
+        return Ok(None);
+    }
+    let by = scored.by;
+    match by {
+        Some(assertion) => Ok(Some(Checked::Harder { assertion, margin })),
+        None => Ok(None),
+    }
+}

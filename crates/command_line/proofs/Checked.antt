@@ -70,6 +70,7 @@ meaning_checked name pieces right =
     by : (name : CommandName) → list_all fits pieces ≡ true → length (files_in pieces) ≡ length (form_of name).files → IsChecked (meaning name pieces)
     by command.Search fit n = (file_named 0 pieces fit (omega arith), nodes-is fit, floor-is fit)
     by command.Tabulate fit n = file_named 0 pieces fit (omega arith)
+    by command.Check fit n = (file_named 0 pieces fit (omega arith), file_named 1 pieces fit (omega arith), nodes-is fit)
 
 pub checked-meaning : (command : CommandName) (words : List (List ℕ)) → are_right command (pieces_of command words) ≡ true → IsChecked (meaning command (pieces_of command words))
 checked-meaning command words right = meaning_checked command (pieces_of command words) right

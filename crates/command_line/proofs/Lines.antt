@@ -3,7 +3,7 @@ use Rattle.std.proofs.Common.{◌≡◌, ◌∙◌, ◌^◌, ◌<◌, ℕ, List,
 use Rattle.std.specs.List.{list_all}
 use Rattle.irv_base.specs.Names.{Id}
 use Rattle.clap.specs.Walk.{Row, first_of}
-use Rattle.command_line.specs.Line.{Search, Tabulate, meaning}
+use Rattle.command_line.specs.Line.{Search, Tabulate, Check, meaning}
 use Rattle.command_line.specs.OneForm.{Shows, name_in, may_be_number, number_or}
 use Rattle.command_line.specs.Pieces.{Piece, fits}
 use Rattle.command_line.specs.Table.{text_of}
@@ -47,3 +47,13 @@ module _ (rows : List Row) (pieces : List Piece) (fit : list_all fits pieces ≡
       let file-is = hb _ shows.files.0 in
       let id-is = hc _ shows.options.0 ∙ contest-is pieces fit in
       λ i. Tabulate (file-is i) (id-is i)
+
+  pub check-is : Shows command.Check pieces rows → (ballots assertions : List ℕ) (id : Option Id) (n : ℕ)
+      → IsTextOf rows (codes "ballots") ballots → IsTextOf rows (codes "assertions") assertions → IsNameOf rows id → IsNumberOf rows option.Nodes DEFAULT_NODES n
+      → Check ballots assertions id n ≡ meaning command.Check pieces
+  check-is shows ballots assertions id n hb ha hc hn =
+      let ballots-is = hb _ shows.files.0 in
+      let assertions-is = ha _ shows.files.1.0 in
+      let id-is = hc _ shows.options.0 ∙ contest-is pieces fit in
+      let nodes-is = hn _ shows.options.1.0 (may_be MOST_NODES nodes_small option.Nodes pieces refl fit) ∙ number-is MOST_NODES nodes_small option.Nodes pieces DEFAULT_NODES refl fit in
+      λ i. Check (ballots-is i) (assertions-is i) (id-is i) (nodes-is i)

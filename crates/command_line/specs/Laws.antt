@@ -1,6 +1,6 @@
 -- The laws of lines.
 use Rattle.std.specs.Prelude.{◌≡◌, ◌≤◌, ℕ, List, length, Some, is_some}
-use Rattle.command_line.specs.Line.{Line, Search, Tabulate, is_line, line_of}
+use Rattle.command_line.specs.Line.{Line, Search, Tabulate, Check, is_line, line_of}
 use Rattle.command_line.specs.declared.limits.TheConstants.{MOST_NODES, MOST_FLOOR}
 
 -- Words are a line exactly where they have a meaning.
@@ -18,6 +18,7 @@ IsUpTo most n = (1 ≤ n) × (n ≤ most)
 abbrev pub IsChecked : Line → Type 0
 IsChecked (Search ballots contest nodes floor) = IsNamed ballots × IsUpTo MOST_NODES nodes × IsUpTo MOST_FLOOR floor
 IsChecked (Tabulate ballots contest) = IsNamed ballots
+IsChecked (Check ballots assertions contest nodes) = IsNamed ballots × IsNamed assertions × IsUpTo MOST_NODES nodes
 
 -- What a line asks for is checked.
 abbrev pub LinesAreChecked : Type 0

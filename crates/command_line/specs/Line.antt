@@ -46,6 +46,8 @@ pub data Line : Type 0 where
   Search : List ℕ → Option Id → ℕ → ℕ → Line
   -- the ballots, the contest
   Tabulate : List ℕ → Option Id → Line
+  -- the ballots, the assertions, the contest, the nodes
+  Check : List ℕ → List ℕ → Option Id → ℕ → Line
 
 -- the file at a place, counted from 0
 abbrev pub file : ℕ → List Piece → List ℕ
@@ -66,6 +68,7 @@ floor pieces = unwrap_or (option_map number (value Floor pieces)) DEFAULT_FLOOR
 abbrev pub meaning : CommandName → List Piece → Line
 meaning command.Search pieces = Search (file 0 pieces) (contest pieces) (nodes pieces) (floor pieces)
 meaning command.Tabulate pieces = Tabulate (file 0 pieces) (contest pieces)
+meaning command.Check pieces = Check (file 0 pieces) (file 1 pieces) (contest pieces) (nodes pieces)
 
 abbrev pub line_of_command : Option CommandName → List (List ℕ) → Option Line
 line_of_command None words = None

@@ -2,7 +2,7 @@
 use Rattle.std.specs.Prelude.{ℕ, List, [], ◌∷◌, codes}
 use Rattle.command_line.specs.declared.limits.TheConstants.{MOST_NODES, MOST_FLOOR}
 use Rattle.command_line.specs.declared.table.CommandName.{CommandName}
-use Rattle.command_line.specs.declared.table.CommandName.TheVariants.{Search, Tabulate}
+use Rattle.command_line.specs.declared.table.CommandName.TheVariants.{Search, Tabulate, Check}
 use Rattle.command_line.specs.declared.table.OptionName.{OptionName}
 use Rattle.command_line.specs.declared.table.OptionName.TheVariants.{Contest, Nodes, Floor}
 use Rattle.command_line.specs.declared.table.ValueKind.{ValueKind}
@@ -17,9 +17,10 @@ pub record Form : Type 0 where
 abbrev pub form_of : CommandName → Form
 form_of Search = record { word = codes "search"; files = codes "ballots" ∷ []; options = Contest ∷ Nodes ∷ Floor ∷ [] }
 form_of Tabulate = record { word = codes "tabulate"; files = codes "ballots" ∷ []; options = Contest ∷ [] }
+form_of Check = record { word = codes "check"; files = codes "ballots" ∷ codes "assertions" ∷ []; options = Contest ∷ Nodes ∷ [] }
 
 abbrev pub commands : List CommandName
-commands = Search ∷ Tabulate ∷ []
+commands = Search ∷ Tabulate ∷ Check ∷ []
 
 -- an option's name, without the hyphens
 abbrev pub text_of : OptionName → List ℕ

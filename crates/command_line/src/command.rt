@@ -14,7 +14,7 @@ use crate::limits::{DEFAULT_FLOOR, DEFAULT_NODES};
 use crate::line::{are_right, command_named};
 use crate::one_form::one_form;
 use crate::parsed::parsed;
-use crate::table::{BALLOTS, CommandName, OptionName};
+use crate::table::{ASSERTIONS, BALLOTS, CommandName, OptionName};
 use clap::ArgMatches;
 use irv_base::{Memory, Name};
 use std::alloc::{AllocError, Global};
@@ -33,6 +33,13 @@ pub enum Command {
     Tabulate {
         file: String,
         contest: Option<Name>,
+    },
+    /// Whether an assertion file confirms the winner of a contest.
+    Check {
+        ballots: String,
+        assertions: String,
+        contest: Option<Name>,
+        nodes: u32,
     },
 }
 
@@ -87,6 +94,12 @@ fn command_of(
         CommandName::Tabulate => Ok(Command::Tabulate {
             file: file(alloc, BALLOTS, matches)?,
             contest: contest(matches),
+        }),
+        CommandName::Check => Ok(Command::Check {
+            ballots: file(alloc, BALLOTS, matches)?,
+            assertions: file(alloc, ASSERTIONS, matches)?,
+            contest: contest(matches),
+            nodes: number(OptionName::Nodes, DEFAULT_NODES, matches),
         }),
     }
 }

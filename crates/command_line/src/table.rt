@@ -9,6 +9,7 @@ use crate::limits::{MOST_FLOOR, MOST_NODES};
 pub enum CommandName {
     Search,
     Tabulate,
+    Check,
 }
 
 /// The options that there are.
@@ -36,9 +37,15 @@ pub struct Form<'f> {
     pub options: &'f [OptionName],
 }
 
-pub const COMMANDS: [CommandName; 2] = [CommandName::Search, CommandName::Tabulate];
+pub const COMMANDS: [CommandName; 3] = [
+    CommandName::Search,
+    CommandName::Tabulate,
+    CommandName::Check,
+];
 
 pub const BALLOTS: &str = "ballots";
+
+pub const ASSERTIONS: &str = "assertions";
 
 impl CommandName {
     pub fn form<'f>(self) -> Form<'f>
@@ -56,6 +63,11 @@ impl CommandName {
                 word: "tabulate",
                 files: &[BALLOTS],
                 options: &[OptionName::Contest],
+            },
+            CommandName::Check => Form {
+                word: "check",
+                files: &[BALLOTS, ASSERTIONS],
+                options: &[OptionName::Contest, OptionName::Nodes],
             },
         }
     }

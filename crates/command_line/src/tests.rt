@@ -24,6 +24,8 @@ fn takes_lines(rt: HostRuntime) -> Result<(), Fail> {
         "search --contest=1 -- row1.raire",
         "search row1.raire --nodes 200000 --floor=0000000001",
         "tabulate --contest 7 -- --nodes",
+        "check row1.raire f.json",
+        "check --nodes=200000 a --contest 7 -- -b",
     ];
     for line in lines {
         assert!(rt; is_taken(rt.alloc(), line)?);
@@ -48,6 +50,11 @@ fn takes_no_other_words(rt: HostRuntime) -> Result<(), Fail> {
         "search -- --contest 1",
         "search ",
         "search a -h",
+        "check a",
+        "check a b c",
+        "check a b --floor 1",
+        "check a b --nodes 0",
+        "check a -- b --nodes 1",
     ];
     for line in lines {
         assert!(rt; !is_taken(rt.alloc(), line)?);
@@ -74,5 +81,27 @@ fn reads_a_search(rt: HostRuntime) -> Result<(), Fail> {
     assert!(rt; contest.is_some_and(|name| name.bytes() == b"1".as_slice()));
     assert!(rt; nodes == 8);
     assert!(rt; floor == 1);
+    Ok(())
+}
+
+#[test]
+fn reads_a_check(rt: HostRuntime) -> Result<(), Fail> {
+    let words = words(rt.alloc(), "check --nodes 3 row1.raire f.json")?;
+    let command = read(rt.alloc(), words.as_slice()).expect(&rt, "memory");
+    let Some(
+        Command::Check {
+            ballots,
+            assertions,
+            contest,
+            nodes,
+        },
+    ) = command
+    else {
+        panic!(rt; "no check");
+    };
+    assert!(rt; ballots.as_str() == "row1.raire");
+    assert!(rt; assertions.as_str() == "f.json");
+    assert!(rt; contest.is_none());
+    assert!(rt; nodes == 3);
     Ok(())
 }

@@ -1,38 +1,53 @@
 -- What follows from how a call went: what was due, and what the sinks took of it.
-use Rattle.std.proofs.Common.{◌≡◌, ◌⊎◌, ◌≤◌, ◌<◌, inl, inr, ⊎_elim, ℕ, List, Option, [], length, None, Some, IfSome, nat_le, if◌then◌else◌, refl, sym, ◌∙◌, ap, subst, arith, append-nil, Bool, true, false, nat_eq, le-leb, ◌≢◌}
+use Rattle.std.proofs.Common.{◌≡◌, ◌⊎◌, ◌≤◌, ◌<◌, inl, inr, ⊎_elim, ℕ, List, Option, [], length, None, Some, IfSome, nat_le, if◌then◌else◌, refl, sym, ◌∙◌, ap, subst, arith, append-nil, Bool, true, false, le-leb, ◌≢◌}
 use Rattle.std.proofs.lemmas.Bool.Decides.{leb_tells}
 use Rattle.irv_base.proofs.Ties.{tabulated_is_one}
 use Rattle.std.specs.Io.KnownBytes.{Appends, Keeps}
 use Rattle.desk.specs.Desk.{File, held_bytes}
-use Rattle.raire_cli.specs.Outcome.{Outcome, Kind, Done, Tie, Spent, FullCount, Verdict, Answered, Refused, outcome, status_of, read_fault, out_of_memory, too_long, no_such_file}
-use Rattle.raire_cli.specs.Script.{Reading, Bytes, Missing, TooLong, Fault, Script, Readings, AsHeld, ByDesk, reading_of, stop_of, May, Concludes, IsBudgeted, OneIsSpent, IsDetermined, limit}
+use Rattle.raire_cli.specs.Outcome.{Outcome, Kind, Done, Tie, Spent, FullCount, Differs, Verdict, Answered, Refused, outcome, status_of, out_of_memory, too_long, no_such_file}
+use Rattle.raire_cli.specs.Script.{Reading, Bytes, Missing, TooLong, Fault, Script, Readings, AsHeld, ByDesk, reading_of, stop_of, May, Concludes, IsBudgeted, OneIsSpent, limit}
 use Rattle.ballot_reader.specs.Ballots.{BallotFile}
 use Rattle.ballot_reader.specs.Grammar.{ballots_of}
-use Rattle.command_line.specs.Line.{Line, Search, Tabulate, line_of}
+use Rattle.command_line.specs.Line.{Line, Search, Tabulate, Check, line_of}
 use Rattle.raire_cli.specs.Answers.{script_of, MayCome, IsDue}
 use Rattle.raire_cli.specs.Ends.{Writing, Took, IsWhole, IsWritten}
-use Rattle.raire_cli.specs.Promises.{IsUndone, IsQuiet, Exactly, ExactlyInBudget, TookTexts, IsAnswered, IsNoLine, ComesToRead, HasFile, ComesToVerdict, IsRefused, HasAnswer, IsReadFault, IsWriteFault, IsForErr, IsStatus, IsAccepted, Statuses}
+use Rattle.raire_cli.specs.Promises.{IsUndone, IsQuiet, Exactly, ExactlyInBudget, TookTexts, IsAnswered, IsNoLine, ComesToRead, HasFile, ComesToVerdict, IsRefused, HasAnswer, IsReadFault, IsWriteFault, IsForErr, IsStatus, IsAccepted, IsExact, Statuses}
 use Rattle.raire_cli.specs.Story.{Story}
 use Rattle.raire_cli.specs.Contest.{candidate_count, IsWon, IsOther}
 use Rattle.raire_cli.specs.declared.commands.search.Terms.{Terms}
 use Rattle.raire_cli.specs.Search.{certificate_nodes, nodes_for, full_count_text, IsInBudget, HasSpent, Finds, FindsIn}
 use Rattle.raire_cli.specs.Confirmation.{AsksForSearch, ConfirmsAsked, GivesReason}
+use Rattle.raire_cli.specs.Acceptance.{AsksForCheck, HoldsAsked}
+use Rattle.raire_cli.specs.Check.{yes_text, check}
 use Rattle.assertion_file.specs.Content.{Content}
 use Rattle.assertion_file.specs.Text.{assertion_file_text}
 use Rattle.raire_cli.proofs.Searches.{found_in-one, won-certificate, winner-one}
 use Rattle.raire_cli.proofs.Tabulates.{tabulated_in-one}
 use Rattle.raire_cli.proofs.TwoAtLeast.{two_read}
-use Rattle.raire_cli.proofs.Headline.{differ, status_in, of_answer, gives_reason}
-use Rattle.raire_cli.proofs.Scripts.{ended, concludes_may, stops_may, told_reaches, held_or_fault, determined, some_is}
+use Rattle.raire_cli.proofs.Accepted.{held_of}
+use Rattle.raire_cli.proofs.Checks.{check-one}
+use Rattle.raire_cli.proofs.Headline.{of_answer, gives_reason}
+use Rattle.raire_cli.proofs.Scripts.{Agree, agree-weaker, ended, concludes_may, stops_may, told_reaches, held_or_fault, determined, some_is}
+use Rattle.raire_cli.proofs.Statuses.{status_in, differ, free, unbudgeted, of_no_kind, kind_free, refused_verdict, answer_verdict, verdict_status, verdict_out, missing, too_long_file, fault, stop, stop_status, stop_out, no_answer}
+
+-- two ends of one command
+abbrev SameButBudget : Outcome → Outcome → Type 0
+SameButBudget d e = (d ≡ e) ⊎ OneIsSpent d e
+
+same_verdicts : (v w : Verdict) → (v ≡ w) ⊎ OneIsSpent (outcome v) (outcome w) → SameButBudget (outcome v) (outcome w)
+same_verdicts v w (inl same) = inl (ap outcome same)
+same_verdicts v w (inr spent) = inr spent
 
 -- a budget alone leaves a command open
-script_determined : (line : Line) → IsDetermined (script_of line)
-script_determined (Search name contest nodes floor) = λ bytes. found_in-one (record { nodes = nodes; floor = floor }) name (ballots_of bytes contest)
-script_determined (Tabulate name contest) = λ bytes. tabulated_in-one name (ballots_of bytes contest)
+script_determined : (line : Line) → Agree SameButBudget (script_of line)
+script_determined (Search name contest nodes floor) = λ bytes v w p q. same_verdicts v w (found_in-one (record { nodes = nodes; floor = floor }) name (ballots_of bytes contest) v w p q)
+script_determined (Tabulate name contest) = λ bytes v w p q. same_verdicts v w (tabulated_in-one name (ballots_of bytes contest) v w p q)
+script_determined (Check name assertions contest nodes) =
+    agree-weaker (λ d e. d ≡ e) SameButBudget (λ d e same. inl same) (check name assertions contest nodes) (check-one name assertions contest nodes)
 
 line_determined : (files : List File) (line : Option Line) (d e : Outcome) → MayCome (AsHeld files) line d → MayCome (AsHeld files) line e → (d ≡ e) ⊎ OneIsSpent d e
 line_determined files None d e p q = inl (p ∙ sym q)
-line_determined files (Some line) d e p q = determined files (script_of line) d e (script_determined line) p q
+line_determined files (Some line) d e p q = determined SameButBudget (λ d. inl refl) files (script_of line) d e (script_determined line) p q
 
 other_budgeted : (n : ℕ) (d e : Outcome) → e.status ≡ n → OneIsSpent d e → IsBudgeted n
 other_budgeted n d e is (first, other, spent) = subst IsBudgeted is other
@@ -41,81 +56,7 @@ first_spent : (n : ℕ) (d e : Outcome) → e.status ≡ n → (n ≡ 4 → ⊥)
 first_spent n d e is not_four (first, other, inl four) = four
 first_spent n d e is not_four (first, other, inr four) = absurd (not_four (sym is ∙ four))
 
--- ---- the statuses of what a script comes to
-
--- why a file stops a call
-data Stop (name : List ℕ) (reading : Reading) (due : Outcome) : Type 0 where
-  missing : reading ≡ Missing → no_such_file name ≡ due → Stop name reading due
-  too_long_file : reading ≡ TooLong → too_long name ≡ due → Stop name reading due
-  fault : reading ≡ Fault → read_fault name ≡ due → Stop name reading due
-
-stop : (name : List ℕ) (reading : Reading) (due : Outcome) → stop_of name reading ≡ Some due → Stop name reading due
-stop name (Bytes bytes) due is = absurd (cc is)
-stop name Missing due is = missing refl (some_is is)
-stop name TooLong due is = too_long_file refl (some_is is)
-stop name Fault due is = fault refl (some_is is)
-
-refused_verdict : (v : Verdict) (due : Outcome) → due ≡ outcome v → due.status ≡ 2 → (name text : List ℕ) × (v ≡ Refused name text)
-refused_verdict (Answered Done text) due is two = absurd (differ 0 2 (sym (ap status_in is) ∙ two) refl)
-refused_verdict (Answered Tie text) due is two = absurd (differ 3 2 (sym (ap status_in is) ∙ two) refl)
-refused_verdict (Answered Spent text) due is two = absurd (differ 4 2 (sym (ap status_in is) ∙ two) refl)
-refused_verdict (Answered FullCount text) due is two = absurd (differ 5 2 (sym (ap status_in is) ∙ two) refl)
-refused_verdict (Refused name text) due is two = (name, text, refl)
-
-answer_verdict : (kind : Kind) (v : Verdict) (due : Outcome) → due ≡ outcome v → due.status ≡ status_of kind → (text : List ℕ) × (v ≡ Answered kind text)
-answer_verdict Done (Answered Done text) due is n = (text, refl)
-answer_verdict Done (Answered Tie text) due is n = absurd (differ 3 0 (sym (ap status_in is) ∙ n) refl)
-answer_verdict Done (Answered Spent text) due is n = absurd (differ 4 0 (sym (ap status_in is) ∙ n) refl)
-answer_verdict Done (Answered FullCount text) due is n = absurd (differ 5 0 (sym (ap status_in is) ∙ n) refl)
-answer_verdict Done (Refused name text) due is n = absurd (differ 2 0 (sym (ap status_in is) ∙ n) refl)
-answer_verdict Tie (Answered Done text) due is n = absurd (differ 0 3 (sym (ap status_in is) ∙ n) refl)
-answer_verdict Tie (Answered Tie text) due is n = (text, refl)
-answer_verdict Tie (Answered Spent text) due is n = absurd (differ 4 3 (sym (ap status_in is) ∙ n) refl)
-answer_verdict Tie (Answered FullCount text) due is n = absurd (differ 5 3 (sym (ap status_in is) ∙ n) refl)
-answer_verdict Tie (Refused name text) due is n = absurd (differ 2 3 (sym (ap status_in is) ∙ n) refl)
-answer_verdict Spent (Answered Done text) due is n = absurd (differ 0 4 (sym (ap status_in is) ∙ n) refl)
-answer_verdict Spent (Answered Tie text) due is n = absurd (differ 3 4 (sym (ap status_in is) ∙ n) refl)
-answer_verdict Spent (Answered Spent text) due is n = (text, refl)
-answer_verdict Spent (Answered FullCount text) due is n = absurd (differ 5 4 (sym (ap status_in is) ∙ n) refl)
-answer_verdict Spent (Refused name text) due is n = absurd (differ 2 4 (sym (ap status_in is) ∙ n) refl)
-answer_verdict FullCount (Answered Done text) due is n = absurd (differ 0 5 (sym (ap status_in is) ∙ n) refl)
-answer_verdict FullCount (Answered Tie text) due is n = absurd (differ 3 5 (sym (ap status_in is) ∙ n) refl)
-answer_verdict FullCount (Answered Spent text) due is n = absurd (differ 4 5 (sym (ap status_in is) ∙ n) refl)
-answer_verdict FullCount (Answered FullCount text) due is n = (text, refl)
-answer_verdict FullCount (Refused name text) due is n = absurd (differ 2 5 (sym (ap status_in is) ∙ n) refl)
-
-no_answer : (kind : Kind) (due : Outcome) → due.status ≡ status_of kind → (due.status ≡ 7) ⊎ (due.status ≡ 11) ⊎ (due.status ≡ 12) → ⊥
-no_answer Done due n cases = omega (arith, n, cases)
-no_answer Tie due n cases = omega (arith, n, cases)
-no_answer Spent due n cases = omega (arith, n, cases)
-no_answer FullCount due n cases = omega (arith, n, cases)
-
--- the statuses of a verdict
-verdict_status : (v : Verdict) →
-    (status_in (outcome v) ≡ 0) ⊎ (status_in (outcome v) ≡ 2) ⊎ (status_in (outcome v) ≡ 3) ⊎ (status_in (outcome v) ≡ 4) ⊎ (status_in (outcome v) ≡ 5)
-verdict_status (Answered Done text) = inl refl
-verdict_status (Answered Tie text) = inr (inr (inl refl))
-verdict_status (Answered Spent text) = inr (inr (inr (inl refl)))
-verdict_status (Answered FullCount text) = inr (inr (inr (inr refl)))
-verdict_status (Refused name text) = inr (inl refl)
-
-stop_status : (name : List ℕ) (reading : Reading) (due : Outcome) → Stop name reading due → (due.status ≡ 7) ⊎ (due.status ≡ 11) ⊎ (due.status ≡ 12)
-stop_status name reading due (missing r is) = inr (inr (sym (ap status_in is)))
-stop_status name reading due (too_long_file r is) = inr (inl (sym (ap status_in is)))
-stop_status name reading due (fault r is) = inl (sym (ap status_in is))
-
--- a refusal has nothing for `out`
-verdict_out : (v : Verdict) → IsForErr (status_in (outcome v)) → (outcome v).out ≡ []
-verdict_out (Answered Done text) for_err = absurd (omega arith)
-verdict_out (Answered Tie text) for_err = absurd (omega arith)
-verdict_out (Answered Spent text) for_err = absurd (omega arith)
-verdict_out (Answered FullCount text) for_err = absurd (omega arith)
-verdict_out (Refused name text) for_err = refl
-
-stop_out : (name : List ℕ) (reading : Reading) (due : Outcome) → Stop name reading due → due.out ≡ []
-stop_out name reading due (missing r is) = sym (ap (λ (o : Outcome). o.out) is)
-stop_out name reading due (too_long_file r is) = sym (ap (λ (o : Outcome). o.out) is)
-stop_out name reading due (fault r is) = sym (ap (λ (o : Outcome). o.out) is)
+-- ---- what a script comes to
 
 line_out : (readings : Readings) (line : Option Line) (due : Outcome) → IsDue readings line due → IsForErr due.status → due.out ≡ []
 line_out readings line due (inr memory) for_err = ap (λ (o : Outcome). o.out) memory
@@ -147,22 +88,6 @@ fault_told : (held : Option (List File)) (failed : Type 0) (name : List ℕ) (re
 fault_told held failed name reading is (inr (failing, f)) = f
 fault_told None failed name reading is (inl told) = absurd (told is)
 fault_told (Some files) failed name reading is (inl told) = absurd (no_fault_held (held_bytes name files) (sym is ∙ told))
-
-free : (n : ℕ) → nat_eq n 7 ≡ false → nat_eq n 8 ≡ false → nat_eq n 9 ≡ false → IsUndone n → ⊥
-free n a b c (inl e) = differ n 7 e a
-free n a b c (inr (inl e)) = differ n 8 e b
-free n a b c (inr (inr e)) = differ n 9 e c
-
-unbudgeted : (n : ℕ) → nat_eq n 0 ≡ false → nat_eq n 4 ≡ false → nat_eq n 5 ≡ false → IsBudgeted n → ⊥
-unbudgeted n a b c (inl e) = differ n 0 e a
-unbudgeted n a b c (inr (inl e)) = differ n 4 e b
-unbudgeted n a b c (inr (inr e)) = differ n 5 e c
-
-kind_free : (kind : Kind) → IsUndone (status_of kind) → ⊥
-kind_free Done = free 0 refl refl refl
-kind_free Tie = free 3 refl refl refl
-kind_free Spent = free 4 refl refl refl
-kind_free FullCount = free 5 refl refl refl
 
 keeps : (before after : Option (List ℕ)) → Appends before after [] → Keeps before after
 keeps None after took = tt
@@ -237,6 +162,20 @@ module _ (words : List (List ℕ)) (status : ℕ) (out err : Writing) where
     ],
   )
 
+  -- and of a line that comes to one end, budget or none
+  exactly_one : (n : ℕ) (cause : Type 0) (files : List File) (failed : Type 0) (line : Option Line) (due : Outcome) → IsDue (ByDesk (Some files) failed) line due → IsWritten due status out err
+      → (IsUndone n → ⊥) → ((d e : Outcome) → MayCome (AsHeld files) line d → MayCome (AsHeld files) line e → d ≡ e)
+      → ((d : Outcome) → MayCome (AsHeld files) line d → d.status ≡ n → cause)
+      → (cause → (d : Outcome) × MayCome (AsHeld files) line d × (d.status ≡ n))
+      → Exactly n status cause
+  exactly_one n cause files failed line due is_due written free one from to = (
+    only n cause files failed line due is_due written free from,
+    λ so. elim (told files failed line due is_due written) [
+      | inl undone ↦ inr undone
+      | inr (may, whole) ↦ let (d, may_d, is_d) = to so in inl (whole.ends ∙ ap status_in (one due d may may_d) ∙ is_d)
+    ],
+  )
+
   verdict_to : (files : List File) (line : Option Line) → line_of words ≡ line → (v : Verdict) → ComesToVerdict words files v
       → (d : Outcome) × MayCome (AsHeld files) line d × (d.status ≡ status_in (outcome v))
   verdict_to files line is_line v (l, is_l, concludes) =
@@ -257,10 +196,7 @@ module _ (words : List (List ℕ)) (status : ℕ) (out err : Writing) where
   ]
 
   answer_from : (files : List File) (kind : Kind) (line : Option Line) → line_of words ≡ line → (d : Outcome) → MayCome (AsHeld files) line d → d.status ≡ status_of kind → HasAnswer words files kind
-  answer_from files Done None is_line d bad n = absurd (differ 1 0 (sym (ap status_in bad) ∙ n) refl)
-  answer_from files Tie None is_line d bad n = absurd (differ 1 3 (sym (ap status_in bad) ∙ n) refl)
-  answer_from files Spent None is_line d bad n = absurd (differ 1 4 (sym (ap status_in bad) ∙ n) refl)
-  answer_from files FullCount None is_line d bad n = absurd (differ 1 5 (sym (ap status_in bad) ∙ n) refl)
+  answer_from files kind None is_line d bad n = absurd (of_no_kind 1 refl kind (sym n ∙ ap status_in bad))
   answer_from files kind (Some line) is_line d may n = elim (ended (AsHeld files) (script_of line) d may) [
     | inl (v, concludes, is) ↦
         let (text, is_v) = answer_verdict kind v d is n in
@@ -510,6 +446,29 @@ module _ {words : List (List ℕ)} {held : Option (List File)} {failed : Type 0}
   full_count_exactly = in_budget_clause 5 (λ files. HasAnswer words files FullCount) (kind_free FullCount) (λ e. differ 5 4 e refl) (λ files. answer_from words status out err files FullCount (line_of words) refl)
       (λ files (text, comes). verdict_to words status out err files (line_of words) refl (Answered FullCount text) comes)
 
+  pub differs_clause : IfSome held (λ files. Exactly 6 status (HasAnswer words files Differs))
+  differs_clause = exactly_clause 6 (λ files. HasAnswer words files Differs) (kind_free Differs) (unbudgeted 6 refl refl refl) (λ files. answer_from words status out err files Differs (line_of words) refl)
+      (λ files (text, comes). verdict_to words status out err files (line_of words) refl (Answered Differs text) comes)
+
+  -- of a check an answer, and that it is spent
+  pub exact_clause : IfSome held (λ files. AsksForCheck words → IsExact words files status)
+  exact_clause = exact_told held failed story.due story.is_due story.written
+    where
+      one_end : (files : List File) → AsksForCheck words → (d e : Outcome) → MayCome (AsHeld files) (line_of words) d → MayCome (AsHeld files) (line_of words) e → d ≡ e
+      one_end files asked d e p q =
+          let script = check asked.ballots asked.assertions asked.contest asked.nodes in
+          determined (λ d e. d ≡ e) (λ d. refl) files script d e (check-one asked.ballots asked.assertions asked.contest asked.nodes)
+          (subst (λ l. MayCome (AsHeld files) l d) asked.asked p) (subst (λ l. MayCome (AsHeld files) l e) asked.asked q)
+
+      exact_told : (h : Option (List File)) (f : Type 0) (due : Outcome) → IsDue (ByDesk h f) (line_of words) due → IsWritten due status out err → IfSome h (λ files. AsksForCheck words → IsExact words files status)
+      exact_told None f due is_due written = tt
+      exact_told (Some files) f due is_due written = λ asked.
+          let exact : (kind : Kind) → Exactly (status_of kind) status (HasAnswer words files kind) = λ kind.
+          exactly_one words status out err (status_of kind) (HasAnswer words files kind) files f (line_of words) due is_due written (kind_free kind) (one_end files asked)
+          (answer_from words status out err files kind (line_of words) refl)
+          (λ (text, comes). verdict_to words status out err files (line_of words) refl (Answered kind text) comes) in
+          record { done = exact Done; spent = exact Spent }
+
   pub missing_clause : IfSome held (λ files. Exactly 12 status (HasFile words files Missing))
   missing_clause = exactly_clause 12 (λ files. HasFile words files Missing) (free 12 refl refl refl) (unbudgeted 12 refl refl refl) (λ files. missing_from words status out err files (line_of words) refl)
       (λ files (name, comes, there). stop_to words status out err files (line_of words) refl name Missing (no_such_file name) comes there refl)
@@ -553,6 +512,19 @@ module _ {words : List (List ℕ)} {held : Option (List File)} {failed : Type 0}
       by_answer files (inr (to_out, to_err, may, took, took_err)) asked zero =
           let (file, confirms, is) = of_answer words files asked (record { status = status; out = to_out; err = to_err }) may zero in
           (file, confirms, subst (Took out) is took)
+
+  -- status 0 of a check comes with a file that holds
+  pub accepted_clause : IfSome held (λ files. AsksForCheck words → status ≡ 0 → (file : Content) × HoldsAsked words files file × Took out (yes_text file))
+  accepted_clause = if_some held (λ files. IsUndone status ⊎ IsAnswered words files status out err)
+      (λ files. AsksForCheck words → status ≡ 0 → (file : Content) × HoldsAsked words files file × Took out (yes_text file))
+      by_answer answer_clause
+    where
+      by_answer : (files : List File) → IsUndone status ⊎ IsAnswered words files status out err → AsksForCheck words → status ≡ 0 →
+          (file : Content) × HoldsAsked words files file × Took out (yes_text file)
+      by_answer files (inl undone) asked zero = absurd (kind_free Done (subst IsUndone zero undone))
+      by_answer files (inr (to_out, to_err, may, took, took_err)) asked zero =
+          let (file, holds, is) = held_of words files asked (record { status = status; out = to_out; err = to_err }) may zero in
+          (file, holds, subst (Took out) is took)
 
   -- status 5 gives reason for a full count
   pub full_count_clause : IfSome held (λ files. status ≡ 5 → (text : List ℕ) × GivesReason words files text × Took out text)
@@ -598,6 +570,7 @@ module _ {words : List (List ℕ)} {held : Option (List File)} {failed : Type 0}
     tie = tie_clause;
     spent = spent_clause;
     full_count = full_count_exactly;
+    differs = differs_clause;
     read_fault = read_fault_clause;
     write_fault = write_fault_clause;
     memory = memory_clause;

@@ -1,45 +1,32 @@
--- How a command ends, once its file is read.
-use Rattle.std.proofs.Common.{◌≡◌, List, Result, Ok, Err, ℕ, inl, inr, ◌++◌, codes, refl, sym, ap, subst, ◌∙◌}
+-- How a command ends, once a file is read.
+use Rattle.std.proofs.Common.{◌≡◌, List, Result, Err, ℕ, inl, inr, sym, ap, subst, ◌∙◌}
 use Rattle.std.proofs.Common.{Vec, String, string_bytes}
 use Rattle.std.specs.String.{string_vec}
 use Rattle.std.specs.declared.alloc.Global.{Global}
-use Rattle.std.specs.Fmt.{decimal}
-use Rattle.ballot_reader.specs.Faults.{rule_name}
-use Rattle.ballot_reader.specs.declared.fault.BRule.{BRule}
-use Rattle.ballot_reader.specs.Ballots.{BallotFile}
-use Rattle.ballot_reader.specs.Grammar as grammar
-use Rattle.raire_cli.specs.Outcome.{Outcome, said_of}
-use Rattle.raire_cli.specs.Refusals.{refused}
-use Rattle.raire_cli.specs.declared.commands.search.Terms.{Terms}
-use Rattle.raire_cli.specs.Search.{Finds, FindsIn}
-use Rattle.raire_cli.specs.Tabulate.{Tabulates, TabulatesIn}
-use Rattle.raire_cli.specs.Said.{due_refusal, IsOrMemory, IsOneOrMemory, IsBallotsOf}
+use Rattle.raire_cli.specs.Outcome.{Outcome, Verdict, outcome, said_of}
+use Rattle.raire_cli.specs.Refusals.{broken_at}
+use Rattle.raire_cli.specs.Said.{due_refusal, IsOrMemory, IsOneOrMemory, IsReadAs}
 use Rattle.raire_cli.specs.declared.outcome.Refusal.{Refusal}
 
 -- ---- a file that is refused
 
-pub refusal_of : (name : List ℕ) (read : Result BallotFile grammar.Refusal) (rule : BRule) (at : ℕ) (text : List ℕ) (refusal : Refusal) → read ≡ Err (record { rule = rule; at = at }) → text ≡ rule_name rule →
-    IsOrMemory (said_of 2 name (text ++ codes " at " ++ decimal at)) (due_refusal refusal) → IsBallotsOf name read (Err refusal)
-refusal_of name read rule at text refusal is shown (inl due) = inl (record { rule = rule; at = at }, is, due ∙ ap (λ t. said_of 2 name (t ++ codes " at " ++ decimal at)) shown)
-refusal_of name read rule at text refusal is shown (inr memory) = inr memory
+pub refusal_of : {A Why : Type 0} (told : Why → Verdict) (name : List ℕ) (read : Result A Why) (why : Why) (rule text : List ℕ) (at : ℕ) (refusal : Refusal) → read ≡ Err why → outcome (told why) ≡ said_of 2 name (broken_at rule at) →
+    text ≡ rule → IsOrMemory (said_of 2 name (broken_at text at)) (due_refusal refusal) → IsReadAs told read (Err refusal)
+refusal_of told name read why rule text at refusal is shown named (inl due) = inl (why, is, due ∙ ap (λ t. said_of 2 name (broken_at t at)) named ∙ sym shown)
+refusal_of told name read why rule text at refusal is shown named (inr memory) = inr memory
 
-pub search_refused : (terms : Terms) (name : List ℕ) (read : Result BallotFile grammar.Refusal) (refusal : Refusal) → IsBallotsOf name read (Err refusal) → IsOneOrMemory (FindsIn terms name read) (due_refusal refusal)
-search_refused terms name read refusal (inl (why, is, due)) = inl (refused name why, subst (λ r. FindsIn terms name r (refused name why)) (sym is) refl, due)
-search_refused terms name read refusal (inr memory) = inr memory
-
-pub tabulate_refused : (name : List ℕ) (read : Result BallotFile grammar.Refusal) (refusal : Refusal) → IsBallotsOf name read (Err refusal) → IsOneOrMemory (TabulatesIn name read) (due_refusal refusal)
-tabulate_refused name read refusal (inl (why, is, due)) = inl (refused name why, subst (λ r. TabulatesIn name r (refused name why)) (sym is) refl, due)
-tabulate_refused name read refusal (inr memory) = inr memory
-
--- ---- one that is read
-
-pub search_read : (terms : Terms) (name : List ℕ) (read : Result BallotFile grammar.Refusal) (ballots : BallotFile) (due : Outcome) → read ≡ Ok ballots → IsOneOrMemory (Finds terms ballots) due → IsOneOrMemory (FindsIn terms name read) due
-search_read terms name read ballots due is ends = subst (λ r. IsOneOrMemory (FindsIn terms name r) due) (sym is) ends
-
-pub tabulate_read : (name : List ℕ) (read : Result BallotFile grammar.Refusal) (ballots : BallotFile) (due : Outcome) → read ≡ Ok ballots → IsOneOrMemory (Tabulates ballots) due → IsOneOrMemory (TabulatesIn name read) due
-tabulate_read name read ballots due is ends = subst (λ r. IsOneOrMemory (TabulatesIn name r) due) (sym is) ends
+pub refused_in : {A Why : Type 0} (told : Why → Verdict) (ends : Result A Why → Verdict → Type 0) (read : Result A Why) (refusal : Refusal) → ((why : Why) → ends (Err why) (told why)) →
+    IsReadAs told read (Err refusal) → IsOneOrMemory (ends read) (due_refusal refusal)
+refused_in told ends read refusal each (inl (why, is, due)) = inl (told why, subst (λ r. ends r (told why)) (sym is) (each why), due)
+refused_in told ends read refusal each (inr memory) = inr memory
 
 -- ---- the bytes of a text
 
 pub bytes_of : (bytes : Vec ℕ Global) (text : String Global) → bytes ≡ string_vec text → bytes.items ≡ string_bytes text
 bytes_of bytes text is = ap (λ (v : Vec ℕ Global). v.items) is
+
+-- ---- one verdict alone
+
+pub told_as : (verdicts : Verdict → Type 0) (verdict : Verdict) (due : Outcome) → verdicts verdict → IsOneOrMemory (λ v. v ≡ verdict) due → IsOneOrMemory verdicts due
+told_as verdicts verdict due holds (inl (v, is, ends)) = inl (verdict, holds, ends ∙ ap outcome is)
+told_as verdicts verdict due holds (inr memory) = inr memory

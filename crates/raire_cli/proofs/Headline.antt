@@ -1,13 +1,13 @@
 -- Status 0 of a search comes with a file that confirms the winner, and status 5 with reason for a full count.
-use Rattle.std.proofs.Common.{◌≡◌, ℕ, List, Option, None, Some, Result, Ok, Err, nat_le, nat_eq, length, Bool, true, false, if◌then◌else◌, refl, sym, ap, subst, eq-eqb, inl, inr, ◌∙◌}
+use Rattle.std.proofs.Common.{◌≡◌, ℕ, List, Option, None, Some, Result, Ok, Err, nat_le, length, Bool, true, false, if◌then◌else◌, refl, sym, ap, subst, inl, inr, ◌∙◌}
 use Rattle.desk.specs.Desk.{File, held_bytes}
 use Rattle.ballot_reader.specs.Ballots.{BallotFile}
 use Rattle.ballot_reader.specs.Grammar.{Refusal, ballots_of}
 use Rattle.assertion_file.specs.Content.{Content}
 use Rattle.assertion_file.specs.Text.{assertion_file_text}
-use Rattle.command_line.specs.Line.{Line, Search, Tabulate, line_of}
-use Rattle.raire_cli.specs.Outcome.{Outcome, Verdict, Answered, Refused, Done, Tie, Spent, FullCount, outcome}
-use Rattle.raire_cli.specs.Script.{Reading, Bytes, Missing, TooLong, Fault, AsHeld, May, reading_of, stop_of, limit}
+use Rattle.command_line.specs.Line.{Line, Search, Tabulate, Check, line_of}
+use Rattle.raire_cli.specs.Outcome.{Outcome, Verdict, Answered, Refused, Done, Tie, Spent, FullCount, Differs, outcome}
+use Rattle.raire_cli.specs.Script.{Bytes, TooLong, AsHeld, May, reading_of, limit}
 use Rattle.report.specs.Texts.{order_text}
 use Rattle.raire_cli.specs.Contest.{candidate_count}
 use Rattle.raire_cli.specs.declared.commands.search.Terms.{Terms}
@@ -15,34 +15,17 @@ use Rattle.raire_cli.specs.Search.{HasCertificate, HasFullCount, FindsIn, full_c
 use Rattle.raire_cli.specs.Tabulate.{TabulatesIn}
 use Rattle.raire_cli.specs.Confirmation.{AsksForSearch, ConfirmsAsked, GivesReason}
 use Rattle.raire_cli.specs.Answers.{MayCome}
-use Rattle.raire_cli.proofs.Scripts.{some_is}
+use Rattle.raire_cli.proofs.Statuses.{status_in, differ, not_so, stopped}
+use Rattle.raire_cli.proofs.Checks.{check_never_full}
 use Rattle.raire_cli.proofs.Searches.{certificate-confirms, confirms-least}
 use Rattle.raire_cli.proofs.TwoAtLeast.{two_read}
 
-abbrev pub status_in : Outcome → ℕ
-status_in due = due.status
-
--- two numbers that a test tells apart
-pub differ : (m n : ℕ) → m ≡ n → nat_eq m n ≡ false → ⊥
-differ m n e test = let yes : nat_eq m n ≡ true = eq-eqb m n e in cc (yes, test)
-
--- the end isn't of this status
-not_so : (m n : ℕ) (verdict : Verdict) (due : Outcome) → due ≡ outcome verdict → status_in (outcome verdict) ≡ m → due.status ≡ n → nat_eq m n ≡ false → ⊥
-not_so m n verdict due ends is ended other = differ m n (sym is ∙ sym (ap status_in ends) ∙ ended) other
-
-held_whole : (held : Option (List ℕ)) (bytes : List ℕ) → Bytes bytes ≡ reading_of held → held ≡ Some bytes
+pub held_whole : (held : Option (List ℕ)) (bytes : List ℕ) → Bytes bytes ≡ reading_of held → held ≡ Some bytes
 held_whole None bytes e = cc
 held_whole (Some all) bytes e = by_length (nat_le (length all) limit) e where
   by_length : (b : Bool) → Bytes bytes ≡ (if b then Bytes all else TooLong) → Some all ≡ Some bytes
   by_length true e = cc
   by_length false e = cc
-
-pub stopped : (status : ℕ) (name : List ℕ) (reading : Reading) (due : Outcome) → stop_of name reading ≡ Some due → due.status ≡ status →
-    nat_eq 12 status ≡ false → nat_eq 11 status ≡ false → nat_eq 7 status ≡ false → ⊥
-stopped status name (Bytes bytes) due stop is a b c = cc
-stopped status name Missing due stop is a b c = differ 12 status (ap status_in (some_is stop) ∙ is) a
-stopped status name TooLong due stop is a b c = differ 11 status (ap status_in (some_is stop) ∙ is) b
-stopped status name Fault due stop is a b c = differ 7 status (ap status_in (some_is stop) ∙ is) c
 
 -- ---- a search whose file was read
 
@@ -97,6 +80,7 @@ module _ (words : List (List ℕ)) (files : List File) (asked : AsksForSearch wo
   of_done bytes (Ok ballots) (Answered Tie text) due held is finds ends zero = absurd (not_so 3 0 (Answered Tie text) due ends refl zero refl)
   of_done bytes (Ok ballots) (Answered Spent text) due held is finds ends zero = absurd (not_so 4 0 (Answered Spent text) due ends refl zero refl)
   of_done bytes (Ok ballots) (Answered FullCount text) due held is finds ends zero = absurd (not_so 5 0 (Answered FullCount text) due ends refl zero refl)
+  of_done bytes (Ok ballots) (Answered Differs text) due held is finds ends zero = absurd finds
   of_done bytes (Ok ballots) (Refused name text) due held is finds ends zero = absurd finds
 
   of_full_count : (bytes : List ℕ) (read : Result BallotFile Refusal) (verdict : Verdict) (due : Outcome) → held_bytes asked.name files ≡ Some bytes → ballots_of bytes asked.contest ≡ read →
@@ -107,6 +91,7 @@ module _ (words : List (List ℕ)) (files : List File) (asked : AsksForSearch wo
   of_full_count bytes (Ok ballots) (Answered Spent text) due held is finds ends five = absurd (not_so 4 5 (Answered Spent text) due ends refl five refl)
   of_full_count bytes (Ok ballots) (Answered FullCount text) due held is finds ends five =
       subst (GivesReason words files) (sym (ap (λ (o : Outcome). o.out) ends)) (reasoned bytes ballots text held is finds)
+  of_full_count bytes (Ok ballots) (Answered Differs text) due held is finds ends five = absurd finds
   of_full_count bytes (Ok ballots) (Refused name text) due held is finds ends five = absurd finds
 
   search_done : (due : Outcome) → May (AsHeld files) (search asked.name asked.contest terms) due → due.status ≡ 0 → Confirmed due
@@ -131,6 +116,7 @@ tabulates_no_full_count name (Ok ballots) (Answered Done text) due finds ends fi
 tabulates_no_full_count name (Ok ballots) (Answered Tie text) due finds ends five = not_so 3 5 (Answered Tie text) due ends refl five refl
 tabulates_no_full_count name (Ok ballots) (Answered Spent text) due finds ends five = finds
 tabulates_no_full_count name (Ok ballots) (Answered FullCount text) due finds ends five = finds
+tabulates_no_full_count name (Ok ballots) (Answered Differs text) due finds ends five = finds
 tabulates_no_full_count name (Ok ballots) (Refused file text) due finds ends five = finds
 
 pub gives_reason : (words : List (List ℕ)) (files : List File) (line : Option Line) → line_of words ≡ line → (due : Outcome) → MayCome (AsHeld files) line due → due.status ≡ 5 →
@@ -141,3 +127,4 @@ gives_reason words files (Some (Search name contest nodes floor)) is due may fiv
 gives_reason words files (Some (Tabulate name contest)) is due (inl (reading, there, stop)) five = absurd (stopped 5 name reading due stop five refl refl refl)
 gives_reason words files (Some (Tabulate name contest)) is due (inr (bytes, there, (verdict, finds, ends))) five =
     absurd (tabulates_no_full_count name (ballots_of bytes contest) verdict due finds ends five)
+gives_reason words files (Some (Check name assertions contest nodes)) is due may five = absurd (check_never_full (AsHeld files) name assertions contest nodes due may five)

@@ -1,9 +1,13 @@
 mod Scripts
+mod Statuses
 mod Steps
 mod TwoAtLeast
 mod Searches
 mod Tabulates
+mod Checks
 mod Headline
+mod SoundFiles
+mod Accepted
 mod ReadFiles
 mod Found
 mod Ended

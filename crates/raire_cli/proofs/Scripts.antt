@@ -2,7 +2,7 @@
 use Rattle.std.proofs.Common.{◌≡◌, ◌⊎◌, inl, inr, ⊎_elim, ℕ, List, Option, None, Some, refl, sym, ◌∙◌, ap, subst}
 use Rattle.desk.specs.Desk.{File}
 use Rattle.raire_cli.specs.Outcome.{Outcome, Verdict, outcome, read_fault}
-use Rattle.raire_cli.specs.Script.{Reading, Bytes, Fault, Script, Read, Ends, Readings, AsHeld, AsTold, ByDesk, stop_of, May, Reaches, Concludes, OneIsSpent, IsDetermined}
+use Rattle.raire_cli.specs.Script.{Reading, Bytes, Fault, Script, Read, Ends, Readings, AsHeld, AsTold, ByDesk, stop_of, May, Reaches, Concludes}
 
 -- It concludes with a verdict, or a file stops it.
 pub ended : (readings : Readings) (script : Script) (due : Outcome) → May readings script due
@@ -57,16 +57,24 @@ held_or_fault files failed (Read name next) due (inr (bytes, inr (fault, f), res
 not_bytes : (name bytes : List ℕ) (reading : Reading) (due : Outcome) → reading ≡ Bytes bytes → stop_of name reading ≡ Some due → ⊥
 not_bytes name bytes reading due is stop = let none : None ≡ Some due = sym (ap (λ r. stop_of name r) is) ∙ stop in cc
 
--- What files are held decides it, but for a budget.
-pub determined : (files : List File) (script : Script) (d e : Outcome) → IsDetermined script → May (AsHeld files) script d → May (AsHeld files) script e → (d ≡ e) ⊎ OneIsSpent d e
-determined files (Ends verdicts) d e one (v, may_v, is_d) (w, may_w, is_e) = elim (one v w may_v may_w) [
-  | inl same ↦ inl (is_d ∙ ap outcome same ∙ sym is_e)
-  | inr spent ↦ inr (subst (λ x. OneIsSpent x e) (sym is_d) (subst (OneIsSpent (outcome v)) (sym is_e) spent))
-]
-determined files (Read name next) d e one (inl (r, there_r, stop_d)) (inl (s, there_s, stop_e)) =
-    inl (some_is (sym stop_d ∙ ap (λ x. stop_of name x) (there_r ∙ sym there_s) ∙ stop_e))
-determined files (Read name next) d e one (inl (r, there_r, stop_d)) (inr (bytes, there, rest)) = absurd (not_bytes name bytes r d (there_r ∙ sym there) stop_d)
-determined files (Read name next) d e one (inr (bytes, there, rest)) (inl (s, there_s, stop_e)) = absurd (not_bytes name bytes s e (there_s ∙ sym there) stop_e)
-determined files (Read name next) d e one (inr (bytes, there_d, rest_d)) (inr (others, there_e, rest_e)) =
+-- what a script may conclude with agrees by R, each two of it
+abbrev pub Agree : (Outcome → Outcome → Type 0) → Script → Type 0
+Agree R (Ends verdicts) = (v w : Verdict) → verdicts v → verdicts w → R (outcome v) (outcome w)
+Agree R (Read name next) = (bytes : List ℕ) → Agree R (next bytes)
+
+pub agree-weaker : (R S : Outcome → Outcome → Type 0) → ((d e : Outcome) → R d e → S d e) → (script : Script) → Agree R script → Agree S script
+agree-weaker R S weaker (Ends verdicts) agree = λ v w p q. weaker (outcome v) (outcome w) (agree v w p q)
+agree-weaker R S weaker (Read name next) agree = λ bytes. agree-weaker R S weaker (next bytes) (agree bytes)
+
+-- What files are held decides it, as far as R goes.
+pub determined : (R : Outcome → Outcome → Type 0) → ((d : Outcome) → R d d) → (files : List File) (script : Script) (d e : Outcome) → Agree R script
+    → May (AsHeld files) script d → May (AsHeld files) script e → R d e
+determined R itself files (Ends verdicts) d e agree (v, may_v, is_d) (w, may_w, is_e) =
+    subst (λ x. R x e) (sym is_d) (subst (R (outcome v)) (sym is_e) (agree v w may_v may_w))
+determined R itself files (Read name next) d e agree (inl (r, there_r, stop_d)) (inl (s, there_s, stop_e)) =
+    subst (R d) (some_is (sym stop_d ∙ ap (λ x. stop_of name x) (there_r ∙ sym there_s) ∙ stop_e)) (itself d)
+determined R itself files (Read name next) d e agree (inl (r, there_r, stop_d)) (inr (bytes, there, rest)) = absurd (not_bytes name bytes r d (there_r ∙ sym there) stop_d)
+determined R itself files (Read name next) d e agree (inr (bytes, there, rest)) (inl (s, there_s, stop_e)) = absurd (not_bytes name bytes s e (there_s ∙ sym there) stop_e)
+determined R itself files (Read name next) d e agree (inr (bytes, there_d, rest_d)) (inr (others, there_e, rest_e)) =
     let same : bytes ≡ others = (let is : Bytes bytes ≡ Bytes others = there_d ∙ sym there_e in cc) in
-    determined files (next others) d e (one others) (subst (λ b. May (AsHeld files) (next b) d) same rest_d) rest_e
+    determined R itself files (next others) d e (agree others) (subst (λ b. May (AsHeld files) (next b) d) same rest_d) rest_e

@@ -24,7 +24,7 @@ use Rattle.ballot_reader.specs.Grammar.{Refusal}
 use Rattle.assertion_file.specs.Content.{Content}
 use Rattle.assertion_file.specs.Text.{assertion_file_text}
 use Rattle.raire_cli.proofs.Scripts.{some_is}
-use Rattle.raire_cli.specs.Outcome.{Verdict, Answered, Refused, Done, Tie, Spent, FullCount, outcome}
+use Rattle.raire_cli.specs.Outcome.{Verdict, Answered, Refused, Done, Tie, Spent, FullCount, Differs, outcome}
 use Rattle.raire_cli.specs.Script.{OneIsSpent}
 use Rattle.raire_cli.specs.Contest.{candidate_count, tie_text, IsWon, HasTie}
 use Rattle.raire_cli.specs.declared.commands.search.Terms.{Terms}
@@ -95,6 +95,8 @@ found-one terms ballots (Answered FullCount text) (Answered Done other) a b = ab
 found-one terms ballots (Answered FullCount text) (Answered Tie other) a b = absurd (never_both ballots a.is.winner other a.is.won b)
 found-one terms ballots (Answered FullCount text) (Answered Spent other) a b = inr (inr (inr refl), inr (inl refl), inr refl)
 found-one terms ballots (Answered FullCount text) (Answered FullCount other) a b = inl (ap (λ t. Answered FullCount t) (full-one terms ballots text other a b))
+found-one terms ballots (Answered Differs text) w a b = absurd a
+found-one terms ballots (Answered kind text) (Answered Differs other) a b = absurd b
 found-one terms ballots (Answered kind text) (Refused name other) a b = absurd b
 found-one terms ballots (Refused name text) w a b = absurd a
 

@@ -1,9 +1,11 @@
 -- A command goes on from one file to the next.
-use Rattle.std.proofs.Common.{◌≡◌, inl, inr, ℕ, ◌≤◌, List, Option, refl, subst, arith}
-use Rattle.desk.specs.Count.{Rose}
+use Rattle.std.proofs.Common.{◌≡◌, ◌∙◌, inl, inr, ℕ, ◌≤◌, max, List, Option, refl, ap, subst, arith}
+use Rattle.desk.specs.Count.{Rose, one_more}
+use Rattle.desk.specs.declared.served.Served.{Served}
 use Rattle.desk.specs.Desk.{File}
+use Rattle.raire_cli.specs.Accounts.{IsBroken, IsAccountedFor}
 use Rattle.raire_cli.specs.Outcome.{Outcome}
-use Rattle.raire_cli.specs.Script.{Reading, Bytes, Script, Read, Ends, AsTold, ByDesk, May, MayOrMemory}
+use Rattle.raire_cli.specs.Script.{Reading, Bytes, Script, Read, Ends, AsTold, ByDesk, May, MayOrMemory, limit}
 
 -- the desk over a longer time
 longer : (held h : Option (List File)) (a b c d : ℕ) (name : List ℕ) (reading : Reading) → h ≡ held → a ≤ b → c ≤ d → ByDesk h (Rose b c) name reading → ByDesk held (Rose a d) name reading
@@ -22,3 +24,21 @@ pub gone_on : (held h : Option (List File)) (a b c : ℕ) (name bytes : List ℕ
 gone_on held h a b c name bytes next due same before after there (inl may) =
     inl (inr (bytes, longer held held a a b c name (Bytes bytes) refl (omega arith) after there, longer_may held h a b c c (next bytes) due same before (omega arith) may))
 gone_on held h a b c name bytes next due same before after there (inr memory) = inr memory
+
+-- what the desk served of both
+pub accounted_on : (a b c : Served) (status : ℕ) → IsAccountedFor a b 0 → IsAccountedFor b c status → IsAccountedFor a c status
+accounted_on a b c status first rest = record {
+  missing = λ is. rest.missing is ∙ ap one_more same;
+  found = λ no whole. rest.found no whole ∙ same;
+  too_long = rest.too_long;
+  short = λ no whole. let after = rest.short no whole in omega (arith, short, after);
+}
+  where
+    unbroken : IsBroken 0 → ⊥
+    unbroken broken = omega (arith, broken)
+
+    same : b.misses ≡ a.misses
+    same = first.found (λ e. omega (arith, e)) unbroken
+
+    short : b.longest ≤ max a.longest limit
+    short = first.short (λ e. omega (arith, e)) unbroken

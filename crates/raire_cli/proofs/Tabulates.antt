@@ -4,7 +4,7 @@ use Rattle.irv_base.proofs.Ties.{tabulated_is_one}
 use Rattle.ballot_reader.specs.Ballots.{BallotFile}
 use Rattle.ballot_reader.specs.Grammar.{Refusal}
 use Rattle.report.specs.Tabulations.{tabulation_text}
-use Rattle.raire_cli.specs.Outcome.{Verdict, Answered, Refused, Done, Tie, Spent, FullCount, outcome}
+use Rattle.raire_cli.specs.Outcome.{Verdict, Answered, Refused, Done, Tie, Spent, FullCount, Differs, outcome}
 use Rattle.raire_cli.specs.Script.{OneIsSpent}
 use Rattle.raire_cli.specs.Contest.{candidate_count}
 use Rattle.raire_cli.specs.Tabulate.{HasRounds, Tabulates, TabulatesIn}
@@ -22,9 +22,11 @@ tabulated-one ballots (Answered Tie text) (Answered Done other) a b = absurd (ne
 tabulated-one ballots (Answered Tie text) (Answered Tie other) a b = ap (λ t. Answered Tie t) (tie-one ballots text other a b)
 tabulated-one ballots (Answered Spent text) w a b = absurd a
 tabulated-one ballots (Answered FullCount text) w a b = absurd a
+tabulated-one ballots (Answered Differs text) w a b = absurd a
 tabulated-one ballots (Refused name text) w a b = absurd a
 tabulated-one ballots (Answered kind text) (Answered Spent other) a b = absurd b
 tabulated-one ballots (Answered kind text) (Answered FullCount other) a b = absurd b
+tabulated-one ballots (Answered kind text) (Answered Differs other) a b = absurd b
 tabulated-one ballots (Answered kind text) (Refused name other) a b = absurd b
 
 pub tabulated_in-one : (name : List ℕ) (read : Result BallotFile Refusal) (v w : Verdict) → TabulatesIn name read v → TabulatesIn name read w → (v ≡ w) ⊎ OneIsSpent (outcome v) (outcome w)

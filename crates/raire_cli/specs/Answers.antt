@@ -1,15 +1,17 @@
 -- What the words of a call ask for, and the answers to it.
 use Rattle.std.specs.Prelude.{◌≡◌, ◌⊎◌, ℕ, List, Option, None, Some}
 use Rattle.desk.specs.Desk.{File}
-use Rattle.command_line.specs.Line.{Line, Search, Tabulate, line_of}
+use Rattle.command_line.specs.Line.{Line, Search, Tabulate, Check, line_of}
 use Rattle.raire_cli.specs.Outcome.{Outcome, bad_words, out_of_memory}
 use Rattle.raire_cli.specs.Script.{Script, Readings, AsHeld, May}
 use Rattle.raire_cli.specs.Search.{search}
 use Rattle.raire_cli.specs.Tabulate.{tabulate}
+use Rattle.raire_cli.specs.Check.{check}
 
 abbrev pub script_of : Line → Script
 script_of (Search file contest nodes floor) = search file contest (record { nodes = nodes; floor = floor })
 script_of (Tabulate file contest) = tabulate file contest
+script_of (Check ballots assertions contest nodes) = check ballots assertions contest nodes
 
 -- A line, or words that are none, may come to this.
 abbrev pub MayCome : Readings → Option Line → Outcome → Type 0

@@ -4,12 +4,15 @@ pub mod Script
 pub mod Contest
 pub mod Search
 pub mod Tabulate
+pub mod Check
 pub mod Confirmation
+pub mod Acceptance
 pub mod Answers
 pub mod Ends
 pub mod Accounts
 pub mod Said
 pub mod Found
+pub mod Judged
 pub mod Promises
 pub mod Story
 pub mod Laws

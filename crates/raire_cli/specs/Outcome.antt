@@ -12,12 +12,14 @@ pub data Kind : Type 0 where
   Tie : Kind
   Spent : Kind
   FullCount : Kind
+  Differs : Kind
 
 abbrev pub status_of : Kind → ℕ
 status_of Done = 0
 status_of Tie = 3
 status_of Spent = 4
 status_of FullCount = 5
+status_of Differs = 6
 
 -- what a command comes to once it has read its files: a text for `out`, or what is wrong with a file
 pub data Verdict : Type 0 where

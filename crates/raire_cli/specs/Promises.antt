@@ -1,7 +1,7 @@
 -- What `run` promises by its status.
 use Rattle.std.specs.Prelude.{◌≡◌, ◌⊎◌, ◌≤◌, ℕ, List, Option, None, Some, IfSome, length}
 use Rattle.desk.specs.Desk.{File}
-use Rattle.raire_cli.specs.Outcome.{Outcome, Kind, Done, Tie, Spent, FullCount, status_of, Verdict, Answered, Refused, read_fault, out_of_memory}
+use Rattle.raire_cli.specs.Outcome.{Outcome, Kind, Done, Tie, Spent, FullCount, Differs, status_of, Verdict, Answered, Refused, read_fault, out_of_memory}
 use Rattle.raire_cli.specs.Script.{Readings, Reading, TooLong, Missing, ByDesk, AsHeld, AsTold, Reaches, Concludes, limit}
 use Rattle.ballot_reader.specs.Ballots.{BallotFile}
 use Rattle.command_line.specs.Line.{Line, line_of}
@@ -62,6 +62,11 @@ IsRefused words files = (name text : List ℕ) × ComesToVerdict words files (Re
 abbrev pub HasAnswer : List (List ℕ) → List File → Kind → Type 0
 HasAnswer words files kind = (text : List ℕ) × ComesToVerdict words files (Answered kind text)
 
+-- What a check comes to is left open by no budget: it has an answer, or is spent, exactly where that is what the files make it.
+pub record IsExact (words : List (List ℕ)) (files : List File) (status : ℕ) : Type 0 where
+  pub done : Exactly 0 status (HasAnswer words files Done)
+  pub spent : Exactly 4 status (HasAnswer words files Spent)
+
 -- The desk failed at a file of the line. Where the desk tells, all before it are held and gone on with.
 pub record IsReadFault (words : List (List ℕ)) (held : Option (List File)) (failed : Type 0) (out err : Writing) : Type 0 where
   pub cause : failed
@@ -104,6 +109,7 @@ pub record Statuses (words : List (List ℕ)) (held : Option (List File)) (faile
   pub tie : IfSome held (λ files. Exactly 3 status (HasAnswer words files Tie))
   pub spent : IfSome held (λ files. status ≡ 4 → HasAnswer words files Spent)
   pub full_count : IfSome held (λ files. ExactlyInBudget 5 status (HasAnswer words files FullCount))
+  pub differs : IfSome held (λ files. Exactly 6 status (HasAnswer words files Differs))
   pub read_fault : status ≡ 7 → IsReadFault words held failed out err
   pub write_fault : status ≡ 8 → IsWriteFault (ByDesk held failed) words out err
   -- it may come at any time

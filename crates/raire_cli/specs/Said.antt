@@ -1,13 +1,15 @@
 -- What the code's answers and refusals stand for.
 use Rattle.std.specs.Prelude.{◌≡◌, ◌⊎◌, ℕ, List, Result, Ok, Err, Vec, string_bytes, []}
 use Rattle.std.specs.declared.alloc.Global.{Global}
-use Rattle.raire_cli.specs.Outcome.{Outcome, Kind, Done, Tie, Spent, FullCount, Verdict, Answered, outcome, bad_words, out_of_memory}
+use Rattle.raire_cli.specs.Outcome.{Outcome, Kind, Done, Tie, Spent, FullCount, Differs, Verdict, Answered, outcome, bad_words, out_of_memory}
 use Rattle.ballot_reader.specs.Ballots.{BallotFile}
 use Rattle.ballot_reader.specs.Grammar as Grammar
-use Rattle.raire_cli.specs.Refusals.{refused}
+use Rattle.assertion_file.specs.Content.{Content}
+use Rattle.assertion_file.specs.Reading as Reading
+use Rattle.raire_cli.specs.Refusals.{refused, refused_file}
 use Rattle.raire_cli.specs.Script.{Readings, Bytes, MayStop}
 use Rattle.raire_cli.specs.declared.outcome.AnswerKind.{AnswerKind}
-use Rattle.raire_cli.specs.declared.outcome.AnswerKind.TheVariants.{Done as DoneKind, Tie as TieKind, Spent as SpentKind, FullCount as FullCountKind}
+use Rattle.raire_cli.specs.declared.outcome.AnswerKind.TheVariants.{Done as DoneKind, Tie as TieKind, Spent as SpentKind, FullCount as FullCountKind, Differs as DiffersKind}
 use Rattle.raire_cli.specs.declared.outcome.RefusalKind.{RefusalKind}
 use Rattle.raire_cli.specs.declared.outcome.RefusalKind.TheVariants.{Input, ReadFault, TooLong, Missing}
 use Rattle.raire_cli.specs.declared.outcome.Answer.{Answer}
@@ -19,6 +21,7 @@ kind_of DoneKind = Done
 kind_of TieKind = Tie
 kind_of SpentKind = Spent
 kind_of FullCountKind = FullCount
+kind_of DiffersKind = Differs
 
 abbrev pub code_of : RefusalKind → ℕ
 code_of Input = 2
@@ -53,7 +56,13 @@ IsOrMemory defined outcome = (outcome ≡ defined) ⊎ (outcome ≡ out_of_memor
 abbrev pub IsOneOrMemory : (Verdict → Type 0) → Outcome → Type 0
 IsOneOrMemory verdicts due = ((verdict : Verdict) × verdicts verdict × (due ≡ outcome verdict)) ⊎ (due ≡ out_of_memory)
 
--- a file's ballots, or its refusal
+-- what a file says, or its refusal, which is told so
+abbrev pub IsReadAs : {A Why : Type 0} → (Why → Verdict) → Result A Why → Result A Refusal → Type 0
+IsReadAs told read (Ok value) = read ≡ Ok value
+IsReadAs {A} {Why} told read (Err refusal) = ((why : Why) × (read ≡ Err why) × (due_refusal refusal ≡ outcome (told why))) ⊎ (due_refusal refusal ≡ out_of_memory)
+
 abbrev pub IsBallotsOf : List ℕ → Result BallotFile Grammar.Refusal → Result BallotFile Refusal → Type 0
-IsBallotsOf name read (Ok ballots) = read ≡ Ok ballots
-IsBallotsOf name read (Err refusal) = ((why : Grammar.Refusal) × (read ≡ Err why) × (due_refusal refusal ≡ outcome (refused name why))) ⊎ (due_refusal refusal ≡ out_of_memory)
+IsBallotsOf name = IsReadAs (refused name)
+
+abbrev pub IsAssertionsOf : List ℕ → Result Content Reading.Refusal → Result Content Refusal → Type 0
+IsAssertionsOf name = IsReadAs (refused_file name)

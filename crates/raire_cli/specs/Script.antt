@@ -85,8 +85,3 @@ IsBudgeted status = (status ≡ 0) ⊎ (status ≡ 4) ⊎ (status ≡ 5)
 -- a budget made the one end otherwise than the other
 abbrev pub OneIsSpent : Outcome → Outcome → Type 0
 OneIsSpent due other = IsBudgeted due.status × IsBudgeted other.status × ((due.status ≡ 4) ⊎ (other.status ≡ 4))
-
--- A script comes to one end, but that a search may be spent where it might have had its answer.
-abbrev pub IsDetermined : Script → Type 0
-IsDetermined (Ends verdicts) = (v w : Verdict) → verdicts v → verdicts w → (v ≡ w) ⊎ OneIsSpent (outcome v) (outcome w)
-IsDetermined (Read name next) = (bytes : List ℕ) → IsDetermined (next bytes)

@@ -15,7 +15,7 @@ use Rattle.report.specs.Texts.{order_text}
 use Rattle.raire_cli.specs.declared.commands.search.Terms.{Terms}
 use Rattle.raire_cli.specs.Contest.{candidate_count, IsWon, IsOther, HasTie}
 use Rattle.raire_cli.specs.Refusals.{refused}
-use Rattle.raire_cli.specs.Outcome.{Done, Tie, Spent, FullCount, Verdict, Answered, Refused}
+use Rattle.raire_cli.specs.Outcome.{Done, Tie, Spent, FullCount, Differs, Verdict, Answered, Refused}
 use Rattle.raire_cli.specs.Script.{Script, Read, Ends}
 
 -- ---- the certificate
@@ -122,6 +122,7 @@ Finds terms ballots (Answered Done text) = HasCertificate terms ballots text
 Finds terms ballots (Answered Tie text) = HasTie ballots text
 Finds terms ballots (Answered Spent text) = HasSpent terms ballots text
 Finds terms ballots (Answered FullCount text) = HasFullCount terms ballots text
+Finds terms ballots (Answered Differs text) = ⊥
 Finds terms ballots (Refused name text) = ⊥
 
 -- ---- the command

@@ -6,7 +6,7 @@ use Rattle.ballot_reader.specs.Grammar.{Refusal, ballots_of}
 use Rattle.report.specs.Tabulations.{tabulation_text}
 use Rattle.raire_cli.specs.Contest.{IsWon, HasTie}
 use Rattle.raire_cli.specs.Refusals.{refused}
-use Rattle.raire_cli.specs.Outcome.{Done, Tie, Spent, FullCount, Verdict, Answered, Refused}
+use Rattle.raire_cli.specs.Outcome.{Done, Tie, Spent, FullCount, Differs, Verdict, Answered, Refused}
 use Rattle.raire_cli.specs.Script.{Script, Read, Ends}
 
 -- the lines of a contest without a tie
@@ -20,6 +20,7 @@ Tabulates ballots (Answered Done text) = HasRounds ballots text
 Tabulates ballots (Answered Tie text) = HasTie ballots text
 Tabulates ballots (Answered Spent text) = ⊥
 Tabulates ballots (Answered FullCount text) = ⊥
+Tabulates ballots (Answered Differs text) = ⊥
 Tabulates ballots (Refused name text) = ⊥
 
 abbrev pub TabulatesIn : List ℕ → Result BallotFile Refusal → Verdict → Type 0

@@ -4,12 +4,14 @@ ghost use Rattle.std.specs.Io.KnownBytes.{Keeps};
 ghost use Rattle.desk.specs.Count.{Rose};
 ghost use Rattle.assertion_file.specs.Text.{assertion_file_text};
 ghost use Rattle.assertion_file.specs.Content.{Content};
+ghost use Rattle.raire_cli.specs.Acceptance.{AsksForCheck, HoldsAsked};
 ghost use Rattle.raire_cli.specs.Accounts.{IsAccountedFor};
+ghost use Rattle.raire_cli.specs.Check.{yes_text};
 ghost use Rattle.raire_cli.specs.Confirmation.{AsksForSearch, ConfirmsAsked, GivesReason};
 ghost use Rattle.raire_cli.specs.Script.{ByDesk};
 ghost use Rattle.command_line.specs.Words.{texts};
 ghost use Rattle.raire_cli.specs.Story.{Story};
-ghost use Rattle.raire_cli.specs.Promises.{IsUndone, IsQuiet, IsAnswered, Statuses, IsForErr, IsAccepted};
+ghost use Rattle.raire_cli.specs.Promises.{IsUndone, IsQuiet, IsAnswered, Statuses, IsForErr, IsAccepted, IsExact};
 ghost use Rattle.command_line.specs.Line.{line_of};
 ghost use Rattle.raire_cli.specs.Answers.{IsDue};
 ghost use Rattle.raire_cli.specs.Ends.{writing, Took};
@@ -32,6 +34,7 @@ use std::alloc::Global;
 /// | 3 | the tabulation has a tie | `out` |
 /// | 4 | the budget of nodes is spent | `out` |
 /// | 5 | the margin is below the floor, a full count is called for | `out` |
+/// | 6 | the assertion file doesn't hold of the ballots | `out` |
 /// | 7 | a file could not be read | `err` |
 /// | 8 | a text could not be written | a part of it |
 /// | 9 | memory could not be had | `err` |
@@ -60,6 +63,13 @@ pub fn run<R: AllocGlobal, D: Desk, O: Sink, E: Sink, G: Gate + Sync>(
     ensures complete { IfSome (D.held desk.old) (λ files. IsAccepted (texts words.now) files →
         IsQuiet (Rose (D.faults desk.old) (D.faults desk.new)) (writing O.Sink out.old out.new) (writing E.Sink err.old err.new) →
         (result ≡ 0) ⊎ (result ≡ 5) ⊎ (result ≡ 9)) }
+
+    // Status 0 of a check: its assertion file holds of the ballots, and `out` has `yes`, the number of its assertions and its margin.
+    ensures accepted { IfSome (D.held desk.old) (λ files. AsksForCheck (texts words.now) → result ≡ 0 → (file : Content)
+        × HoldsAsked (texts words.now) files file × Took (writing O.Sink out.old out.new) (yes_text file)) }
+
+    // Of a check also 0 and 4 come exactly where that is what the files make it.
+    ensures exact { IfSome (D.held desk.old) (λ files. AsksForCheck (texts words.now) → IsExact (texts words.now) files result) }
 
     // Where the desk tells its files and no count of faults rose: want of memory, or the defined status and texts.
     ensures answer { IfSome (D.held desk.old) (λ files.

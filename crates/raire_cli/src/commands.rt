@@ -7,7 +7,9 @@ ghost use Rattle.raire_cli.specs.Accounts.{IsAccountedFor};
 ghost use Rattle.raire_cli.specs.Script.{ByDesk};
 ghost use Rattle.raire_cli.specs.Said.{due};
 
+mod check;
 mod contest;
+mod differences;
 mod found;
 mod search;
 mod tabulate;
@@ -47,5 +49,18 @@ pub(crate) fn answer_command<D: Desk, G: Gate>(
         Command::Tabulate { file, contest } => {
             tabulate::tabulate(alloc, desk, file.as_str(), contest.as_ref())
         }
+        Command::Check {
+            ballots,
+            assertions,
+            contest,
+            nodes,
+        } => check::check(
+            alloc,
+            desk,
+            ballots.as_str(),
+            assertions.as_str(),
+            contest.as_ref(),
+            *nodes,
+        ),
     }
 }

@@ -2,6 +2,7 @@
 ghost use Rattle.std.specs.Prelude.{◌≡◌, ◌≤◌, ◌++◌, IfOk, string_bytes, codes};
 ghost use Rattle.desk.specs.Count.{Rose};
 ghost use Rattle.raire_cli.specs.Script.{ByDesk};
+ghost use Rattle.raire_cli.specs.Refusals.{broken_at};
 ghost use Rattle.raire_cli.specs.Outcome.{line, said_of};
 ghost use Rattle.raire_cli.specs.Accounts.{IsAccountedFor};
 ghost use Rattle.raire_cli.specs.Said.{code_of, due_refusal, IsRead, IsOrMemory, status_so_far};
@@ -38,6 +39,22 @@ pub(crate) fn refuse(alloc: Global, kind: RefusalKind, file: &str, text: &str) -
         Ok(line) => Refusal::Line(kind, line),
         Err(_) => Refusal::Memory,
     }
+}
+
+/// A refusal by a rule, at the place of a file that breaks it.
+pub(crate) fn refuse_at(alloc: Global, file: &str, rule: &str, at: u64) -> Refusal
+    ensures { IsOrMemory (said_of 2 file.now (broken_at rule.now at)) (due_refusal result) }
+{
+    match broken_at(alloc, rule, at) {
+        Ok(text) => refuse(alloc, RefusalKind::Input, file, text.as_str()),
+        Err(_) => Refusal::Memory,
+    }
+}
+
+fn broken_at(alloc: Global, rule: &str, at: u64) -> Result<String, AllocError>
+    ensures { IfOk result (λ text. string_bytes text ≡ broken_at rule.now at) }
+{
+    format!(in alloc; "{rule} at {at}")
 }
 
 fn line_of_file(alloc: Global, file: &str, text: &str) -> Result<String, AllocError>

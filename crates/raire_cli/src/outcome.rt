@@ -14,6 +14,7 @@ pub(crate) enum AnswerKind {
     Tie,
     Spent,
     FullCount,
+    Differs,
 }
 
 impl AnswerKind {
@@ -25,6 +26,7 @@ impl AnswerKind {
             AnswerKind::Tie => 3,
             AnswerKind::Spent => 4,
             AnswerKind::FullCount => 5,
+            AnswerKind::Differs => 6,
         }
     }
 }

@@ -1,14 +1,14 @@
-// The contest that a command is about: its ballots, and the text of its first tie.
-ghost use Rattle.std.specs.Prelude.{◌≡◌, ◌≤◌, ◌++◌, length, IfOk, string_bytes, codes, option_copied};
-ghost use Rattle.std.specs.Fmt.{decimal};
+// The contest that a command is about: its ballots, an assertion file on it, and the text of its first tie.
+ghost use Rattle.std.specs.Prelude.{◌≡◌, ◌≤◌, length, IfOk, string_bytes, option_copied};
 ghost use Rattle.irv_base.specs.declared.limits.TheConstants.{ROOM};
+ghost use Rattle.assertion_file.specs.Reading.{assertion_file_of};
 ghost use Rattle.ballot_reader.specs.Grammar.{ballots_of};
-ghost use Rattle.raire_cli.specs.Outcome.{said_of};
 ghost use Rattle.raire_cli.specs.Contest.{tie_lines, tie_text};
-ghost use Rattle.raire_cli.specs.Said.{due_refusal, IsBallotsOf, IsOrMemory};
+ghost use Rattle.raire_cli.specs.Said.{IsAssertionsOf, IsBallotsOf};
 
-use crate::files::refuse;
-use crate::outcome::{Refusal, RefusalKind};
+use crate::files::refuse_at;
+use crate::outcome::Refusal;
+use assertion_file::{AssertionFile, FileFault, read_file};
 use ballot_reader::{BallotFault, Ballots, read_ballots};
 use irv_base::{CandSet, Memory, Name};
 use report::set_text;
@@ -25,25 +25,29 @@ pub(crate) fn ballots_in(
 {
     match read_ballots(alloc, bytes, contest) {
         Ok(ballots) => Ok(ballots),
-        Err(BallotFault::Refused { rule, at }) => Err(refuse_at(alloc, file, rule.name(), at)),
+        Err(BallotFault::Refused { rule, at }) => Err(refuse_at(
+            alloc,
+            file,
+            rule.name(),
+            u64::from(at),
+        )),
         Err(BallotFault::Memory) => Err(Refusal::Memory),
     }
 }
 
-// A refusal by a rule, at a record of a file.
-fn refuse_at(alloc: Global, file: &str, rule: &str, at: u32) -> Refusal
-    ensures { IsOrMemory (said_of 2 file.now (rule.now ++ codes " at " ++ decimal at)) (due_refusal result) }
+/// What the bytes of an assertion file say, or the rule that refuses them.
+pub(crate) fn assertions_in(
+    alloc: Global,
+    file: &str,
+    bytes: &[u8],
+) -> Result<AssertionFile, Refusal>
+    ensures { IsAssertionsOf file.now (assertion_file_of bytes.now) result }
 {
-    match place(alloc, rule, at) {
-        Ok(text) => refuse(alloc, RefusalKind::Input, file, text.as_str()),
-        Err(_) => Refusal::Memory,
+    match read_file(alloc, bytes) {
+        Ok(assertions) => Ok(assertions),
+        Err(FileFault::Refused { rule, at }) => Err(refuse_at(alloc, file, rule.name(), at)),
+        Err(FileFault::Memory) => Err(Refusal::Memory),
     }
-}
-
-fn place(alloc: Global, rule: &str, at: u32) -> Result<String, AllocError>
-    ensures { IfOk result (λ text. string_bytes text ≡ rule.now ++ codes " at " ++ decimal at) }
-{
-    format!(in alloc; "{rule} at {at}")
 }
 
 /// The lines that tell of a tie: its round, those who share the least tally, and that tally.

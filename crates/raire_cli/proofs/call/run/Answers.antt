@@ -1,5 +1,5 @@
 -- Each clause follows from the story of the call.
-use Rattle.raire_cli.proofs.Clauses.{headline_clause, full_count_clause, quiet_clause, answer_clause, statuses_clause, complete_clause, kept_clause}
+use Rattle.raire_cli.proofs.Clauses.{headline_clause, full_count_clause, accepted_clause, exact_clause, quiet_clause, answer_clause, statuses_clause, complete_clause, kept_clause}
 use Rattle.raire_cli.proofs.call.run.Goals as goal
 
 pub returns-clause-headline : goal.returns-clause-headline
@@ -7,6 +7,12 @@ returns-clause-headline g c = headline_clause c.perform.ensures.story
 
 pub returns-clause-full_count : goal.returns-clause-full_count
 returns-clause-full_count g c = full_count_clause c.perform.ensures.story
+
+pub returns-clause-accepted : goal.returns-clause-accepted
+returns-clause-accepted g c = accepted_clause c.perform.ensures.story
+
+pub returns-clause-exact : goal.returns-clause-exact
+returns-clause-exact g c = exact_clause c.perform.ensures.story
 
 pub returns-clause-answer : goal.returns-clause-answer
 returns-clause-answer g c = quiet_clause c.perform.ensures.story

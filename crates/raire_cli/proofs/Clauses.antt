@@ -23,7 +23,7 @@ use Rattle.assertion_file.specs.Content.{Content}
 use Rattle.assertion_file.specs.Text.{assertion_file_text}
 use Rattle.raire_cli.proofs.Searches.{found_in-one, won-certificate, winner-one}
 use Rattle.raire_cli.proofs.Tabulates.{tabulated_in-one}
-use Rattle.raire_cli.proofs.TwoAtLeast.{two_read}
+use Rattle.raire_cli.proofs.ReadBallots.{ballots_fit}
 use Rattle.raire_cli.proofs.Accepted.{held_of}
 use Rattle.raire_cli.proofs.Checks.{check-one}
 use Rattle.raire_cli.proofs.Headline.{of_answer, gives_reason}
@@ -327,7 +327,7 @@ in_budget words files ok winner w c other =
 accepted_answer : (words : List (List ℕ)) (files : List File) → IsAccepted words files → HasAnswer words files Done ⊎ HasAnswer words files FullCount
 accepted_answer words files ok =
     let asked = ok.asks.search in
-    let (file, is) = won-certificate ok.ballots ok.winner ok.asks.won (two_read ok.asks.bytes asked.contest ok.ballots ok.asks.accepted) in
+    let (file, is) = won-certificate ok.ballots ok.winner ok.asks.won (ballots_fit ok.asks.bytes asked.contest ok.ballots ok.asks.accepted).fewest in
     let budget = in_budget words files ok is.winner (winner-one ok.ballots is.winner ok.winner is.won ok.asks.won) in
     elim (leb_tells asked.floor file.margin) [
       | inl (test, le) ↦

@@ -104,7 +104,7 @@ true-margin records a holds =
     let more = ltb-true (votes_against records a) (votes_for records a) holds in
     record { some = omega (arith, more); most = margin-le records a }
 
-claim-sound : (n winner : ℕ) (records : List (List ℕ)) (claim : Claim) → Member claim (certificate_claims n records winner) → IsSoundClaim n (length records) claim
+pub claim-sound : (n winner : ℕ) (records : List (List ℕ)) (claim : Claim) → Member claim (certificate_claims n records winner) → IsSoundClaim n (length records) claim
 claim-sound n winner records claim m =
     let (a, k, e) = from_map (claim_of records) claim (certificate_assertions n records winner) m in
     subst (IsSoundClaim n (length records)) e (record {
@@ -112,7 +112,7 @@ claim-sound n winner records claim m =
       margin = true-margin records a (from_list_all (is_true records) k (certificate_is_true n winner records));
     })
 
-best-margin : (n winner : ℕ) (records : List (List ℕ)) → winner < n → 1 < n → 1 ≤ best_margin n winner (low n records) → IsMargin (length records) (best_margin n winner (low n records))
+pub best-margin : (n winner : ℕ) (records : List (List ℕ)) → winner < n → 1 < n → 1 ≤ best_margin n winner (low n records) → IsMargin (length records) (best_margin n winner (low n records))
 best-margin n winner records below two positive =
     let (a, k, e) = certificate_has_best n winner records below two positive in
     let le = margin-le records a in

@@ -18,7 +18,7 @@ use Rattle.raire_cli.specs.Answers.{MayCome}
 use Rattle.raire_cli.proofs.Statuses.{status_in, differ, not_so, stopped}
 use Rattle.raire_cli.proofs.Checks.{check_never_full}
 use Rattle.raire_cli.proofs.Searches.{certificate-confirms, confirms-least}
-use Rattle.raire_cli.proofs.TwoAtLeast.{two_read}
+use Rattle.raire_cli.proofs.ReadBallots.{ballots_fit}
 
 pub held_whole : (held : Option (List ℕ)) (bytes : List ℕ) → Bytes bytes ≡ reading_of held → held ≡ Some bytes
 held_whole None bytes e = cc
@@ -51,7 +51,7 @@ module _ (words : List (List ℕ)) (files : List File) (asked : AsksForSearch wo
           records = ap (λ (f : Content). f.records) c.is;
           named = ap (λ (f : Content). f.winner) c.is;
           floor = has.floor;
-          confirms = certificate-confirms ballots has.file (two_read bytes asked.contest ballots is) c;
+          confirms = certificate-confirms ballots has.file (ballots_fit bytes asked.contest ballots is).fewest c;
         },
         out ∙ has.shown,
       )
@@ -60,7 +60,7 @@ module _ (words : List (List ℕ)) (files : List File) (asked : AsksForSearch wo
       HasFullCount terms ballots text → GivesReason words files text
   reasoned bytes ballots text held is has =
       let c = has.is in
-      let confirms = certificate-confirms ballots has.file (two_read bytes asked.contest ballots is) c in
+      let confirms = certificate-confirms ballots has.file (ballots_fit bytes asked.contest ballots is).fewest c in
       record {
         ballots = ballots;
         winner = c.winner;

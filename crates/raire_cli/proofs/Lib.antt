@@ -1,7 +1,7 @@
 mod Scripts
 mod Statuses
 mod Steps
-mod TwoAtLeast
+mod ReadBallots
 mod Searches
 mod Tabulates
 mod Checks
@@ -12,4 +12,5 @@ mod ReadFiles
 mod Found
 mod Ended
 mod Nodes
+mod Printed
 mod Clauses

@@ -1,4 +1,5 @@
-//! Worked cases of the top call, over files and sinks in memory, and a comparison with a plain program.
+//! Worked cases of the top call, over files and sinks in memory, assertion files of one contest that are checked, and a
+//! comparison with a plain program.
 #![tactic(auto)]
 
 #[cfg(test)]

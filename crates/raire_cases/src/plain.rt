@@ -1,5 +1,5 @@
 // The search by the definitions alone: every assertion, every suffix and every order of a contest, in full. It shares
-// no code with the program that it is compared with.
+// candidates, sets and rankings with the program that it is compared with, and no other code.
 
 use irv_base::{CandSet, Candidate, Ranking};
 use std::alloc::{AllocError, Global};

@@ -1,16 +1,15 @@
 -- What a search prints, a check accepts.
-use Rattle.std.proofs.Common.{◌≡◌, ℕ, ◌<◌, ◌≤◌, true, List, length, All, Option, Some, Ok, refl, sym, ap, subst, arith, ◌∙◌}
+use Rattle.std.proofs.Common.{◌≡◌, ℕ, true, List, length, Option, Some, Ok, refl, sym, ap, subst, arith, ◌∙◌}
 use Rattle.irv_base.specs.Names.{Id}
 use Rattle.irv_base.specs.Orders.{is_order}
 use Rattle.assertions.specs.Certificate.{certificate_claims}
-use Rattle.assertions.specs.Hardness.{low}
 use Rattle.assertions.specs.Suffixes.{IsAlternative}
 use Rattle.assertions.proofs.Alternatives.{order_is}
 use Rattle.assertions.proofs.Endings.{alternative_orders_are}
 use Rattle.assertions.proofs.Positive.{best_is_positive}
 use Rattle.ballot_reader.specs.Ballots.{BallotFile}
 use Rattle.ballot_reader.specs.Grammar.{ballots_of}
-use Rattle.assertion_file.specs.Content.{Content, IsMargin, IsSound, IsSoundClaim, HasNames}
+use Rattle.assertion_file.specs.Content.{Content, IsMargin, IsSound, IsSoundClaim}
 use Rattle.assertion_file.specs.Reading.{assertion_file_of}
 use Rattle.assertion_file.specs.Text.{assertion_file_text}
 use Rattle.assertion_file.proofs.Printed.{printed_reads_back}
@@ -88,8 +87,7 @@ printed_is_accepted terms bytes asked ballots text read has =
     let c = has.is in
     let file = certificate_of ballots c.winner c.order in
     let known = accepted ballots fit c.winner c.won c.order c.least terms.nodes has.budget in
-    let same : text ≡ assertion_file_text file = has.shown ∙ ap assertion_file_text c.is in
-    (
+    let same : text ≡ assertion_file_text file = has.shown ∙ ap assertion_file_text c.is in (
       file,
       ap assertion_file_of same ∙ reads ballots fit c.winner c.won c.order c.least,
       (Ok Accepted, known, refl),

@@ -1,6 +1,5 @@
 -- What is read of a ballot file: how many candidates and records there are, and that ids keep their rule.
-use Rattle.std.proofs.Common.{◌≡◌, ℕ, zero, suc, ◌<◌, ◌≤◌, ◌+◌, ◌++◌, Bool, true, false, not, ◌&&◌, ◌||◌, nat_le, nat_lt, List, [], ◌∷◌, length, map, drop, inl, inr, Option, None, Some, Result, Ok, Err, if◌then◌else◌, refl, sym, ap, subst, arith, leb-true, ltb-true, length-append, codes}
-use Rattle.std.specs.Prelude.{filter}
+use Rattle.std.proofs.Common.{◌≡◌, ℕ, zero, suc, ◌<◌, ◌≤◌, ◌+◌, ◌++◌, Bool, true, false, not, ◌||◌, nat_le, nat_lt, List, [], ◌∷◌, length, map, drop, inl, inr, Option, None, Some, Result, Ok, Err, if◌then◌else◌, refl, ap, subst, arith, leb-true, ltb-true, length-append, codes}
 use Rattle.std.specs.List.{list_all, list_any}
 use Rattle.std.proofs.lemmas.Bool.{and_parts}
 use Rattle.std.proofs.lemmas.List.{length-map}
@@ -68,7 +67,7 @@ one-more : (earlier : List Contest) (contest : Contest) → AllNamed earlier →
 one-more earlier contest h last c m =
     elim (member-append_cases earlier (contest ∷ []) m) [
       | inl k ↦ h c k
-      | inr k ↦ elim (member_cases k) [ | inl same ↦ subst IsNamed same last | inr none ↦ absurd (member_nil none) ]
+      | inr k ↦ elim (member_cases k) [ inl same ↦ subst IsNamed same last | inr none ↦ absurd (member_nil none) ]
     ]
 
 all-named : (n : ℕ) (earlier : List Contest) (at : ℕ) (rows : List Fields) (contests : List Contest) → contests_in n earlier at rows ≡ Ok contests → AllNamed earlier → AllNamed contests

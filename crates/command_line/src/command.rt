@@ -34,7 +34,7 @@ pub enum Command {
         file: String,
         contest: Option<Name>,
     },
-    /// Whether an assertion file confirms the winner of a contest.
+    /// Whether an assertion file holds of the ballots of a contest.
     Check {
         ballots: String,
         assertions: String,

@@ -1,4 +1,4 @@
-//! What an answer of `covered` says. Each law holds of every value that it names, and has no code.
+//! What an answer of `covered` says, and one of `check`. Each law holds of every value that it names, and has no code.
 ghost use Rattle.cover_checker.specs.Laws.{CoveredIsSound, CoveredIffCovers, StandsIsLeast, AnswerIsOne, AcceptedIffHolds, AcceptedMarginIsBest, CertificateIsAccepted};
 
 /// `Covered` alone proves the winner: for every list of records of which all assertions of the list are true, every

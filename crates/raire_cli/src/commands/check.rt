@@ -1,7 +1,6 @@
 // `check BALLOTS ASSERTIONS`: whether an assertion file holds of a ballot file's contest, or the first difference.
 ghost use Rattle.std.specs.Prelude.{◌≡◌, ◌≤◌, ◌<◌, Ok, length, option_copied};
 ghost use Rattle.desk.specs.Count.{Rose};
-ghost use Rattle.ballot_reader.specs.Grammar.{ballots_of};
 ghost use Rattle.assertion_file.specs.Ids.{id_of};
 ghost use Rattle.assertion_file.specs.Reading.{assertion_file_of};
 ghost use Rattle.raire_cli.specs.Accounts.{IsAccountedFor};

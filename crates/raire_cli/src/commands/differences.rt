@@ -3,7 +3,6 @@ ghost use Rattle.std.specs.Prelude.{◌≡◌, ◌<◌, ◌≤◌, length, IfOk,
 ghost use Rattle.irv_base.specs.Orders.{is_order};
 ghost use Rattle.irv_base.specs.declared.limits.TheConstants.{ROOM};
 ghost use Rattle.assertions.specs.Assertions.{is_proper};
-ghost use Rattle.assertion_file.specs.Ids.{id_of};
 ghost use Rattle.report.specs.Texts.{order_text, assertion_text};
 ghost use Rattle.raire_cli.specs.Check.{yes_lines, no_line, spent_at, winner_is, has_margin, stands, smallest_is, is_refuted_by};
 

@@ -15,6 +15,7 @@ import tempfile
 
 import compare
 import plain
+from draws import Draws
 
 EXAMPLES = os.path.join(os.path.dirname(os.path.abspath(__file__)), "..", "examples")
 BALLOTS = os.path.join(EXAMPLES, "row1.raire")
@@ -457,7 +458,7 @@ def printed_of(contest):
 
 def failures_of_changes(program, folder, files):
     ballots, path = os.path.join(folder, "ballots.raire"), os.path.join(folder, "assertions.json")
-    draws, failed, statuses = compare.Draws(21), 0, collections.Counter()
+    draws, failed, statuses = Draws(21), 0, collections.Counter()
     for number in range(files):
         if number % 5 == 0:
             names = [str(11 + c) for c in range(2 + number // 5 % 5)]

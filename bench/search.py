@@ -16,21 +16,14 @@ import tempfile
 import time
 
 TOP = os.path.dirname(os.path.dirname(os.path.abspath(__file__)))
+sys.path.append(os.path.join(TOP, "acceptance"))
+
+from draws import Draws  # noqa: E402
+
 PROGRAM = os.path.join(TOP, "crates/raire/out/raire")
 
 REALISTIC = [(2, 1_000_000), (4, 10_000), (10, 200_000), (14, 940_000)]
 NEAR_EQUAL = [12, 15, 20]
-
-
-class Draws:
-    """The generator of Knuth's MMIX."""
-
-    def __init__(self, state):
-        self.state = state
-
-    def below(self, n):
-        self.state = (self.state * 6364136223846793005 + 1442695040888963407) % 2**64
-        return (self.state >> 33) % n
 
 
 def pool(draws, weights, size, most):

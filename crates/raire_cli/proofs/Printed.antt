@@ -60,7 +60,7 @@ module _ (ballots : BallotFile) (fit : IsFit ballots) (winner : ℕ) (won : IsWo
     contest = refl;
     candidates = refl;
     records = refl;
-    winner = record { order = won.order; permutation = won.permutation; tabulated = won.tabulated; elects = won.elects };
+    winner = won;
     margin = refl;
     order = least;
     claims = refl;

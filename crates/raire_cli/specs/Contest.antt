@@ -1,10 +1,10 @@
 -- What a contest has: a first tie, or a winner.
-use Rattle.std.specs.Prelude.{◌≡◌, ◌≢◌, ◌≤◌, ◌<◌, ℕ, true, List, ◌++◌, length, codes}
+use Rattle.std.specs.Prelude.{◌≡◌, ◌≢◌, ◌≤◌, ◌<◌, ℕ, List, ◌++◌, length, codes}
 use Rattle.std.specs.Fmt.{decimal}
 use Rattle.irv_base.specs.Names.{Id}
-use Rattle.irv_base.specs.Orders.{is_order, Elects}
-use Rattle.irv_base.specs.Tabulation.{is_tabulated, IsFirstTie}
+use Rattle.irv_base.specs.Tabulation.{IsFirstTie}
 use Rattle.ballot_reader.specs.Ballots.{BallotFile}
+use Rattle.cover_checker.specs.Outcomes.{IsWinner}
 use Rattle.report.specs.Texts.{set_text}
 
 abbrev pub candidate_count : BallotFile → ℕ
@@ -13,11 +13,8 @@ candidate_count ballots = length ballots.candidates
 -- ---- a winner
 
 -- the contest has no tie, and this winner
-pub record IsWon (ballots : BallotFile) (winner : ℕ) : Type 0 where
-  pub order : List ℕ
-  pub permutation : is_order (candidate_count ballots) order ≡ true
-  pub tabulated : is_tabulated ballots.rankings order ≡ true
-  pub elects : Elects order winner
+abbrev pub IsWon : BallotFile → ℕ → Type 0
+IsWon ballots winner = IsWinner (candidate_count ballots) ballots.rankings winner
 
 -- a candidate who isn't the winner
 pub record IsOther (ballots : BallotFile) (winner c : ℕ) : Type 0 where

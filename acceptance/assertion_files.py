@@ -16,6 +16,7 @@ import tempfile
 import compare
 import plain
 from draws import Draws
+from limits import DEFAULT_NODES, MOST_CANDIDATES, MOST_RECORDS
 
 EXAMPLES = os.path.join(os.path.dirname(os.path.abspath(__file__)), "..", "examples")
 BALLOTS = os.path.join(EXAMPLES, "row1.raire")
@@ -114,11 +115,11 @@ DIFFERENT = [
     ("another contest", contest(b'"2"'), 6, "no: contest differs"),
     ("other candidates", PRINTED.replace(b'"3"', b'"4"'), 6, "no: contest differs"),
     ("candidates in another order", put(LIST, b'"candidates":["1","3","2"]'), 6, "no: contest differs"),
-    ("twenty candidates", put(LIST, b'"candidates":' + ids(20), ORDER, b'"order":' + ids(20)), 6, "no: contest differs"),
+    ("as many candidates as may be", put(LIST, b'"candidates":' + ids(MOST_CANDIDATES), ORDER, b'"order":' + ids(MOST_CANDIDATES)), 6, "no: contest differs"),
     ("an id of 64 bytes", contest(b'"%s"' % (b"x" * 64)), 6, "no: contest differs"),
     ("a record less", records(b"11"), 6, "no: contest differs"),
     ("a record more", records(b"13"), 6, "no: contest differs"),
-    ("a million records", records(b"1000000"), 6, "no: contest differs"),
+    ("as many records as may be", records(b"%d" % MOST_RECORDS), 6, "no: contest differs"),
     ("an assertion that isn't true", claims(NEB, NEN_2, NEN_3, with_member(NEB, winner="1")), 6, "no: assertion 4 has margin -2"),
     ("a larger margin than the smallest", put(MARGIN, b'"margin":2,"order"'), 6, "no: smallest margin is 1"),
     ("the contest comes before the winner", put(RECORDS, b'"records":11', WINNER, b'"winner":"1"}\n'), 6, "no: contest differs"),
@@ -203,7 +204,7 @@ REFUSED = [
     ("a deletion in an id", contest(b'"1\\u007f"'), "F4 at 0"),
     ("a NUL in an id", contest(b'"1\\u0000"'), "F4 at 0"),
     ("one candidate", put(LIST, b'"candidates":' + ids(1)), "F4 at 0"),
-    ("21 candidates", put(LIST, b'"candidates":' + ids(21), ORDER, b'"order":' + ids(21)), "F4 at 0"),
+    ("a candidate too many", put(LIST, b'"candidates":' + ids(MOST_CANDIDATES + 1), ORDER, b'"order":' + ids(MOST_CANDIDATES + 1)), "F4 at 0"),
     ("a candidate twice", put(LIST, b'"candidates":["1","2","3","1"]'), "F4 at 0"),
     ("a candidate's id that is none", put(LIST, b'"candidates":["1","2","3",""]'), "F4 at 0"),
     ("a winner who is no candidate", put(WINNER, b'"winner":"4"}\n'), "F4 at 0"),
@@ -226,7 +227,7 @@ REFUSED = [
     ("no one in a rest", rest(b"[]"), "F5 at 2"),
     ("a candidate twice in a rest", rest(b'["1","2","2"]'), "F5 at 2"),
     ("no records", records(b"0"), "F6 at 0"),
-    ("1,000,001 records", records(b"1000001"), "F6 at 0"),
+    ("a record too many", records(b"%d" % (MOST_RECORDS + 1)), "F6 at 0"),
     ("a margin of 0", put(MARGIN, b'"margin":0,"order"'), "F6 at 0"),
     ("a margin above the records", put(MARGIN, b'"margin":13,"order"'), "F6 at 0"),
     ("the file's members come before its assertions", put(LOSER, b'"loser":"4"', RECORDS, b'"records":0'), "F6 at 0"),
@@ -259,7 +260,7 @@ def answer(contest, path, data, nodes):
 def nodes_of(words):
     """The budget that these words give."""
     given = " ".join(words).replace("=", " ").split()
-    return int(given[given.index("--nodes") + 1]) if "--nodes" in given else plain.NODES
+    return int(given[given.index("--nodes") + 1]) if "--nodes" in given else DEFAULT_NODES
 
 
 def differs(shows, wanted, found, by):
@@ -469,7 +470,7 @@ def failures_of_changes(program, folder, files):
         data = changed(draws, contest, printed)
         with open(path, "wb") as file:
             file.write(data)
-        nodes = plain.NODES if draws.below(3) else 1 + draws.below(2 * contest.n)
+        nodes = DEFAULT_NODES if draws.below(3) else 1 + draws.below(2 * contest.n)
         wanted = answer(contest, path, data, nodes)
         statuses[wanted[0]] += 1
         shows = f"file {number}, {nodes} nodes, {names}, {rankings}, {data}"

@@ -9,6 +9,8 @@ import subprocess
 import sys
 import tempfile
 
+from limits import MOST_CANDIDATES, MOST_CONTESTS, MOST_LISTED, MOST_NAME_BYTES, MOST_RECORDS
+
 MARK = b"\xef\xbb\xbf"
 HEAD = b"1\nContest,1,3,1,2,3\n"
 BALLOTS = b"1,t_1,1\n1,t_2,1\n1,t_3,2\n1,t_4,1\n1,t_5,2,3\n1,t_6,3\n"
@@ -32,7 +34,7 @@ REFUSED = [
     ("no bytes", b"", "B1 at 1"),
     ("blank lines alone", b"\r\n  \r\n\t\n", "B1 at 1"),
     ("no contests", b"0\n", "B1 at 1"),
-    ("65 contests", contests(65), "B1 at 1"),
+    ("a contest too many", contests(MOST_CONTESTS + 1), "B1 at 1"),
     ("a word for a number", MARK + b'"one"\n' + HEAD[2:], "B1 at 1"),
     ("eleven digits", b"00000000001\n" + HEAD[2:], "B1 at 1"),
     ("a contest that isn't there", b"1\n", "B2 at 2"),
@@ -42,11 +44,11 @@ REFUSED = [
     ("a contest twice", b'2\r\nContest,1,2,1,2\r\n\r\n"Contest"," 1",2,1,2\r\n', "B2 at 3"),
     ("too few candidates", b"1\nContest,1,3,1,2", "B3 at 2"),
     ("no candidate", b'\n1\n\nContest,1,"0"\n', "B3 at 2"),
-    ("1,001 candidates", b"1\nContest,1,1001," + b",".join(b"%d" % c for c in range(1001)) + b"\n", "B3 at 2"),
+    ("a listed candidate too many", b"1\nContest,1,%d," % (MOST_LISTED + 1) + b",".join(b"%d" % c for c in range(MOST_LISTED + 1)) + b"\n", "B3 at 2"),
     ("one candidate is audited", b"1\nContest,1,1,1\n", "B3 at 2"),
-    ("21 candidates are audited", b"1\n  \nContest,1,21," + b",".join(b"%d" % c for c in range(21)) + b"\n", "B3 at 2"),
+    ("a candidate too many is audited", b"1\n  \nContest,1,%d," % (MOST_CANDIDATES + 1) + b",".join(b"%d" % c for c in range(MOST_CANDIDATES + 1)) + b"\n", "B3 at 2"),
     ("the range comes after all contests", b"2\nContest,1,1,1\nContest,2\n", "B2 at 3"),
-    ("an id of 65 bytes", b"1\nContest," + b"x" * 65 + b",2,1,2\n", "B4 at 2"),
+    ("an id that is too long", b"1\nContest," + b"x" * (MOST_NAME_BYTES + 1) + b",2,1,2\n", "B4 at 2"),
     ("a candidate twice", b'1\r\n\r\nContest,1,2,"1", 1\r\n', "B4 at 2"),
     ("a ballot without an id", HEAD + b"1,,1\n", "B4 at 3"),
     ("a byte above the range of ids", HEAD + b"1,t\xc3\xa9,1\n", "B4 at 3"),
@@ -66,8 +68,8 @@ REFUSED = [
     ("a ballot's id twice, once in quotes", HEAD + b'1,t_1,1\r\n\r\n1,"t_1",2\r\n', "B9 at 4"),
     ("twice comes before its preferences", HEAD + b"1,t_1,1\n1,t_1,9\n", "B9 at 4"),
     ("its id comes before its contest", HEAD + b"9,,1\n", "B4 at 3"),
-    ("1,000,001 ballots", many(1_000_001), "B10 at 1000003"),
-    ("1,000,001 ballots and blank lines", many(1_000_000).replace(b"\n1,t_9,", b"\n\n1,t_9,") + b"7\n", "B10 at 1000003"),
+    ("a ballot too many", many(MOST_RECORDS + 1), f"B10 at {MOST_RECORDS + 3}"),
+    ("a ballot too many and blank lines", many(MOST_RECORDS).replace(b"\n1,t_9,", b"\n\n1,t_9,") + b"7\n", f"B10 at {MOST_RECORDS + 3}"),
 ]
 
 # what it shows, the file, what is printed, further words
@@ -79,7 +81,7 @@ READ = [
     ("no line feed at the end", HEAD + BALLOTS[:-1], ROUNDS),
     ("a contest among two", TWO + BALLOTS + b"2,t_1,2\n", ROUNDS, "--contest", "1"),
     ("the other of the two", TWO + BALLOTS + b"2,t_1,2\n", "contest 2\nrecords 1\nround 1: 1=0 2=1 exhausted=0\neliminated 1\nwinner 2\n", "--contest=2"),
-    ("64 contests", contests(64) + b"c63,t_1,1\n", "contest c63\nrecords 1\nround 1: 1=1 2=0 exhausted=0\neliminated 2\nwinner 1\n", "--contest", "c63"),
+    ("as many contests as may be", contests(MOST_CONTESTS) + b"c63,t_1,1\n", "contest c63\nrecords 1\nround 1: 1=1 2=0 exhausted=0\neliminated 2\nwinner 1\n", "--contest", "c63"),
     ("an id of 64 bytes", b"1\nContest," + b"x" * 64 + b",2,1,2\n" + b"x" * 64 + b",t_1,1\n", f"contest {'x' * 64}\nrecords 1\nround 1: 1=1 2=0 exhausted=0\neliminated 2\nwinner 1\n"),
     ("a million fields", HEAD + BALLOTS.replace(b"t_5,2,3", b"t_5,2" + b"," * 1_000_000 + b"3"), ROUNDS),
     ("a ballot without a preference", HEAD + BALLOTS + b"1,t_7\n", ROUNDS.replace("records 6", "records 7").replace("exhausted=1", "exhausted=2").replace("exhausted=0", "exhausted=1")),

@@ -16,6 +16,8 @@ import re
 import sys
 from collections import Counter
 
+from limits import DEFAULT_NODES, FEWEST_CANDIDATES, MOST_CANDIDATES, MOST_DEPTH, MOST_NAME_BYTES, MOST_NUMBER, MOST_RECORDS
+
 
 class Contest:
     def __init__(self, name, ids, rankings):
@@ -215,8 +217,6 @@ def certificate_by_bound(contest):
 
 # ---- assertion files
 
-MOST_NUMBER, MOST_RECORDS, MOST_DEPTH, NODES = 2**32 - 1, 1_000_000, 127, 100_000
-
 
 class Refused(Exception):
     """The rule that a file breaks first, and the assertion that breaks it, counted from 1, or 0 for the file's own members."""
@@ -271,7 +271,7 @@ def json_value(data):
 
 def is_id(text):
     plain = all(" " <= c <= "~" and c not in ',"' for c in text)
-    return 1 <= len(text) <= 64 and plain and text == text.strip(" ")
+    return 1 <= len(text) <= MOST_NAME_BYTES and plain and text == text.strip(" ")
 
 
 def is_text(value):
@@ -308,7 +308,7 @@ def judge_heading(value):
     if value["version"] != 1:
         raise Refused("F3", 0)
     ids = value["candidates"]
-    if not (is_id(value["contest"]) and all(map(is_id, ids)) and 2 <= len(ids) <= 20 and len(set(ids)) == len(ids)):
+    if not (is_id(value["contest"]) and all(map(is_id, ids)) and FEWEST_CANDIDATES <= len(ids) <= MOST_CANDIDATES and len(set(ids)) == len(ids)):
         raise Refused("F4", 0)
     if not {value["winner"], *value["order"]} <= set(ids):
         raise Refused("F4", 0)
@@ -415,7 +415,7 @@ def difference(contest, file, nodes):
     return None
 
 
-def judge(contest, data, nodes=NODES):
+def judge(contest, data, nodes=DEFAULT_NODES):
     """The status and the text of a check of the assertion file with these bytes. It may be Refused."""
     file = read_assertions(data)
     accepted = 0, f"yes\nassertions {len(file['assertions'])}\nmargin {file['margin']}\n"

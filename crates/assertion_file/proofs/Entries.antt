@@ -1,13 +1,12 @@
 -- What is said of an assertion whose members are there.
-use Rattle.std.proofs.Common.{◌≡◌, ℕ, Bool, true, false, List, [], ◌∷◌, Some, None, Ok, Err, refl, ap}
-use Rattle.std.specs.Prelude.{option_map, unwrap_or, ok_or}
-use Rattle.std.specs.List.{list_all}
+use Rattle.std.proofs.Common.{◌≡◌, ℕ, true, false, List, [], ◌∷◌, Some, None, Ok, Err, refl, ap}
+use Rattle.std.specs.Prelude.{option_map, ok_or}
 use Rattle.serde_json.specs.Data.{Data}
 use Rattle.assertions.specs.declared.assertion.Assertion.{Assertion}
 use Rattle.irv_base.specs.Names.{Id, is_among, is_same}
 use Rattle.assertion_file.specs.Ids.{number_of, numbers_of}
 use Rattle.assertion_file.specs.Stated.{Entry, entry_in}
-use Rattle.assertion_file.specs.Reading.{judged, is_margin, is_rest, assertion_with, entry_rules, claim_with, claim_of, ◌>>=◌}
+use Rattle.assertion_file.specs.Reading.{judged, judged_assertion, is_margin, assertion_with, entry_rules, claim_with, claim_of, ◌>>=◌}
 use Rattle.assertion_file.specs.declared.fault.FRule.{FRule}
 use Rattle.assertion_file.specs.declared.fault.FRule.TheVariants.{F2, F4, F5, F6}
 use Rattle.assertion_file.proofs.Judged.{err-more, both-hold}
@@ -38,24 +37,20 @@ pub record Pair (ids : List Id) (entry : Entry) (w l : ℕ) : Type 0 where
   pub w_is : number_of ids entry.winner ≡ w
   pub l_is : number_of ids entry.loser ≡ l
 
-abbrev pub judged_assertion : List Id → Entry → ℕ → ℕ → List (Bool × FRule)
-judged_assertion ids entry w l =
-    (list_all (is_among ids) (unwrap_or entry.rest []), F4) ∷ (is_rest w l (option_map (numbers_of ids) entry.rest), F5) ∷ []
-
 pub no_assertion : (ids : List Id) (records : ℕ) (entry : Entry) (w l : ℕ) (rule : FRule) → Pair ids entry w l →
-    judged (judged_assertion ids entry w l) (assertion_with w l (option_map (numbers_of ids) entry.rest)) ≡ Err rule → judged (entry_rules ids records entry) (claim_with ids entry) ≡ Err rule
+    judged_assertion ids w l entry.rest ≡ Err rule → judged (entry_rules ids records entry) (claim_with ids entry) ≡ Err rule
 no_assertion ids records entry w l rule p h =
     rw (p.winner, p.loser, p.differ, p.w_is, p.l_is) (err-more _ _ F4 F5 ((is_margin records entry.margin, F6) ∷ []) _ (record { assertion = assertion_with w l (option_map (numbers_of ids) entry.rest); margin = entry.margin }) rule h)
 
 pub no_margin : (ids : List Id) (records : ℕ) (entry : Entry) (w l : ℕ) (a : Assertion) → Pair ids entry w l →
-    judged (judged_assertion ids entry w l) (assertion_with w l (option_map (numbers_of ids) entry.rest)) ≡ Ok a → is_margin records entry.margin ≡ false →
+    judged_assertion ids w l entry.rest ≡ Ok a → is_margin records entry.margin ≡ false →
     judged (entry_rules ids records entry) (claim_with ids entry) ≡ Err F6
 no_margin ids records entry w l a p h m =
     let b = both-hold _ _ F4 F5 _ a h in
     rw (p.winner, p.loser, p.differ, p.w_is, p.l_is, b.first, b.second, m) refl
 
 pub a_claim : (ids : List Id) (records : ℕ) (entry : Entry) (w l : ℕ) (a : Assertion) → Pair ids entry w l →
-    judged (judged_assertion ids entry w l) (assertion_with w l (option_map (numbers_of ids) entry.rest)) ≡ Ok a → is_margin records entry.margin ≡ true →
+    judged_assertion ids w l entry.rest ≡ Ok a → is_margin records entry.margin ≡ true →
     judged (entry_rules ids records entry) (claim_with ids entry) ≡ Ok (record { assertion = a; margin = entry.margin })
 a_claim ids records entry w l a p h m =
     let b = both-hold _ _ F4 F5 _ a h in

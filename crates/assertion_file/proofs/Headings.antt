@@ -1,5 +1,5 @@
 -- What is said of a file whose own members are there.
-use Rattle.std.proofs.Common.{◌≡◌, ◌==◌, ℕ, ◌<◌, ◌≤◌, ◌&&◌, Bool, true, false, List, length, Some, None, Ok, Err, refl, sym, ap, ap₂, subst, ◌∙◌}
+use Rattle.std.proofs.Common.{◌≡◌, ◌==◌, ℕ, ◌<◌, ◌≤◌, ◌&&◌, Bool, true, false, List, [], ◌∷◌, ◌++◌, length, Some, None, Ok, Err, refl, sym, ap, ap₂, subst, ◌∙◌}
 use Rattle.std.specs.Prelude.{if◌then◌else◌, nat_le, ok_or, Result}
 use Rattle.std.specs.List.{list_all}
 use Rattle.std.specs.Str.{IsUtf8, is_utf8}
@@ -15,17 +15,85 @@ use Rattle.assertion_file.specs.Content.{IsMargin}
 use Rattle.assertion_file.specs.Faults.{Refuses}
 use Rattle.assertion_file.specs.Ids.{number_of, numbers_of}
 use Rattle.assertion_file.specs.Stated.{Heading, heading_in}
-use Rattle.assertion_file.specs.Reading.{are_candidates, assertion_file_of, claims_from, content_of, content_with, is_margin, is_record_count, judged_heading, heading_rules, located, ◌>>=◌}
+use Rattle.assertion_file.specs.Reading.{are_candidates, assertion_file_of, claims_from, content_of, content_with, is_margin, is_record_count, judged, judged_heading, heading_rules, id_rules, named_rules, order_rules, count_rules, located, ◌>>=◌}
 use Rattle.assertion_file.specs.declared.fault.FRule.{FRule}
 use Rattle.assertion_file.specs.declared.fault.FRule.TheVariants.{F1, F2, F4, F5, F6}
 use Rattle.assertion_file.specs.declared.fault.FileFault.{FileFault}
 use Rattle.assertion_file.specs.declared.fault.FileFault.TheVariants.{Refused, Memory}
 use Rattle.assertion_file.specs.declared.print.TheConstants.{VERSION}
-use Rattle.assertion_file.proofs.Found.{any-within}
+use Rattle.irv_base.proofs.Positions.{any-within}
 use Rattle.assertion_file.proofs.Judged.{AllHold, all-hold}
 
 pub refuse : {A : Type 0} (said : Result A FRule) (rule : FRule) (fault : FileFault) → said ≡ Err rule → fault ≡ Refused rule 0 → Refuses (located 0 said) fault
 refuse said rule fault h e = subst (Refuses (located 0 said)) (sym e) (ap (located 0) h)
+
+-- ---- some rules after others
+
+kept-first : {A B : Type 0} (rules more : List (Bool × FRule)) (x : A) (y : B) → judged rules x ≡ Ok x → judged (rules ++ more) y ≡ judged more y
+kept-first [] more x y h = refl
+kept-first ((true, rule) ∷ rules) more x y h = kept-first rules more x y h
+kept-first ((false, rule) ∷ rules) more x y h = absurd cc
+
+refused-first : {A B : Type 0} (rules more : List (Bool × FRule)) (x : A) (y : B) (fault : FileFault) → Refuses (located 0 (judged rules x)) fault → Refuses (located 0 (judged (rules ++ more) y)) fault
+refused-first rules more x y Memory r = tt
+refused-first [] more x y (Refused rule at) r = absurd cc
+refused-first ((true, broken) ∷ rules) more x y (Refused rule at) r = refused-first rules more x y (Refused rule at) r
+refused-first ((false, broken) ∷ rules) more x y (Refused rule at) r = let e : record { rule = broken; at = 0 } ≡ record { rule = rule; at = at } = cc in ap Err e
+
+pub ids-refused : (heading : Heading) (fault : FileFault) → Refuses (located 0 (judged (id_rules heading) heading)) fault → Refuses (located 0 (judged_heading heading)) fault
+unfolding judged_heading
+ids-refused heading fault r = refused-first (id_rules heading) (named_rules heading ++ order_rules heading ++ count_rules heading) heading heading fault r
+
+-- the contest, the candidates and those who are named keep the rules
+pub record HasNamed (heading : Heading) : Type 0 where
+  pub ids : judged (id_rules heading) heading ≡ Ok heading
+  pub named : judged (named_rules heading) heading ≡ Ok heading
+
+after-ids : (heading : Heading) → judged (id_rules heading) heading ≡ Ok heading → judged_heading heading ≡ judged (named_rules heading ++ order_rules heading ++ count_rules heading) heading
+unfolding judged_heading
+after-ids heading ids = kept-first (id_rules heading) (named_rules heading ++ order_rules heading ++ count_rules heading) heading heading ids
+
+pub named-refused : (heading : Heading) (fault : FileFault) → judged (id_rules heading) heading ≡ Ok heading → Refuses (located 0 (judged (named_rules heading) heading)) fault →
+    Refuses (located 0 (judged_heading heading)) fault
+named-refused heading fault ids r =
+    subst (λ said. Refuses (located 0 said) fault) (sym (after-ids heading ids)) (refused-first (named_rules heading) (order_rules heading ++ count_rules heading) heading heading fault r)
+
+after-named : (heading : Heading) → HasNamed heading → judged_heading heading ≡ judged (order_rules heading ++ count_rules heading) heading
+after-named heading h = after-ids heading h.ids ∙ kept-first (named_rules heading) (order_rules heading ++ count_rules heading) heading heading h.named
+
+pub same_order : (heading : Heading) (names : List Id) (numbers : List ℕ) → names ≡ heading.candidates → numbers ≡ numbers_of names heading.order →
+    is_order (length heading.candidates) (numbers_of heading.candidates heading.order) ≡ is_order (length names) numbers
+same_order heading names numbers same is = sym (ap (is_order (length names)) is ∙ ap (λ ids. is_order (length ids) (numbers_of ids heading.order)) same)
+
+pub no_order : (heading : Heading) → HasNamed heading → is_order (length heading.candidates) (numbers_of heading.candidates heading.order) ≡ false → judged_heading heading ≡ Err F5
+no_order heading h o = after-named heading h ∙ ap (λ b. judged ((b, F5) ∷ count_rules heading) heading) o
+
+pub no_counts : (heading : Heading) → HasNamed heading → is_order (length heading.candidates) (numbers_of heading.candidates heading.order) ≡ true →
+    (is_record_count heading.records && is_margin heading.records heading.margin) ≡ false → judged_heading heading ≡ Err F6
+no_counts heading h o c = after-named heading h ∙ ap (λ b. judged ((b, F5) ∷ count_rules heading) heading) o ∙ by (is_record_count heading.records) (is_margin heading.records heading.margin) c where
+  by : (a b : Bool) → (a && b) ≡ false → judged ((a, F6) ∷ (b, F6) ∷ []) heading ≡ Err F6
+  by true true c = absurd cc
+  by true false c = refl
+  by false b c = refl
+
+pub all_kept : (heading : Heading) → HasNamed heading → is_order (length heading.candidates) (numbers_of heading.candidates heading.order) ≡ true →
+    (is_record_count heading.records && is_margin heading.records heading.margin) ≡ true → judged_heading heading ≡ Ok heading
+all_kept heading h o c = after-named heading h ∙ ap (λ b. judged ((b, F5) ∷ count_rules heading) heading) o ∙ by (is_record_count heading.records) (is_margin heading.records heading.margin) c where
+  by : (a b : Bool) → (a && b) ≡ true → judged ((a, F6) ∷ (b, F6) ∷ []) heading ≡ Ok heading
+  by true true c = refl
+  by true false c = absurd cc
+  by false b c = absurd cc
+
+-- ---- those who are named
+
+pub no_winner : (heading : Heading) → is_among heading.candidates heading.winner ≡ false → judged (named_rules heading) heading ≡ Err F4
+no_winner heading w = rw w refl
+
+pub not_among : (heading : Heading) → is_among heading.candidates heading.winner ≡ true → list_all (is_among heading.candidates) heading.order ≡ false → judged (named_rules heading) heading ≡ Err F4
+not_among heading w o = rw (w, o) refl
+
+pub all_named : (heading : Heading) → is_among heading.candidates heading.winner ≡ true → list_all (is_among heading.candidates) heading.order ≡ true → judged (named_rules heading) heading ≡ Ok heading
+all_named heading w o = rw (w, o) refl
 
 -- ---- rule by rule
 
@@ -34,28 +102,10 @@ pub record HasNames (heading : Heading) : Type 0 where
   pub contest : is_name heading.contest ≡ true
   pub candidates : are_candidates heading.candidates ≡ true
 
-pub no_winner : (heading : Heading) → HasNames heading → is_among heading.candidates heading.winner ≡ false → judged_heading heading ≡ Err F4
-unfolding judged_heading
-no_winner heading n w = rw (n.version, n.contest, n.candidates, w) refl
-
 pub record HasOrder (heading : Heading) : Type 0 where
   pub names : HasNames heading
   pub winner : is_among heading.candidates heading.winner ≡ true
   pub order : list_all (is_among heading.candidates) heading.order ≡ true
-
-pub no_order : (heading : Heading) → HasOrder heading → is_order (length heading.candidates) (numbers_of heading.candidates heading.order) ≡ false → judged_heading heading ≡ Err F5
-unfolding judged_heading
-no_order heading h o = rw (h.names.version, h.names.contest, h.names.candidates, h.winner, h.order, o) refl
-
-pub no_records : (heading : Heading) → HasOrder heading → is_order (length heading.candidates) (numbers_of heading.candidates heading.order) ≡ true → is_record_count heading.records ≡ false →
-    judged_heading heading ≡ Err F6
-unfolding judged_heading
-no_records heading h o r = rw (h.names.version, h.names.contest, h.names.candidates, h.winner, h.order, o, r) refl
-
-pub no_margin : (heading : Heading) → HasOrder heading → is_order (length heading.candidates) (numbers_of heading.candidates heading.order) ≡ true → is_record_count heading.records ≡ true →
-    is_margin heading.records heading.margin ≡ false → judged_heading heading ≡ Err F6
-unfolding judged_heading
-no_margin heading h o r m = rw (h.names.version, h.names.contest, h.names.candidates, h.winner, h.order, o, r, m) refl
 
 pub kept : (heading : Heading) → HasOrder heading → is_order (length heading.candidates) (numbers_of heading.candidates heading.order) ≡ true → is_record_count heading.records ≡ true →
     is_margin heading.records heading.margin ≡ true → judged_heading heading ≡ Ok heading

@@ -4,15 +4,14 @@ pub mod Exact
 pub mod LineFeed
 pub mod ReadsBack
 pub mod Files
-pub mod Found
 pub mod Listed
 pub mod Elements
 pub mod Judged
 pub mod Differ
 pub mod ClaimsSoFar
 pub mod Entries
-pub mod BadOrders
 pub mod Headings
 pub mod SoundClaims
 pub mod Ranked
 pub mod Printed
+pub mod SoundFiles

@@ -14,7 +14,7 @@ use Rattle.assertions.proofs.Proper.{pair_facts, nen_facts}
 use Rattle.irv_base.specs.Candidates.{candidates, has, is_distinct, is_in, set_of}
 use Rattle.irv_base.specs.Names.{Id, all_differ, is_among, is_name, is_same}
 use Rattle.irv_base.specs.Orders.{is_order}
-use Rattle.irv_base.specs.declared.limits.TheConstants.{MOST_RECORDS}
+use Rattle.irv_base.specs.declared.limits.TheConstants.{FEWEST_CANDIDATES, MOST_CANDIDATES, MOST_RECORDS}
 use Rattle.irv_base.proofs.Orders.{order_facts}
 use Rattle.assertion_file.specs.Content.{Content, IsSound, IsSoundClaim, IsMargin, HasNames}
 use Rattle.assertion_file.specs.Ids.{id_of, ids_of, ids_in, number_of, numbers_of}
@@ -158,9 +158,9 @@ heading-kept file s n =
       names = record {
         version = eq-eqb VERSION VERSION refl;
         contest = n.contest;
-        candidates = and_from (list_all is_name ids && nat_le 2 (length ids) && nat_le (length ids) 20) (all_differ ids)
-            (and_from (list_all is_name ids && nat_le 2 (length ids)) (nat_le (length ids) 20)
-            (and_from (list_all is_name ids) (nat_le 2 (length ids)) n.candidates (le-leb 2 (length ids) s.fewest)) (le-leb (length ids) 20 s.most)) s.differ;
+        candidates = and_from (list_all is_name ids && nat_le FEWEST_CANDIDATES (length ids) && nat_le (length ids) MOST_CANDIDATES) (all_differ ids)
+            (and_from (list_all is_name ids && nat_le FEWEST_CANDIDATES (length ids)) (nat_le (length ids) MOST_CANDIDATES)
+            (and_from (list_all is_name ids) (nat_le FEWEST_CANDIDATES (length ids)) n.candidates (le-leb FEWEST_CANDIDATES (length ids) s.fewest)) (le-leb (length ids) MOST_CANDIDATES s.most)) s.differ;
       };
       winner = among-id ids file.winner s.winner;
       order = all-among ids file.order facts.below;

@@ -20,7 +20,7 @@ use Rattle.assertion_file.specs.Stated.{Entry, entry_in}
 use Rattle.assertion_file.specs.Reading.{Refusal, assertion_with, claim_of, claim_with, claims_from, entry_rules, is_rest, judged, located, ◌>>=◌}
 use Rattle.assertion_file.specs.declared.fault.FRule.{FRule}
 use Rattle.assertion_file.proofs.Entries.{claim-none, claim-some}
-use Rattle.assertion_file.proofs.Found.{any-place, any-within}
+use Rattle.irv_base.proofs.Positions.{any-place, any-within}
 use Rattle.assertion_file.proofs.Headings.{margin-is}
 use Rattle.assertion_file.proofs.Judged.{AllHold, all-hold}
 

@@ -1,5 +1,5 @@
 -- What an assertion file says, or which rule it breaks first, and where.
-use Rattle.std.specs.Prelude.{ℕ, ◌+◌, Bool, true, not, ◌&&◌, ◌==◌, nat_le, if◌then◌else◌, List, [], ◌∷◌, length, Option, Some, None, ok_or, option_map, unwrap_or, Result, Ok, Err}
+use Rattle.std.specs.Prelude.{ℕ, ◌+◌, Bool, true, not, ◌&&◌, ◌==◌, nat_le, if◌then◌else◌, List, [], ◌∷◌, ◌++◌, length, Option, Some, None, ok_or, option_map, unwrap_or, Result, Ok, Err}
 use Rattle.std.specs.List.{list_all}
 use Rattle.serde_json.specs.Data.{Data}
 use Rattle.irv_base.specs.Candidates.{is_distinct, is_in, set_of}
@@ -30,7 +30,9 @@ judged (held ∷ more) value = if held.0 then judged more value else Err held.1
 -- ---- the members of the file's object, but for the elements of its assertions
 
 abbrev pub are_candidates : List Id → Bool
-are_candidates ids = list_all is_name ids && nat_le FEWEST_CANDIDATES (length ids) && nat_le (length ids) MOST_CANDIDATES && all_differ ids
+are_candidates ids =
+    list_all is_name ids && nat_le FEWEST_CANDIDATES (length ids) && nat_le (length ids) MOST_CANDIDATES &&
+    all_differ ids
 
 abbrev pub is_record_count : ℕ → Bool
 is_record_count n = nat_le 1 n && nat_le n MOST_RECORDS
@@ -38,18 +40,35 @@ is_record_count n = nat_le 1 n && nat_le n MOST_RECORDS
 abbrev pub is_margin : ℕ → ℕ → Bool
 is_margin records margin = nat_le 1 margin && nat_le margin records
 
--- in this order
-abbrev pub heading_rules : Heading → List (Bool × FRule)
-heading_rules heading =
+-- of the version, the contest and its candidates
+abbrev pub id_rules : Heading → List (Bool × FRule)
+id_rules heading =
     (heading.version == VERSION, F3) ∷
     (is_name heading.contest, F4) ∷
     (are_candidates heading.candidates, F4) ∷
+    []
+
+-- of those who are named among them
+abbrev pub named_rules : Heading → List (Bool × FRule)
+named_rules heading =
     (is_among heading.candidates heading.winner, F4) ∷
     (list_all (is_among heading.candidates) heading.order, F4) ∷
+    []
+
+abbrev pub order_rules : Heading → List (Bool × FRule)
+order_rules heading =
     (is_order (length heading.candidates) (numbers_of heading.candidates heading.order), F5) ∷
+    []
+
+abbrev pub count_rules : Heading → List (Bool × FRule)
+count_rules heading =
     (is_record_count heading.records, F6) ∷
     (is_margin heading.records heading.margin, F6) ∷
     []
+
+-- in this order
+abbrev pub heading_rules : Heading → List (Bool × FRule)
+heading_rules heading = id_rules heading ++ named_rules heading ++ order_rules heading ++ count_rules heading
 
 unfoldable pub judged_heading : Heading → Result Heading FRule
 judged_heading heading = judged (heading_rules heading) heading
@@ -79,6 +98,12 @@ entry_rules ids records entry =
 abbrev pub assertion_with : ℕ → ℕ → Option (List ℕ) → Assertion
 assertion_with w l None = Neb w l
 assertion_with w l (Some rest) = Nen w l (set_of rest)
+
+-- the assertion of those two with that rest, or the first rule that the rest breaks
+abbrev pub judged_assertion : List Id → ℕ → ℕ → Option (List Id) → Result Assertion FRule
+judged_assertion ids w l rest =
+    let numbers = option_map (numbers_of ids) rest in
+    judged ((list_all (is_among ids) (unwrap_or rest []), F4) ∷ (is_rest w l numbers, F5) ∷ []) (assertion_with w l numbers)
 
 abbrev pub claim_with : List Id → Entry → Claim
 claim_with ids entry = record {

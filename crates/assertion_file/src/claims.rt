@@ -1,14 +1,10 @@
 // The assertions of a file.
-ghost use Rattle.std.specs.Prelude.{◌≡◌, ◌∷◌, ◌≤◌, [], Ok, length, map, option_map, unwrap_or, IfOk, IfErr};
-ghost use Rattle.std.specs.List.{list_all};
+ghost use Rattle.std.specs.Prelude.{◌≡◌, ◌≤◌, Ok, Some, length, map, option_map, IfOk, IfErr};
 ghost use Rattle.serde_json.specs.View.{view};
-ghost use Rattle.irv_base.specs.Names.{is_among};
 ghost use Rattle.irv_base.specs.declared.limits.TheConstants.{ROOM};
 ghost use Rattle.assertion_file.specs.Faults.{Refuses};
-ghost use Rattle.assertion_file.specs.Ids.{numbers_of};
-ghost use Rattle.assertion_file.specs.Reading.{assertion_with, claim_of, claims_from, is_margin, is_rest, judged, located};
-ghost use Rattle.assertion_file.specs.Stated.{texts_of};
-ghost use Rattle.assertion_file.specs.declared.fault.FRule.TheVariants.{F4, F5};
+ghost use Rattle.assertion_file.specs.Reading.{claim_of, claims_from, is_margin, judged_assertion, located};
+ghost use Rattle.assertion_file.specs.Views.{stated_ids};
 
 use crate::fault::{FRule, FileFault};
 use crate::ids::{candidate, set_of};
@@ -28,8 +24,7 @@ pub fn is_margin(records: u32, margin: u32) -> bool
 // The NEN with that rest.
 fn nen(names: &[Name], w: Candidate, l: Candidate, rest: &[Value]) -> Result<Assertion, FRule>
     requires { length names.now ≤ ROOM }
-    ensures { let wanted = Some (texts_of (map view rest.now)) in
-        result ≡ judged ((list_all (is_among names.now) (unwrap_or wanted []), F4) ∷ (is_rest w l (option_map (numbers_of names.now) wanted), F5) ∷ []) (assertion_with w l (option_map (numbers_of names.now) wanted)) }
+    ensures { result ≡ judged_assertion names.now w l (Some (stated_ids rest.now)) }
 {
     let rest = set_of(names, rest)?;
     if !rest.has(w) {
@@ -50,8 +45,8 @@ fn assertion(
     rest: Option<&[Value]>,
 ) -> Result<Assertion, FRule>
     requires { length names.now ≤ ROOM }
-    ensures { let wanted = option_map (λ values. texts_of (map view values.now)) rest.entry in
-        result ≡ judged ((list_all (is_among names.now) (unwrap_or wanted []), F4) ∷ (is_rest w l (option_map (numbers_of names.now) wanted), F5) ∷ []) (assertion_with w l (option_map (numbers_of names.now) wanted)) }
+    ensures { result ≡
+        judged_assertion names.now w l (option_map (λ values. stated_ids values.now) rest.entry) }
 {
     match rest {
         None => Ok(Assertion::Neb { w, l }),
@@ -88,8 +83,10 @@ fn claim_of(names: &[Name], records: u32, value: &Value) -> Result<Claim, FRule>
 // The assertion number `at`.
 fn claim_at(names: &[Name], records: u32, at: u64, value: &Value) -> Result<Claim, FileFault>
     requires { length names.now ≤ ROOM }
-    ensures read { IfOk result (λ claim. claim_of names.now records (view value.now) ≡ Ok claim) }
-    ensures refused { IfErr result (Refuses (located at (claim_of names.now records (view value.now)))) }
+    ensures read { IfOk result (λ claim.
+        claim_of names.now records (view value.now) ≡ Ok claim) }
+    ensures refused { IfErr result
+        (Refuses (located at (claim_of names.now records (view value.now)))) }
 {
     match claim_of(names, records, value) {
         Ok(claim) => Ok(claim),
@@ -105,8 +102,10 @@ pub fn claims(
     values: &[Value],
 ) -> Result<Vec<Claim>, FileFault>
     requires { length names.now ≤ ROOM }
-    ensures read { IfOk result (λ claims. claims_from names.now records 1 (map view values.now) ≡ Ok claims.items) }
-    ensures refused { IfErr result (Refuses (claims_from names.now records 1 (map view values.now))) }
+    ensures read { IfOk result (λ claims.
+        claims_from names.now records 1 (map view values.now) ≡ Ok claims.items) }
+    ensures refused { IfErr result
+        (Refuses (claims_from names.now records 1 (map view values.now))) }
 {
     let mut claims = Vec::new(alloc);
     for (i, value) in values.iter().enumerate() {

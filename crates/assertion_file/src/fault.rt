@@ -5,6 +5,8 @@ ghost use Rattle.assertion_file.specs.declared.fault.FileFault.TheVariants.{Memo
 
 use irv_base::Memory;
 use std::alloc::AllocFailed;
+use std::error::Error;
+use std::fmt;
 
 /// The rules of an assertion file, as the text of a refusal names them.
 #[derive(Clone, Copy, Debug, PartialEq, Eq)]
@@ -47,6 +49,17 @@ pub enum FileFault {
     /// Memory could not be had.
     Memory,
 }
+
+impl fmt::Display for FileFault {
+    fn fmt<W: fmt::Write>(&self, f: &mut fmt::Formatter<W>) -> fmt::Result {
+        match self {
+            FileFault::Refused { rule, at } => write!(f, "{} at {at}", rule.name()),
+            FileFault::Memory => write!(f, "out of memory"),
+        }
+    }
+}
+
+impl Error for FileFault {}
 
 impl From<Memory> for FileFault {
     ghost from_gives = { λ _ fault. fault ≡ WantOfMemory };

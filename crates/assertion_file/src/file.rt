@@ -12,8 +12,8 @@ use std::marker::Model;
 /// What an assertion file says of a contest: its winner, the assertions that are to be confirmed with their margins,
 /// and an order that shows why no larger margin is to be had.
 ///
-/// There are 2 to 20 candidates, all different, and 1 to 1,000,000 ballot records. A candidate is its place in the
-/// list of candidates, from 0. The order is one of all candidates, each assertion is a proper one among them, and
+/// There are `FEWEST_CANDIDATES` to `MOST_CANDIDATES` candidates, all different, and 1 to `MOST_RECORDS` ballot
+/// records. A candidate is its place in the list of candidates, from 0. The order is one of all candidates, each assertion is a proper one among them, and
 /// each margin, the file's and those of the claims, is 1 to the number of records. That the file holds of any ballots
 /// isn't said: a checker finds that out.
 ///
@@ -34,9 +34,25 @@ impl Model for AssertionFile {
 
     ghost Value = { Content };
 
-    ghost view = { λ f. record { contest = f.contest; candidates = f.candidates.items; records = f.records; winner = f.winner; margin = f.margin; order = f.order; claims = f.claims.items } };
+    ghost view = { λ f. record {
+      contest = f.contest;
+      candidates = f.candidates.items;
+      records = f.records;
+      winner = f.winner;
+      margin = f.margin;
+      order = f.order;
+      claims = f.claims.items;
+    } };
 
-    ghost invariant = { λ f. IsSound (record { contest = f.contest; candidates = f.candidates.items; records = f.records; winner = f.winner; margin = f.margin; order = f.order; claims = f.claims.items }) };
+    ghost invariant = { λ f. IsSound (record {
+      contest = f.contest;
+      candidates = f.candidates.items;
+      records = f.records;
+      winner = f.winner;
+      margin = f.margin;
+      order = f.order;
+      claims = f.claims.items;
+    }) };
 }
 
 impl AssertionFile {
@@ -59,7 +75,15 @@ impl AssertionFile {
         requires margin { IsMargin records margin }
         requires order { IsTrue (is_order (length candidates.items) order) }
         requires claims { All (IsSoundClaim (length candidates.items) records) claims.items }
-        ensures { result ≡ record { contest = contest; candidates = candidates.items; records = records; winner = winner; margin = margin; order = order; claims = claims.items } }
+        ensures { result ≡ record {
+          contest = contest;
+          candidates = candidates.items;
+          records = records;
+          winner = winner;
+          margin = margin;
+          order = order;
+          claims = claims.items;
+        } }
     {
         AssertionFile {
             contest,
@@ -125,7 +149,8 @@ impl AssertionFile {
     /// The assertions and their margins.
     pub fn claims(&self) -> &[Claim]
         ensures same { result.now ≡ self.now.claims }
-        ensures sound { All (IsSoundClaim (length self.now.candidates) self.now.records) result.now }
+        ensures sound { All
+            (IsSoundClaim (length self.now.candidates) self.now.records) result.now }
     {
         self.claims.as_slice()
     }

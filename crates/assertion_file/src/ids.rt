@@ -1,36 +1,36 @@
 // Candidates that are named by their ids.
-ghost use Rattle.std.specs.Prelude.{◌≡◌, ◌∷◌, ◌<◌, ◌≤◌, ◌&&◌, [], length, map, position, All, IfOk, IfSome, IfNone, IsTrue, false};
+ghost use Rattle.std.specs.Prelude.{◌≡◌, ◌∷◌, ◌<◌, ◌≤◌, ◌&&◌, [], length, IfOk, IfSome, IfNone, IsTrue, false};
 ghost use Rattle.std.specs.List.{list_all};
-ghost use Rattle.serde_json.specs.View.{view};
 ghost use Rattle.irv_base.specs.Candidates.{is_distinct, set_of};
-ghost use Rattle.irv_base.specs.Names.{is_among, is_name, is_same};
+ghost use Rattle.irv_base.specs.Names.{candidate_named, is_among};
 ghost use Rattle.irv_base.specs.declared.limits.TheConstants.{ROOM};
-ghost use Rattle.assertion_file.specs.Ids.{numbers_of};
+ghost use Rattle.assertion_file.specs.Ids.{id_of, numbers_of};
 ghost use Rattle.assertion_file.specs.Reading.{are_candidates, judged};
-ghost use Rattle.assertion_file.specs.Stated.{text_of, texts_of};
+ghost use Rattle.assertion_file.specs.Views.{stated_ids};
 ghost use Rattle.assertion_file.specs.declared.fault.FRule.TheVariants.{F4, F5};
 
 use crate::fault::FRule;
 use crate::members::text_of;
-use irv_base::{CandSet, Candidate, FEWEST_CANDIDATES, MOST_CANDIDATES, Memory, Name};
+use irv_base::{
+    CandSet, Candidate, FEWEST_CANDIDATES, MOST_CANDIDATES, Memory, Name, candidate_named,
+};
 use serde_json::Value;
 use std::alloc::Global;
 
-fn place_of(names: &[Name], id: &[u8]) -> Option<usize>
-    ensures { result ≡ position (λ other. is_same other id.now) names.now }
+/// The id of a candidate.
+pub fn id_of(names: &[Name], c: Candidate) -> &str
+    requires { c < length names.now }
+    ensures { result.now ≡ id_of names.now c }
 {
-    names.iter().position(|name| name.bytes() == id)
+    names[c.index()].text()
 }
 
-/// The candidate with that id.
+/// The candidate with that text as its id.
 pub fn candidate(names: &[Name], id: &str) -> Option<Candidate>
     requires { length names.now ≤ ROOM }
-    ensures { result ≡ position (λ other. is_same other id.now) names.now }
+    ensures { result ≡ candidate_named names.now id.now }
 {
-    match place_of(names, id.as_bytes()) {
-        Some(i) => Some(Candidate(i as u8)),
-        None => None,
-    }
+    candidate_named(names, id.as_bytes())
 }
 
 /// Whether one of the names is that id.
@@ -40,11 +40,13 @@ pub fn is_among(names: &[Name], id: &[u8]) -> bool
     names.iter().any(|name| name.bytes() == id)
 }
 
-/// The names of the candidates, if these are the ids of 2 to `MOST_CANDIDATES` different ones.
+/// The names of the candidates, if these are the ids of `FEWEST_CANDIDATES` to `MOST_CANDIDATES` different ones.
 pub fn candidates(alloc: Global, ids: &[Value]) -> Result<Option<Vec<Name>>, Memory>
-    ensures named { IfOk result (λ names. IfSome names (λ v. v.items ≡ texts_of (map view ids.now))) }
-    ensures valid { IfOk result (λ names. IfSome names (λ _. IsTrue (are_candidates (texts_of (map view ids.now))))) }
-    ensures none { IfOk result (λ names. IfNone names (are_candidates (texts_of (map view ids.now)) ≡ false)) }
+    ensures named { IfOk result (λ names. IfSome names (λ v. v.items ≡ stated_ids ids.now)) }
+    ensures valid { IfOk result (λ names. IfSome names (λ _.
+        IsTrue (are_candidates (stated_ids ids.now)))) }
+    ensures none { IfOk result (λ names. IfNone names
+        (are_candidates (stated_ids ids.now) ≡ false)) }
 {
     let mut names = Vec::new(alloc);
     for id in ids {
@@ -65,9 +67,12 @@ pub fn candidates(alloc: Global, ids: &[Value]) -> Result<Option<Vec<Name>>, Mem
 /// The numbers of the candidates with these ids, if each is one of them.
 pub fn numbers(alloc: Global, names: &[Name], ids: &[Value]) -> Result<Option<Vec<u8>>, Memory>
     requires { length names.now ≤ ROOM }
-    ensures numbers { IfOk result (λ numbers. IfSome numbers (λ v. v.items ≡ numbers_of names.now (texts_of (map view ids.now)))) }
-    ensures among { IfOk result (λ numbers. IfSome numbers (λ _. IsTrue (list_all (is_among names.now) (texts_of (map view ids.now))))) }
-    ensures none { IfOk result (λ numbers. IfNone numbers (list_all (is_among names.now) (texts_of (map view ids.now)) ≡ false)) }
+    ensures numbers { IfOk result (λ numbers. IfSome numbers (λ v.
+        v.items ≡ numbers_of names.now (stated_ids ids.now))) }
+    ensures among { IfOk result (λ numbers. IfSome numbers (λ _.
+        IsTrue (list_all (is_among names.now) (stated_ids ids.now)))) }
+    ensures none { IfOk result (λ numbers. IfNone numbers
+        (list_all (is_among names.now) (stated_ids ids.now) ≡ false)) }
 {
     let mut numbers = Vec::new(alloc);
     for id in ids {
@@ -82,8 +87,8 @@ pub fn numbers(alloc: Global, names: &[Name], ids: &[Value]) -> Result<Option<Ve
 /// The set of the candidates with these ids: F4 if one isn't among them, and else F5 if one stands twice.
 pub fn set_of(names: &[Name], ids: &[Value]) -> Result<CandSet, FRule>
     requires { length names.now ≤ ROOM }
-    ensures { let wanted = texts_of (map view ids.now) in
-        result ≡ judged ((list_all (is_among names.now) wanted, F4) ∷ (is_distinct (numbers_of names.now wanted), F5) ∷ []) (set_of (numbers_of names.now wanted)) }
+    ensures { let wanted = stated_ids ids.now in let cs = numbers_of names.now wanted in
+        result ≡ judged ((list_all (is_among names.now) wanted, F4) ∷ (is_distinct cs, F5) ∷ []) (set_of cs) }
 {
     let mut set = CandSet::empty();
     let mut repeats = false;

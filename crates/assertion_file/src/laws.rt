@@ -1,5 +1,8 @@
 //! The laws of the assertion file: each holds of every value that it names, and has no code.
-ghost use Rattle.assertion_file.specs.Laws.{TextReadsBack, PrintedReadsBack};
+ghost use Rattle.std.specs.Prelude.{◌≡◌};
+ghost use Rattle.assertion_file.specs.Laws.{TextReadsBack, PrintedReadsBack, ReadIsSound, ReadIsPrinted};
+ghost use Rattle.assertion_file.specs.declared.members.TheConstants.{MOST_NUMBER};
+ghost use Rattle.assertion_file.specs.declared.print.TheConstants.{VERSION};
 
 /// What is printed reads as the file's JSON value.
 pub fn text_reads_back()
@@ -9,4 +12,20 @@ pub fn text_reads_back()
 /// What is printed reads back as what was printed.
 pub fn printed_reads_back()
     ensures { PrintedReadsBack }
+{}
+
+/// What is read keeps the rules of files.
+pub fn read_is_sound()
+    ensures { ReadIsSound }
+{}
+
+/// What is read is printed by a file that says the same.
+pub fn read_is_printed()
+    ensures { ReadIsPrinted }
+{}
+
+/// The numbers of the limits, and of the form's version.
+pub fn limits()
+    ensures most_number { MOST_NUMBER ≡ 4294967295 }
+    ensures version { VERSION ≡ 1 }
 {}

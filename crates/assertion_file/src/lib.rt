@@ -16,5 +16,6 @@ mod tests;
 
 pub use fault::{FRule, FileFault};
 pub use file::AssertionFile;
+pub use ids::id_of;
 pub use print::{VERSION, print_file};
 pub use read::read_file;

@@ -2,8 +2,8 @@
 ghost use Rattle.std.specs.Prelude.{◌≡◌, map, option_map};
 ghost use Rattle.std.specs.List.{list_all};
 ghost use Rattle.serde_json.specs.View.{view};
-ghost use Rattle.assertion_file.specs.Stated.{heading_in, entry_in, is_text, list_in, number_in, rest_in, text_in, text_of, texts_in, texts_of};
-ghost use Rattle.assertion_file.specs.Views.{stated_heading, stated_entry};
+ghost use Rattle.assertion_file.specs.Stated.{heading_in, entry_in, is_text, list_in, number_in, rest_in, text_in, text_of, texts_in};
+ghost use Rattle.assertion_file.specs.Views.{stated_ids, stated_heading, stated_entry};
 
 use serde_json::Value;
 
@@ -56,7 +56,8 @@ fn number_in(value: &Value, name: &str) -> Option<u32>
 }
 
 fn list_in<'a>(value: &'a Value, name: &str) -> Option<&'a [Value]>
-    ensures { option_map (λ values. map view values.now) result ≡ list_in name.now (view value.now) }
+    ensures { option_map (λ values. map view values.now) result ≡
+        list_in name.now (view value.now) }
 {
     Some(value.get(name)?.as_array()?.as_slice())
 }
@@ -69,7 +70,8 @@ fn are_texts(values: &[Value]) -> bool
 
 #[tactic(auto, using(crate::proofs::Elements::all_texts))]
 fn texts_in<'a>(value: &'a Value, name: &str) -> Option<&'a [Value]>
-    ensures { option_map (λ values. texts_of (map view values.now)) result ≡ texts_in name.now (view value.now) }
+    ensures { option_map (λ values. stated_ids values.now) result ≡
+        texts_in name.now (view value.now) }
 {
     let values = list_in(value, name)?;
     if !are_texts(values) {
@@ -96,7 +98,8 @@ pub fn heading_in(value: &Value) -> Option<Heading<'_>>
 }
 
 fn rest_in<'a>(kind: &str, value: &'a Value) -> Option<Option<&'a [Value]>>
-    ensures { option_map (λ rest. option_map (λ values. texts_of (map view values.now)) rest) result ≡ rest_in kind.now (view value.now) }
+    ensures { option_map (λ rest. option_map (λ values. stated_ids values.now) rest) result ≡
+        rest_in kind.now (view value.now) }
 {
     if kind == "NEB" {
         return Some(None);

@@ -1,15 +1,17 @@
 // The text of an assertion file.
-ghost use Rattle.std.specs.Prelude.{◌≡◌, ◌<◌, ◌≤◌, length, map, Some, All, IfOk, IsTrue};
+ghost use Rattle.std.specs.Prelude.{◌≡◌, ◌<◌, ◌≤◌, length, map, Some, Ok, All, IfOk, IsTrue};
 ghost use Rattle.std.specs.List.{list_all};
 ghost use Rattle.serde_json.specs.View.{view};
 ghost use Rattle.irv_base.specs.Names.{is_name};
 ghost use Rattle.irv_base.specs.declared.limits.TheConstants.{ROOM};
 ghost use Rattle.assertions.specs.Assertions.{is_proper};
 ghost use Rattle.assertion_file.specs.Content.{HasNames, IsSound};
-ghost use Rattle.assertion_file.specs.Ids.{id_of, ids_of, ids_in};
+ghost use Rattle.assertion_file.specs.Ids.{ids_of, ids_in};
+ghost use Rattle.assertion_file.specs.Reading.{assertion_file_of};
 ghost use Rattle.assertion_file.specs.Text.{array_of, ids_value, neb_value, nen_value, claim_value, file_value, assertion_file_text, json_of};
 
 use crate::AssertionFile;
+use crate::ids::id_of;
 use assertions::{Assertion, Claim};
 use irv_base::{CandSet, Candidate, Memory, Name};
 use serde_json::{Value, json};
@@ -17,14 +19,6 @@ use std::alloc::{AllocError, Global};
 
 /// The version of the assertion file's form.
 pub const VERSION: u32 = 1;
-
-// The id of a candidate.
-fn id_of(names: &[Name], c: Candidate) -> &str
-    requires { c < length names.now }
-    ensures { result.now ≡ id_of names.now c }
-{
-    names[c.index()].text()
-}
 
 // The ids of all candidates.
 fn candidates_value(alloc: Global, names: &[Name]) -> Result<Value, AllocError>
@@ -104,7 +98,8 @@ fn claim_value(alloc: Global, names: &[Name], claim: &Claim) -> Result<Value, Al
 
 fn claims_value(alloc: Global, names: &[Name], claims: &[Claim]) -> Result<Value, AllocError>
     requires few { length names.now ≤ ROOM }
-    requires proper { All (λ claim. IsTrue (is_proper (length names.now) claim.assertion)) claims.now }
+    requires proper { All (λ claim.
+        IsTrue (is_proper (length names.now) claim.assertion)) claims.now }
     ensures { IfOk result (λ v. view v ≡ array_of (map (claim_value names.now) claims.now)) }
 {
     let mut values = Vec::new(alloc);
@@ -143,7 +138,8 @@ fn file_value(alloc: Global, file: &AssertionFile) -> Result<Value, AllocError>
 /// line feed.
 pub fn print_file(alloc: Global, file: &AssertionFile) -> Result<Vec<u8>, Memory>
     ensures text { IfOk result (λ v. v.items ≡ assertion_file_text file.now) }
-    ensures reads_back { IfOk result (λ v. json_of v.items ≡ Some (file_value file.now)) }
+    ensures json { IfOk result (λ v. json_of v.items ≡ Some (file_value file.now)) }
+    ensures reads_back { IfOk result (λ v. assertion_file_of v.items ≡ Ok file.now) }
 {
     let mut bytes = file_value(alloc, file)?.to_vec(alloc)?;
     bytes.push(b'\n')?;

@@ -1,10 +1,12 @@
 // Reading an assertion file.
-ghost use Rattle.std.specs.Prelude.{◌≡◌, Ok, IfOk, IfErr};
+ghost use Rattle.std.specs.Prelude.{◌≡◌, ◌<◌, ◌≤◌, ◌&&◌, false, length, Ok, IfOk, IfErr, IfSome, IfNone, IsTrue};
 ghost use Rattle.serde_json.specs.View.{view};
+ghost use Rattle.irv_base.specs.Orders.{is_order};
+ghost use Rattle.irv_base.specs.declared.limits.TheConstants.{ROOM};
 ghost use Rattle.assertion_file.specs.Faults.{Refuses};
 ghost use Rattle.assertion_file.specs.Ids.{number_of, numbers_of};
-ghost use Rattle.assertion_file.specs.Reading.{assertion_file_of, content_of, is_record_count, judged_heading, located};
-ghost use Rattle.assertion_file.specs.Views.{stated_heading};
+ghost use Rattle.assertion_file.specs.Reading.{assertion_file_of, content_of, id_rules, is_margin, is_record_count, judged, judged_heading, located, named_rules};
+ghost use Rattle.assertion_file.specs.Views.{stated_heading, stated_ids};
 ghost use Rattle.assertion_file.specs.declared.fault.FileFault.TheVariants.{Refused};
 
 use crate::AssertionFile;
@@ -16,6 +18,20 @@ use crate::print::VERSION;
 use irv_base::{Candidate, MOST_RECORDS, Name, Order};
 use serde_json::Value;
 use std::alloc::Global;
+
+// The contest and its candidates.
+#[derive(Drop)]
+struct Ids {
+    contest: Name,
+    candidates: Vec<Name>,
+}
+
+// Those of the candidates whom the file's own members name, the order as numbers.
+#[derive(Drop)]
+struct Chosen {
+    winner: Candidate,
+    numbers: Vec<u8>,
+}
 
 // Those who are named in the file's own members.
 #[derive(Drop)]
@@ -33,21 +49,15 @@ fn refused(rule: FRule) -> FileFault
     FileFault::Refused { rule, at: 0 }
 }
 
-fn is_record_count(n: u32) -> bool
-    ensures { result ≡ is_record_count n }
-{
-    1 <= n && n <= MOST_RECORDS
-}
-
-// Judges the file's own members by all rules but F2.
-#[tactic(auto, unfolding(crate::specs::Reading::judged_heading))]
-fn names_of(alloc: Global, heading: &Heading<'_>) -> Result<Named, FileFault>
-    ensures kept { IfOk result (λ _. judged_heading (stated_heading heading.now) ≡ Ok (stated_heading heading.now)) }
-    ensures contest { IfOk result (λ named. named.contest ≡ heading.now.contest.now) }
-    ensures candidates { IfOk result (λ named. named.candidates.items ≡ (stated_heading heading.now).candidates) }
-    ensures winner { IfOk result (λ named. named.winner ≡ number_of (stated_heading heading.now).candidates heading.now.winner.now) }
-    ensures order { IfOk result (λ named. named.order ≡ numbers_of (stated_heading heading.now).candidates (stated_heading heading.now).order) }
-    ensures refused { IfErr result (Refuses (located 0 (judged_heading (stated_heading heading.now)))) }
+// Judges the version, the contest and the candidates: F3 and F4.
+fn ids_of(alloc: Global, heading: &Heading<'_>) -> Result<Ids, FileFault>
+    ensures kept { let stated = stated_heading heading.now in
+        IfOk result (λ _. judged (id_rules stated) stated ≡ Ok stated) }
+    ensures contest { IfOk result (λ ids. ids.contest ≡ heading.now.contest.now) }
+    ensures candidates { IfOk result (λ ids.
+        ids.candidates.items ≡ stated_ids heading.now.candidates.now) }
+    ensures refused { let stated = stated_heading heading.now in
+        IfErr result (Refuses (located 0 (judged (id_rules stated) stated))) }
 {
     if heading.version != VERSION {
         return Err(refused(FRule::F3));
@@ -58,25 +68,81 @@ fn names_of(alloc: Global, heading: &Heading<'_>) -> Result<Named, FileFault>
     let Some(candidates) = candidates(alloc, heading.candidates)? else {
         return Err(refused(FRule::F4));
     };
-    let Some(winner) = candidate(candidates.as_slice(), heading.winner) else {
+    Ok(Ids {
+        contest,
+        candidates,
+    })
+}
+
+// Judges whether those who are named are candidates: F4.
+fn chosen_of(alloc: Global, names: &[Name], heading: &Heading<'_>) -> Result<Chosen, FileFault>
+    requires few { length names.now ≤ ROOM }
+    requires same { names.now ≡ stated_ids heading.now.candidates.now }
+    ensures kept { let stated = stated_heading heading.now in
+        IfOk result (λ _. judged (named_rules stated) stated ≡ Ok stated) }
+    ensures winner { IfOk result (λ chosen.
+        chosen.winner ≡ number_of names.now heading.now.winner.now) }
+    ensures numbers { IfOk result (λ chosen.
+        chosen.numbers.items ≡ numbers_of names.now (stated_ids heading.now.order.now)) }
+    ensures refused { let stated = stated_heading heading.now in
+        IfErr result (Refuses (located 0 (judged (named_rules stated) stated))) }
+{
+    let Some(winner) = candidate(names, heading.winner) else {
         return Err(refused(FRule::F4));
     };
-    let Some(order) = numbers(alloc, candidates.as_slice(), heading.order)? else {
+    let Some(numbers) = numbers(alloc, names, heading.order)? else {
         return Err(refused(FRule::F4));
     };
-    let Ok(order) = Order::read(candidates.len() as u32, order.as_slice()) else {
+    Ok(Chosen { winner, numbers })
+}
+
+// The order of these candidates, if the numbers are one.
+fn order_of(names: &[Name], numbers: &[u8]) -> Option<Order>
+    requires some { 0 < length names.now }
+    requires few { length names.now ≤ ROOM }
+    ensures order { IfSome result (λ order. order ≡ numbers.now) }
+    ensures valid { IfSome result (λ _. IsTrue (is_order (length names.now) numbers.now)) }
+    ensures none { IfNone result (is_order (length names.now) numbers.now ≡ false) }
+{
+    match Order::read(names.len() as u32, numbers) {
+        Ok(order) => Some(order),
+        Err(_bad) => None,
+    }
+}
+
+fn are_counts(records: u32, margin: u32) -> bool
+    ensures { result ≡ (is_record_count records && is_margin records margin) }
+{
+    1 <= records && records <= MOST_RECORDS && is_margin(records, margin)
+}
+
+// Judges the file's own members by all rules but F2.
+fn names_of(alloc: Global, heading: &Heading<'_>) -> Result<Named, FileFault>
+    ensures kept { let stated = stated_heading heading.now in
+        IfOk result (λ _. judged_heading stated ≡ Ok stated) }
+    ensures contest { IfOk result (λ named. named.contest ≡ heading.now.contest.now) }
+    ensures candidates { IfOk result (λ named.
+        named.candidates.items ≡ stated_ids heading.now.candidates.now) }
+    ensures winner { let ids = stated_ids heading.now.candidates.now in
+        IfOk result (λ named. named.winner ≡ number_of ids heading.now.winner.now) }
+    ensures order { let ids = stated_ids heading.now.candidates.now in
+        IfOk result (λ named. named.order ≡ numbers_of ids (stated_ids heading.now.order.now)) }
+    ensures refused { IfErr result
+        (Refuses (located 0 (judged_heading (stated_heading heading.now)))) }
+{
+    let ids = ids_of(alloc, heading)?;
+    let names = ids.candidates.as_slice();
+    let chosen = chosen_of(alloc, names, heading)?;
+    let Some(order) = order_of(names, chosen.numbers.as_slice()) else {
         return Err(refused(FRule::F5));
     };
-    if !is_record_count(heading.records) {
-        return Err(refused(FRule::F6));
-    }
-    if !is_margin(heading.records, heading.margin) {
+    if !are_counts(heading.records, heading.margin) {
         return Err(refused(FRule::F6));
     }
     Ok(Named {
-        contest,
-        candidates,
-        winner,
+        contest: ids.contest,
+        candidates: ids.candidates,
+        winner: chosen.winner,
         order,
     })
 }
@@ -113,12 +179,13 @@ fn content_of(alloc: Global, value: &Value) -> Result<AssertionFile, FileFault>
 /// `u32::MAX`, without a point or an exponent.
 ///
 /// It is refused by the first rule that is broken. The file's own members are judged first, with place 0: by F1 if
-/// the bytes aren't JSON; by F2 if a member is missing or of another kind; by F3 if the version isn't 1; by F4 if the
-/// contest's id or a candidate's is none, there aren't 2 to 20 candidates, one stands twice, or the winner or one of
-/// the order isn't among them; by F5 if the order hasn't each candidate once; by F6 if there aren't 1 to 1,000,000
-/// records, or the margin isn't 1 to their number. Then comes each assertion, with its number from 1 as the place: F2
-/// as above; F4 if one who is named isn't a candidate, or the winner is the loser; F5 if a NEN's rest repeats a
-/// candidate or lacks the winner or the loser; F6 if the margin isn't 1 to the number of records.
+/// the bytes aren't JSON; by F2 if a member is missing or of another kind; by F3 if the version isn't `VERSION`; by
+/// F4 if the contest's id or a candidate's is none, there aren't `FEWEST_CANDIDATES` to `MOST_CANDIDATES` of them, one
+/// stands twice, or the winner or one of the order isn't among them; by F5 if the order hasn't each candidate once; by
+/// F6 if there aren't 1 to `MOST_RECORDS` records, or the margin isn't 1 to their number. Then comes each assertion,
+/// with its number from 1 as the place: F2 as above; F4 if one who is named isn't a candidate, or the winner is the
+/// loser; F5 if a NEN's rest repeats a candidate or lacks the winner or the loser; F6 if the margin isn't 1 to the
+/// number of records.
 pub fn read_file(alloc: Global, bytes: &[u8]) -> Result<AssertionFile, FileFault>
     ensures read { IfOk result (λ file. assertion_file_of bytes.now ≡ Ok file) }
     ensures refused { IfErr result (Refuses (assertion_file_of bytes.now)) }

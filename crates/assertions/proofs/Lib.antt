@@ -29,3 +29,4 @@ pub mod Shortest
 pub mod Scored
 pub mod Few
 pub mod Rows
+pub mod Counts

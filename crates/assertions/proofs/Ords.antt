@@ -1,8 +1,10 @@
 -- The fixed order is total, and the one that `derive(Ord)` gives.
-use Rattle.std.proofs.Common.{List, ap, arith, inl, inr, refl, sym, true, ℕ, ◌↔◌, ◌∙◌, ◌≡◌}
+use Rattle.std.proofs.Common.{List, ap, arith, inl, inr, refl, subst, sym, true, ℕ, ◌↔◌, ◌∙◌, ◌≡◌}
+use Rattle.std.proofs.Math.Path.{fun_ext}
 use Rattle.std.proofs.lemmas.Bool.{cases_Bool}
 use Rattle.std.proofs.lemmas.Bool.Decides.{nat_tests}
-use Rattle.std.proofs.lemmas.Cmp.{nat_cmp_total, ranked, same_from_slice_cmp, tied_itself}
+use Rattle.std.proofs.lemmas.Cmp.{nat_cmp_total, nat_list_cmp_total, ranked, same_from_slice_cmp, tied_itself}
+use Rattle.std.specs.Cmp.{IsTotalOrder, on_total}
 use Rattle.std.specs.Cmp.Lexicographic.{slice_cmp}
 use Rattle.std.specs.Ordering.{is_lt, nat_cmp, ordering_then}
 use Rattle.std.specs.declared.cmp.Ordering.{Ordering}
@@ -28,13 +30,17 @@ cmp-key (Neb w l) (Nen v k u) = refl
 cmp-key (Nen w l s) (Neb v k) = refl
 cmp-key (Nen w l s) (Nen v k u) = ap (λ o. ordering_then (nat_cmp w v) (ordering_then (nat_cmp l k) o)) (sym (then_equal (nat_cmp s u)))
 
-is_lt-keys : (x y : List ℕ) → is_lt (slice_cmp nat_cmp x y) ≡ stands_before x y
+pub is_lt-keys : (x y : List ℕ) → is_lt (slice_cmp nat_cmp x y) ≡ stands_before x y
 is_lt-keys x y = same_from_slice_cmp nat_cmp is_lt stands_before refl (λ _ _. refl) (λ _ _. refl) (λ x y xs ys o h. grind (arith, nat_tests)) x y (slice_cmp nat_cmp x y) refl
 
 is_lt-Less : (o : Ordering) → is_lt o ≡ true → o ≡ Less
 is_lt-Less Less h = refl
 is_lt-Less Equal h = cc
 is_lt-Less Greater h = cc
+
+-- it is a total order
+pub cmp_total : IsTotalOrder ghosts.cmp
+cmp_total = subst IsTotalOrder (sym (fun_ext (λ a. fun_ext (λ b. cmp-key a b)))) (on_total key nat_list_cmp_total)
 
 then-Equal : (o p : Ordering) → ordering_then o p ≡ Equal → (o ≡ Equal) × (p ≡ Equal)
 then-Equal Less p h = cc

@@ -1,5 +1,5 @@
 -- What the assorter values sum up to, and the margin of a true assertion.
-use Rattle.std.proofs.Common.{Bool, List, None, Option, Some, [], arith, cond, count_by, eqb-true, false, if◌then◌else◌, length, lt-ltb, ltb-true, nat_lt, ne_eqb, pos, refl, sum_by, sym, true, true≢false, ℕ, ◌+◌, ◌-ℤ◌, ◌-◌, ◌<ℤ◌, ◌<◌, ◌↔◌, ◌∙◌, ◌∷◌, ◌≡◌}
+use Rattle.std.proofs.Common.{Bool, List, None, Option, Some, [], arith, cond, count_by, eqb-true, false, if◌then◌else◌, length, lt-ltb, ltb-true, nat_lt, ne_eqb, pos, refl, sum_by, sym, true, true≢false, ℕ, ◌+◌, ◌-ℤ◌, ◌-◌, ◌<ℤ◌, ◌<◌, ◌≤◌, ◌↔◌, ◌∙◌, ◌∷◌, ◌≡◌}
 use Rattle.std.proofs.lemmas.Int.{ints}
 use Rattle.std.proofs.lemmas.List.Sums.{sum_by-cons}
 use Rattle.irv_base.specs.Records.{is_ahead, is_first, is_some_of, top}
@@ -54,6 +54,18 @@ difference s n f a e = omega (arith, ints)
 
 pub assorter_sums : (n : ℕ) (records : List (List ℕ)) (a : Assertion) → is_proper n a ≡ true → pos (sum_by (assorter_value a) records) -ℤ pos (length records) ≡ margin records a
 assorter_sums n records a proper = difference (sum_by (assorter_value a) records) (length records) (votes_for records a) (votes_against records a) (assorter-sum n records a proper)
+
+-- ---- each is 0, 1 or 2
+pub assorter-is : (a : Assertion) (ranking : List ℕ) → assorter_value a ranking ≤ 2
+assorter-is a ranking = go a where
+  few : (p q : Bool) → (if p then 2 else (if q then 0 else 1)) ≤ 2
+  few true q = omega arith
+  few false true = omega arith
+  few false false = omega arith
+
+  go : (a : Assertion) → assorter_value a ranking ≤ 2
+  go (Neb w l) = few (is_first ranking w) (is_ahead ranking l w)
+  go (Nen w l rest) = few (is_some_of (top ranking rest) w) (is_some_of (top ranking rest) l)
 
 -- ---- the margin of a true assertion
 pub true_margin_is : (records : List (List ℕ)) (a : Assertion) →

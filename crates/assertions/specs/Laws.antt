@@ -30,6 +30,9 @@ NebFor =
 abbrev pub NebAgainst : Type 0
 NebAgainst = (records : List (List ℕ)) (w l : ℕ) → w ≢ l → votes_against records (Neb w l) ≡ tally records (set_of (w ∷ l ∷ [])) l
 
+abbrev pub AssorterIs : Type 0
+AssorterIs = (a : Assertion) (ranking : List ℕ) → assorter_value a ranking ≤ 2
+
 -- what the assorter values are above 1 in sum is the margin
 abbrev pub AssorterSums : Type 0
 AssorterSums =
@@ -118,6 +121,13 @@ abbrev pub CountsAreFew : Type 0
 CountsAreFew =
     (n c margin : ℕ) (low : List ℕ → ℕ) (order : List ℕ) → c < n →
     (cover_count n low margin c ≤ 2 * factorial (n - 1)) × (order_count n low margin order c ≤ 2 * factorial (n - 1))
+
+-- the cover count is the number of those below the margin: each is in the list, which has them once each, read backwards
+abbrev pub CoverCountIs : Type 0
+CoverCountIs =
+    (n c margin : ℕ) (low : List ℕ → ℕ) (below : List (List ℕ)) → c < n → AllPairs (λ suffix other. IsTrue (comes_before suffix other)) below →
+    ((suffix : List ℕ) → (Contains below suffix ↔ (IsTrue (is_suffix n suffix) × Elects suffix c × (length suffix < n) × (low suffix < margin)))) →
+    cover_count n low margin c ≡ length below
 
 -- an order that ends in a suffix is it, or ends in one that is longer by one
 abbrev pub SuffixGrows : Type 0

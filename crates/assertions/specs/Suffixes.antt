@@ -1,13 +1,9 @@
 -- Suffixes of elimination orders: the last candidates, so that the winner stands last.
-use Rattle.std.specs.Prelude.{◌≢◌, ℕ, zero, suc, ◌-◌, ◌*◌, Bool, ◌&&◌, nat_lt, if◌then◌else◌, List, [], ◌∷◌, length, filter, flat_map, reverse, IsTrue}
-use Rattle.std.specs.List.{list_all}
-use Rattle.irv_base.specs.Candidates.{candidates, all_but, is_in, is_distinct}
+use Rattle.std.specs.Prelude.{◌≢◌, ℕ, zero, suc, ◌-◌, ◌*◌, Bool, nat_lt, if◌then◌else◌, List, [], ◌∷◌, length, filter, flat_map, reverse, IsTrue}
+use Rattle.irv_base.specs.Candidates.{candidates, all_but, is_in}
 use Rattle.irv_base.specs.Orders.{is_order, Elects}
+pub use Rattle.irv_base.specs.Suffixes.{is_suffix}
 use Rattle.assertions.specs.Lists.{stands_before}
-
--- distinct candidates below n
-abbrev pub is_suffix : ℕ → List ℕ → Bool
-is_suffix n suffix = is_distinct suffix && list_all (λ c. nat_lt c n) suffix
 
 -- the orders that put k more candidates before the suffix; read backwards, the least comes first
 abbrev pub orders_ending : ℕ → ℕ → List ℕ → List (List ℕ)

@@ -24,6 +24,7 @@ pub fn three_candidates()
     ensures covered { IsTrue (covers 3 1 (certificate_assertions 3 contests.three_candidates 1)) }
     ensures possible { IsTrue (is_possible contests.three_candidates (2 ∷ 0 ∷ 1 ∷ [])) }
     ensures below_0 { cover_count 3 (low 3 contests.three_candidates) 1 0 ≡ 1 }
+    ensures below_2 { cover_count 3 (low 3 contests.three_candidates) 1 2 ≡ 0 }
     ensures before_2 { order_count 3 (low 3 contests.three_candidates) 1 (1 ∷ 0 ∷ 2 ∷ []) 2 ≡ 2 }
 {}
 

@@ -1,5 +1,5 @@
 //! The laws of the definitions: each holds of every value that it names, and has no code.
-ghost use Rattle.assertions.specs.Laws.{NebFor, NebAgainst, AssorterSums, TrueMargin, AssertionsAreProper, AssertionsRise, FixedOrderIsTotal, FixedOrderIsOrd, RefutesWhere, RefutesLonger, CoverIsSound, OrdersEnding, AlternativeOrders, AlternativeOrdersRise, SuffixesEnding, PartsEnding, PartsRise, PartsAreFew, CountsAreFew, SuffixGrows, LowIsGreatest, LowGrows, LowOfMore, LowOfNone, RefuterIsFirst, RefuterOrNone, ScoreOfMore, ScoreOfNone, PossibleIffUnrefuted, BestIsLeast, BestIsPositive, StartIsAlternative, FrontierBounds, NoneBeatsBest, CertificateIsProper, CertificateIsTrue, CertificateCovers, CertificateReachesBest, CertificateHasBest, CertificateOrder, CertificateOrderIsFirst, CertificateRefutes, EndsAreShortest, EndsAreOne, CertificateIs, CertificateIsOne, RecordsInAnyOrder, TwoCandidates};
+ghost use Rattle.assertions.specs.Laws.{NebFor, NebAgainst, AssorterIs, AssorterSums, TrueMargin, AssertionsAreProper, AssertionsRise, FixedOrderIsTotal, FixedOrderIsOrd, RefutesWhere, RefutesLonger, CoverIsSound, OrdersEnding, AlternativeOrders, AlternativeOrdersRise, SuffixesEnding, PartsEnding, PartsRise, PartsAreFew, CountsAreFew, CoverCountIs, SuffixGrows, LowIsGreatest, LowGrows, LowOfMore, LowOfNone, RefuterIsFirst, RefuterOrNone, ScoreOfMore, ScoreOfNone, PossibleIffUnrefuted, BestIsLeast, BestIsPositive, StartIsAlternative, FrontierBounds, NoneBeatsBest, CertificateIsProper, CertificateIsTrue, CertificateCovers, CertificateReachesBest, CertificateHasBest, CertificateOrder, CertificateOrderIsFirst, CertificateRefutes, EndsAreShortest, EndsAreOne, CertificateIs, CertificateIsOne, RecordsInAnyOrder, TwoCandidates};
 
 /// What a NEB has for its winner: its votes with all candidates left.
 pub fn neb_for()
@@ -9,6 +9,11 @@ pub fn neb_for()
 /// What a NEB has against its winner: the votes of the loser with these two alone.
 pub fn neb_against()
     ensures { NebAgainst }
+{}
+
+/// Each assorter value is at most 2.
+pub fn assorter_is()
+    ensures { AssorterIs }
 {}
 
 /// What the assorter values are above 1 each, in sum, is the margin.
@@ -97,6 +102,11 @@ pub fn parts_are_few()
 /// So the cover count and the order count are at most that.
 pub fn counts_are_few()
     ensures { CountsAreFew }
+{}
+
+/// The cover count is the number of those whose low is below the margin.
+pub fn cover_count_is()
+    ensures { CoverCountIs }
 {}
 
 /// An order that ends in a suffix is it, or ends in one that is longer by one.

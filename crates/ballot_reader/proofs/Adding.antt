@@ -1,5 +1,5 @@
 -- One ballot more.
-use Rattle.std.proofs.Common.{◌≡◌, ◌≤◌, ◌<◌, ◌+◌, ◌∙◌, ◌++◌, ◌∷◌, [], ℕ, zero, suc, true, false, not, List, Option, Some, None, Err, length, map, set, refl, sym, ap, subst, arith, get_or, leb-true, length-append}
+use Rattle.std.proofs.Common.{◌≡◌, ◌≤◌, ◌<◌, ◌+◌, ◌∙◌, ◌++◌, ◌∷◌, [], ℕ, zero, suc, true, false, not, List, Option, Some, None, Err, length, map, set, refl, sym, ap, subst, arith, leb-true, length-append}
 use Rattle.std.specs.Prelude.{All, IfSome, IsTrue, is_some, nat_le, nat_lt, option_map, if◌then◌else◌}
 use Rattle.std.specs.List.{slice_get}
 use Rattle.std.specs.Cmp.Lexicographic.{bytes_decides}
@@ -7,15 +7,15 @@ use Rattle.std.proofs.lemmas.Bool.{and_parts, not-true}
 use Rattle.std.proofs.lemmas.Cmp.{nat_list_eq_equiv}
 use Rattle.std.proofs.lemmas.List.{append-nil, map-append}
 use Rattle.std.proofs.lemmas.List.Elements.{filter-append, All-push}
-use Rattle.std.proofs.lemmas.Option.{slice_get-map, slice_get_read}
+use Rattle.std.proofs.lemmas.Option.{slice_get-map}
 use Rattle.csv_rows.specs.Rows.{Fields}
 use Rattle.irv_base.specs.Candidates.{is_distinct}
 use Rattle.irv_base.specs.Names.{Id, is_among, is_same, all_differ}
-use Rattle.irv_base.specs.declared.limits.TheConstants.{MOST_RECORDS}
+use Rattle.irv_base.specs.declared.limits.TheConstants.{FEWEST_CANDIDATES, MOST_CANDIDATES, MOST_RECORDS}
 use Rattle.ballot_reader.specs.Grammar.{Ballot, Contest, ballot_for, ballot_ids, ballot_in, ballot_of, ballot_with, ballots_in, has_audited_size, ranking_of}
-use Rattle.ballot_reader.specs.Kept.{IsKept, contest_ids}
+use Rattle.ballot_reader.specs.Kept.{AreKept, contest_ids}
 use Rattle.ballot_reader.specs.declared.fault.BRule.TheVariants.{B9, B10}
-use Rattle.ballot_reader.proofs.Ids.{differ-push, or-false}
+use Rattle.ballot_reader.proofs.Differing.{differ-push, or-false}
 
 -- ---- the ballots of a contest, after one more
 
@@ -118,9 +118,9 @@ ranked contests ballots at row k id preferences contest m h o e =
 -- ---- what is kept of it
 
 pub kept-other : (contests : List Contest) (chosen : Contest) (ballots : List Ballot) (ids : List (List Id)) (places : List ℕ) (rankings : List (List ℕ)) (count k a : ℕ) (contest : Contest) (b : Ballot)
-    → all_differ (contest_ids contests) ≡ true → IsKept contests chosen ballots ids places rankings count → count < MOST_RECORDS → slice_get contests k ≡ Some contest → slice_get contests a ≡ Some chosen
+    → all_differ (contest_ids contests) ≡ true → AreKept contests chosen ballots ids places rankings count → count < MOST_RECORDS → slice_get contests k ≡ Some contest → slice_get contests a ≡ Some chosen
     → (k ≡ a → ⊥) → b.contest ≡ contest.id → (new_ids : List (List Id)) → new_ids ≡ set ids k (ballot_ids contest.id ballots ++ b.id ∷ [])
-    → IsKept contests chosen (ballots ++ b ∷ []) new_ids places rankings (count + 1)
+    → AreKept contests chosen (ballots ++ b ∷ []) new_ids places rankings (count + 1)
 kept-other contests chosen ballots ids places rankings count k a contest b d kept room there audited other of new_ids e =
     let out = ap (λ id. is_same id chosen.id) of ∙ unlike contests k a contest chosen d there audited other in
     record {
@@ -135,10 +135,10 @@ kept-other contests chosen ballots ids places rankings count k a contest b d kep
     }
 
 pub kept-own : (contests : List Contest) (chosen : Contest) (ballots : List Ballot) (ids : List (List Id)) (places : List ℕ) (rankings : List (List ℕ)) (count k : ℕ) (b : Ballot)
-    → all_differ (contest_ids contests) ≡ true → IsKept contests chosen ballots ids places rankings count → count < MOST_RECORDS → slice_get contests k ≡ Some chosen
+    → all_differ (contest_ids contests) ≡ true → AreKept contests chosen ballots ids places rankings count → count < MOST_RECORDS → slice_get contests k ≡ Some chosen
     → b.contest ≡ chosen.id → is_among (ballot_ids chosen.id ballots) b.id ≡ false → All (λ c. c < length chosen.candidates) b.ranking → IsTrue (is_distinct b.ranking)
     → (new_ids : List (List Id)) (new_places : List ℕ) (new_rankings : List (List ℕ)) → new_ids ≡ set ids k (ballot_ids chosen.id ballots ++ b.id ∷ []) → new_places ≡ places ++ b.at ∷ [] → new_rankings ≡ rankings ++ b.ranking ∷ []
-    → IsKept contests chosen (ballots ++ b ∷ []) new_ids new_places new_rankings (count + 1)
+    → AreKept contests chosen (ballots ++ b ∷ []) new_ids new_places new_rankings (count + 1)
 kept-own contests chosen ballots ids places rankings count k b d kept room there of new below once new_ids new_places new_rankings e f g =
     let own = ap (λ id. is_same id chosen.id) of ∙ same-refl chosen.id in
     record {
@@ -155,7 +155,7 @@ kept-own contests chosen ballots ids places rankings count k b d kept room there
 -- ---- from places to values
 
 pub stood : (contests : List Contest) (chosen : Contest) (ballots : List Ballot) (ids : List (List Id)) (places : List ℕ) (rankings : List (List ℕ)) (count k : ℕ) (contest : Contest)
-    → IsKept contests chosen ballots ids places rankings count → slice_get contests k ≡ Some contest → slice_get ids k ≡ Some (ballot_ids contest.id ballots)
+    → AreKept contests chosen ballots ids places rankings count → slice_get contests k ≡ Some contest → slice_get ids k ≡ Some (ballot_ids contest.id ballots)
 stood contests chosen ballots ids places rankings count k contest kept there =
     ap (λ xs. slice_get xs k) kept.noted ∙ slice_get-map (λ (c : Contest). ballot_ids c.id ballots) contests k ∙ ap (option_map (λ (c : Contest). ballot_ids c.id ballots)) there
 
@@ -170,13 +170,15 @@ none_of (Some x) h = absurd cc
 pub same_at : {X : Type 0} (xs : List X) (k : ℕ) (x y : X) → slice_get xs k ≡ Some x → slice_get xs k ≡ Some y → x ≡ y
 same_at xs k x y g h = let e = sym g ∙ h in cc
 
-pub sized-at : (contests : List Contest) (k a : ℕ) (contest : Contest) → k ≡ a → slice_get contests k ≡ Some contest → IfSome (slice_get contests a) (λ chosen. IsTrue (has_audited_size chosen.candidates))
-    → length contest.candidates ≤ 20
-sized-at contests k a contest e there h =
-    let sized : IsTrue (has_audited_size contest.candidates) = subst (λ o. IfSome o (λ (c : Contest). IsTrue (has_audited_size c.candidates))) (ap (slice_get contests) (sym e) ∙ there) h in
-    leb-true (length contest.candidates) 20 (and_parts (nat_le 2 (length contest.candidates)) (nat_le (length contest.candidates) 20) sized).1
+pub audited-size : (contests : List Contest) (a : ℕ) (contest : Contest) → slice_get contests a ≡ Some contest
+    → IfSome (slice_get contests a) (λ chosen. IsTrue (has_audited_size chosen.candidates))
+    → (FEWEST_CANDIDATES ≤ length contest.candidates) × (length contest.candidates ≤ MOST_CANDIDATES)
+audited-size contests a contest there h =
+    let n = length contest.candidates in
+    let sized : IsTrue (has_audited_size contest.candidates) = subst (λ o. IfSome o (λ (c : Contest). IsTrue (has_audited_size c.candidates))) there h in
+    let (few, most) = and_parts (nat_le FEWEST_CANDIDATES n) (nat_le n MOST_CANDIDATES) sized in
+    (leb-true FEWEST_CANDIDATES n few, leb-true n MOST_CANDIDATES most)
 
-pub at_place : {A B : Type 0} (f : A → B) (items : List A) (k : ℕ) (x : A) (y : B) → k < length items → x ≡ get_or items k x → slice_get (map f items) k ≡ Some y → f x ≡ y
-at_place f items k x y l e g =
-    let h : Some (f x) ≡ Some y = sym (slice_get-map f items k ∙ ap (option_map f) (slice_get_read items (length items) k x refl l e)) ∙ g in
-    cc
+pub sized-at : (contests : List Contest) (k a : ℕ) (contest : Contest) → k ≡ a → slice_get contests k ≡ Some contest → IfSome (slice_get contests a) (λ chosen. IsTrue (has_audited_size chosen.candidates))
+    → length contest.candidates ≤ MOST_CANDIDATES
+sized-at contests k a contest e there h = (audited-size contests a contest (ap (slice_get contests) (sym e) ∙ there) h).1

@@ -5,7 +5,7 @@ use Rattle.irv_base.specs.Names.{Id}
 use Rattle.ballot_reader.specs.Ballots.{BallotFile}
 use Rattle.ballot_reader.specs.Faults.{Refuses}
 use Rattle.ballot_reader.specs.Grammar.{Ballot, Contest, Refusal, and_then, asked_for, ballot_of, ballots_after, ballots_behind, contests_in, file_of, sized, then_on}
-use Rattle.ballot_reader.specs.Kept.{IsKept, RefusesRecord}
+use Rattle.ballot_reader.specs.Kept.{AreKept, RefusesRecord}
 use Rattle.ballot_reader.specs.declared.fault.BallotFault.{BallotFault}
 use Rattle.ballot_reader.specs.declared.fault.BallotFault.TheVariants.{Refused, Memory}
 
@@ -14,7 +14,7 @@ use Rattle.ballot_reader.specs.declared.fault.BallotFault.TheVariants.{Refused, 
 -- the records are these ballots, and then those from number at on; of the ballots this is kept
 pub record BallotsSoFar (contests : List Contest) (chosen : Contest) (rows : List Fields) (ballots : List Ballot) (at : ℕ) (rest : List Fields) (ids : List (List Id)) (places : List ℕ) (rankings : List (List ℕ)) (count : ℕ) : Type 0 where
   pub split : ballots_after contests [] (2 + length contests) rows ≡ ballots_after contests ballots at rest
-  pub kept : IsKept contests chosen ballots ids places rankings count
+  pub kept : AreKept contests chosen ballots ids places rankings count
   pub numbered : at ≡ 2 + length contests + count
 
 pub ballots-more : (contests : List Contest) (rows : List Fields) (ballots : List Ballot) (at : ℕ) (row : Fields) (rest : List Fields) (ballot : Ballot)

@@ -10,7 +10,7 @@ use Rattle.ballot_reader.specs.Kept.{contest_ids}
 use Rattle.ballot_reader.specs.declared.fault.BRule.{BRule}
 use Rattle.ballot_reader.specs.declared.fault.BRule.TheVariants.{B2, B4}
 use Rattle.ballot_reader.specs.declared.limits.TheConstants.{MOST_LISTED}
-use Rattle.ballot_reader.proofs.Ids.{differ-push, or-false}
+use Rattle.ballot_reader.proofs.Differing.{differ-push, or-false}
 
 -- ---- a contest that is accepted has a new id
 

@@ -9,7 +9,7 @@ use Rattle.irv_base.specs.Candidates.{is_distinct}
 use Rattle.irv_base.specs.Names.{Id, is_same}
 use Rattle.ballot_reader.specs.Ballots.{AreBallots, BallotFile}
 use Rattle.ballot_reader.specs.Grammar.{Ballot, Contest, ballot_ids, ballots_in, file_of}
-use Rattle.ballot_reader.specs.Kept.{IsKept}
+use Rattle.ballot_reader.specs.Kept.{AreKept}
 use Rattle.ballot_reader.proofs.Adding.{noted}
 
 pub got : {X : Type 0} (xs : List X) (k : ℕ) → k < length xs → (x : X) × (slice_get xs k ≡ Some x)
@@ -22,7 +22,7 @@ noted-none [] = refl
 noted-none (c ∷ contests) = ap (λ ids. [] ∷ ids) (noted-none contests)
 
 pub kept-none : (contests : List Contest) (chosen : Contest) (ids : List (List Id)) (places : List ℕ) (rankings : List (List ℕ)) (count : ℕ) → ids ≡ replicate (length contests) [] → places ≡ [] → rankings ≡ []
-    → count ≡ 0 → IsKept contests chosen [] ids places rankings count
+    → count ≡ 0 → AreKept contests chosen [] ids places rankings count
 kept-none contests chosen ids places rankings count i p r c = record {
   noted = i ∙ noted-none contests;
   placed = p;
@@ -41,7 +41,7 @@ filter-le p (x ∷ xs) = elim (cases_Bool (p x)) [
   | inr f ↦ rw f (omega (arith, filter-le p xs))
 ]
 
-pub are_ballots : (contests : List Contest) (chosen : Contest) (ballots : List Ballot) (ids : List (List Id)) (places : List ℕ) (rankings : List (List ℕ)) (count : ℕ) → IsKept contests chosen ballots ids places rankings count
+pub are_ballots : (contests : List Contest) (chosen : Contest) (ballots : List Ballot) (ids : List (List Id)) (places : List ℕ) (rankings : List (List ℕ)) (count : ℕ) → AreKept contests chosen ballots ids places rankings count
     → AreBallots (length chosen.candidates) (ballot_ids chosen.id ballots) places rankings
 are_ballots contests chosen ballots ids places rankings count kept =
     let own = ballots_in chosen.id ballots in
@@ -57,9 +57,9 @@ are_ballots contests chosen ballots ids places rankings count kept =
       distinct = kept.distinct;
     }
 
-pub within-ids : {A : Type 0} (f : A → List Id) (items : List A) (contests : List Contest) (ballots : List Ballot) (k : ℕ) → map f items ≡ noted ballots contests → k < length contests → k < length items
-within-ids f items contests ballots k e l =
-    omega (arith, l, ap length e, length-map items f, length-map contests (λ (c : Contest). ballot_ids c.id ballots))
+pub within-ids : (ids : List (List Id)) (contests : List Contest) (ballots : List Ballot) (k : ℕ) → ids ≡ noted ballots contests → k < length contests → k < length ids
+within-ids ids contests ballots k e l =
+    omega (arith, l, ap length e, length-map contests (λ (c : Contest). ballot_ids c.id ballots))
 
 abbrev pub file_with : Id → List Id → List Id → List ℕ → List (List ℕ) → BallotFile
 file_with contest candidates ids places rankings = record { contest = contest; candidates = candidates; ids = ids; places = places; rankings = rankings }

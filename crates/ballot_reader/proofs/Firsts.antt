@@ -6,9 +6,10 @@ use Rattle.std.proofs.lemmas.List.Elements.{All-nil, All-cons, All-head, All-tai
 use Rattle.std.proofs.lemmas.List.Quantifiers.{position-Some}
 use Rattle.csv_rows.specs.Rows.{Fields}
 use Rattle.irv_base.specs.Candidates.{is_in, is_distinct}
-use Rattle.irv_base.specs.Names.{Id, is_same}
-use Rattle.ballot_reader.specs.Grammar.{all_of, candidate_of, firsts, is_marked, ranking_of}
-use Rattle.ballot_reader.proofs.Ids.{or-false}
+use Rattle.irv_base.specs.Names.{Id, is_same, candidate_named}
+use Rattle.irv_base.specs.Records.{firsts}
+use Rattle.ballot_reader.specs.Grammar.{all_of, is_marked, ranking_of}
+use Rattle.ballot_reader.proofs.Differing.{or-false}
 
 filter-lacks : (cs : List ℕ) (c : ℕ) → is_in (filter (λ d. not (d == c)) cs) c ≡ false
 filter-lacks [] c = refl
@@ -46,28 +47,28 @@ firsts-all : (P : ℕ → Type 0) (cs : List ℕ) → All P cs → All P (firsts
 firsts-all P [] h = h
 firsts-all P (c ∷ cs) h = All-cons P c (filter (λ d. not (d == c)) (firsts cs)) (All-head P c cs h) (All-filter (λ d. not (d == c)) P (firsts cs) (firsts-all P cs (All-tail P c cs h)))
 
-chosen-below : (candidates ids : List Id) (cs : List ℕ) → all_of (candidate_of candidates) ids ≡ Some cs → All (λ c. c < length candidates) cs
+chosen-below : (candidates ids : List Id) (cs : List ℕ) → all_of (candidate_named candidates) ids ≡ Some cs → All (λ c. c < length candidates) cs
 chosen-below candidates [] cs h = let e : [] ≡ cs = cc in subst (All (λ c. c < length candidates)) e (All-nil (λ c. c < length candidates))
-chosen-below candidates (id ∷ ids) cs h = first (candidate_of candidates id) refl h (chosen-below candidates ids) where
-  rest : (c : ℕ) → candidate_of candidates id ≡ Some c → (o : Option (List ℕ)) → all_of (candidate_of candidates) ids ≡ o → option_map (λ ds. c ∷ ds) o ≡ Some cs
-      → ((ds : List ℕ) → all_of (candidate_of candidates) ids ≡ Some ds → All (λ d. d < length candidates) ds) → All (λ d. d < length candidates) cs
+chosen-below candidates (id ∷ ids) cs h = first (candidate_named candidates id) refl h (chosen-below candidates ids) where
+  rest : (c : ℕ) → candidate_named candidates id ≡ Some c → (o : Option (List ℕ)) → all_of (candidate_named candidates) ids ≡ o → option_map (λ ds. c ∷ ds) o ≡ Some cs
+      → ((ds : List ℕ) → all_of (candidate_named candidates) ids ≡ Some ds → All (λ d. d < length candidates) ds) → All (λ d. d < length candidates) cs
   rest c e None f g ih = absurd cc
   rest c e (Some ds) f g ih =
       let s : c ∷ ds ≡ cs = cc in
       subst (All (λ d. d < length candidates)) s (All-cons (λ d. d < length candidates) c ds (position-Some (λ candidate. is_same candidate id) candidates c [] e).0 (ih ds f))
 
-  first : (o : Option ℕ) → candidate_of candidates id ≡ o → option_and_then (λ c. option_map (λ ds. c ∷ ds) (all_of (candidate_of candidates) ids)) o ≡ Some cs
-      → ((ds : List ℕ) → all_of (candidate_of candidates) ids ≡ Some ds → All (λ d. d < length candidates) ds) → All (λ d. d < length candidates) cs
+  first : (o : Option ℕ) → candidate_named candidates id ≡ o → option_and_then (λ c. option_map (λ ds. c ∷ ds) (all_of (candidate_named candidates) ids)) o ≡ Some cs
+      → ((ds : List ℕ) → all_of (candidate_named candidates) ids ≡ Some ds → All (λ d. d < length candidates) ds) → All (λ d. d < length candidates) cs
   first None e g ih = absurd cc
-  first (Some c) e g ih = rest c e (all_of (candidate_of candidates) ids) refl g ih
+  first (Some c) e g ih = rest c e (all_of (candidate_named candidates) ids) refl g ih
 
 pub record IsRanking (n : ℕ) (ranking : List ℕ) : Type 0 where
   pub below : All (λ c. c < n) ranking
   pub distinct : is_distinct ranking ≡ true
 
 pub is_ranking : (candidates : List Id) (preferences : Fields) (ranking : List ℕ) → ranking_of candidates preferences ≡ Some ranking → IsRanking (length candidates) ranking
-is_ranking candidates preferences ranking h = by (all_of (candidate_of candidates) (filter is_marked preferences)) refl h where
-  by : (o : Option (List ℕ)) → all_of (candidate_of candidates) (filter is_marked preferences) ≡ o → option_map firsts o ≡ Some ranking → IsRanking (length candidates) ranking
+is_ranking candidates preferences ranking h = by (all_of (candidate_named candidates) (filter is_marked preferences)) refl h where
+  by : (o : Option (List ℕ)) → all_of (candidate_named candidates) (filter is_marked preferences) ≡ o → option_map firsts o ≡ Some ranking → IsRanking (length candidates) ranking
   by None e g = absurd cc
   by (Some cs) e g =
       let s : firsts cs ≡ ranking = cc in

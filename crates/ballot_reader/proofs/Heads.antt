@@ -6,7 +6,7 @@ use Rattle.csv_rows.specs.Rows.{Fields}
 use Rattle.irv_base.specs.Names.{Id, is_name}
 use Rattle.ballot_reader.specs.Grammar.{Ballot, Contest, ballot_for, ballot_in, contest_with_id, has_id}
 use Rattle.ballot_reader.specs.declared.fault.BRule.TheVariants.{B4, B7}
-use Rattle.ballot_reader.proofs.Positions.{found_at, found_none}
+use Rattle.irv_base.proofs.Positions.{found_at, found_none}
 
 named : (contests : List Contest) (earlier : List Ballot) (at : ℕ) (row : Fields) (of id : Id) (preferences : Fields) → row ≡ of ∷ id ∷ preferences → is_name id ≡ true
     → ballot_in contests earlier at row ≡ ballot_for earlier at id preferences (contest_with_id contests of)

@@ -1,7 +1,6 @@
-pub mod Ids
+pub mod Differing
 pub mod AllOf
 pub mod Names
-pub mod Positions
 pub mod Chosen
 pub mod Firsts
 pub mod Heads
@@ -10,3 +9,4 @@ pub mod Adding
 pub mod Behind
 pub mod Ended
 pub mod Rereads
+pub mod IdBytes

@@ -12,14 +12,16 @@ use Rattle.csv_rows.specs.Numbers.{number_of}
 use Rattle.csv_rows.specs.Rows.{Fields}
 use Rattle.csv_rows.proofs.Numbers.{is_number-from, own}
 use Rattle.irv_base.specs.Candidates.{is_in, is_distinct}
-use Rattle.irv_base.specs.Names.{Id, is_name, is_same, is_among, all_differ}
-use Rattle.irv_base.specs.declared.limits.TheConstants.{MOST_RECORDS}
+use Rattle.irv_base.specs.Names.{Id, is_name, is_same, is_among, all_differ, candidate_named}
+use Rattle.irv_base.specs.Records.{firsts}
+use Rattle.irv_base.specs.declared.limits.TheConstants.{FEWEST_CANDIDATES, MOST_CANDIDATES, MOST_NUMBER_DIGITS, MOST_RECORDS}
 use Rattle.ballot_reader.specs.Ballots.{BallotFile}
-use Rattle.ballot_reader.specs.Grammar.{Ballot, Contest, all_of, and_then, ballot_for, ballot_ids, ballot_in, ballots_after, ballots_behind, ballots_in, candidate_of, contest_named, contest_of, contest_with, file_of, firsts, has_audited_size, is_marked, listed, names_of, number_up_to, ranking_of, refused, then_on}
+use Rattle.ballot_reader.specs.Grammar.{Ballot, Contest, all_of, and_then, ballot_for, ballot_ids, ballot_in, ballots_after, ballots_behind, ballots_in, contest_named, contest_of, contest_with, file_of, has_audited_size, is_marked, listed, names_of, number_up_to, ranking_of, refused, then_on}
 use Rattle.ballot_reader.specs.Laws.{WhatIsSpelledIsRead, ballot_records, id_of}
 use Rattle.ballot_reader.specs.declared.fault.BRule.TheVariants.{B2, B3, B4}
+use Rattle.ballot_reader.specs.declared.limits.TheConstants.{MOST_CONTESTS, MOST_LISTED}
 use Rattle.ballot_reader.proofs.Adding.{Meets, ids-own, ranked}
-use Rattle.ballot_reader.proofs.Ids.{differ-split, or-false}
+use Rattle.ballot_reader.proofs.Differing.{differ-split, or-false}
 
 same-itself : (a : Id) → is_same a a ≡ true
 same-itself a = nat_list_eq_equiv.refl a
@@ -43,7 +45,7 @@ differ-at (a ∷ ids) zero (suc i) h l m =
 differ-at (a ∷ ids) (suc k) (suc i) h l m =
     differ-at ids k i (and_parts (not (is_among ids a)) (all_differ ids) h).1 (omega arith) (omega arith)
 
-candidate-of_id : (candidates : List Id) (c : ℕ) → all_differ candidates ≡ true → c < length candidates → candidate_of candidates (id_of candidates c) ≡ Some c
+candidate-of_id : (candidates : List Id) (c : ℕ) → all_differ candidates ≡ true → c < length candidates → candidate_named candidates (id_of candidates c) ≡ Some c
 candidate-of_id candidates c differ l =
     let first = position_or_len_is (λ candidate. is_same candidate (id_of candidates c)) candidates c [] (omega arith) (λ k m. differ-at candidates k c differ m l) (λ m. same-itself (id_of candidates c)) in
     ap (λ n. cond (nat_lt n (length candidates)) (Some n) None) first ∙ ap (λ b. cond b (Some c) None) (lt-ltb c (length candidates) l)
@@ -51,10 +53,10 @@ candidate-of_id candidates c differ l =
 -- ---- a ranking
 
 numbers-read : (candidates : List Id) (ranking : List ℕ) → all_differ candidates ≡ true → All (λ c. c < length candidates) ranking
-    → all_of (candidate_of candidates) (map (id_of candidates) ranking) ≡ Some ranking
+    → all_of (candidate_named candidates) (map (id_of candidates) ranking) ≡ Some ranking
 numbers-read candidates [] differ h = refl
 numbers-read candidates (c ∷ ranking) differ h =
-    ap (λ o. option_and_then (λ d. option_map (λ ds. d ∷ ds) (all_of (candidate_of candidates) (map (id_of candidates) ranking))) o)
+    ap (λ o. option_and_then (λ d. option_map (λ ds. d ∷ ds) (all_of (candidate_named candidates) (map (id_of candidates) ranking))) o)
     (candidate-of_id candidates c differ (All-head (λ d. d < length candidates) c ranking h))
     ∙ ap (λ o. option_map (λ ds. c ∷ ds) o) (numbers-read candidates ranking differ (All-tail (λ d. d < length candidates) c ranking h))
 
@@ -90,18 +92,18 @@ firsts-same (c ∷ cs) h =
 ranking-read : (candidates : List Id) (ranking : List ℕ) → list_all is_name candidates ≡ true → all_differ candidates ≡ true → All (λ c. c < length candidates) ranking → is_distinct ranking ≡ true
     → ranking_of candidates (map (id_of candidates) ranking) ≡ Some ranking
 ranking-read candidates ranking named differ below once =
-    ap (λ ids. option_map firsts (all_of (candidate_of candidates) ids)) (all-marked candidates ranking named below)
+    ap (λ ids. option_map firsts (all_of (candidate_named candidates) ids)) (all-marked candidates ranking named below)
     ∙ ap (option_map firsts) (numbers-read candidates ranking differ below) ∙ ap Some (firsts-same ranking once)
 
 -- ---- the contest
 
-number-read : (k : ℕ) → k ≤ 1000 → number_of (decimal k) ≡ Some k
+number-read : (k : ℕ) → k ≤ MOST_LISTED → number_of (decimal k) ≡ Some k
 number-read k most = rw digits (ap Some (digits_value-decimal own k (omega (arith, most)))) where
   digits : Rattle.csv_rows.proofs.Numbers.is_number (decimal k) ≡ true
   digits =
-      is_number-from (decimal k) (digits_decimal own k (omega (arith, most))) (omega (arith, decimal_nonempty k (omega (arith, most)))) (omega (arith, length-decimal-le 7 k (omega arith) (omega (arith, most)) (omega (arith, most))))
+      is_number-from (decimal k) (digits_decimal own k (omega (arith, most))) (omega (arith, decimal_nonempty k (omega (arith, most)))) (omega (arith, length-decimal-le MOST_NUMBER_DIGITS k (omega arith) (omega (arith, most)) (omega (arith, most))))
 
-count-read : (most k : ℕ) → 1 ≤ k → k ≤ most → most ≤ 1000 → number_up_to most (decimal k) ≡ Some k
+count-read : (most k : ℕ) → 1 ≤ k → k ≤ most → most ≤ MOST_LISTED → number_up_to most (decimal k) ≡ Some k
 count-read most k some few small =
     ap (option_and_then (λ n. if nat_le 1 n && nat_le n most then Some n else None)) (number-read k (omega (arith, few, small)))
     ∙ ap (λ b. if b then Some k else None) (and_from (nat_le 1 k) (nat_le k most) (le-nat_le 1 k some) (le-nat_le k most few))
@@ -110,12 +112,12 @@ take-whole : (ids : List Id) → take (length ids) ids ≡ ids
 take-whole [] = refl
 take-whole (id ∷ ids) = ap (λ more. id ∷ more) (take-whole ids)
 
-contest-read : (id : Id) (candidates : List Id) → is_name id ≡ true → list_all is_name candidates ≡ true → all_differ candidates ≡ true → 1 ≤ length candidates → length candidates ≤ 1000
+contest-read : (id : Id) (candidates : List Id) → is_name id ≡ true → list_all is_name candidates ≡ true → all_differ candidates ≡ true → 1 ≤ length candidates → length candidates ≤ MOST_LISTED
     → contest_of [] 2 (codes "Contest" ∷ id ∷ decimal (length candidates) ∷ candidates) ≡ Ok (record { at = 2; id = id; candidates = candidates })
 contest-read id candidates name named differ some few =
     let n = length candidates in
-    ap (λ b. if not b || false then Err B2 else contest_with 2 id (listed (number_up_to 1000 (decimal (length candidates))) candidates)) (same-itself (codes "Contest"))
-    ∙ ap (λ o. contest_with 2 id (listed o candidates)) (count-read 1000 (length candidates) some few (omega arith))
+    ap (λ b. if not b || false then Err B2 else contest_with 2 id (listed (number_up_to MOST_LISTED (decimal (length candidates))) candidates)) (same-itself (codes "Contest"))
+    ∙ ap (λ o. contest_with 2 id (listed o candidates)) (count-read MOST_LISTED (length candidates) some few (omega arith))
     ∙ ap (λ b. contest_with 2 id (if b then Some (take (length candidates) candidates) else None)) (le-nat_le (length candidates) (length candidates) (omega arith))
     ∙ ap (λ ids. contest_with 2 id (Some ids)) (take-whole candidates)
     ∙ ap (λ b. if b then contest_named 2 id (names_of candidates) else Err B4) name
@@ -193,10 +195,10 @@ what_is_spelled file s =
     let ballots = s.sound.ballots in
     let contest : Contest = record { at = 2; id = file.contest; candidates = file.candidates } in
     let rows = ballot_records file.contest file.candidates file.ids file.rankings in
-    let size : has_audited_size file.candidates ≡ true = and_from (nat_le 2 (length file.candidates)) (nat_le (length file.candidates) 20) (le-nat_le 2 (length file.candidates) candidates.fewest) (le-nat_le (length file.candidates) 20 candidates.most) in
+    let size : has_audited_size file.candidates ≡ true = and_from (nat_le FEWEST_CANDIDATES (length file.candidates)) (nat_le (length file.candidates) MOST_CANDIDATES) (le-nat_le FEWEST_CANDIDATES (length file.candidates) candidates.fewest) (le-nat_le (length file.candidates) MOST_CANDIDATES candidates.most) in
     let read = contest-read file.contest file.candidates s.contest_named s.candidates_named candidates.differ (omega (arith, candidates.fewest)) (omega (arith, candidates.most)) in
     let all = ballots-read contest [] 3 file.ids file.rankings s.candidates_named candidates.differ ballots.an_id_each (omega (arith, ballots.most, ballots.an_id_each)) s.ids_named ballots.differ ballots.below ballots.distinct in
-    ap (λ n. ballots_behind n None ((codes "Contest" ∷ file.contest ∷ decimal (length file.candidates) ∷ file.candidates) ∷ rows)) (count-read 64 1 (omega arith) (omega arith) (omega arith))
+    ap (λ n. ballots_behind n None ((codes "Contest" ∷ file.contest ∷ decimal (length file.candidates) ∷ file.candidates) ∷ rows)) (count-read MOST_CONTESTS 1 (omega arith) (omega arith) (omega arith))
     ∙ ap (λ o. then_on (and_then 2 o (λ (c : Contest). Ok (c ∷ []))) (Rattle.ballot_reader.proofs.Behind.after_contests None 1 ((codes "Contest" ∷ file.contest ∷ decimal (length file.candidates) ∷ file.candidates) ∷ rows))) read
     ∙ ap (λ b. then_on (if b then Ok contest else refused B3 2) (λ audited. then_on (ballots_after (contest ∷ []) [] 3 rows) (λ bs. Ok (file_of audited bs)))) size
     ∙ ap (λ o. then_on o (λ bs. Ok (file_of contest bs))) all

@@ -20,7 +20,8 @@ pub record AreCandidates (candidates : List Id) : Type 0 where
   pub differ : IsTrue (all_differ candidates)
 
 -- of n candidates
-pub record AreBallots (n : ℕ) (ids : List Id) (places : List ℕ) (rankings : List (List ℕ)) : Type 0 where
+pub record AreBallots
+    (n : ℕ) (ids : List Id) (places : List ℕ) (rankings : List (List ℕ)) : Type 0 where
   pub most : length rankings ≤ MOST_RECORDS
   pub an_id_each : length ids ≡ length rankings
   pub a_place_each : length places ≡ length rankings

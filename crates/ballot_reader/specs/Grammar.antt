@@ -1,10 +1,11 @@
 -- What a ballot file says, or why and where it is refused.
-use Rattle.std.specs.Prelude.{ℕ, zero, suc, ◌+◌, Bool, true, false, not, ◌&&◌, ◌||◌, ◌==◌, nat_le, nat_lt, if◌then◌else◌, List, [], ◌∷◌, ◌++◌, map, filter, find, position, take, drop, length, Option, Some, None, option_map, option_and_then, Result, Ok, Err, codes}
+use Rattle.std.specs.Prelude.{ℕ, zero, suc, ◌+◌, Bool, true, false, not, ◌&&◌, ◌||◌, nat_le, nat_lt, if◌then◌else◌, List, [], ◌∷◌, ◌++◌, map, filter, find, take, drop, length, Option, Some, None, option_map, option_and_then, Result, Ok, Err, codes}
 use Rattle.std.specs.List.{list_all, list_any}
 use Rattle.csv_rows.specs.Fields.{numbered_records}
 use Rattle.csv_rows.specs.Numbers.{number_of}
 use Rattle.csv_rows.specs.Rows.{Fields}
-use Rattle.irv_base.specs.Names.{Id, is_name, is_same, is_among, all_differ}
+use Rattle.irv_base.specs.Names.{Id, is_name, is_same, is_among, all_differ, candidate_named}
+use Rattle.irv_base.specs.Records.{firsts}
 use Rattle.irv_base.specs.declared.limits.TheConstants.{FEWEST_CANDIDATES, MOST_CANDIDATES, MOST_RECORDS}
 use Rattle.ballot_reader.specs.Ballots.{BallotFile}
 use Rattle.ballot_reader.specs.declared.fault.BRule.{BRule}
@@ -27,14 +28,16 @@ abbrev pub refused : {A : Type 0} → BRule → ℕ → Result A Refusal
 refused rule at = Err (record { rule = rule; at = at })
 
 -- what follows the record number at, or its refusal
-abbrev pub and_then : {A B : Type 0} → ℕ → Result A BRule → (A → Result B Refusal) → Result B Refusal
+abbrev pub and_then :
+    {A B : Type 0} → ℕ → Result A BRule → (A → Result B Refusal) → Result B Refusal
 and_then at (Ok value) more = more value
 and_then at (Err rule) more = refused rule at
 
 -- ---- the first record: the number of contests
 
 abbrev pub number_up_to : ℕ → List ℕ → Option ℕ
-number_up_to most text = option_and_then (λ n. if nat_le 1 n && nat_le n most then Some n else None) (number_of text)
+number_up_to most text =
+    option_and_then (λ n. if nat_le 1 n && nat_le n most then Some n else None) (number_of text)
 
 abbrev pub contest_count : Fields → Option ℕ
 contest_count [] = None
@@ -83,7 +86,9 @@ contest_of earlier at (word ∷ id ∷ number ∷ ids) =
 abbrev pub contests_in : ℕ → List Contest → ℕ → List Fields → Result (List Contest) Refusal
 contests_in zero earlier at rows = Ok earlier
 contests_in (suc n) earlier at [] = refused B2 at
-contests_in (suc n) earlier at (row ∷ rows) = and_then at (contest_of earlier at row) (λ contest. contests_in n (earlier ++ contest ∷ []) (at + 1) rows)
+contests_in (suc n) earlier at (row ∷ rows) =
+    and_then at (contest_of earlier at row) (λ contest.
+    contests_in n (earlier ++ contest ∷ []) (at + 1) rows)
 
 -- ---- the contest that is audited: the one asked for, or the only one
 
@@ -100,11 +105,13 @@ asked_for contests None = only_contest contests
 asked_for contests (Some id) = contest_with_id contests id
 
 abbrev pub has_audited_size : List Id → Bool
-has_audited_size candidates = nat_le FEWEST_CANDIDATES (length candidates) && nat_le (length candidates) MOST_CANDIDATES
+has_audited_size candidates =
+    nat_le FEWEST_CANDIDATES (length candidates) && nat_le (length candidates) MOST_CANDIDATES
 
 abbrev pub sized : Option Contest → Result Contest Refusal
 sized None = refused B5 1
-sized (Some contest) = if has_audited_size contest.candidates then Ok contest else refused B3 contest.at
+sized (Some contest) =
+    if has_audited_size contest.candidates then Ok contest else refused B3 contest.at
 
 -- ---- a ballot's record: the id of its contest, its own, and preferences, the most preferred first
 
@@ -121,46 +128,45 @@ ballots_in contest ballots = filter (λ ballot. is_same ballot.contest contest) 
 abbrev pub ballot_ids : Id → List Ballot → List Id
 ballot_ids contest ballots = map (λ ballot. ballot.id) (ballots_in contest ballots)
 
--- a candidate is the place of its id in the contest's record, from 0
-abbrev pub candidate_of : List Id → Id → Option ℕ
-candidate_of candidates id = position (λ candidate. is_same candidate id) candidates
-
--- each candidate at its first place alone
-abbrev pub firsts : List ℕ → List ℕ
-firsts [] = []
-firsts (c ∷ cs) = c ∷ filter (λ d. not (d == c)) (firsts cs)
-
 abbrev pub is_marked : Id → Bool
 is_marked [] = false
 is_marked (b ∷ rest) = true
 
--- blank preferences are passed over
+-- blank preferences are passed over, and each candidate counts at its first place
 abbrev pub ranking_of : List Id → Fields → Option (List ℕ)
-ranking_of candidates preferences = option_map firsts (all_of (candidate_of candidates) (filter is_marked preferences))
+ranking_of candidates preferences =
+    option_map firsts (all_of (candidate_named candidates) (filter is_marked preferences))
 
 abbrev pub ballot_with : ℕ → Id → Id → Option (List ℕ) → Result Ballot BRule
 ballot_with at contest id None = Err B8
-ballot_with at contest id (Some ranking) = Ok (record { at = at; contest = contest; id = id; ranking = ranking })
+ballot_with at contest id (Some ranking) =
+    Ok (record { at = at; contest = contest; id = id; ranking = ranking })
 
 abbrev pub ballot_for : List Ballot → ℕ → Id → Fields → Option Contest → Result Ballot BRule
 ballot_for earlier at id preferences None = Err B7
 ballot_for earlier at id preferences (Some contest) =
-    if is_among (ballot_ids contest.id earlier) id then Err B9 else ballot_with at contest.id id (ranking_of contest.candidates preferences)
+    if is_among (ballot_ids contest.id earlier) id then Err B9
+    else ballot_with at contest.id id (ranking_of contest.candidates preferences)
 
 abbrev pub ballot_in : List Contest → List Ballot → ℕ → Fields → Result Ballot BRule
 ballot_in contests earlier at [] = Err B6
 ballot_in contests earlier at (of ∷ []) = Err B6
-ballot_in contests earlier at (of ∷ id ∷ preferences) = if is_name id then ballot_for earlier at id preferences (contest_with_id contests of) else Err B4
+ballot_in contests earlier at (of ∷ id ∷ preferences) =
+    if is_name id then ballot_for earlier at id preferences (contest_with_id contests of)
+    else Err B4
 
 -- the ballot, or the first rule that its record breaks, after these ballots
 abbrev pub ballot_of : List Contest → List Ballot → ℕ → Fields → Result Ballot BRule
-ballot_of contests earlier at row = if nat_lt (length earlier) MOST_RECORDS then ballot_in contests earlier at row else Err B10
+ballot_of contests earlier at row =
+    if nat_lt (length earlier) MOST_RECORDS then ballot_in contests earlier at row else Err B10
 
 -- after these ballots come those in the records from number at on
-abbrev pub ballots_after : List Contest → List Ballot → ℕ → List Fields → Result (List Ballot) Refusal
+abbrev pub ballots_after :
+    List Contest → List Ballot → ℕ → List Fields → Result (List Ballot) Refusal
 ballots_after contests earlier at [] = Ok earlier
 ballots_after contests earlier at (row ∷ rows) =
-    and_then at (ballot_of contests earlier at row) (λ ballot. ballots_after contests (earlier ++ ballot ∷ []) (at + 1) rows)
+    and_then at (ballot_of contests earlier at row) (λ ballot.
+    ballots_after contests (earlier ++ ballot ∷ []) (at + 1) rows)
 
 -- ---- the file
 

@@ -13,7 +13,8 @@ id_of candidates c = slice_index_or candidates c []
 abbrev pub ballot_records : Id → List Id → List Id → List (List ℕ) → List Fields
 ballot_records contest candidates [] rankings = []
 ballot_records contest candidates (id ∷ ids) [] = []
-ballot_records contest candidates (id ∷ ids) (ranking ∷ rankings) = (contest ∷ id ∷ map (id_of candidates) ranking) ∷ ballot_records contest candidates ids rankings
+ballot_records contest candidates (id ∷ ids) (ranking ∷ rankings) =
+    (contest ∷ id ∷ map (id_of candidates) ranking) ∷ ballot_records contest candidates ids rankings
 
 abbrev pub spelling : BallotFile → List Fields
 spelling file =
@@ -30,4 +31,5 @@ pub record HasSpelling (file : BallotFile) : Type 0 where
   pub in_order : file.places ≡ range_with_len 3 (length file.ids)
 
 abbrev pub WhatIsSpelledIsRead : Type 0
-WhatIsSpelledIsRead = (file : BallotFile) → HasSpelling file → ballots_from None (spelling file) ≡ Ok file
+WhatIsSpelledIsRead =
+    (file : BallotFile) → HasSpelling file → ballots_from None (spelling file) ≡ Ok file

@@ -1,5 +1,6 @@
 pub mod Ballots
 pub mod Grammar
 pub mod Faults
+pub mod Ids
 pub mod Kept
 pub mod Laws

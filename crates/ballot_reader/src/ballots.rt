@@ -5,6 +5,7 @@ ghost use Rattle.ballot_reader.specs.Ballots.{AreBallots, AreCandidates};
 ghost use Rattle.irv_base.specs.Candidates.{is_distinct};
 ghost use Rattle.irv_base.specs.declared.limits.TheConstants.{FEWEST_CANDIDATES, MOST_CANDIDATES, MOST_RECORDS};
 
+use crate::ids::Ids;
 use indexmap::IndexSet;
 use irv_base::{Name, Ranking};
 use std::marker::Model;
@@ -19,7 +20,7 @@ use std::marker::Model;
 pub struct Ballots {
     contest: Name,
     candidates: IndexSet<Name>,
-    ids: IndexSet<Name>,
+    ids: Ids,
     places: Vec<u32>,
     rankings: Vec<Ranking>,
 }
@@ -29,22 +30,40 @@ impl Model for Ballots {
 
     ghost Value = { BallotFile };
 
-    ghost view = { λ b. record { contest = b.contest; candidates = b.candidates.keys; ids = b.ids.keys; places = b.places.items; rankings = b.rankings.items } };
+    ghost view = { λ b. record {
+      contest = b.contest;
+      candidates = b.candidates.keys;
+      ids = b.ids;
+      places = b.places.items;
+      rankings = b.rankings.items;
+    } };
 
-    ghost invariant = { λ b. IsSound (record { contest = b.contest; candidates = b.candidates.keys; ids = b.ids.keys; places = b.places.items; rankings = b.rankings.items }) };
+    ghost invariant = { λ b. IsSound (record {
+      contest = b.contest;
+      candidates = b.candidates.keys;
+      ids = b.ids;
+      places = b.places.items;
+      rankings = b.rankings.items;
+    }) };
 }
 
 impl Ballots {
     pub(crate) fn new(
         contest: Name,
         candidates: IndexSet<Name>,
-        ids: IndexSet<Name>,
+        ids: Ids,
         places: Vec<u32>,
         rankings: Vec<Ranking>,
     ) -> Ballots
         requires candidates { AreCandidates candidates.keys }
-        requires ballots { AreBallots (length candidates.keys) ids.keys places.items rankings.items }
-        ensures { result ≡ record { contest = contest; candidates = candidates.keys; ids = ids.keys; places = places.items; rankings = rankings.items } }
+        requires ballots { AreBallots (length candidates.keys) ids places.items rankings.items }
+        ensures { result ≡ record {
+          contest = contest;
+          candidates = candidates.keys;
+          ids = ids;
+          places = places.items;
+          rankings = rankings.items;
+        } }
     {
         Ballots {
             contest,
@@ -73,12 +92,12 @@ impl Ballots {
     }
 
     /// The ids of the ballots.
-    pub fn ids(&self) -> &[Name]
+    pub fn ids(&self) -> &Ids
         ensures same { result.now ≡ self.now.ids }
         ensures one_each { length self.now.ids ≡ length self.now.rankings }
         ensures differ { IsTrue (all_differ self.now.ids) }
     {
-        self.ids.as_slice()
+        &self.ids
     }
 
     /// The numbers of the ballots' records in the file, from 1.
@@ -93,7 +112,8 @@ impl Ballots {
     pub fn rankings(&self) -> &[Ranking]
         ensures same { result.now ≡ self.now.rankings }
         ensures most { length self.now.rankings ≤ MOST_RECORDS }
-        ensures below { All (λ ranking. All (λ c. c < length self.now.candidates) ranking) self.now.rankings }
+        ensures below { All (λ ranking. All (λ c. c < length self.now.candidates) ranking)
+            self.now.rankings }
         ensures distinct { All (λ ranking. IsTrue (is_distinct ranking)) self.now.rankings }
     {
         self.rankings.as_slice()

@@ -71,7 +71,8 @@ pub fn contest_of(
     at: u32,
     row: &ByteRecord,
 ) -> Result<Result<Contest, BRule>, Memory>
-    ensures { IfOk result (λ contest. contest ≡ contest_of earlier.now at (trimmed_fields (fields_of row.now))) }
+    ensures { IfOk result (λ contest.
+        contest ≡ contest_of earlier.now at (trimmed_fields (fields_of row.now))) }
 {
     let mut fields = Fields::of(row);
     let (Some(word), Some(id), Some(number)) = (fields.next(), fields.next(), fields.next()) else {

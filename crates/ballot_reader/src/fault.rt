@@ -5,6 +5,8 @@ ghost use Rattle.ballot_reader.specs.declared.fault.BallotFault.TheVariants.{Mem
 
 use irv_base::Memory;
 use std::alloc::AllocFailed;
+use std::error::Error;
+use std::fmt;
 
 /// The rules of a ballot file, as the text of a refusal names them.
 #[derive(Clone, Copy, Debug, PartialEq, Eq)]
@@ -59,6 +61,17 @@ pub enum BallotFault {
     /// Memory could not be had.
     Memory,
 }
+
+impl fmt::Display for BallotFault {
+    fn fmt<W: fmt::Write>(&self, f: &mut fmt::Formatter<W>) -> fmt::Result {
+        match self {
+            BallotFault::Refused { rule, at } => write!(f, "{} at {at}", rule.name()),
+            BallotFault::Memory => write!(f, "{Memory}"),
+        }
+    }
+}
+
+impl Error for BallotFault {}
 
 impl From<Memory> for BallotFault {
     ghost from_gives = { λ _ fault. fault ≡ WantOfMemory };

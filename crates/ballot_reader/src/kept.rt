@@ -1,17 +1,18 @@
 // What is kept of the ballots that are read.
-ghost use Rattle.std.specs.Prelude.{ℕ, ◌≡◌, ◌<◌, ◌++◌, ◌∷◌, [], List, Ok, Err, Some, None, IfOk, IfErr, IfSome, IfNone, IsTrue, length, map, replicate, position, slice_get, slice_set, not, true};
+ghost use Rattle.std.specs.Prelude.{ℕ, ◌≡◌, ◌<◌, ◌++◌, ◌∷◌, [], List, Ok, Err, Some, None, IfOk, IfErr, IfSome, IfNone, IsTrue, length, replicate, position, slice_get, slice_set, not, true};
 ghost use Rattle.csv.specs.Records.{fields_of};
 ghost use Rattle.csv_rows.specs.Fields.{trimmed_fields};
-ghost use Rattle.irv_base.specs.Names.{Id, all_differ, is_among};
+ghost use Rattle.irv_base.specs.Names.{Id, all_differ, is_among, is_name};
 ghost use Rattle.ballot_reader.specs.Grammar.{Ballot, Contest as ContestRecord, ballot_for, ballot_in, ballot_of, contest_with_id, has_audited_size, has_id};
 ghost use Rattle.ballot_reader.specs.Kept.{IsKept, RefusesRecord, contest_ids};
 
 use crate::contest::Contest;
 use crate::fault::{BRule, BallotFault};
+use crate::guesses::Guesses;
+use crate::noted::Noted;
 use crate::preferences::{are_candidates, ranking_of};
 use csv::ByteRecord;
 use csv_rows::Fields;
-use indexmap::IndexSet;
 use irv_base::{MOST_RECORDS, Memory, Name, Ranking};
 use std::alloc::Global;
 
@@ -19,7 +20,7 @@ use std::alloc::Global;
 #[derive(Drop)]
 struct Head<'r> {
     contest: usize,
-    id: Name,
+    id: &'r [u8],
     preferences: Fields<'r>,
 }
 
@@ -31,19 +32,29 @@ pub fn contest_place(contests: &[Contest], id: &[u8]) -> Option<usize>
     contests.iter().position(|contest| contest.id.bytes() == id)
 }
 
+fn is_id(bytes: &[u8]) -> bool
+    ensures { result ≡ is_name bytes.now }
+{
+    Name::read(bytes).is_some()
+}
+
 // The head of a ballot's record, or the first of the rules B6, B4 and B7 that it breaks.
 fn head_of<'r>(contests: &[Contest], row: &'r ByteRecord) -> Result<Head<'r>, BRule>
     ensures within { IfOk result (λ head. head.contest < length contests.now) }
-    ensures follows { IfOk result (λ head. (earlier : List Ballot) → (at : ℕ) → ballot_in contests.now earlier at (trimmed_fields (fields_of row.now)) ≡ ballot_for earlier at head.id head.preferences (slice_get contests.now head.contest)) }
-    ensures broken { IfErr result (λ rule. (earlier : List Ballot) → (at : ℕ) → ballot_in contests.now earlier at (trimmed_fields (fields_of row.now)) ≡ Err rule) }
+    ensures follows { IfOk result (λ head. (earlier : List Ballot) → (at : ℕ)
+        → ballot_in contests.now earlier at (trimmed_fields (fields_of row.now))
+        ≡ ballot_for earlier at head.id.now head.preferences
+        (slice_get contests.now head.contest)) }
+    ensures broken { IfErr result (λ rule. (earlier : List Ballot) → (at : ℕ)
+        → ballot_in contests.now earlier at (trimmed_fields (fields_of row.now)) ≡ Err rule) }
 {
     let mut fields = Fields::of(row);
     let (Some(of), Some(id)) = (fields.next(), fields.next()) else {
         return Err(BRule::B6);
     };
-    let Some(id) = Name::read(id) else {
+    if !is_id(id) {
         return Err(BRule::B4);
-    };
+    }
     let Some(contest) = contest_place(contests, of) else {
         return Err(BRule::B7);
     };
@@ -58,46 +69,64 @@ fn head_of<'r>(contests: &[Contest], row: &'r ByteRecord) -> Result<Head<'r>, BR
 /// rankings.
 #[derive(Drop)]
 pub struct Kept {
-    pub ids: Vec<IndexSet<Name>>,
+    pub ids: Vec<Noted>,
     pub count: u32,
     pub places: Vec<u32>,
     pub rankings: Vec<Ranking>,
+    // of the ids of the audited contest's candidates
+    guesses: Guesses,
 }
 
-fn empty_sets(alloc: Global, n: usize) -> Result<Vec<IndexSet<Name>>, Memory>
-    ensures { IfOk result (λ sets. map (λ s. s.keys) sets.items ≡ replicate n []) }
+// Nothing noted in n contests, with room for so many ids in the audited one.
+fn nothing_noted(alloc: Global, n: usize, audited: usize, room: usize) -> Result<Vec<Noted>, Memory>
+    ensures { IfOk result (λ sets. sets.items ≡ replicate n []) }
 {
     let mut sets = Vec::new(alloc);
-    for _ in 0..n {
-        sets.push(IndexSet::new(alloc))?;
+    for i in 0..n {
+        let room = if i == audited { room } else { 0 };
+        sets.push(Noted::nothing(alloc, room)?)?;
     }
     Ok(sets)
 }
 
 // Notes a ballot's id in the set at a place, unless it is there; tells whether it is new.
-fn note(sets: &mut Vec<IndexSet<Name>>, place: usize, id: Name) -> Result<bool, Memory>
+fn note(sets: &mut Vec<Noted>, place: usize, id: &[u8]) -> Result<bool, Memory>
     requires { place < length sets.now.items }
-    ensures new { IfOk result (λ new. (ids : List Id) → slice_get (map (λ s. s.keys) sets.old.items) place ≡ Some ids → new ≡ not (is_among ids id)) }
-    ensures noted { IfOk result (λ new. (ids : List Id) → slice_get (map (λ s. s.keys) sets.old.items) place ≡ Some ids → new ≡ true
-        → map (λ s. s.keys) sets.new.items ≡ slice_set (map (λ s. s.keys) sets.old.items) place (ids ++ id ∷ [])) }
+    ensures new { IfOk result (λ new. (ids : List Id) → slice_get sets.old.items place ≡ Some ids
+        → new ≡ not (is_among ids id.now)) }
+    ensures noted { IfOk result (λ new. (ids : List Id) → slice_get sets.old.items place ≡ Some ids
+        → new ≡ true
+        → sets.new.items ≡ slice_set sets.old.items place (ids ++ id.now ∷ [])) }
 {
-    Ok(sets[place].insert(id)?)
+    let new = sets[place].note(id)?;
+    Ok(new)
 }
 
 impl Kept {
-    /// Nothing, in so many contests.
-    pub fn nothing(alloc: Global, contests: usize) -> Result<Kept, Memory>
-        ensures ids { IfOk result (λ kept. map (λ s. s.keys) kept.ids.items ≡ replicate contests []) }
+    /// Nothing, in these contests, with room for so many ballots of the audited one.
+    pub fn nothing(
+        alloc: Global,
+        contests: &[Contest],
+        audited: usize,
+        room: usize,
+    ) -> Result<Kept, Memory>
+        requires within { audited < length contests.now }
+        requires sized { IfSome (slice_get contests.now audited)
+            (λ chosen. IsTrue (has_audited_size chosen.candidates)) }
+        ensures ids { IfOk result (λ kept. kept.ids.items ≡ replicate (length contests.now) []) }
         ensures count { IfOk result (λ kept. kept.count ≡ 0) }
         ensures places { IfOk result (λ kept. kept.places.items ≡ []) }
         ensures rankings { IfOk result (λ kept. kept.rankings.items ≡ []) }
     {
-        let ids = empty_sets(alloc, contests)?;
+        let ids = nothing_noted(alloc, contests.len(), audited, room)?;
+        let chosen = &contests[audited];
+        let guesses = Guesses::of(alloc, chosen.candidates.as_slice())?;
         Ok(Kept {
             ids,
             count: 0,
-            places: Vec::new(alloc),
-            rankings: Vec::new(alloc),
+            places: Vec::with_capacity(alloc, room)?,
+            rankings: Vec::with_capacity(alloc, room)?,
+            guesses,
         })
     }
 
@@ -112,14 +141,19 @@ impl Kept {
         requires differ { IsTrue (all_differ (contest_ids contests.now)) }
         requires within { audited < length contests.now }
         requires noted { length self.now.ids.items ≡ length contests.now }
-        requires sized { IfSome (slice_get contests.now audited) (λ chosen. IsTrue (has_audited_size chosen.candidates)) }
-        ensures kept { IfOk result (λ _. (chosen : ContestRecord) → (ballots : List Ballot) → slice_get contests.now audited ≡ Some chosen
-            → IsKept contests.now chosen ballots (map (λ s. s.keys) self.old.ids.items) self.old.places.items self.old.rankings.items self.old.count
-            → (ballot : Ballot) × (ballot_of contests.now ballots at (trimmed_fields (fields_of row.now)) ≡ Ok ballot)
-            × IsKept contests.now chosen (ballots ++ ballot ∷ []) (map (λ s. s.keys) self.new.ids.items) self.new.places.items self.new.rankings.items self.new.count) }
-        ensures refused { IfErr result (λ fault. (chosen : ContestRecord) → (ballots : List Ballot) → slice_get contests.now audited ≡ Some chosen
-            → IsKept contests.now chosen ballots (map (λ s. s.keys) self.old.ids.items) self.old.places.items self.old.rankings.items self.old.count
-            → RefusesRecord (ballot_of contests.now ballots at (trimmed_fields (fields_of row.now))) at fault) }
+        requires sized { IfSome (slice_get contests.now audited)
+            (λ chosen. IsTrue (has_audited_size chosen.candidates)) }
+        ensures kept { IfOk result (λ _. (chosen : ContestRecord) → (ballots : List Ballot)
+            → slice_get contests.now audited ≡ Some chosen
+            → IsKept contests.now chosen ballots self.old
+            → (ballot : Ballot)
+            × (ballot_of contests.now ballots at (trimmed_fields (fields_of row.now)) ≡ Ok ballot)
+            × IsKept contests.now chosen (ballots ++ ballot ∷ []) self.new) }
+        ensures refused { IfErr result (λ fault. (chosen : ContestRecord) → (ballots : List Ballot)
+            → slice_get contests.now audited ≡ Some chosen
+            → IsKept contests.now chosen ballots self.old
+            → RefusesRecord
+            (ballot_of contests.now ballots at (trimmed_fields (fields_of row.now))) at fault) }
     {
         if self.count >= MOST_RECORDS {
             return Err(BallotFault::Refused {
@@ -148,7 +182,8 @@ impl Kept {
                 at,
             });
         }
-        let Some(ranking) = ranking_of(contest.candidates.as_slice(), head.preferences) else {
+        let candidates = contest.candidates.as_slice();
+        let Some(ranking) = ranking_of(candidates, &self.guesses, head.preferences) else {
             return Err(BallotFault::Refused {
                 rule: BRule::B8,
                 at,

@@ -4,15 +4,20 @@
 mod ballots;
 mod contest;
 mod count;
+pub mod examples;
 mod fault;
+mod guesses;
+mod ids;
 mod kept;
 pub mod laws;
 mod limits;
+mod noted;
 mod preferences;
 mod read;
 
 pub use ballots::Ballots;
 pub use fault::{BRule, BallotFault};
+pub use ids::Ids;
 pub use limits::{MOST_CONTESTS, MOST_LISTED};
 pub use read::read_ballots;
 

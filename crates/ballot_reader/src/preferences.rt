@@ -1,33 +1,34 @@
 // The preferences of a ballot.
-ghost use Rattle.std.specs.Prelude.{◌≡◌, ◌<◌, ◌≤◌, IsTrue, IfSome, is_some, length, position};
+ghost use Rattle.std.specs.Prelude.{◌≡◌, ◌≤◌, IsTrue, is_some, length};
 ghost use Rattle.irv_base.specs.declared.limits.TheConstants.{ROOM};
-ghost use Rattle.irv_base.specs.Names.{is_same};
-ghost use Rattle.ballot_reader.specs.Grammar.{are_names, candidate_of, ranking_of};
+ghost use Rattle.irv_base.specs.Names.{all_differ, candidate_named};
+ghost use Rattle.ballot_reader.specs.Grammar.{are_names, ranking_of};
 
+use crate::guesses::Guesses;
 use csv_rows::Fields;
 use indexmap::IndexSet;
-use irv_base::{Candidate, Name, Ranking};
+use irv_base::{Candidate, Name, Ranking, candidate_named};
 
-fn place_of(names: &[Name], id: &[u8]) -> Option<usize>
-    ensures place { result ≡ position (λ name. is_same name id.now) names.now }
-    ensures within { IfSome result (λ place. place < length names.now) }
+fn candidate_of(candidates: &[Name], guesses: &Guesses, id: &[u8]) -> Option<Candidate>
+    requires few { length candidates.now ≤ ROOM }
+    requires differ { IsTrue (all_differ candidates.now) }
+    ensures { result ≡ candidate_named candidates.now id.now }
 {
-    names.iter().position(|name| name.bytes() == id)
-}
-
-fn candidate_of(candidates: &[Name], id: &[u8]) -> Option<Candidate>
-    requires { length candidates.now ≤ ROOM }
-    ensures { result ≡ candidate_of candidates.now id.now }
-{
-    match place_of(candidates, id) {
-        Some(place) => Some(Candidate(place as u8)),
-        None => None,
+    let guess = guesses.place(id);
+    if guess < candidates.len() && candidates[guess].bytes() == id {
+        return Some(Candidate(guess as u8));
     }
+    candidate_named(candidates, id)
 }
 
 /// The ranking of these preferences, if each that isn't blank is one of a few candidates.
-pub fn ranking_of(candidates: &[Name], preferences: Fields<'_>) -> Option<Ranking>
-    requires { length candidates.now ≤ ROOM }
+pub fn ranking_of(
+    candidates: &[Name],
+    guesses: &Guesses,
+    preferences: Fields<'_>,
+) -> Option<Ranking>
+    requires few { length candidates.now ≤ ROOM }
+    requires differ { IsTrue (all_differ candidates.now) }
     ensures { result ≡ ranking_of candidates.now preferences.entry }
 {
     let mut ranking = Ranking::empty();
@@ -35,7 +36,7 @@ pub fn ranking_of(candidates: &[Name], preferences: Fields<'_>) -> Option<Rankin
         if preference.is_empty() {
             continue;
         }
-        let candidate = candidate_of(candidates, preference)?;
+        let candidate = candidate_of(candidates, guesses, preference)?;
         ranking.push(candidate);
     }
     Some(ranking)
@@ -43,7 +44,7 @@ pub fn ranking_of(candidates: &[Name], preferences: Fields<'_>) -> Option<Rankin
 
 fn is_candidate(candidates: &IndexSet<Name>, id: &[u8]) -> bool
     requires { IsTrue (are_names candidates.now.keys) }
-    ensures { result ≡ is_some (candidate_of candidates.now.keys id.now) }
+    ensures { result ≡ is_some (candidate_named candidates.now.keys id.now) }
 {
     match Name::read(id) {
         Some(name) => candidates.contains(&name),

@@ -14,11 +14,14 @@ use crate::fault::{BRule, BallotFault};
 use crate::kept::{Kept, contest_place};
 use csv::ByteRecord;
 use csv_rows::{Rows, without_mark};
-use irv_base::{FEWEST_CANDIDATES, MOST_CANDIDATES, Name};
+use irv_base::{FEWEST_CANDIDATES, MOST_CANDIDATES, MOST_RECORDS, Name};
 use std::alloc::Global;
 
 // The record of the first contest, counted from 1: the number of contests stands before it.
 const FIRST_CONTEST: u32 = 2;
+
+// How many bytes a ballot's record has, or about that. Room is made for so many ballots first, and for more when they come.
+const RECORD_BYTES: usize = 40;
 
 // The contests in the next n records.
 fn contests_left(
@@ -28,7 +31,8 @@ fn contests_left(
     row: &mut ByteRecord,
 ) -> Result<Vec<Contest>, BallotFault>
     requires { n ≤ MOST_CONTESTS }
-    ensures read { IfOk result (λ contests. contests_in n [] 2 (numbered rows.old) ≡ Ok contests.items) }
+    ensures read { IfOk result (λ contests.
+        contests_in n [] 2 (numbered rows.old) ≡ Ok contests.items) }
     ensures rest { IfOk result (λ _. numbered rows.new ≡ drop n (numbered rows.old)) }
     ensures all { IfOk result (λ contests. length contests.items ≡ n) }
     ensures differ { IfOk result (λ contests. IsTrue (all_differ (contest_ids contests.items))) }
@@ -54,7 +58,8 @@ fn contests_left(
 // The place, from 0, of the contest that is asked for, or of the only one.
 fn asked_place(contests: &[Contest], asked: Option<&Name>) -> Option<usize>
     ensures within { IfSome result (λ k. k < length contests.now) }
-    ensures asked { IfSome result (λ k. asked_for contests.now (option_copied asked.entry) ≡ slice_get contests.now k) }
+    ensures asked { IfSome result (λ k.
+        asked_for contests.now (option_copied asked.entry) ≡ slice_get contests.now k) }
     ensures none { IfNone result (asked_for contests.now (option_copied asked.entry) ≡ None) }
 {
     match asked {
@@ -71,8 +76,11 @@ fn asked_place(contests: &[Contest], asked: Option<&Name>) -> Option<usize>
 // The place of the contest that is audited.
 fn audited_place(contests: &[Contest], asked: Option<&Name>) -> Result<usize, BallotFault>
     ensures within { IfOk result (λ k. k < length contests.now) }
-    ensures audited { IfOk result (λ k. (chosen : ContestRecord) × (slice_get contests.now k ≡ Some chosen) × (sized (asked_for contests.now (option_copied asked.entry)) ≡ Ok chosen)) }
-    ensures refused { IfErr result (Refuses (sized (asked_for contests.now (option_copied asked.entry)))) }
+    ensures audited { IfOk result (λ k. (chosen : ContestRecord)
+        × (slice_get contests.now k ≡ Some chosen)
+        × (sized (asked_for contests.now (option_copied asked.entry)) ≡ Ok chosen)) }
+    ensures refused { IfErr result
+        (Refuses (sized (asked_for contests.now (option_copied asked.entry)))) }
 {
     let Some(place) = asked_place(contests, asked) else {
         return Err(BallotFault::Refused {
@@ -96,19 +104,23 @@ fn ballots_left(
     alloc: Global,
     contests: &[Contest],
     audited: usize,
+    room: usize,
     rows: &mut Rows<'_>,
     row: &mut ByteRecord,
 ) -> Result<Kept, BallotFault>
     requires few { length contests.now ≤ MOST_CONTESTS }
     requires differ { IsTrue (all_differ (contest_ids contests.now)) }
     requires within { audited < length contests.now }
-    requires sized { IfSome (slice_get contests.now audited) (λ chosen. IsTrue (has_audited_size chosen.candidates)) }
-    ensures read { IfOk result (λ kept. (chosen : ContestRecord) × (ballots : List Ballot) × (slice_get contests.now audited ≡ Some chosen)
+    requires sized { IfSome (slice_get contests.now audited)
+        (λ chosen. IsTrue (has_audited_size chosen.candidates)) }
+    ensures read { IfOk result (λ kept. (chosen : ContestRecord) × (ballots : List Ballot)
+        × (slice_get contests.now audited ≡ Some chosen)
         × (ballots_after contests.now [] (2 + length contests.now) (numbered rows.old) ≡ Ok ballots)
-        × IsKept contests.now chosen ballots (map (λ s. s.keys) kept.ids.items) kept.places.items kept.rankings.items kept.count) }
-    ensures refused { IfErr result (Refuses (ballots_after contests.now [] (2 + length contests.now) (numbered rows.old))) }
+        × IsKept contests.now chosen ballots kept) }
+    ensures refused { IfErr result
+        (Refuses (ballots_after contests.now [] (2 + length contests.now) (numbered rows.old))) }
 {
-    let mut kept = Kept::nothing(alloc, contests.len())?;
+    let mut kept = Kept::nothing(alloc, contests, audited, room)?;
     let mut at = FIRST_CONTEST + contests.len() as u32;
     'records: while rows.read_numbered(row)? {
         kept.add(contests, audited, at, row)?;
@@ -120,15 +132,18 @@ fn ballots_left(
 // The audited contest with the ballots that are kept.
 fn file_of(mut contests: Vec<Contest>, audited: usize, mut kept: Kept) -> Ballots
     requires within { audited < length contests.items }
-    requires sized { IfSome (slice_get contests.items audited) (λ chosen. IsTrue (has_audited_size chosen.candidates)) }
-    requires kept { (chosen : ContestRecord) × (ballots : List Ballot) × (slice_get contests.items audited ≡ Some chosen)
-        × IsKept contests.items chosen ballots (map (λ s. s.keys) kept.ids.items) kept.places.items kept.rankings.items kept.count }
-    ensures { (chosen : ContestRecord) → (ballots : List Ballot) → slice_get contests.items audited ≡ Some chosen
-        → IsKept contests.items chosen ballots (map (λ s. s.keys) kept.ids.items) kept.places.items kept.rankings.items kept.count
+    requires sized { IfSome (slice_get contests.items audited)
+        (λ chosen. IsTrue (has_audited_size chosen.candidates)) }
+    requires kept { (chosen : ContestRecord) × (ballots : List Ballot)
+        × (slice_get contests.items audited ≡ Some chosen)
+        × IsKept contests.items chosen ballots kept }
+    ensures { (chosen : ContestRecord) → (ballots : List Ballot)
+        → slice_get contests.items audited ≡ Some chosen
+        → IsKept contests.items chosen ballots kept
         → result ≡ file_of chosen ballots }
 {
     let Contest { id, candidates, .. } = contests.swap_remove(audited);
-    let ids = kept.ids.swap_remove(audited);
+    let ids = kept.ids.swap_remove(audited).into_ids();
     Ballots::new(id, candidates, ids, kept.places, kept.rankings)
 }
 
@@ -137,16 +152,19 @@ fn ballots_behind(
     alloc: Global,
     n: u32,
     asked: Option<&Name>,
+    room: usize,
     rows: &mut Rows<'_>,
     row: &mut ByteRecord,
 ) -> Result<Ballots, BallotFault>
     requires { n ≤ MOST_CONTESTS }
-    ensures read { IfOk result (λ ballots. ballots_behind (Some n) (option_copied asked.entry) (numbered rows.old) ≡ Ok ballots) }
-    ensures refused { IfErr result (Refuses (ballots_behind (Some n) (option_copied asked.entry) (numbered rows.old))) }
+    ensures read { IfOk result (λ ballots.
+        ballots_behind (Some n) (option_copied asked.entry) (numbered rows.old) ≡ Ok ballots) }
+    ensures refused { IfErr result
+        (Refuses (ballots_behind (Some n) (option_copied asked.entry) (numbered rows.old))) }
 {
     let contests = contests_left(alloc, n, rows, row)?;
     let audited = audited_place(&contests, asked)?;
-    let kept = ballots_left(alloc, &contests, audited, rows, row)?;
+    let kept = ballots_left(alloc, &contests, audited, room, rows, row)?;
     Ok(file_of(contests, audited, kept))
 }
 
@@ -172,7 +190,8 @@ pub fn read_ballots(
     bytes: &[u8],
     contest: Option<&Name>,
 ) -> Result<Ballots, BallotFault>
-    ensures read { IfOk result (λ ballots. ballots_of bytes.now (option_copied contest.entry) ≡ Ok ballots) }
+    ensures read { IfOk result (λ ballots.
+        ballots_of bytes.now (option_copied contest.entry) ≡ Ok ballots) }
     ensures refused { IfErr result (Refuses (ballots_of bytes.now (option_copied contest.entry))) }
 {
     let mut rows = Rows::of(alloc, without_mark(bytes));
@@ -189,5 +208,6 @@ pub fn read_ballots(
             at: 1,
         });
     };
-    ballots_behind(alloc, n, contest, &mut rows, &mut row)
+    let room = (bytes.len() / RECORD_BYTES).min(MOST_RECORDS as usize);
+    ballots_behind(alloc, n, contest, room, &mut rows, &mut row)
 }

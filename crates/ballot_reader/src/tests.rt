@@ -12,7 +12,7 @@ fn reads_the_only_contest(rt: HostRuntime) {
     assert!(rt; ballots.candidates().len() == 3);
     assert!(rt; ballots.candidates()[1].bytes() == b"2".as_slice());
     assert!(rt; ballots.ids().len() == 2);
-    assert!(rt; ballots.ids()[1].bytes() == b"t_2".as_slice());
+    assert!(rt; ballots.ids().at(1) == b"t_2".as_slice());
     assert!(rt; ballots.places() == [3, 4].as_slice());
     assert!(rt; ballots.rankings().len() == 2);
     assert!(rt; ballots.rankings()[0].candidates() == [Candidate(1), Candidate(2)].as_slice());

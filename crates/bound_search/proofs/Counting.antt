@@ -1,5 +1,5 @@
 -- How many suffixes a front expands.
-use Rattle.std.proofs.Common.{◌≡◌, inl, inr, ℕ, zero, suc, ◌+◌, ◌-◌, ◌<◌, ◌≤◌, Bool, true, false, not, ◌&&◌, nat_lt, cond, min, List, [], ◌∷◌, ◌++◌, filter, flat_map, length, count_by, if◌then◌else◌, refl, sym, ap, subst, arith, lt-ltb, ltb-true, length-append, ◌⊎◌}
+use Rattle.std.proofs.Common.{◌≡◌, inl, inr, ℕ, zero, suc, ◌+◌, ◌-◌, ◌<◌, ◌≤◌, Bool, true, false, not, ◌&&◌, nat_lt, cond, min, List, [], ◌∷◌, ◌++◌, filter, flat_map, length, count_by, All, Contains, if◌then◌else◌, refl, sym, ap, subst, arith, lt-ltb, ltb-true, length-append, ◌⊎◌}
 use Rattle.std.proofs.lemmas.Bool.{and_parts, and_from, cases_Bool, cases_lt}
 use Rattle.std.proofs.lemmas.List.Sums.{sum_by-append, sum_by-cons, length-filter, count_by-le-length}
 use Rattle.std.proofs.lemmas.List.Elements.{All-contains}
@@ -17,7 +17,7 @@ use Rattle.set_tallies.specs.Bags.{Kept, IsOf}
 use Rattle.suffix_tree.specs.declared.scored.Scored.{Scored}
 use Rattle.bound_search.specs.Places.{EndsInOne, is_same, ends_in}
 use Rattle.bound_search.specs.Fronts.{Frontier, IsPart, IsOpen, IsAfter, IsFront, IsClosed, IsLeft, AreBelow}
-use Rattle.bound_search.specs.Laws.{is_part_below, suffixes_of}
+use Rattle.bound_search.specs.Race.{is_part_below, parts_below, suffixes_of}
 use Rattle.bound_search.proofs.Endings.{low_in, same-self, ends-self, same-from, one_place, distinct-filter, order_is_suffix}
 use Rattle.bound_search.proofs.Keeping.{open_low}
 
@@ -68,7 +68,7 @@ counted_flat p f q g h (c ∷ cs) =
     kept true le = omega (arith, le, one_counted g c (filter q cs))
     kept false le = omega (arith, le)
 
-listed_once : (n k : ℕ) (t s : List ℕ) → count_by (is_same s) (suffixes_ending n k t) ≤ cond (ends_in s t) 1 0
+pub listed_once : (n k : ℕ) (t s : List ℕ) → count_by (is_same s) (suffixes_ending n k t) ≤ cond (ends_in s t) 1 0
 listed_once n zero t s = omega (arith, one_counted (is_same s) t [], one_place s t [] none)
 listed_once n (suc k) t s =
     let rest = counted_flat (is_same s) (λ c. if is_in t c then [] else suffixes_ending n k (c ∷ t)) (λ c. not (is_in t c)) (λ c. ends_in s (c ∷ t)) (λ c. below c (is_in t c) (listed_once n k (c ∷ t) s)) (candidates n) in
@@ -80,14 +80,14 @@ listed_once n (suc k) t s =
     below c true le = omega arith
     below c false le = le
 
-filter_counts : (p q : List ℕ → Bool) (xs : List (List ℕ)) → count_by p (filter q xs) ≤ count_by p xs
+pub filter_counts : (p q : List ℕ → Bool) (xs : List (List ℕ)) → count_by p (filter q xs) ≤ count_by p xs
 filter_counts p q [] = omega arith
 filter_counts p q (x ∷ xs) = go (q x) (filter_counts p q xs) where
   go : (b : Bool) → count_by p (filter q xs) ≤ count_by p xs → count_by p (cond b (x ∷ filter q xs) (filter q xs)) ≤ count_by p (x ∷ xs)
   go true le = omega (arith, le, one_counted p x (filter q xs), one_counted p x xs)
   go false le = omega (arith, le, one_counted p x xs)
 
-at_most_one : (b : Bool) → cond b 1 0 ≤ 1
+pub at_most_one : (b : Bool) → cond b 1 0 ≤ 1
 at_most_one true = omega arith
 at_most_one false = omega arith
 
@@ -99,17 +99,21 @@ part_listed n piece x p =
     let few : length before ≤ n - length piece = omega (arith, p.short, ap length e, length-append before piece) in
     subst (λ y. Member y (suffixes_of n piece)) (sym e) (suffixes_ending-member n (n - length piece) before piece s few)
 
-pub most_expanded : (bag : Kept) (records : List (List ℕ)) (done : List (List ℕ)) (limit : ℕ) (f : Frontier) → IsOf bag records → IsAfter bag done f → AreBelow bag limit done →
-    f.expanded ≤ count_by (is_part_below bag.n records limit) (suffixes_of bag.n f.piece.list)
-most_expanded bag records done limit f of k below =
+pub most_below : (bag : Kept) (records : List (List ℕ)) (done : List (List ℕ)) (limit : ℕ) (f : Frontier) → IsAfter bag done f → All (λ s. low bag.n records s < limit) done →
+    f.expanded ≤ parts_below bag.n records limit f.piece.list
+most_below bag records done limit f k below =
     subst (λ x. x ≤ count_by (is_part_below bag.n records limit) (suffixes_of bag.n f.piece.list)) k.count
     (no_more_than (is_part_below bag.n records limit) done (suffixes_of bag.n f.piece.list) (λ s. omega (arith, k.once s)) (λ x m.
     let c = contains-from_member m in
     let p : IsPart bag.n f.piece.list x = All-contains (IsPart bag.n f.piece.list) done x k.parts c in
-    let e : low bag.n records x < limit = All-contains (λ s. low bag.n records s < limit) done x (below records of) c in (
+    let e : low bag.n records x < limit = All-contains (λ s. low bag.n records s < limit) done x below c in (
       part_listed bag.n f.piece.list x p,
       and_from (nat_lt (length x) bag.n) (nat_lt (low bag.n records x) limit) (lt-ltb (length x) bag.n p.short) (lt-ltb (low bag.n records x) limit e),
     )))
+
+pub most_expanded : (bag : Kept) (records : List (List ℕ)) (done : List (List ℕ)) (limit : ℕ) (f : Frontier) → IsOf bag records → IsAfter bag done f → AreBelow bag limit done →
+    f.expanded ≤ parts_below bag.n records limit f.piece.list
+most_expanded bag records done limit f of k below = most_below bag records done limit f k (below records of)
 
 pub least_expanded : (bag : Kept) (records : List (List ℕ)) (f : Frontier) → IsOf bag records → is_suffix bag.n f.piece.list ≡ true → IsFront bag f → IsClosed f →
     count_by (is_part_below bag.n records (min f.bound f.least)) (suffixes_of bag.n f.piece.list) ≤ f.expanded
@@ -166,39 +170,39 @@ closed_above bag records f of (done, k) closed s h inside =
       ]
     ]
 
--- ---- the parts of a piece of one candidate: where one is left, there is one more than were expanded
-pub one_more : (bag : Kept) (records : List (List ℕ)) (done : List (List ℕ)) (limit c : ℕ) (f : Frontier) → IsOf bag records → IsAfter bag done f → AreBelow bag limit done →
-    f.piece.list ≡ c ∷ [] → c < bag.n → IsLeft bag f → f.bound ≤ limit → f.expanded < count_by (λ s. nat_lt (low bag.n records s) limit) (parts_ending bag.n c)
-one_more bag records done limit c f of k below piece inside left le =
-    let t : List ℕ = left.one.tail.list in
-    let o : IsOpen bag f.piece.list left.one = All-contains (IsOpen bag f.piece.list) f.suffixes left.one k.each left.still_open in
-    let all : length (t ∷ done) ≤ count_by (λ s. nat_lt (low bag.n records s) limit) (parts_ending bag.n c) =
-    no_more_than (λ s. nat_lt (low bag.n records s) limit) (t ∷ done) (parts_ending bag.n c) once (λ x m. elim (member_cases m) [
-      | inl e ↦
-          let low_one : low bag.n records t < limit = omega (arith, left.below, le, open_low bag f.piece.list left.one o records of) in
-          subst (λ (y : List ℕ). Member y (parts_ending bag.n c) × (nat_lt (low bag.n records y) limit ≡ true)) e
-          (listed t (record { proper = o.proper; inside = o.inside; short = left.parts left.one left.still_open left.below }), lt-ltb (low bag.n records t) limit low_one)
-      | inr m' ↦
-          let d = contains-from_member m' in (
-            listed x (All-contains (IsPart bag.n f.piece.list) done x k.parts d),
-            lt-ltb (low bag.n records x) limit (All-contains (λ s. low bag.n records s < limit) done x (below records of) d),
-          )
-    ]) in
-    omega (arith, all, k.count)
-  where
-    listed : (x : List ℕ) → IsPart bag.n f.piece.list x → Member x (parts_ending bag.n c)
-    listed x p = member-from_contains x (parts_ending bag.n c) ((parts_ending_are bag.n c x inside).1 (p.proper, subst (EndsIn x) piece p.inside, p.short))
+-- ---- where a suffix below the limit is left that isn't a whole order, there is one more than were expanded
+module _ (bag : Kept) (records : List (List ℕ)) (done : List (List ℕ)) (limit : ℕ) (f : Frontier) (one : Scored) (of : IsOf bag records) (k : IsAfter bag done f) where
+  -- the one that is left ends in an open suffix, itself
+  left_once : Contains f.suffixes one → (s : List ℕ) → count_by (is_same s) (one.tail.list ∷ done) ≤ 1
+  left_once still s =
+      elim (cases_Bool (is_same s one.tail.list)) [
+        | inl yes' ↦
+            let e = same-from s one.tail.list yes' in
+            let ends : ends_in s one.tail.list ≡ true = subst (λ x. ends_in x one.tail.list ≡ true) (sym e) (ends-self one.tail.list) in
+            let some : 1 ≤ count_by (λ o. ends_in s o.tail.list) f.suffixes = some_counted (λ (o : Scored). ends_in s o.tail.list) (member-from_contains one f.suffixes still) ends in
+            omega (arith, some, k.once s, one_counted (is_same s) one.tail.list done, at_most_one (is_same s one.tail.list))
+        | inr f' ↦
+            let z : cond (is_same s one.tail.list) 1 0 ≡ (let u : ℕ = 0 in u) = ap (λ v. cond v 1 0) f' in
+            omega (arith, z, k.once s, one_counted (is_same s) one.tail.list done)
+      ]
 
-    -- the one that is left ends in an open suffix, itself
-    once : (s : List ℕ) → count_by (is_same s) (left.one.tail.list ∷ done) ≤ 1
-    once s =
-        elim (cases_Bool (is_same s left.one.tail.list)) [
-          | inl yes' ↦
-              let e = same-from s left.one.tail.list yes' in
-              let ends : ends_in s left.one.tail.list ≡ true = subst (λ x. ends_in x left.one.tail.list ≡ true) (sym e) (ends-self left.one.tail.list) in
-              let some : 1 ≤ count_by (λ o. ends_in s o.tail.list) f.suffixes = some_counted (λ (o : Scored). ends_in s o.tail.list) (member-from_contains left.one f.suffixes left.still_open) ends in
-              omega (arith, some, k.once s, one_counted (is_same s) left.one.tail.list done, at_most_one (is_same s left.one.tail.list))
-          | inr f' ↦
-              let z : cond (is_same s left.one.tail.list) 1 0 ≡ (let u : ℕ = 0 in u) = ap (λ v. cond v 1 0) f' in
-              omega (arith, z, k.once s, one_counted (is_same s) left.one.tail.list done)
-        ]
+  listed_below : (x : List ℕ) → IsPart bag.n f.piece.list x → low bag.n records x < limit → Member x (suffixes_of bag.n f.piece.list) × (is_part_below bag.n records limit x ≡ true)
+  listed_below x p e = (
+    part_listed bag.n f.piece.list x p,
+    and_from (nat_lt (length x) bag.n) (nat_lt (low bag.n records x) limit) (lt-ltb (length x) bag.n p.short) (lt-ltb (low bag.n records x) limit e),
+  )
+
+  pub one_more : All (λ s. low bag.n records s < limit) done → Contains f.suffixes one → length one.tail.list < bag.n → one.low < limit → f.expanded < parts_below bag.n records limit f.piece.list
+  one_more below still short lower =
+      let t : List ℕ = one.tail.list in
+      let o : IsOpen bag f.piece.list one = All-contains (IsOpen bag f.piece.list) f.suffixes one k.each still in
+      let low_one : low bag.n records t < limit = omega (arith, lower, open_low bag f.piece.list one o records of) in
+      let part : IsPart bag.n f.piece.list t = record { proper = o.proper; inside = o.inside; short = short } in
+      let all : length (t ∷ done) ≤ parts_below bag.n records limit f.piece.list =
+      no_more_than (is_part_below bag.n records limit) (t ∷ done) (suffixes_of bag.n f.piece.list) (left_once still) (λ x m. elim (member_cases m) [
+        | inl e ↦ subst (λ (y : List ℕ). Member y (suffixes_of bag.n f.piece.list) × (is_part_below bag.n records limit y ≡ true)) e (listed_below t part low_one)
+        | inr m' ↦
+            let d = contains-from_member m' in
+            listed_below x (All-contains (IsPart bag.n f.piece.list) done x k.parts d) (All-contains (λ s. low bag.n records s < limit) done x below d)
+      ]) in
+      omega (arith, all, k.count)

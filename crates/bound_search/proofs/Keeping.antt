@@ -1,20 +1,23 @@
 -- What a front keeps, as suffixes are expanded, orders taken and bounds lowered.
-use Rattle.std.proofs.Common.{◌≡◌, ◌⊎◌, inl, inr, ℕ, ◌+◌, ◌<◌, ◌≤◌, Bool, true, false, ◌==◌, List, [], ◌∷◌, ◌++◌, map, length, count_by, All, Contains, Option, Some, None, IfSome, slice_get, min, refl, sym, ap, subst, arith, le_trans, length-append, eq-eqb, ◌∙◌}
+use Rattle.std.proofs.Common.{◌≡◌, ◌⊎◌, inl, inr, ℕ, ◌+◌, ◌<◌, ◌≤◌, Bool, true, false, ◌==◌, List, [], ◌∷◌, ◌++◌, map, length, count_by, All, Contains, Option, Some, None, IfSome, get_or, slice_get, min, refl, sym, ap, subst, arith, le_trans, length-append, eq-eqb, ◌∙◌}
+use Rattle.std.specs.BinaryHeap.{IsUpperBound}
 use Rattle.std.specs.List.Sorted.{IsPermutation}
 use Rattle.std.proofs.lemmas.Bool.{eqb-false, cases_lt}
 use Rattle.std.proofs.lemmas.List.Sorted.{All-permutation, Contains-permutation, IsPermutation-sym, length_permutation, sum_by_popped, sum_by-IsPermutation}
 use Rattle.std.proofs.lemmas.List.Sums.{sum_by-append, count_by-le-length}
 use Rattle.std.proofs.lemmas.List.Elements.{All-cons, All-nil, All-tail, All-weaker, All-append, All-contains, Contains-append_left, Contains-append_right, Contains-append_cases}
 use Rattle.irv_base.specs.Orders.{EndsIn}
-use Rattle.assertions.specs.Suffixes.{is_suffix}
+use Rattle.irv_base.proofs.Members.{contains-from_member, member-from_contains, member-map}
+use Rattle.assertions.specs.Suffixes.{is_suffix, comes_before}
 use Rattle.assertions.specs.Hardness.{low}
 use Rattle.set_tallies.specs.Bags.{Kept, IsOf}
 use Rattle.suffix_tree.specs.Suffixes.{Suffix, children}
-use Rattle.suffix_tree.specs.Scores.{IsScoredOver}
+use Rattle.suffix_tree.specs.Scores.{IsScoredOver, first_is_greatest}
+use Rattle.suffix_tree.proofs.Compared.{not_sooner}
 use Rattle.suffix_tree.specs.declared.scored.Scored.{Scored}
 use Rattle.suffix_tree.proofs.Tails.{suffix_more, suffix-short}
 use Rattle.bound_search.specs.Places.{EndsInOne, is_same, ends_in}
-use Rattle.bound_search.specs.Fronts.{Frontier, IsPart, IsOpen, IsAfter, IsFront, IsFound}
+use Rattle.bound_search.specs.Fronts.{Frontier, IsPart, IsOpen, IsAfter, IsFirstOf, IsFront, IsFound}
 use Rattle.bound_search.specs.Sifted.{IsPlaced, IsFoundWithin, IsOpenChild, IsFoundChild, IsPut, IsNewlyFound, IsExpanded, IsFirst, least_after}
 use Rattle.bound_search.proofs.Endings.{bit, grows, low_in, whole_ends, whole_is_order, ends_more, child-of, child-at, places_of_children}
 use Rattle.bound_search.proofs.Sifting.{one_contained, only_contained, all_from_contained}
@@ -261,7 +264,14 @@ first_contained (x ∷ xs) t e = (0, omega arith, (let same : x ≡ t = cc in sa
 some_same : (o : Option Scored) (a b : Scored) → o ≡ Some a → o ≡ Some b → a ≡ b
 some_same o a b e e' = cc
 
-module _ (bag : Kept) (old new : Frontier) (t : Scored) (cs : List Scored) (found : Option Scored) (first : slice_get old.suffixes 0 ≡ Some t) (look : IsFirst false old.bound (slice_get old.suffixes 0))
+-- what a heap has first is the first
+pub first_of_heap : (items : List Scored) (x : Scored) → 0 < length items → x ≡ get_or items 0 x → IsUpperBound first_is_greatest x items → IsFirstOf x items
+first_of_heap items x some e bound = record { inside = (0, some, sym e); least = go items bound } where
+  go : (ys : List Scored) → IsUpperBound first_is_greatest x ys → All (λ o. (x.low < o.low) ⊎ ((x.low ≡ o.low) × (comes_before o.tail.list x.tail.list ≡ false))) ys
+  go [] h = All-nil (λ (o : Scored). (x.low < o.low) ⊎ ((x.low ≡ o.low) × (comes_before o.tail.list x.tail.list ≡ false)))
+  go (y ∷ ys) (h, rest) = All-cons (λ (o : Scored). (x.low < o.low) ⊎ ((x.low ≡ o.low) × (comes_before o.tail.list x.tail.list ≡ false))) y ys (not_sooner x y h) (go ys rest)
+
+module _ (bag : Kept) (old new : Frontier) (t : Scored) (cs : List Scored) (found : Option Scored) (first : slice_get old.suffixes 0 ≡ Some t) (least : IsFirstOf t old.suffixes) (look : IsFirst false old.bound (slice_get old.suffixes 0))
     (are : map (λ s. s.tail) cs ≡ children t.tail) (scored : All (IsScoredOver bag) cs) (put : IsPut cs old new found) where
   the_top : put.replaced.top ≡ t
   the_top = some_same (slice_get old.suffixes 0) put.replaced.top t put.replaced.first first
@@ -286,11 +296,22 @@ module _ (bag : Kept) (old new : Frontier) (t : Scored) (cs : List Scored) (foun
       let (a, b, c, d) = put_found bag done old put.replaced.top put.replaced.rest k put.replaced.taken (top_short done k) put.fresh new.suffixes cs found put.replaced.joined top_children scored put.placed put.stays put.counts o one in
       (a, b, c, d, put.least ∙ ap (least_after old.least) e)
 
+  left_open : All (λ o. Contains put.replaced.rest o ⊎ Contains (children put.replaced.top.tail) o.tail) new.suffixes
+  left_open =
+      let P : Scored → Type 0 = λ o. Contains put.replaced.rest o ⊎ Contains (children put.replaced.top.tail) o.tail in
+      All-permutation P (put.replaced.rest ++ put.fresh) new.suffixes put.replaced.joined
+      (All-append P put.replaced.rest put.fresh (all_from_contained P put.replaced.rest (λ o h. inl h)) (All-weaker (IsOpenChild cs old.bound) P (λ o c. inr (is_child o c.one)) put.fresh put.stays))
+    where
+      is_child : (o : Scored) → Contains cs o → Contains (children put.replaced.top.tail) o.tail
+      is_child o h = subst (λ xs. Contains xs o.tail) top_children (contains-from_member (member-map (λ (x : Scored). x.tail) (member-from_contains o cs h)))
+
   pub put_expands : (done : List (List ℕ)) → IsAfter bag done old → IsExpanded bag old new found
   put_expands done k = record {
     one = put.replaced.top;
     was_open = first_contained old.suffixes put.replaced.top put.replaced.first;
     below = top_below.0;
+    first = subst (λ x. IsFirstOf x old.suffixes) (sym the_top) least;
+    replaced = record { rest = put.replaced.rest; taken = put.replaced.taken; left = left_open };
     after = λ done' k'.
         after_put bag done' old put.replaced.top put.replaced.rest k' put.replaced.taken (top_short done' k') put.fresh new.suffixes cs found put.replaced.joined top_children scored put.placed put.stays put.counts
         new refl put.piece put.bound put.expanded (omega (arith, put.least, least_after-le old.least found)) (λ m h. omega (arith, put.least, least_after-within old.least found m h));

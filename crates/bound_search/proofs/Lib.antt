@@ -3,5 +3,12 @@ pub mod Sifting
 pub mod Keeping
 pub mod Turns
 pub mod Counting
+pub mod Works
+pub mod Views
 pub mod Racing
+pub mod Sharing
+pub mod Cutting
+pub mod Joining
+pub mod Raced
+pub mod Fewness
 pub mod Starts

@@ -1,149 +1,134 @@
--- Pieces that are searched, and the best margin.
-use Rattle.std.proofs.Common.{◌≡◌, ◌≢◌, inl, inr, ℕ, ◌+◌, ◌<◌, ◌≤◌, Bool, true, false, not, nat_lt, List, [], ◌∷◌, ◌++◌, count_by, refl, sym, ap, subst, arith, le_trans, le_antisymm, length-append, ◌∙◌}
-use Rattle.std.proofs.lemmas.Bool.{cases_eq}
-use Rattle.std.proofs.lemmas.List.Elements.{All-append, All-nil, All-weaker}
-use Rattle.irv_base.specs.Orders.{is_order, EndsIn, Elects}
-use Rattle.irv_base.proofs.Members.{Member, here, member-append_right}
-use Rattle.irv_base.proofs.Orders.{order_facts}
-use Rattle.assertions.specs.Suffixes.{parts_ending, is_suffix}
-use Rattle.assertions.specs.Hardness.{low, best_margin, first_bound}
-use Rattle.assertions.proofs.Alternatives.{best-le, best_is}
-use Rattle.assertions.proofs.Endings.{from_alternative, alternative-member, one_alone}
-use Rattle.assertions.proofs.Enumerated.{suffix_test}
-use Rattle.set_tallies.specs.Bags.{Kept, IsOf}
-use Rattle.suffix_tree.specs.Scores.{IsScoredOver}
-use Rattle.suffix_tree.specs.declared.scored.Scored.{Scored}
-use Rattle.irv_tabulator.specs.declared.tabulated.Tabulated.{Tabulated}
-use Rattle.bound_search.specs.Fronts.{Frontier, IsOpen, IsAfter, IsFront, AreBelow, HasGrown, Grows, IsFound, IsTurn}
-use Rattle.bound_search.specs.Reached.{IsReached, IsNoWorse, IsSearched, AreSearched, IsStopped}
-use Rattle.bound_search.specs.Race.{IsBest, IsSpent, work}
-use Rattle.bound_search.specs.declared.ends.RaceEnd.{RaceEnd}
-use Rattle.bound_search.specs.declared.ends.RaceFault.{RaceFault}
-use Rattle.bound_search.specs.declared.ends.RaceFault.TheVariants.{Spent, Memory}
+-- What the turns of one piece come to.
+use Rattle.std.proofs.Common.{◌≡◌, inl, inr, ℕ, ◌+◌, ◌<◌, ◌≤◌, true, nat_lt, List, [], ◌∷◌, ◌++◌, length, min, All, get_or, refl, sym, ap, subst, arith, le_trans, length-append, lt-ltb, ltb-true, ◌∙◌}
+use Rattle.std.proofs.lemmas.Bool.{and_from, and_parts, cases_lt}
+use Rattle.std.proofs.lemmas.List.{nil_from_length}
+use Rattle.std.proofs.lemmas.List.Elements.{All-append, All-nil}
+use Rattle.irv_base.specs.Orders.{is_order, EndsIn}
+use Rattle.assertions.specs.Suffixes.{is_suffix}
+use Rattle.assertions.specs.Hardness.{low}
+use Rattle.assertions.proofs.Tallies.{count_by-le}
+use Rattle.set_tallies.specs.Bags.{Kept, Source, IsOf}
+use Rattle.suffix_tree.specs.Suffixes.{Suffix}
+use Rattle.bound_search.specs.Fronts.{Frontier, IsAfter, IsFront, IsWithin, HasGrown, Grows, IsFound, IsTurn}
+use Rattle.bound_search.specs.Reached.{IsLeastOf, IsClosedAt, IsOverBudget, IsInWork}
+use Rattle.bound_search.specs.Race.{is_part_below, parts_below, suffixes_of, value_of}
+use Rattle.bound_search.specs.declared.limits.TheConstants.{MOST_EXPANDED}
 use Rattle.bound_search.specs.declared.turn.Turn.{Turn}
-use Rattle.bound_search.specs.declared.turn.Turn.TheVariants.{Closed, Found, More, Spent as TurnSpent}
-use Rattle.bound_search.proofs.Counting.{closed_above, one_more}
-use Rattle.bound_search.proofs.Keeping.{after_start}
+use Rattle.bound_search.specs.declared.turn.Turn.TheVariants.{Closed, Found, More, Spent}
+use Rattle.bound_search.proofs.Counting.{closed_above, least_expanded, most_below, one_more, orders_stay_open}
+use Rattle.bound_search.proofs.Endings.{low_in, order_is_suffix}
+use Rattle.bound_search.proofs.Keeping.{open_low}
+use Rattle.bound_search.proofs.Works.{value_reached}
+use Rattle.bound_search.specs.Fronts.{IsOpen}
+use Rattle.std.proofs.lemmas.List.Elements.{All-contains}
 
--- a front that has expanded only what is below the limit
+-- what holds over the bag of some tallies holds over that of the same ones
+pub over : (P : Kept → Type 0) {s t : Source} → s ≡ t → P s.bag → P t.bag
+over P e h = subst (λ (x : Source). P x.bag) e h
+
+-- ---- a front that has expanded only what is in the work of its piece
+
+abbrev pub work_limit : ℕ → List (List ℕ) → ℕ → List ℕ → ℕ
+work_limit n records first piece = min first (value_of n records piece + 1)
+
 abbrev pub IsUnder : Kept → ℕ → Frontier → Type 0
-IsUnder bag limit f = (done : List (List ℕ)) × IsAfter bag done f × AreBelow bag limit done
+IsUnder bag first f = (done : List (List ℕ)) × IsAfter bag done f × ((records : List (List ℕ)) → IsOf bag records → All (λ s. low bag.n records s < work_limit bag.n records first f.piece.list) done)
 
--- at most the hardness of the start order
-abbrev pub IsUpper : Kept → List ℕ → ℕ → Type 0
-IsUpper bag order margin = (records : List (List ℕ)) → IsOf bag records → margin ≤ first_bound bag.n records order
+pub under_front : (bag : Kept) (first : ℕ) (f : Frontier) → IsUnder bag first f → IsFront bag f
+under_front bag first f (done, k, below) = (done, k)
 
-pub under_front : (bag : Kept) (limit : ℕ) (f : Frontier) → IsUnder bag limit f → IsFront bag f
-under_front bag limit f (done, k, below) = (done, k)
+pub under_start : (bag : Kept) (first : ℕ) (f : Frontier) → IsFront bag f → f.expanded ≡ 0 → IsUnder bag first f
+under_start bag first f (done, k) none =
+    let empty : done ≡ [] = nil_from_length done (k.count ∙ none) in
+    (done, k, λ records of. subst (All (λ s. low bag.n records s < work_limit bag.n records first f.piece.list)) (sym empty) (All-nil (λ s. low bag.n records s < work_limit bag.n records first f.piece.list)))
 
-pub under_start : (bag : Kept) (limit c : ℕ) (f : Frontier) (start : Scored) → c < bag.n → start.tail.n ≡ bag.n → start.tail.list ≡ c ∷ [] → IsScoredOver bag start →
-    f.piece ≡ start.tail → f.suffixes ≡ start ∷ [] → f.expanded ≡ 0 → IsUnder bag limit f
-under_start bag limit c f start below number list scored piece items none =
-    let opened : IsOpen bag start.tail.list start = record {
-      contest = number;
-      proper = ap (is_suffix bag.n) list ∙ suffix_test (one_alone bag.n c below);
-      inside = ([], refl);
-      scored = scored;
-    } in
-    ([], after_start bag f start opened piece items none, λ records of. All-nil (λ s. low bag.n records s < limit))
+-- what is below the bound and within the orders of the piece is in its work
+in_work : (bag : Kept) (records : List (List ℕ)) (first bound : ℕ) (piece s : List ℕ) → is_suffix bag.n piece ≡ true → bound ≤ first → low bag.n records s < bound → IsWithin bag records piece s →
+    low bag.n records s < work_limit bag.n records first piece
+in_work bag records first bound piece s proper le below within =
+    let (order, whole, ends, value) = value_reached bag.n records piece proper in
+    let up = within order whole ends in
+    omega (arith, up, value, below, le)
 
-pub under_turn : (bag : Kept) (limit bound : ℕ) (old new : Frontier) → IsUnder bag limit old → bound ≤ limit → Grows bag bound old new → IsUnder bag limit new
-under_turn bag limit bound old new (done, k, below) le grows =
-    let g : HasGrown bag done bound old new = grows done k in (
+pub under_turn : (bag : Kept) (first bound : ℕ) (old new : Frontier) → is_suffix bag.n old.piece.list ≡ true → IsUnder bag first old → bound ≤ first → bound ≤ old.least → Grows bag bound old new → new.piece ≡ old.piece →
+    IsUnder bag first new
+under_turn bag first bound old new proper (done, k, below) le least grows same =
+    let g : HasGrown bag done bound old new = grows done k in
+    let piece : old.piece.list ≡ new.piece.list = ap (λ (p : Suffix). p.list) (sym same) in (
       done ++ g.more,
       g.after,
-      λ records of. All-append (λ s. low bag.n records s < limit) done g.more (below records of)
-          (All-weaker (λ s. low bag.n records s < bound) (λ s. low bag.n records s < limit) (λ s l. le_trans l le) g.more (g.below records of)),
+      λ records of.
+          let P : List ℕ → Type 0 = λ s. low bag.n records s < work_limit bag.n records first old.piece.list in
+          let more : All P g.more =
+          λ i d inside. in_work bag records first bound old.piece.list (get_or g.more i d) proper le (g.below records of i d inside) (g.within least records of i d inside) in
+          subst (λ p. All (λ s. low bag.n records s < work_limit bag.n records first p) (done ++ g.more)) piece (All-append P done g.more (below records of) more),
     )
+
+pub under_most : (bag : Kept) (first : ℕ) (f : Frontier) → IsUnder bag first f → IsInWork bag first f.piece.list f.expanded
+under_most bag first f (done, k, below) records of = most_below bag records done (work_limit bag.n records first f.piece.list) f k (below records of)
 
 -- ---- what each answer of a turn says
-pub after_closed : (bag : Kept) (left c margin : ℕ) (old new : Frontier) (t : Turn) → t ≡ Closed → IsTurn bag left old new t → IsFront bag new → new.piece.list ≡ c ∷ [] → new.bound ≡ margin → margin ≤ old.least →
-    IsSearched bag c margin
-after_closed bag left c margin old new t e h k piece bound least = λ records of order whole elects.
+
+parts_below-le : (n : ℕ) (records : List (List ℕ)) (a b : ℕ) (piece : List ℕ) → a ≤ b → parts_below n records a piece ≤ parts_below n records b piece
+parts_below-le n records a b piece le =
+    count_by-le (is_part_below n records a) (is_part_below n records b) (suffixes_of n piece)
+    (λ s h.
+    let (short, below) = and_parts (nat_lt (length s) n) (nat_lt (low n records s) a) h in
+    let lt : low n records s < a = ltb-true (low n records s) a below in
+    and_from (nat_lt (length s) n) (nat_lt (low n records s) b) short (lt-ltb (low n records s) b (omega (arith, lt, le))))
+
+-- what is closed at a bound is closed at a lower one
+pub closed_lower : (bag : Kept) (a b : ℕ) (piece : List ℕ) (expanded : ℕ) → b ≤ a → IsClosedAt bag a piece expanded → IsClosedAt bag b piece expanded
+closed_lower bag a b piece expanded le h = record {
+  above = λ records of order whole ends. le_trans le (h.above records of order whole ends);
+  least = λ records of. le_trans (parts_below-le bag.n records b a piece le) (h.least records of);
+}
+
+pub after_closed : (bag : Kept) (left seen : ℕ) (old new : Frontier) (t : Turn) → t ≡ Closed → IsTurn bag left old new t → IsFront bag new → is_suffix bag.n new.piece.list ≡ true → seen ≤ new.bound → seen ≤ old.least →
+    IsClosedAt bag seen new.piece.list new.expanded
+after_closed bag left seen old new t e h k proper bound least =
     let h' : IsTurn bag left old new Closed = subst (IsTurn bag left old new) e h in
-    elim (closed_above bag records new of k h'.1 order whole (subst (EndsIn order) (sym piece) elects)) [
-      | inl le ↦ omega (arith, le, bound)
-      | inr le ↦ omega (arith, le, least, h'.0)
-    ]
+    record {
+      above = λ records of order whole ends. elim (closed_above bag records new of k h'.1 order whole ends) [
+        | inl le ↦ omega (arith, le, bound)
+        | inr le ↦ omega (arith, le, least, h'.0)
+      ];
+      least = λ records of.
+          let more = parts_below-le bag.n records seen (min new.bound new.least) new.piece.list (omega (arith, bound, least, h'.0)) in
+          le_trans more (least_expanded bag records new of proper k h'.1);
+    }
 
-pub after_found : (bag : Kept) (left c : ℕ) (old new : Frontier) (best end : RaceEnd) (t : Turn) (order : List ℕ) (margin : ℕ) → t ≡ Found order margin → IsTurn bag left old new t → old.piece.list ≡ c ∷ [] → new.bound ≡ end.margin →
-    end.margin ≤ old.least → end.margin ≤ best.margin →
-    IsNoWorse bag (c ∷ []) best (record { margin = margin; order = order }) × (margin < end.margin) × (margin ≤ new.least)
-after_found bag left c old new best end t order margin e h piece bound least less =
+pub after_found : (bag : Kept) (left : ℕ) (old new : Frontier) (t : Turn) (order : List ℕ) (margin : ℕ) → t ≡ Found order margin → IsTurn bag left old new t →
+    IsFound bag old.piece.list order margin × (margin < new.bound) × (new.least ≡ min old.least margin)
+after_found bag left old new t order margin e h =
     let h' : IsTurn bag left old new (Found order margin) = subst (IsTurn bag left old new) e h in
-    let lower : margin < end.margin = omega (arith, h'.2, bound) in
-    (inr (subst (λ p. IsFound bag p order margin) piece h'.0, (omega (arith, lower, less))), lower, (omega (arith, h'.3, lower, least)))
+    (h'.0, h'.2, h'.3)
 
-pub after_more : (bag : Kept) (left : ℕ) (old new : Frontier) (t : Turn) → t ≡ More → IsTurn bag left old new t → (new.least ≡ old.least) × (new.expanded ≡ old.expanded + 64)
+pub after_more : (bag : Kept) (left : ℕ) (old new : Frontier) (t : Turn) → t ≡ More → IsTurn bag left old new t → (new.least ≡ old.least) × (new.expanded ≡ old.expanded + MOST_EXPANDED)
 after_more bag left old new t e h = let h' : IsTurn bag left old new More = subst (IsTurn bag left old new) e h in (h'.0, h'.1)
 
-pub after_spent : (bag : Kept) (left nodes c under : ℕ) (old new : Frontier) (best end : RaceEnd) (t : Turn) → t ≡ TurnSpent → IsTurn bag left old new t → IsUnder bag under new → new.piece.list ≡ c ∷ [] → c < bag.n →
-    new.bound ≤ under → old.expanded + left ≡ nodes → IsNoWorse bag (c ∷ []) best end → (limit : ℕ) → under ≤ limit → IsStopped bag best limit nodes c (Spent c end.margin end.order)
-after_spent bag left nodes c under old new best end t e h (done, k, below) piece inside bound all worse limit le =
-    let h' : IsTurn bag left old new TurnSpent = subst (IsTurn bag left old new) e h in (
-      refl,
-      worse,
-      λ records of.
-          let below' : AreBelow bag limit done = λ records of. All-weaker (λ s. low bag.n records s < under) (λ s. low bag.n records s < limit) (λ s l. le_trans l le) done (below records of) in
-          let more : new.expanded < count_by (λ s. nat_lt (low bag.n records s) limit) (parts_ending bag.n c) = one_more bag records done limit c new of k below' piece inside h'.3 (le_trans bound le) in
-          omega (arith, more, h'.1, all),
-    )
-
--- ---- the race
-pub reached_next : (bag : Kept) (winner c : ℕ) (best end : RaceEnd) → IsReached bag winner best → c ≢ winner → IsNoWorse bag (c ∷ []) best end → IsReached bag winner end
-reached_next bag winner c best end h other (inl same) = subst (IsReached bag winner) (sym same) h
-reached_next bag winner c best end h other (inr (found, less)) = record { alternative = (found.whole, (c, other, found.inside)); hardness = found.hardness }
-
-pub no_worse_le : (bag : Kept) (piece : List ℕ) (best end : RaceEnd) → IsNoWorse bag piece best end → end.margin ≤ best.margin
-no_worse_le bag piece best end (inl same) = omega (arith, ap (λ (e : RaceEnd). e.margin) same)
-no_worse_le bag piece best end (inr (found, less)) = omega (arith, less)
-
-pub searched_more : (bag : Kept) (winner c a b : ℕ) → b ≤ a → AreSearched bag winner c a → IsSearched bag c b → AreSearched bag winner (c + 1) b
-searched_more bag winner c a b le h one d l ne =
-    elim (cases_eq d c) [
-      | inl e ↦ subst (λ x. IsSearched bag x b) (sym e) one
-      | inr other ↦ λ records of order whole elects. le_trans le (h d (omega (arith, l, other)) ne records of order whole elects)
+-- one that is left is in the work of the piece, and wasn't expanded
+pub after_spent : (bag : Kept) (left nodes first : ℕ) (old new : Frontier) (t : Turn) → t ≡ Spent → IsTurn bag left old new t → IsUnder bag first new → is_suffix bag.n new.piece.list ≡ true → new.bound ≤ first →
+    new.bound ≤ old.least → old.expanded + left ≡ nodes → IsOverBudget bag first nodes new.piece.list
+after_spent bag left nodes first old new t e h (done, k, below) proper bound least all records of =
+    let h' : IsTurn bag left old new Spent = subst (IsTurn bag left old new) e h in
+    let (order, whole, ends, value) = value_reached bag.n records new.piece.list proper in
+    let limit = work_limit bag.n records first new.piece.list in
+    elim (cases_lt (low bag.n records order) new.bound) [
+      | inr ge ↦
+          let one = h'.3.one in
+          let more = one_more bag records done limit new one of k (below records of) h'.3.still_open (h'.3.parts one h'.3.still_open h'.3.below) (omega (arith, h'.3.below, ge, value, bound)) in
+          omega (arith, more, h'.1, all)
+      | inl lt ↦
+          let (o, still, inside) = orders_stay_open bag records new of (done, k) order whole ends lt (omega (arith, lt, least, h'.0)) in
+          let low_o = open_low bag new.piece.list o (All-contains (IsOpen bag new.piece.list) new.suffixes o k.each still) records of in
+          let up = low_in bag.n records order o.tail.list (order_is_suffix bag.n order whole) inside in
+          let lower : o.low < new.bound = omega (arith, low_o, up, lt) in
+          let more = one_more bag records done limit new o of k (below records of) still (h'.3.parts o still lower) (omega (arith, lower, low_o, up, value, bound)) in
+          omega (arith, more, h'.1, all)
     ]
 
-pub searched_skip : (bag : Kept) (winner c a : ℕ) → c ≡ winner → AreSearched bag winner c a → AreSearched bag winner (c + 1) a
-searched_skip bag winner c a e h d l ne = h d (elim (cases_eq d c) [ inl s ↦ absurd (ne (s ∙ e)) | inr other ↦ omega (arith, l, other) ]) ne
-
-pub elected_below : (n c : ℕ) (order : List ℕ) → is_order n order ≡ true → Elects order c → c < n
-elected_below n c order h (before, same) = (order_facts n order h).below c (subst (Member c) (sym same) (member-append_right before here))
-
-pub all_searched : (bag : Kept) (records : List (List ℕ)) (winner : ℕ) (end : RaceEnd) → IsOf bag records → winner < bag.n → 1 < bag.n → IsReached bag winner end → AreSearched bag winner bag.n end.margin → IsBest bag.n records winner end
-all_searched bag records winner end of below two reached searched =
-    let (order, m, same) = best_is bag.n winner (low bag.n records) below two in
-    let (h, (c, ne, elects)) = from_alternative bag.n winner order m in
-    let inside : c < bag.n = elected_below bag.n c order h elects in
-    let up : end.margin ≤ low bag.n records order = searched c inside ne records of order h elects in
-    let (whole, (d, other, ends)) = reached.alternative in
-    let down : best_margin bag.n winner (low bag.n records) ≤ low bag.n records end.order = best-le bag.n winner (low bag.n records) end.order (alternative-member bag.n winner d end.order whole other ends) in
-    record {
-      best = le_antisymm (omega (arith, up, same)) (omega (arith, down, reached.hardness records of));
-      alternative = reached.alternative;
-      hardness = reached.hardness records of;
-    }
-
-pub stopped_spent : (bag : Kept) (records : List (List ℕ)) (tab : Tabulated) (best : RaceEnd) (nodes c : ℕ) (fault : RaceFault) → IsOf bag records → c < bag.n → c ≢ tab.winner → IsReached bag tab.winner best → IsUpper bag tab.order best.margin →
-    ((limit : ℕ) → best.margin ≤ limit → IsStopped bag best limit nodes c fault) → IsSpent bag.n records tab nodes fault
-stopped_spent bag records tab best nodes c Memory of below other reached upper stopped = tt
-stopped_spent bag records tab best nodes c (Spent last margin order) of below other reached upper stopped =
-    let (same, worse, more) = stopped (first_bound bag.n records tab.order) (upper records of) in
-    let end : RaceEnd = record { margin = margin; order = order } in
-    let now = reached_next bag tab.winner c best end reached other worse in
-    record {
-      candidate = subst (λ x. x < bag.n) (sym same) below;
-      other = λ e. other (sym same ∙ e);
-      more = subst (λ x. nodes < work bag.n records tab.order x) (sym same) (more records of);
-      alternative = now.alternative;
-      hardness = now.hardness records of;
-      reached = le_trans (no_worse_le bag (c ∷ []) best end worse) (upper records of);
-    }
-
 pub expanded_le : (bag : Kept) (bound : ℕ) (old new : Frontier) → IsFront bag old → Grows bag bound old new → old.expanded ≤ new.expanded
-expanded_le bag bound old new (done, k) grows = let g = grows done k in omega (arith, k.count, g.after.count, length-append done g.more)
-
-pub not_fails : (b : Bool) → not b ≡ false → b ≡ true
-not_fails true h = refl
-not_fails false h = cc
+expanded_le bag bound old new (done, k) grows =
+    let g : HasGrown bag done bound old new = grows done k in
+    omega (arith, k.count, g.after.count, length-append done g.more)

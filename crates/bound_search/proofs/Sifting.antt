@@ -8,14 +8,14 @@ use Rattle.std.proofs.lemmas.List.Sums.{sum_by-append}
 use Rattle.std.proofs.lemmas.List.Elements.{All-cons, All-nil, All-weaker, All-contains, All-contains_itself, Contains-append_left, Contains-append_right, Contains-append_cases}
 use Rattle.irv_base.proofs.Members.{member_cases, member_nil, member-from_contains}
 use Rattle.suffix_tree.specs.declared.scored.Scored.{Scored}
-use Rattle.suffix_tree.specs.Scores.{by_low}
+use Rattle.suffix_tree.specs.Scores.{first_is_greatest}
 use Rattle.bound_search.specs.Sifted.{IsPlaced, IsFoundWithin, IsOpenChild, IsFoundChild}
 
 -- the children that are left, and what became of the others
 pub record SiftedSoFar (children : List Scored) (bound : ℕ) (rest fresh : List Scored) (found : Option Scored) : Type 0 where
   pub within : All (Contains children) rest
   pub placed : (x : Scored) → Contains children x → Contains rest x ⊎ IsPlaced bound fresh found x
-  pub heap : IsHeap by_low fresh
+  pub heap : IsHeap first_is_greatest fresh
   pub open_ones : All (IsOpenChild children bound) fresh
   pub found_one : IfSome found (IsFoundChild children bound)
   pub counted : (p : Scored → Bool) → count_by p fresh + count_by p rest ≤ count_by p children
@@ -33,7 +33,7 @@ module _ (children : List Scored) (bound : ℕ) where
   -- without the last, which has its place
   one_less : (rest' rest fresh fresh' : List Scored) (found found' : Option Scored) (x : Scored) → rest ≡ rest' ++ x ∷ [] → SiftedSoFar children bound rest fresh found →
       ((y : Scored) → IsPlaced bound fresh found y → IsPlaced bound fresh' found' y) → IsPlaced bound fresh' found' x →
-      IsHeap by_low fresh' → All (IsOpenChild children bound) fresh' → IfSome found' (IsFoundChild children bound) →
+      IsHeap first_is_greatest fresh' → All (IsOpenChild children bound) fresh' → IfSome found' (IsFoundChild children bound) →
       ((p : Scored → Bool) → count_by p fresh' ≤ count_by p fresh + cond (p x) 1 0) →
       SiftedSoFar children bound rest' fresh' found'
   one_less rest' rest fresh fresh' found found' x e s keeps put heap open_ones found_one few = record {
@@ -62,7 +62,7 @@ module _ (children : List Scored) (bound : ℕ) where
   pruned rest' rest fresh found x e le s = one_less rest' rest fresh fresh found found x e s (λ y h. h) (inl le) s.heap s.open_ones s.found_one (λ p. omega arith)
 
   pub pushed : (rest' rest fresh fresh' : List Scored) (found : Option Scored) (x : Scored) → rest ≡ rest' ++ x ∷ [] → x.low < bound → (length x.tail.list == x.tail.n) ≡ false →
-      IsPermutation (x ∷ fresh) fresh' → (IsHeap by_low fresh → IsHeap by_low fresh') →
+      IsPermutation (x ∷ fresh) fresh' → (IsHeap first_is_greatest fresh → IsHeap first_is_greatest fresh') →
       SiftedSoFar children bound rest fresh found → SiftedSoFar children bound rest' fresh' found
   pushed rest' rest fresh fresh' found x e lt part p heap s =
       one_less rest' rest fresh fresh' found found x e s
@@ -104,7 +104,7 @@ module _ (children : List Scored) (bound : ℕ) where
       ])
       (λ p. omega arith)
 
-pub sifted_start : (children : List Scored) (bound : ℕ) (fresh : List Scored) → fresh ≡ [] → IsHeap by_low fresh → SiftedSoFar children bound children fresh None
+pub sifted_start : (children : List Scored) (bound : ℕ) (fresh : List Scored) → fresh ≡ [] → IsHeap first_is_greatest fresh → SiftedSoFar children bound children fresh None
 sifted_start children bound fresh e heap = record {
   within = All-contains_itself children;
   placed = λ x h. inl h;

@@ -107,7 +107,7 @@ from_whole t order e = go (length t.list == t.n) e where
   go false e = cc
 
 pub start_reached : (bag : Kept) (order : List ℕ) (winner : ℕ) (tail : Suffix) (s : Scored) (first : List ℕ) → 1 < bag.n → is_order bag.n order ≡ true → tail.n ≡ bag.n → tail.list ≡ start_order order →
-    s.tail ≡ tail → IsScoredOver bag s → whole s.tail ≡ Some first → Elects order winner → IsReached bag winner (record { margin = s.low; order = first })
+    s.tail ≡ tail → IsScoredOver bag s → whole s.tail ≡ Some first → Elects order winner → IsReached bag winner (record { order = first; margin = s.low })
 start_reached bag order winner tail s first two h number list same scored is elects =
     let first_is : first ≡ s.tail.list = from_whole s.tail first is in
     let started : first ≡ start_order order = first_is ∙ ap (λ (t : Suffix). t.list) same ∙ list in

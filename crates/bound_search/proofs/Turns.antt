@@ -1,15 +1,20 @@
 -- What the steps of a turn come to.
-use Rattle.std.proofs.Common.{◌≡◌, inl, inr, ℕ, ◌<◌, ◌≤◌, true, false, ◌==◌, List, [], ◌∷◌, ◌++◌, length, All, Contains, Option, Some, None, Result, Ok, Err, IfOk, slice_get, refl, sym, subst, arith, append-nil, append_assoc, eqb-true, ◌∙◌}
+use Rattle.std.proofs.Common.{◌≡◌, inl, inr, ℕ, ◌<◌, ◌≤◌, true, false, ◌==◌, List, [], ◌∷◌, ◌++◌, length, All, Contains, Option, Some, None, Result, Ok, Err, IfOk, slice_get, ◌⊎◌, refl, sym, ap, subst, arith, append-nil, append_assoc, eqb-true, ◌∙◌}
 use Rattle.std.proofs.lemmas.Bool.{eqb-false, cases_lt}
 use Rattle.std.proofs.lemmas.List.Elements.{All-cons, All-nil, All-weaker, All-append, All-contains}
 use Rattle.assertions.specs.Hardness.{low}
 use Rattle.set_tallies.specs.Bags.{Kept}
 use Rattle.suffix_tree.specs.declared.scored.Scored.{Scored}
+use Rattle.suffix_tree.specs.Suffixes.{Suffix}
 use Rattle.suffix_tree.proofs.Tails.{suffix-short}
 use Rattle.bound_search.specs.Places.{EndsInOne}
-use Rattle.bound_search.specs.Fronts.{Frontier, IsOpen, IsAfter, IsFront, HasGrown, Grows, IsFound, IsLeft}
+use Rattle.bound_search.specs.Fronts.{Frontier, IsOpen, IsAfter, IsFront, IsWithin, IsFirstOf, AreFirstEach, none_expanded, one_expanded, one_found, HasGrown, Grows, IsFound, IsLeft}
 use Rattle.bound_search.specs.Sifted.{IsExpanded, IsTaken, IsFirst}
-use Rattle.bound_search.proofs.Endings.{ends_through}
+use Rattle.irv_base.specs.Orders.{EndsIn}
+use Rattle.set_tallies.specs.Bags.{IsOf}
+use Rattle.assertions.specs.Suffixes.{comes_before}
+use Rattle.bound_search.proofs.Counting.{orders_stay_open}
+use Rattle.bound_search.proofs.Endings.{ends_through, low_in, order_is_suffix}
 use Rattle.bound_search.proofs.Sifting.{only_contained, all_from_contained}
 use Rattle.bound_search.proofs.Keeping.{open_low, open_found, ends_in_itself, after_lower, after_taken, taken_from_open, top_open, first_is, first_contained}
 
@@ -40,16 +45,36 @@ module _ (bag : Kept) (f f' : Frontier) (bound : ℕ) (le : bound ≤ f.bound) (
     after = subst (λ d. IsAfter bag d f') (sym (append-nil done)) (lower done k);
     were_open = All-nil (EndsInOne f.suffixes);
     below = λ records of. All-nil (λ s. low bag.n records s < bound);
+    within = λ le records of. All-nil (IsWithin bag records f.piece.list);
     from_open = subst (λ (x : Frontier). All (λ o. EndsInOne f.suffixes o.tail.list) x.suffixes) (sym e)
         (all_from_contained (λ o. EndsInOne f.suffixes o.tail.list) f.suffixes (λ o h. ends_in_itself f.suffixes o h));
+    best_first = subst (λ (x : Frontier). AreFirstEach f.suffixes [] x.suffixes) (sym e) none_expanded;
   }
 
 -- ---- one more is expanded
+
+-- an order of the piece that is below the bound ends in an open suffix, and the first has a low no greater
+one_within : (bag : Kept) (records : List (List ℕ)) (f : Frontier) (one : Scored) → IsOf bag records → IsFront bag f → IsOpen bag f.piece.list one → one.low < f.bound → IsFirstOf one f.suffixes →
+    f.bound ≤ f.least → IsWithin bag records f.piece.list one.tail.list
+one_within bag records f one of (done, k) open_one below first le order whole inside =
+    let low_one = open_low bag f.piece.list one open_one records of in
+    elim (cases_lt (low bag.n records order) f.bound) [
+      | inr ge ↦ omega (arith, low_one, below, ge)
+      | inl lt ↦
+          let (o, here, ends) = orders_stay_open bag records f of (done, k) order whole inside lt (omega (arith, lt, le)) in
+          let low_o = open_low bag f.piece.list o (All-contains (IsOpen bag f.piece.list) f.suffixes o k.each here) records of in
+          let up = low_in bag.n records order o.tail.list (order_is_suffix bag.n order whole) ends in
+          elim (All-contains (λ (x : Scored). (one.low < x.low) ⊎ ((one.low ≡ x.low) × (comes_before x.tail.list one.tail.list ≡ false))) f.suffixes o first.least here) [
+            | inl lower ↦ omega (arith, low_one, low_o, up, lower)
+            | inr (same, later) ↦ omega (arith, low_one, low_o, up, same)
+          ]
+    ]
+
 pub front_more : (bag : Kept) (f f' : Frontier) (found : Option Scored) → IsFront bag f → IsExpanded bag f f' found → IsFront bag f'
 front_more bag f f' found (done, k) e = (done ++ e.one.tail.list ∷ [], e.after done k)
 
-pub grows_more : (bag : Kept) (bound : ℕ) (start f f' : Frontier) (found : Option Scored) → Grows bag bound start f → f.bound ≡ bound → IsExpanded bag f f' found → Grows bag bound start f'
-grows_more bag bound start f f' found g same e = λ done k.
+pub grows_more : (bag : Kept) (bound : ℕ) (start f f' : Frontier) (found : Option Scored) → Grows bag bound start f → f.bound ≡ bound → IsExpanded bag f f' found → f.piece ≡ start.piece → f.least ≡ start.least → Grows bag bound start f'
+grows_more bag bound start f f' found g same e piece least = λ done k.
     let now : HasGrown bag done bound start f = g done k in
     let s : List ℕ = e.one.tail.list in
     let open_one : IsOpen bag f.piece.list e.one = All-contains (IsOpen bag f.piece.list) f.suffixes e.one now.after.each e.was_open in
@@ -61,7 +86,13 @@ grows_more bag bound start f f' found g same e = λ done k.
       below = λ records of.
           All-append (λ s. low bag.n records s < bound) now.more (s ∷ []) (now.below records of)
           (All-cons (λ s. low bag.n records s < bound) s [] (omega (arith, e.below, same, open_low bag f.piece.list e.one open_one records of)) (All-nil (λ s. low bag.n records s < bound)));
+      within = λ le records of.
+          let of_start : f.piece.list ≡ start.piece.list = ap (λ (p : Suffix). p.list) piece in
+          let one = one_within bag records f e.one of (done ++ now.more, now.after) open_one e.below e.first (omega (arith, le, same, least)) in
+          All-append (IsWithin bag records start.piece.list) now.more (s ∷ []) (now.within le records of)
+          (All-cons (IsWithin bag records start.piece.list) s [] (subst (λ p. IsWithin bag records p s) of_start one) (All-nil (IsWithin bag records start.piece.list)));
       from_open = through_open start.suffixes f.suffixes f'.suffixes now.from_open e.from_open;
+      best_first = one_expanded e.one now.best_first e.first e.replaced;
     }
 
 -- what ends in an open suffix ends in one that was open at first
@@ -101,7 +132,9 @@ module _ (bag : Kept) (f f' : Frontier) (order : Scored) (look : IsFirst true f.
         after = taken_after (done ++ now.more) now.after;
         were_open = now.were_open;
         below = now.below;
+        within = now.within;
         from_open = through_open start.suffixes f.suffixes f'.suffixes now.from_open (taken_from_open bag (done ++ now.more) f order f'.suffixes now.after t.taken f' refl);
+        best_first = one_found order now.best_first t.taken first_order.1;
       }
 
   pub taken_found : IsFront bag f → IsFound bag f.piece.list order.tail.list order.low × (order.low < f.bound)

@@ -1,11 +1,12 @@
 -- A front: the open suffixes of one piece, and what its turns say. A piece is the suffixes that end in one, and a bag stands for the
 -- records that it is of, whichever they are.
-use Rattle.std.specs.Prelude.{◌≡◌, ◌⊎◌, ℕ, ◌+◌, ◌<◌, ◌≤◌, min, List, [], ◌∷◌, ◌++◌, length, count_by, All, Contains, IsTrue}
+use Rattle.std.specs.Prelude.{◌≡◌, ◌⊎◌, ℕ, ◌+◌, ◌<◌, ◌≤◌, ◌==◌, true, min, List, [], ◌∷◌, ◌++◌, length, count_by, All, Contains, IsTrue, IsFalse}
+use Rattle.std.specs.List.Sorted.{IsPermutation}
 use Rattle.irv_base.specs.Orders.{is_order, EndsIn}
-use Rattle.assertions.specs.Suffixes.{is_suffix}
+use Rattle.assertions.specs.Suffixes.{is_suffix, comes_before}
 use Rattle.assertions.specs.Hardness.{low}
 use Rattle.set_tallies.specs.Bags.{Kept, IsOf}
-use Rattle.suffix_tree.specs.Suffixes.{Suffix}
+use Rattle.suffix_tree.specs.Suffixes.{Suffix, children}
 use Rattle.suffix_tree.specs.Scores.{IsScoredOver}
 use Rattle.suffix_tree.specs.declared.scored.Scored.{Scored}
 use Rattle.bound_search.specs.Places.{EndsInOne, is_same, ends_in}
@@ -59,6 +60,39 @@ IsFront bag f = (done : List (List ℕ)) × IsAfter bag done f
 abbrev pub AreBelow : Kept → ℕ → List (List ℕ) → Type 0
 AreBelow bag limit suffixes = (records : List (List ℕ)) → IsOf bag records → All (λ s. low bag.n records s < limit) suffixes
 
+-- no order of the piece is less hard than the suffix is low
+abbrev pub IsWithin : Kept → List (List ℕ) → List ℕ → List ℕ → Type 0
+IsWithin bag records piece s = (order : List ℕ) → IsTrue (is_order bag.n order) → EndsIn order piece → low bag.n records s ≤ low bag.n records order
+
+-- the same of each of these
+abbrev pub AreWithin : Kept → List ℕ → List (List ℕ) → Type 0
+AreWithin bag piece suffixes = (records : List (List ℕ)) → IsOf bag records → All (IsWithin bag records piece) suffixes
+
+-- ---- best first
+
+-- the one of these that goes first: none has a lower low, and none of the same low comes before it, both read backwards
+pub record IsFirstOf (one : Scored) (suffixes : List Scored) : Type 0 where
+  pub inside : Contains suffixes one
+  pub least : All (λ o. (one.low < o.low) ⊎ ((one.low ≡ o.low) × IsFalse (comes_before o.tail.list one.tail.list))) suffixes
+
+-- one was expanded: it has gone, and only children of it came in
+pub record IsReplaced (one : Scored) (before after : List Scored) : Type 0 where
+  pub rest : List Scored
+  pub taken : IsPermutation before (one ∷ rest)
+  pub left : All (λ o. Contains rest o ⊎ Contains (children one.tail) o.tail) after
+
+-- from the ones that were open at first these suffixes were expanded in turn, each the first of those that were open then; and these are
+-- open now
+pub data AreFirstEach (start : List Scored) : List (List ℕ) → List Scored → Type 0 where
+  none_expanded : AreFirstEach start [] start
+  one_expanded : {expanded : List (List ℕ)} {before after : List Scored} (one : Scored) → AreFirstEach start expanded before → IsFirstOf one before → IsReplaced one before after →
+      AreFirstEach start (expanded ++ one.tail.list ∷ []) after
+  -- a whole order that is found goes
+  one_found : {expanded : List (List ℕ)} {before after : List Scored} (order : Scored) → AreFirstEach start expanded before → IsPermutation before (order ∷ after) →
+      (length order.tail.list == order.tail.n) ≡ true → AreFirstEach start expanded after
+
+-- ---- what a front has done
+
 -- what was expanded between two fronts under a bound: each ends in a suffix that was open at first, and is below the bound; each suffix
 -- that is open now ends in one that was
 pub record HasGrown (bag : Kept) (done : List (List ℕ)) (bound : ℕ) (old new : Frontier) : Type 0 where
@@ -66,7 +100,9 @@ pub record HasGrown (bag : Kept) (done : List (List ℕ)) (bound : ℕ) (old new
   pub after : IsAfter bag (done ++ more) new
   pub were_open : All (EndsInOne old.suffixes) more
   pub below : AreBelow bag bound more
+  pub within : bound ≤ old.least → AreWithin bag old.piece.list more
   pub from_open : All (λ o. EndsInOne old.suffixes o.tail.list) new.suffixes
+  pub best_first : AreFirstEach old.suffixes more new.suffixes
 
 abbrev pub Grows : Kept → ℕ → Frontier → Frontier → Type 0
 Grows bag bound old new = (done : List (List ℕ)) → IsAfter bag done old → HasGrown bag done bound old new

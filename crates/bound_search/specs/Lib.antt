@@ -4,3 +4,4 @@ pub mod Sifted
 pub mod Laws
 pub mod Race
 pub mod Reached
+pub mod Team

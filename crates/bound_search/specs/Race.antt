@@ -1,11 +1,19 @@
--- What the race answers: the best margin with an order of it, or an alternative winner with too much work.
-use Rattle.std.specs.Prelude.{◌≡◌, ◌≢◌, ℕ, ◌<◌, ◌≤◌, nat_lt, List, count_by, ⊤}
-use Rattle.assertions.specs.Suffixes.{IsAlternative, parts_ending}
-use Rattle.assertions.specs.Hardness.{low, best_margin, first_bound}
+-- The pieces of a race, and what it answers: the best margin with an order of it, and how many suffixes of each piece were expanded; or
+-- an alternative winner with too much work.
+use Rattle.std.specs.Prelude.{◌≡◌, ◌≢◌, ℕ, ◌+◌, ◌-◌, ◌*◌, ◌<◌, ◌≤◌, min, Bool, ◌&&◌, nat_lt, List, [], ◌∷◌, length, map, flat_map, count_by, All, ⊤}
+use Rattle.irv_base.specs.Candidates.{candidates, all_but}
+use Rattle.irv_base.specs.Tabulation.{least}
+use Rattle.assertions.specs.Suffixes.{IsAlternative, orders_ending, suffixes_ending}
+use Rattle.assertions.specs.Hardness.{greatest, low, best_margin, first_bound}
+use Rattle.set_tallies.specs.Bags.{Kept, IsOf}
+use Rattle.suffix_tree.specs.Suffixes.{Suffix}
 use Rattle.irv_tabulator.specs.declared.tabulated.Tabulated.{Tabulated}
+use Rattle.bound_search.specs.declared.ends.PieceEnd.{PieceEnd}
 use Rattle.bound_search.specs.declared.ends.RaceEnd.{RaceEnd}
 use Rattle.bound_search.specs.declared.ends.RaceFault.{RaceFault}
 use Rattle.bound_search.specs.declared.ends.RaceFault.TheVariants.{Spent, Memory}
+use Rattle.bound_search.specs.declared.ends.Report.{Report}
+use Rattle.bound_search.specs.declared.limits.TheConstants.{MOST_EXPANDED}
 
 -- the best margin, and an alternative order of that hardness
 pub record IsBest (n : ℕ) (records : List (List ℕ)) (winner : ℕ) (end : RaceEnd) : Type 0 where
@@ -13,15 +21,74 @@ pub record IsBest (n : ℕ) (records : List (List ℕ)) (winner : ℕ) (end : Ra
   pub alternative : IsAlternative n winner end.order
   pub hardness : low n records end.order ≡ end.margin
 
--- how many suffixes that end in c, and aren't whole orders, are below the hardness of the start order
-abbrev pub work : ℕ → List (List ℕ) → List ℕ → ℕ → ℕ
-work n records order c = count_by (λ s. nat_lt (low n records s) (first_bound n records order)) (parts_ending n c)
+-- over whatever records the bag is of
+abbrev pub IsBestOver : Kept → ℕ → RaceEnd → Type 0
+IsBestOver bag winner end = (records : List (List ℕ)) → IsOf bag records → IsBest bag.n records winner end
+
+-- ---- the pieces
+
+-- those of the orders that elect c: one for each candidate that is eliminated last
+abbrev pub pieces_electing : ℕ → ℕ → List (List ℕ)
+pieces_electing n c = map (λ other. other ∷ c ∷ []) (all_but n c)
+
+-- each is given by the two candidates that its orders end in; read backwards, the least comes first
+abbrev pub pieces : ℕ → ℕ → List (List ℕ)
+pieces n winner = flat_map (pieces_electing n) (all_but n winner)
+
+abbrev pub piece_of : ℕ → List ℕ → Suffix
+piece_of n suffix = record { n = n; list = suffix }
+
+-- the least hardness of an order that ends in the suffix
+abbrev pub value_of : ℕ → List (List ℕ) → List ℕ → ℕ
+value_of n records piece = least (map (low n records) (orders_ending n (n - length piece) piece))
+
+-- ---- how many suffixes of a piece are expanded
+
+-- the suffixes of a piece, which is given by the suffix that they end in
+abbrev pub suffixes_of : ℕ → List ℕ → List (List ℕ)
+suffixes_of n piece = suffixes_ending n (n - length piece) piece
+
+-- a suffix that isn't a whole order, of a low below the limit
+abbrev pub is_part_below : ℕ → List (List ℕ) → ℕ → List ℕ → Bool
+is_part_below n records limit s = nat_lt (length s) n && nat_lt (low n records s) limit
+
+-- how many of a piece are
+abbrev pub parts_below : ℕ → List (List ℕ) → ℕ → List ℕ → ℕ
+parts_below n records limit piece = count_by (is_part_below n records limit) (suffixes_of n piece)
+
+-- the work of a piece: how many of its suffixes that aren't whole orders have a low below the first bound and at most its value
+abbrev pub work : ℕ → List (List ℕ) → ℕ → List ℕ → ℕ
+work n records first piece = parts_below n records (min first (value_of n records piece + 1)) piece
+
+-- no more were expanded than the work of the piece, and no fewer than have a low below the best margin
+pub record IsPieceEnd (n : ℕ) (records : List (List ℕ)) (order : List ℕ) (margin : ℕ) (p : PieceEnd) : Type 0 where
+  pub most : p.expanded ≤ work n records (first_bound n records order) p.tail.list
+  pub least : parts_below n records margin p.tail.list ≤ p.expanded
+
+-- the pieces in the order of their numbers
+pub record ArePieces (n : ℕ) (records : List (List ℕ)) (tab : Tabulated) (end : RaceEnd) : Type 0 where
+  pub all : map (λ p. p.tail) end.pieces.items ≡ map (piece_of n) (pieces n tab.winner)
+  pub numbers : map (λ p. p.piece) end.pieces.items ≡ candidates (length (pieces n tab.winner))
+  pub each : All (IsPieceEnd n records tab.order end.margin) end.pieces.items
+
+abbrev pub ArePiecesOver : Kept → Tabulated → RaceEnd → Type 0
+ArePiecesOver bag tab end = (records : List (List ℕ)) → IsOf bag records → ArePieces bag.n records tab end
+
+-- a worker expands no more in a turn than one may, and looks at the bound before each
+abbrev pub IsPaced : Report → Type 0
+IsPaced report = report.expanded ≤ MOST_EXPANDED * report.looks
+
+-- ---- too much work
+
+-- the greatest work of a piece whose orders elect c
+abbrev pub work_for : ℕ → List (List ℕ) → List ℕ → ℕ → ℕ
+work_for n records order c = greatest (map (work n records (first_bound n records order)) (pieces_electing n c))
 
 -- an alternative winner with more work than the budget, and an alternative order that is no harder than the start order
 pub record IsTooMuch (n : ℕ) (records : List (List ℕ)) (tab : Tabulated) (nodes last upper : ℕ) (order : List ℕ) : Type 0 where
   pub candidate : last < n
   pub other : last ≢ tab.winner
-  pub more : nodes < work n records tab.order last
+  pub more : nodes < work_for n records tab.order last
   pub alternative : IsAlternative n tab.winner order
   pub hardness : low n records order ≡ upper
   pub reached : upper ≤ first_bound n records tab.order
@@ -29,3 +96,6 @@ pub record IsTooMuch (n : ℕ) (records : List (List ℕ)) (tab : Tabulated) (no
 abbrev pub IsSpent : ℕ → List (List ℕ) → Tabulated → ℕ → RaceFault → Type 0
 IsSpent n records tab nodes (Spent last upper order) = IsTooMuch n records tab nodes last upper order
 IsSpent n records tab nodes Memory = ⊤
+
+abbrev pub IsSpentOver : Kept → Tabulated → ℕ → RaceFault → Type 0
+IsSpentOver bag tab nodes fault = (records : List (List ℕ)) → IsOf bag records → IsSpent bag.n records tab nodes fault

@@ -1,36 +1,110 @@
--- The best order so far, and what the pieces that were searched say.
-use Rattle.std.specs.Prelude.{◌≡◌, ◌≢◌, ◌⊎◌, ℕ, ◌<◌, ◌≤◌, nat_lt, List, [], ◌∷◌, count_by, IsTrue, ⊤}
-use Rattle.irv_base.specs.Orders.{is_order, Elects}
-use Rattle.assertions.specs.Suffixes.{IsAlternative, parts_ending}
-use Rattle.assertions.specs.Hardness.{low}
+-- What a worker found in a piece and in its share of a race, by the views of its seat before and after.
+use Rattle.std.specs.Prelude.{◌≡◌, ◌⊎◌, ℕ, ◌+◌, ◌*◌, ◌<◌, ◌≤◌, if◌then◌else◌, false, List, [], ◌∷◌, ◌++◌, length, map, sum_by, All, Contains, Option, Some, slice_get, IsTrue}
+use Rattle.std.specs.Option.{MatchOption}
+use Rattle.irv_base.specs.Candidates.{is_in}
+use Rattle.irv_base.specs.Orders.{is_order, EndsIn}
+use Rattle.assertions.specs.Suffixes.{IsAlternative}
+use Rattle.assertions.specs.Hardness.{low, first_bound}
 use Rattle.set_tallies.specs.Bags.{Kept, IsOf}
+use Rattle.shared_witness.specs.declared.view.View.{View}
+use Rattle.shared_witness.specs.View.{highest}
+use Rattle.shared_witness.specs.Moment.{times}
+use Rattle.suffix_tree.specs.Suffixes.{Suffix}
 use Rattle.bound_search.specs.Fronts.{IsFound}
-use Rattle.bound_search.specs.declared.ends.RaceEnd.{RaceEnd}
-use Rattle.bound_search.specs.declared.ends.RaceFault.{RaceFault}
-use Rattle.bound_search.specs.declared.ends.RaceFault.TheVariants.{Spent, Memory}
+use Rattle.bound_search.specs.Race.{parts_below, work}
+use Rattle.bound_search.specs.declared.ends.Best.{Best}
+use Rattle.bound_search.specs.declared.ends.PieceEnd.{PieceEnd}
+use Rattle.bound_search.specs.declared.ends.WorkerEnd.{WorkerEnd}
+use Rattle.bound_search.specs.declared.piece.Searched.{Searched}
+use Rattle.bound_search.specs.declared.limits.TheConstants.{MOST_EXPANDED}
 
 -- an alternative order, with its hardness
-pub record IsReached (bag : Kept) (winner : ℕ) (e : RaceEnd) : Type 0 where
+pub record IsReached (bag : Kept) (winner : ℕ) (e : Best) : Type 0 where
   pub alternative : IsAlternative bag.n winner e.order
   pub hardness : (records : List (List ℕ)) → IsOf bag records → low bag.n records e.order ≡ e.margin
 
--- the same, or an order of the piece that is less hard
-abbrev pub IsNoWorse : Kept → List ℕ → RaceEnd → RaceEnd → Type 0
-IsNoWorse bag piece best e = (e ≡ best) ⊎ (IsFound bag piece e.order e.margin × (e.margin < best.margin))
+-- no more than the hardness of the start order
+abbrev pub IsUpper : Kept → List ℕ → ℕ → Type 0
+IsUpper bag order margin = (records : List (List ℕ)) → IsOf bag records → margin ≤ first_bound bag.n records order
 
--- no order that elects c is less hard
-abbrev pub IsSearched : Kept → ℕ → ℕ → Type 0
-IsSearched bag c margin = (records : List (List ℕ)) → IsOf bag records → (order : List ℕ) → IsTrue (is_order bag.n order) → Elects order c → margin ≤ low bag.n records order
+-- no order of the piece is less hard
+abbrev pub IsLeastOf : Kept → List ℕ → ℕ → Type 0
+IsLeastOf bag piece margin =
+    (records : List (List ℕ)) → IsOf bag records → (order : List ℕ) → IsTrue (is_order bag.n order) → EndsIn order piece → margin ≤ low bag.n records order
 
--- nor any that elects an alternative winner before c
-abbrev pub AreSearched : Kept → ℕ → ℕ → ℕ → Type 0
-AreSearched bag winner c margin = (d : ℕ) → d < c → d ≢ winner → IsSearched bag d margin
+-- ---- a piece
 
--- more suffixes that end in c are below the limit than the budget has
-abbrev pub HasMore : Kept → ℕ → ℕ → ℕ → Type 0
-HasMore bag limit nodes c = (records : List (List ℕ)) → IsOf bag records → nodes < count_by (λ s. nat_lt (low bag.n records s) limit) (parts_ending bag.n c)
+-- a piece was searched to the end: none of its orders is below what was seen of the bound, and all suffixes that are were expanded
+pub record IsClosedAt (bag : Kept) (seen : ℕ) (piece : List ℕ) (expanded : ℕ) : Type 0 where
+  pub above : IsLeastOf bag piece seen
+  pub least : (records : List (List ℕ)) → IsOf bag records → parts_below bag.n records seen piece ≤ expanded
 
--- why a piece isn't searched
-abbrev pub IsStopped : Kept → RaceEnd → ℕ → ℕ → ℕ → RaceFault → Type 0
-IsStopped bag best limit nodes c (Spent last upper order) = (last ≡ c) × IsNoWorse bag (c ∷ []) best (record { margin = upper; order = order }) × HasMore bag limit nodes c
-IsStopped bag best limit nodes c Memory = ⊤
+-- the budget is smaller than the work of the piece
+abbrev pub IsOverBudget : Kept → ℕ → ℕ → List ℕ → Type 0
+IsOverBudget bag first nodes piece = (records : List (List ℕ)) → IsOf bag records → nodes < work bag.n records first piece
+
+-- no more were expanded than the work of the piece
+abbrev pub IsInWork : Kept → ℕ → List ℕ → ℕ → Type 0
+IsInWork bag first piece expanded = (records : List (List ℕ)) → IsOf bag records → expanded ≤ work bag.n records first piece
+
+-- what was posted before is the least post, or the order that was found last
+abbrev pub IsNewest : Kept → List ℕ → ℕ → ℕ → Option Best → Type 0
+IsNewest bag piece before posted found = MatchOption found (posted ≡ before) (λ b. IsFound bag piece b.order b.margin × (b.margin ≡ posted) × (posted < before))
+
+-- a piece was searched, from the one view to the other
+pub record IsPieceSearched (bag : Kept) (first nodes number : ℕ) (piece : List ℕ) (old new : View) (s : Searched) : Type 0 where
+  pub taken : new.taken ≡ old.taken
+  pub ends : new.ends ≡ old.ends
+  pub closed : new.closed ≡ (if s.closed then old.closed ++ number ∷ [] else old.closed)
+  pub looks : new.looks ≡ old.looks + s.looks
+  pub falls : new.seen ≤ old.seen
+  pub between : new.seen ≤ new.posted
+  pub found : IsNewest bag piece old.posted new.posted s.found
+  pub within : s.expanded ≤ nodes
+  pub paced : s.expanded ≤ MOST_EXPANDED * s.looks
+  pub few_looks : s.looks + new.seen ≤ old.seen + nodes + 2
+  pub most : IsInWork bag first piece s.expanded
+  pub searched : IsTrue s.closed → IsClosedAt bag new.seen piece s.expanded
+  pub over : s.closed ≡ false → IsOverBudget bag first nodes piece
+
+-- ---- the share of a worker
+
+-- an order of one of the pieces, with its hardness
+pub record IsFoundIn (bag : Kept) (tails : List Suffix) (e : Best) : Type 0 where
+  pub tail : Suffix
+  pub one : Contains tails tail
+  pub found : IsFound bag tail.list e.order e.margin
+
+-- nothing was found exactly where nothing was posted, and else the least post was
+abbrev pub IsBestFound : Kept → List Suffix → ℕ → Option Best → Type 0
+IsBestFound bag tails posted best = MatchOption best (posted ≡ highest) (λ b. IsFoundIn bag tails b × (b.margin ≡ posted) × (posted < highest))
+
+-- the entry of a piece that the worker took
+pub record IsEntry (bag : Kept) (first nodes worker : ℕ) (tails : List Suffix) (p : PieceEnd) : Type 0 where
+  pub tail : slice_get tails p.piece ≡ Some p.tail
+  pub worker_is : p.worker ≡ worker
+  pub within : p.expanded ≤ nodes
+  pub most : IsInWork bag first p.tail.list p.expanded
+
+-- the piece of this number has more work than the budget
+abbrev pub IsCostly : Kept → ℕ → ℕ → List Suffix → ℕ → Type 0
+IsCostly bag first nodes tails number = (tail : Suffix) × (slice_get tails number ≡ Some tail) × IsOverBudget bag first nodes tail.list
+
+-- the piece is closed, or was left open
+abbrev pub IsDoneWith : Kept → View → List ℕ → PieceEnd → Type 0
+IsDoneWith bag v spent p = (IsTrue (is_in v.closed p.piece) × IsClosedAt bag v.seen p.tail.list p.expanded) ⊎ IsTrue (is_in spent p.piece)
+
+-- what a worker came to, by the view of its seat
+pub record IsWorkerEnd (bag : Kept) (first nodes worker : ℕ) (tails : List Suffix) (v : View) (e : WorkerEnd) : Type 0 where
+  pub done : v.ends ≡ 1
+  pub looks : e.looks ≡ v.looks
+  pub took : map (λ p. p.piece) e.ends.items ≡ v.taken
+  pub few : length v.taken ≤ length tails
+  -- no piece was taken twice, and each is closed or was left open
+  pub once : (p : ℕ) → times v.taken p ≤ 1
+  pub spent : (p : ℕ) → times v.taken p ≡ times v.closed p + times e.spent.items p
+  pub entries : All (IsEntry bag first nodes worker tails) e.ends.items
+  pub done_with : All (IsDoneWith bag v e.spent.items) e.ends.items
+  pub costly : All (IsCostly bag first nodes tails) e.spent.items
+  pub paced : sum_by (λ p. p.expanded) e.ends.items ≤ MOST_EXPANDED * e.looks
+  pub best : IsBestFound bag tails v.posted e.best

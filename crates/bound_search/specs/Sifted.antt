@@ -4,7 +4,7 @@ use Rattle.std.specs.List.Sorted.{IsPermutation}
 use Rattle.suffix_tree.specs.declared.scored.Scored.{Scored}
 use Rattle.set_tallies.specs.Bags.{Kept}
 use Rattle.bound_search.specs.Places.{EndsInOne}
-use Rattle.bound_search.specs.Fronts.{Frontier, IsAfter, IsFound}
+use Rattle.bound_search.specs.Fronts.{Frontier, IsAfter, IsFirstOf, IsFound, IsReplaced}
 use Rattle.bound_search.specs.declared.front.Look.{Look}
 use Rattle.bound_search.specs.declared.front.Look.TheVariants.{NoneLeft, Whole, Part}
 
@@ -65,6 +65,8 @@ pub record IsExpanded (bag : Kept) (old new : Frontier) (found : Option Scored) 
   pub one : Scored
   pub was_open : Contains old.suffixes one
   pub below : one.low < old.bound
+  pub first : IsFirstOf one old.suffixes
+  pub replaced : IsReplaced one old.suffixes new.suffixes
   pub after : (done : List (List ℕ)) → IsAfter bag done old → IsAfter bag (done ++ one.tail.list ∷ []) new
   pub from_open : All (λ o. EndsInOne old.suffixes o.tail.list) new.suffixes
   pub piece : new.piece ≡ old.piece

@@ -3,19 +3,73 @@ ghost use Rattle.std.specs.Prelude.{◌≡◌};
 ghost use Rattle.bound_search.specs.declared.ends.RaceFault.TheVariants.{Memory as WantOfMemory};
 
 use irv_base::{Candidate, Memory, Order};
+use std::alloc::AllocFailed;
+use std::error::Error;
+use std::fmt;
+use suffix_tree::Tail;
 
-/// An alternative order and its hardness, in votes.
+/// An order that elects another candidate than the winner, and its hardness, in votes.
 #[derive(Clone, Copy)]
-pub struct RaceEnd {
-    pub margin: u32,
+pub struct Best {
     pub order: Order,
+    pub margin: u32,
+}
+
+/// How the search of a piece ended.
+#[derive(Clone, Copy)]
+pub struct PieceEnd {
+    /// The number of the piece.
+    pub piece: u32,
+    /// The suffix that the orders of the piece end in.
+    pub tail: Tail,
+    /// The number of the worker that searched it.
+    pub worker: u32,
+    /// How many suffixes of the piece were expanded.
+    pub expanded: u32,
+}
+
+/// What one worker came to.
+#[derive(Drop)]
+pub struct WorkerEnd {
+    /// The least hard order that it found, if it found one.
+    pub best: Option<Best>,
+    /// The pieces that it took, in turn.
+    pub ends: Vec<PieceEnd>,
+    /// The numbers of those that it couldn't search to the end within the budget.
+    pub spent: Vec<u32>,
+    /// How often it looked at the bound.
+    pub looks: u64,
+}
+
+/// What one worker did in a race.
+#[derive(Clone, Copy, Debug)]
+pub struct Report {
+    /// How many pieces it took.
+    pub pieces: u32,
+    /// How many suffixes it expanded.
+    pub expanded: u64,
+    /// How often it looked at the bound.
+    pub looks: u64,
+}
+
+/// How a race ends that was within its budget.
+#[derive(Drop)]
+pub struct RaceEnd {
+    /// The best margin, in votes.
+    pub margin: u32,
+    /// An alternative order of that hardness.
+    pub order: Order,
+    /// The pieces, in the order of their numbers.
+    pub pieces: Vec<PieceEnd>,
+    /// What each worker did.
+    pub workers: Vec<Report>,
 }
 
 /// Why a race has no best margin.
 #[derive(Clone, Copy)]
 pub enum RaceFault {
-    /// The suffixes that end in `last` are too many for the budget. `order` is an alternative order of hardness `upper`, the
-    /// least that was found.
+    /// A piece whose orders elect `last` has more work than the budget. `order` is an alternative order
+    /// of hardness `upper`, the least that was found.
     Spent {
         last: Candidate,
         upper: u32,
@@ -25,10 +79,39 @@ pub enum RaceFault {
     Memory,
 }
 
+impl fmt::Display for RaceFault {
+    fn fmt<W: fmt::Write>(&self, f: &mut fmt::Formatter<W>) -> fmt::Result {
+        match self {
+            RaceFault::Spent { last, upper, .. } => write!(
+                f,
+                "a piece of candidate {} has too much work; the best margin is at most {upper}",
+                last.0
+            ),
+            RaceFault::Memory => write!(f, "out of memory"),
+        }
+    }
+}
+
+impl fmt::Debug for RaceFault {
+    fn fmt<W: fmt::Write>(&self, f: &mut fmt::Formatter<W>) -> fmt::Result {
+        write!(f, "{self}")
+    }
+}
+
+impl Error for RaceFault {}
+
 impl From<Memory> for RaceFault {
     ghost from_gives = { λ _ fault. fault ≡ WantOfMemory };
 
     fn from(_: Memory) -> Self {
+        RaceFault::Memory
+    }
+}
+
+impl<T: Drop> From<AllocFailed<T>> for RaceFault {
+    ghost from_gives = { λ _ fault. fault ≡ WantOfMemory };
+
+    fn from(_: AllocFailed<T>) -> Self {
         RaceFault::Memory
     }
 }

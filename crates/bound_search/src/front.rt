@@ -2,7 +2,7 @@
 ghost use Rattle.std.specs.Prelude.{◌≡◌, ◌+◌, ◌^◌, ◌<◌, ◌∷◌, [], length, IfOk, OnErr, Some, slice_get};
 ghost use Rattle.set_tallies.specs.Bags.{Kept};
 ghost use Rattle.suffix_tree.specs.Scores.{IsScoredOver};
-ghost use Rattle.bound_search.specs.Fronts.{IsFront};
+ghost use Rattle.bound_search.specs.Fronts.{IsFirstOf, IsFront};
 ghost use Rattle.bound_search.specs.Sifted.{IsLook, IsPut, IsTaken};
 
 use crate::sift::{lessened, replace_first, sift};
@@ -28,14 +28,14 @@ pub struct Front {
 
 impl Model for Front {
     ghost use Rattle.std.specs.BinaryHeap.{heap_items, IsHeap};
-    ghost use Rattle.suffix_tree.specs.Scores.{by_low};
+    ghost use Rattle.suffix_tree.specs.Scores.{first_is_greatest};
     ghost use Rattle.bound_search.specs.Fronts.{Frontier};
 
     ghost Value = { Frontier };
 
     ghost view = { λ f. record { piece = f.piece; suffixes = heap_items f.suffixes; bound = f.bound; least = f.least; expanded = f.expanded } };
 
-    ghost invariant = { λ f. IsHeap by_low (heap_items f.suffixes) };
+    ghost invariant = { λ f. IsHeap first_is_greatest (heap_items f.suffixes) };
 }
 
 /// What stands first: nothing below the bound, a whole order, or another suffix.
@@ -56,7 +56,7 @@ impl Front {
         ensures nothing_found { IfOk result (λ f. f.least ≡ u32.MAX) }
         ensures none_expanded { IfOk result (λ f. f.expanded ≡ 0) }
     {
-        let piece = start.tail.copied();
+        let piece = start.tail;
         // Its candidates are distinct, and of the contest.
         let _suffix = start.tail.list();
         let mut suffixes = BinaryHeap::new(alloc);
@@ -102,10 +102,11 @@ impl Front {
         }
     }
 
-    // The first suffix.
+    // The first suffix: none has a lower low.
     pub(crate) fn first(&self) -> &Scored
         requires { 0 < length self.now.suffixes }
-        ensures { slice_get self.now.suffixes 0 ≡ Some result.now }
+        ensures is { slice_get self.now.suffixes 0 ≡ Some result.now }
+        ensures least { IsFirstOf result.now self.now.suffixes }
     {
         match self.suffixes.peek() {
             Some(first) => first,

@@ -1,20 +1,28 @@
 //! The search for the best margin: the least hardness of an order that elects another candidate than the winner. The orders
-//! are cut into pieces, one for each alternative winner, and the suffixes of a piece are expanded best first, under a bound
-//! that falls with each order found: the search of RAIRE.
+//! are cut into pieces, by the two candidates that they end in. Workers take these in turn, and expand the suffixes of a piece
+//! best first, under a bound that all share and that falls with each order found: the search of RAIRE.
 #![tactic(auto)]
 
 mod ends;
 mod front;
+mod join;
 pub mod laws;
 mod limits;
+mod piece;
+mod pieces;
 mod search;
+mod share;
 mod sift;
+mod start;
+mod team;
 mod turn;
 
-pub use ends::{RaceEnd, RaceFault};
+pub use ends::{Best, PieceEnd, RaceEnd, RaceFault, Report, WorkerEnd};
 pub use front::Front;
-pub use limits::MOST_EXPANDED;
+pub use limits::{MOST_EXPANDED, MOST_PIECES, MOST_WORKERS};
+pub use pieces::tails_of;
 pub use search::race;
+pub use share::work;
 pub use turn::Turn;
 
 #[cfg(test)]

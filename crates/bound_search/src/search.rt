@@ -1,150 +1,92 @@
-// The search of one piece after another.
-ghost use Rattle.std.specs.Prelude.{◌≡◌, ℕ, ◌<◌, ◌≤◌, List, [], ◌∷◌, IfOk, IfErr, IsTrue};
-ghost use Rattle.irv_base.specs.declared.limits.TheConstants.{FEWEST_CANDIDATES, ROOM};
+// The race for the best margin.
+ghost use Rattle.std.specs.Prelude.{◌≡◌, ◌≤◌, ◌<◌, ◌∷◌, [], ℕ, All, IfOk, IfErr, IsTrue, length};
 ghost use Rattle.irv_base.specs.Orders.{is_order, Elects};
-ghost use Rattle.assertions.specs.Hardness.{start_order};
-ghost use Rattle.set_tallies.specs.Bags.{IsOf, AreFilledFrom};
-ghost use Rattle.bound_search.specs.Race.{IsBest, IsSpent};
-ghost use Rattle.bound_search.specs.Reached.{IsReached, IsNoWorse, IsSearched, IsStopped};
+ghost use Rattle.bound_search.specs.Race.{IsBestOver, ArePiecesOver, IsSpentOver, IsPaced};
+ghost use Rattle.bound_search.specs.declared.ends.RaceFault.TheVariants.{Spent};
+ghost use Rattle.bound_search.specs.declared.limits.TheConstants.{MOST_WORKERS};
 
-use crate::ends::{RaceEnd, RaceFault};
-use crate::front::Front;
-use crate::turn::Turn;
+use crate::ends::{Best, RaceEnd, RaceFault};
+use crate::join::{Joined, in_order, join};
+use crate::pieces::tails_of;
+use crate::start::start;
+use crate::team::{run_team, team_of};
 use desk::Gate;
-use irv_base::{Candidate, Memory, Order, Steps};
 use irv_tabulator::Tabulated;
-use set_tallies::{Ahead, Bag, Tallies};
+use set_tallies::Counted;
+use shared_witness::{Race, Seats};
 use std::alloc::Global;
-use std::marker::Brand;
-use std::sync::ledger::{Blank, Ledger};
-use suffix_tree::{Tail, score};
+use std::thread::Threads;
+use suffix_tree::Tail;
 
-// The order with its last two candidates exchanged.
-fn start_tail(n: u32, order: &Order) -> Tail
-    requires two { FEWEST_CANDIDATES ≤ n }
-    requires room { n ≤ ROOM }
-    requires order { IsTrue (is_order n order.now) }
-    ensures number { result.n ≡ n }
-    ensures list { result.list ≡ start_order order.now }
+// The race is spent on this piece, of two candidates.
+fn spent_on(tail: &Tail, best: Best) -> RaceFault
+    requires { length tail.now.list ≡ 2 }
+    ensures { (other last : ℕ) → tail.now.list ≡ other ∷ last ∷ [] → result ≡ Spent last best.margin best.order }
 {
-    let list = order.candidates();
-    let mut at = n as usize - 2;
-    let mut tail = Tail::last(n, list[at]).front(list[at + 1]);
-    while at > 0 {
-        at -= 1;
-        tail = tail.front(list[at]);
-    }
-    tail
-}
-
-// The order that the search starts from, with its hardness.
-fn start(tab: &Tabulated, tallies: &mut Tallies) -> Result<RaceEnd, Memory>
-    requires order { IsTrue (is_order tallies.old.bag.n tab.now.order) }
-    ensures order { IfOk result (λ end. end.order ≡ start_order tab.now.order) }
-    ensures reached { Elects tab.now.order tab.now.winner → IfOk result (IsReached tallies.old.bag tab.now.winner) }
-    ensures same { tallies.new ≡ tallies.old }
-{
-    let tail = start_tail(tallies.candidates(), &tab.order);
-    let scored = score(&tail, tallies)?;
-    match scored.tail.whole() {
-        Some(order) => Ok(RaceEnd {
-            margin: scored.low,
-            order,
-        }),
-        None => unreachable!(),
+    RaceFault::Spent {
+        last: tail.list()[1],
+        upper: best.margin,
+        order: best.order,
     }
 }
 
-// Searches the orders that elect `last` for one that is less hard than the best so far.
-fn search<L: Ledger>(
-    alloc: Global,
-    last: Candidate,
-    best: RaceEnd,
-    nodes: u32,
-    tallies: &mut Tallies,
-    steps: &mut Steps<L>,
-) -> Result<RaceEnd, RaceFault>
-    requires below { last < tallies.old.bag.n }
-    ensures found { IfOk result (IsNoWorse tallies.old.bag (last ∷ []) best) }
-    ensures searched { IfOk result (λ end. IsSearched tallies.old.bag last end.margin) }
-    ensures stopped { IfErr result (λ fault. (limit : ℕ) → best.margin ≤ limit → IsStopped tallies.old.bag best limit nodes last fault) }
-    ensures same { tallies.new ≡ tallies.old }
-{
-    let start = score(&Tail::last(tallies.candidates(), last), tallies)?;
-    let mut front = Front::new(alloc, start)?;
-    let mut end = best;
-    'turns: loop {
-        let left = nodes - front.expanded();
-        match front.turn(alloc, end.margin, left, tallies, steps)? {
-            Turn::Closed => return Ok(end),
-            Turn::Found { order, margin } => {
-                end = RaceEnd { margin, order };
-            }
-            Turn::More => {}
-            Turn::Spent => {
-                return Err(RaceFault::Spent {
-                    last,
-                    upper: end.margin,
-                    order: end.order,
-                });
-            }
-        }
-    }
-}
-
-// Searches the pieces, in the order of their candidates.
-fn search_all<L: Ledger, G: Gate>(
-    alloc: Global,
-    blank: Blank,
-    tab: &Tabulated,
-    nodes: u32,
-    tallies: &mut Tallies,
-    gate: &G,
-) -> Result<RaceEnd, RaceFault>
-    requires name { blank.name ≡ L.name }
-    requires parts { blank.parts ≡ L.parts }
-    requires some { 0 < blank.parts }
-    requires order { IsTrue (is_order tallies.old.bag.n tab.now.order) }
-    requires winner { Elects tab.now.order tab.now.winner }
-    ensures best { IfOk result (λ end. (records : List (List ℕ)) → IsOf tallies.old.bag records → IsBest tallies.old.bag.n records tab.now.winner end) }
-    ensures spent { IfErr result (λ fault. (records : List (List ℕ)) → IsOf tallies.old.bag records → IsSpent tallies.old.bag.n records tab.now nodes fault) }
-{
-    let n = tallies.candidates();
-    let mut steps = Steps::<L>::new(blank);
-    let mut end = start(tab, tallies)?;
-    let mut piece = 0;
-    for c in 0..n {
-        let last = Candidate(c as u8);
-        if last != tab.winner {
-            gate.at(0, piece);
-            piece += 1;
-            end = search(alloc, last, end, nodes, tallies, &mut steps)?;
-        }
-    }
-    Ok(end)
-}
-
-/// The best margin over the records of the bag, and an order of that hardness: of all that elect another candidate than the
-/// winner of `tab`, none has a smaller greatest margin of a true assertion that refutes it.
+/// The best margin over the records, and an order of that hardness: of all that elect another candidate than the winner of
+/// `tab`, none has a smaller greatest margin of a true assertion that refutes it.
 ///
-/// `tab` is the tabulation of the records, and `ahead` was filled from the bag. The pieces, one for each alternative winner,
-/// are searched in candidate order, each with the whole budget of `nodes` suffixes, and the gate is called before each. Where
-/// the budget of a piece is spent, the race ends at once with its candidate, and the least order found so far. The other error
-/// is want of memory.
-pub fn race<G: Gate>(
-    alloc: Global,
-    bag: &Bag,
-    ahead: &Ahead,
+/// `tab` is the tabulation of the records. The workers take the pieces, two candidates that an order ends in, in their order.
+/// Each has tallies of its own, and all search under one bound. Each piece has the whole budget of `nodes` suffixes. Where
+/// that of some piece is spent, the answer is its last candidate and the least order found. The other error is want of memory.
+pub fn race<R: AllocGlobal + Threads + Sync, G: Gate + Sync>(
+    rt: &R,
+    counted: &Counted,
     tab: &Tabulated,
+    workers: u32,
     nodes: u32,
     gate: &G,
 ) -> Result<RaceEnd, RaceFault>
-    requires filled { AreFilledFrom bag.now ahead.now }
-    requires order { IsTrue (is_order bag.now.n tab.now.order) }
+    requires order { IsTrue (is_order counted.now.bag.n tab.now.order) }
     requires winner { Elects tab.now.order tab.now.winner }
-    ensures best { IfOk result (λ end. (records : List (List ℕ)) → IsOf bag.now records → IsBest bag.now.n records tab.now.winner end) }
-    ensures spent { IfErr result (λ fault. (records : List (List ℕ)) → IsOf bag.now records → IsSpent bag.now.n records tab.now nodes fault) }
+    requires workers { (1 ≤ workers) × (workers ≤ MOST_WORKERS) }
+    ensures best { IfOk result (IsBestOver counted.now.bag tab.now.winner) }
+    ensures within { IfOk result (λ end. All (λ p. p.expanded ≤ nodes) end.pieces.items) }
+    ensures pieces { IfOk result (ArePiecesOver counted.now.bag tab.now) }
+    ensures named { IfOk result (λ end. All (λ p. p.worker < workers) end.pieces.items) }
+    ensures reports { IfOk result (λ end. length end.workers.items ≡ workers) }
+    ensures paced { IfOk result (λ end. All IsPaced end.workers.items) }
+    ensures spent { IfErr result (IsSpentOver counted.now.bag tab.now nodes) }
 {
-    let mut tallies = Tallies::new(alloc, bag, ahead)?;
-    search_all::<Brand, G>(alloc, Blank::new(1), tab, nodes, &mut tallies, gate)
+    let alloc = rt.alloc();
+    let mut tallies = counted.tallies()?;
+    let first = start(tab, &mut tallies)?;
+    let tails = tails_of(alloc, tallies.candidates(), tab.winner)?;
+    let Seats { race, seats } = Race::new(alloc, tails.len() as u32, first.margin, workers)?;
+    let mut team = team_of(alloc, seats)?;
+    run_team(
+        rt,
+        alloc,
+        &race,
+        team.as_mut_slice(),
+        counted,
+        &tails,
+        nodes,
+        gate,
+    );
+    let Joined {
+        seats,
+        ends,
+        reports,
+        best,
+        spent,
+    } = join(alloc, team, first)?;
+    race.finish(seats);
+    if let Some(piece) = spent {
+        return Err(spent_on(&tails[piece as usize], best));
+    }
+    let pieces = in_order(alloc, tails.len() as u32, &ends)?;
+    Ok(RaceEnd {
+        margin: best.margin,
+        order: best.order,
+        pieces,
+        workers: reports,
+    })
 }

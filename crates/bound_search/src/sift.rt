@@ -1,7 +1,7 @@
 // The children of an expanded suffix: pruned, open, or found.
 ghost use Rattle.std.specs.Prelude.{◌≡◌, ◌⊎◌, ◌<◌, ◌≤◌, All, Contains, IfOk, IfSome, OnOk, OnErr, Some, ℕ, Bool, count_by};
 ghost use Rattle.std.specs.BinaryHeap.{heap_items, heap_len, IsHeap};
-ghost use Rattle.suffix_tree.specs.Scores.{by_low};
+ghost use Rattle.suffix_tree.specs.Scores.{first_is_greatest};
 ghost use Rattle.suffix_tree.specs.declared.scored.Scored.{Scored};
 ghost use Rattle.bound_search.specs.Sifted.{IsPlaced, IsOpenChild, IsFoundChild, Replaced, least_after};
 
@@ -31,7 +31,7 @@ pub struct Sifted {
 
 /// Prunes what the bound rules out, and sets the least whole order apart.
 pub fn sift(alloc: Global, children: Vec<Scored>, bound: u32) -> Result<Sifted, Memory>
-    ensures heap { IfOk result (λ s. IsHeap by_low (heap_items s.fresh)) }
+    ensures heap { IfOk result (λ s. IsHeap first_is_greatest (heap_items s.fresh)) }
     ensures each { IfOk result (λ s. (x : Scored) → Contains children.items x → IsPlaced bound (heap_items s.fresh) s.found x) }
     ensures stays { IfOk result (λ s. All (IsOpenChild children.items bound) (heap_items s.fresh)) }
     ensures counts { IfOk result (λ s. (p : Scored → Bool) → count_by p (heap_items s.fresh) ≤ count_by p children.items) }
@@ -58,9 +58,9 @@ pub fn replace_first(
     fresh: BinaryHeap<Scored>,
 ) -> Result<(), Memory>
     requires some { 0 < heap_len suffixes.old }
-    requires old_heap { IsHeap by_low (heap_items suffixes.old) }
-    requires fresh_heap { IsHeap by_low (heap_items fresh) }
-    ensures heap { IsHeap by_low (heap_items suffixes.new) }
+    requires old_heap { IsHeap first_is_greatest (heap_items suffixes.old) }
+    requires fresh_heap { IsHeap first_is_greatest (heap_items fresh) }
+    ensures heap { IsHeap first_is_greatest (heap_items suffixes.new) }
     ensures ok { OnOk result (Replaced (heap_items suffixes.old) (heap_items fresh) (heap_items suffixes.new)) }
     ensures err { OnErr result (heap_items suffixes.new ≡ heap_items suffixes.old) }
 {

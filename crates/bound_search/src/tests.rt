@@ -1,119 +1,170 @@
-// Contests that were counted by hand, and turns of a front of one suffix.
-ghost use Rattle.std.specs.Prelude.{◌≡◌, ◌<◌, ◌≤◌, ◌∷◌, [], All, length, IsTrue, IsFalse};
-ghost use Rattle.irv_base.specs.Candidates.{is_in};
+// Contests that were counted by hand, turns of a front of one suffix, and workers that a gate holds up.
+ghost use Rattle.std.specs.Prelude.{◌≡◌, ◌<◌, ◌≤◌, All, length};
 ghost use Rattle.irv_base.specs.declared.limits.TheConstants.{FEWEST_CANDIDATES, ROOM, MOST_RECORDS};
+ghost use Rattle.bound_search.specs.declared.limits.TheConstants.{MOST_WORKERS};
 
 use super::*;
-use desk::Gate;
+use desk::{Gate, NoGate};
 use irv_base::{Candidate, Memory, Ranking, Steps};
 use irv_tabulator::tabulate;
-use set_tallies::{Ahead, Bag, Tallies};
+use set_tallies::{Counted, Tallies};
+use shared_witness::{Race, Seats};
 use std::alloc::Global;
-use std::cell::Cell;
 use std::marker::Brand;
+use std::sync::atomic::{AtomicU64, Ordering};
 use std::sync::ledger::{Blank, Ledger};
+use std::thread::Threads;
 use suffix_tree::{Tail, score};
 
-/// Counts how often it is called.
+/// Counts how often it is called, and holds piece 0 up until another was taken, for so many turns.
 #[derive(Drop)]
-struct Counted {
-    calls: Cell<u32>,
+struct Held {
+    until: u32,
+    turns: u32,
+    calls: AtomicU64,
+    taken: AtomicU64,
 }
 
-impl Gate for Counted {
-    fn at(&self, _worker: u32, _piece: u32) {
-        self.calls.set(self.calls.get().wrapping_add(1));
+impl Held {
+    fn new(until: u32, turns: u32) -> Held {
+        Held {
+            until,
+            turns,
+            calls: AtomicU64::new(0),
+            taken: AtomicU64::new(0),
+        }
+    }
+
+    fn was_taken(&self) -> bool {
+        self.taken.load(Ordering::SeqCst) == 1
     }
 }
 
-fn only(c: Candidate) -> Ranking
-    ensures { result ≡ c ∷ [] }
-{
-    let mut ranking = Ranking::empty();
-    ranking.push(c);
-    ranking
-}
-
-fn both(first: Candidate, second: Candidate) -> Ranking
-    requires { IsFalse (is_in (first ∷ []) second) }
-    ensures { result ≡ first ∷ second ∷ [] }
-{
-    let mut ranking = only(first);
-    ranking.push(second);
-    ranking
+impl Gate for Held {
+    fn at(&self, _worker: u32, piece: u32) {
+        self.calls.fetch_add(1, Ordering::SeqCst);
+        if piece == self.until {
+            self.taken.store(1, Ordering::SeqCst);
+        }
+        if piece == 0 {
+            for _turn in 0..self.turns {
+                if self.was_taken() {
+                    return;
+                }
+            }
+        }
+    }
 }
 
 // Candidate 0 five times, 1 before 2 four times, 2 before 1 three times.
 fn twelve() -> [Ranking; 12]
     ensures { All (λ ranking. All (λ c. c < 3) ranking) result }
 {
-    let a = only(Candidate(0));
-    let b = both(Candidate(1), Candidate(2));
-    let c = both(Candidate(2), Candidate(1));
+    let a = Ranking::of(&[Candidate(0)]);
+    let b = Ranking::of(&[Candidate(1), Candidate(2)]);
+    let c = Ranking::of(&[Candidate(2), Candidate(1)]);
     [a, a, a, a, a, b, b, b, b, c, c, c]
 }
 
-fn race_of(
-    alloc: Global,
+// Candidate 0 twice, 1 once.
+fn two_to_one() -> [Ranking; 3]
+    ensures { All (λ ranking. All (λ c. c < 2) ranking) result }
+{
+    let a = Ranking::of(&[Candidate(0)]);
+    let b = Ranking::of(&[Candidate(1)]);
+    [a, b, a]
+}
+
+// Candidate 2 five times, 1 before 0 four times, 0 before 1 three times.
+fn bound_shared() -> [Ranking; 12]
+    ensures { All (λ ranking. All (λ c. c < 3) ranking) result }
+{
+    let a = Ranking::of(&[Candidate(2)]);
+    let b = Ranking::of(&[Candidate(1), Candidate(0)]);
+    let c = Ranking::of(&[Candidate(0), Candidate(1)]);
+    [a, a, a, a, a, b, b, b, b, c, c, c]
+}
+
+fn race_of<R: AllocGlobal + Threads + Sync, G: Gate + Sync>(
+    rt: &R,
     n: u32,
     rankings: &[Ranking],
+    workers: u32,
     nodes: u32,
-    gate: &Counted,
+    gate: &G,
 ) -> Result<RaceEnd, RaceFault>
     requires fewest { FEWEST_CANDIDATES ≤ n }
     requires room { n ≤ ROOM }
     requires most { length rankings.now ≤ MOST_RECORDS }
     requires below { All (λ ranking. All (λ c. c < n) ranking) rankings.now }
+    requires workers { (1 ≤ workers) × (workers ≤ MOST_WORKERS) }
 {
-    let bag = Bag::of(alloc, n, rankings)?;
-    let ahead = Ahead::fill(alloc, &bag)?;
-    let mut tallies = Tallies::new(alloc, &bag, &ahead)?;
+    let alloc = rt.alloc();
+    let counted = Counted::of(alloc, n, rankings)?;
+    let mut tallies = counted.tallies()?;
     match tabulate(alloc, &mut tallies) {
-        Ok(tab) => race(alloc, &bag, &ahead, &tab, nodes, gate),
+        Ok(tab) => race(rt, &counted, &tab, workers, nodes, gate),
         Err(_) => Err(RaceFault::Memory),
+    }
+}
+
+// The order 1, 0, 2 has 1 against it, and only the piece 0, 2 is expanded.
+fn is_found<R: AllocGlobal + Threads + Sync, G: Gate + Sync>(
+    rt: &R,
+    workers: u32,
+    nodes: u32,
+    gate: &G,
+) -> bool
+    requires { (1 ≤ workers) × (workers ≤ MOST_WORKERS) }
+{
+    match race_of(rt, 3, twelve().as_slice(), workers, nodes, gate) {
+        Ok(end) => {
+            end.margin == 1
+                && end.order.candidates() == [Candidate(1), Candidate(0), Candidate(2)].as_slice()
+                && end.pieces.len() == 4
+                && end.pieces[0].tail.list() == [Candidate(1), Candidate(0)].as_slice()
+                && end.pieces[1].tail.list() == [Candidate(2), Candidate(0)].as_slice()
+                && end.pieces[2].tail.list() == [Candidate(0), Candidate(2)].as_slice()
+                && end.pieces[3].tail.list() == [Candidate(1), Candidate(2)].as_slice()
+                && end.pieces[0].expanded == 0
+                && end.pieces[1].expanded == 0
+                && end.pieces[2].expanded == 1
+                && end.pieces[3].expanded == 0
+                && end.workers.len() == workers as usize
+        }
+        Err(_) => false,
     }
 }
 
 #[test]
 fn finds_an_order_less_hard_than_the_start(rt: HostRuntime) {
-    let gate = Counted {
-        calls: Cell::new(0),
-    };
-    match race_of(rt.alloc(), 3, twelve().as_slice(), 3, &gate) {
-        Ok(end) => {
-            assert!(rt; end.margin == 1);
-            let found = end.order.candidates();
-            assert!(rt; found == [Candidate(1), Candidate(0), Candidate(2)].as_slice());
-        }
-        Err(_) => assert!(rt; false),
+    let gate = Held::new(0, 0);
+    assert!(rt; is_found(&rt, 1, 100_000, &gate));
+    assert!(rt; gate.calls.load(Ordering::SeqCst) == 4);
+    assert!(rt; is_found(&rt, 1, 1, &NoGate));
+    for workers in 1..9 {
+        assert!(rt; is_found(&rt, workers, 3, &NoGate));
     }
-    assert!(rt; gate.calls.get() == 2);
 }
 
 #[test]
-fn spends_one_node(rt: HostRuntime) {
-    let gate = Counted {
-        calls: Cell::new(0),
-    };
-    match race_of(rt.alloc(), 3, twelve().as_slice(), 1, &gate) {
-        Err(fault) => match fault {
+fn spends_no_node(rt: HostRuntime) {
+    match race_of(&rt, 3, twelve().as_slice(), 1, 0, &NoGate).err() {
+        Some(fault) => match fault {
             RaceFault::Spent { last, upper, .. } => {
                 assert!(rt; last == Candidate(2));
-                assert!(rt; upper == 1 || upper == 2);
+                assert!(rt; upper == 2);
             }
             RaceFault::Memory => assert!(rt; false),
         },
-        Ok(_) => assert!(rt; false),
+        None => assert!(rt; false),
     }
 }
 
 #[test]
 fn keeps_the_start_of_two(rt: HostRuntime) {
-    let gate = Counted {
-        calls: Cell::new(0),
-    };
-    let rankings = [only(Candidate(0)), only(Candidate(1)), only(Candidate(0))];
-    match race_of(rt.alloc(), 2, rankings.as_slice(), 1, &gate) {
+    let rankings = two_to_one();
+    match race_of(&rt, 2, rankings.as_slice(), 2, 1, &NoGate) {
         Ok(end) => {
             assert!(rt; end.margin == 1);
             let found = end.order.candidates();
@@ -121,6 +172,74 @@ fn keeps_the_start_of_two(rt: HostRuntime) {
         }
         Err(_) => assert!(rt; false),
     }
+}
+
+#[test]
+fn workers_stand_side_by_side(rt: HostRuntime) {
+    let gate = Held::new(1, 100_000_000);
+    assert!(rt; is_found(&rt, 2, 100_000, &gate));
+    assert!(rt; gate.was_taken());
+}
+
+#[test]
+fn workers_share_the_bound(rt: HostRuntime) {
+    let gate = Held::new(2, 100_000_000);
+    match race_of(&rt, 3, bound_shared().as_slice(), 2, 100_000, &gate) {
+        Ok(end) => {
+            assert!(rt; end.margin == 1);
+            let unexpanded = end.pieces.len() == 4 && end.pieces[0].expanded == 0;
+            assert!(rt; unexpanded);
+        }
+        Err(_) => assert!(rt; false),
+    }
+    assert!(rt; gate.was_taken());
+}
+
+// It found the order 1, 0, 2, and only the third piece was expanded.
+fn took_all(end: &WorkerEnd) -> bool {
+    let found = match &end.best {
+        Some(best) => {
+            best.margin == 1
+                && best.order.candidates() == [Candidate(1), Candidate(0), Candidate(2)].as_slice()
+        }
+        None => false,
+    };
+    found
+        && end.spent.is_empty()
+        && end.ends.len() == 4
+        && end.ends[0].expanded == 0
+        && end.ends[1].expanded == 0
+        && end.ends[2].expanded == 1
+        && end.ends[3].expanded == 0
+}
+
+// One worker over the only seat of a race.
+fn alone(alloc: Global, nodes: u32) -> Result<bool, Memory> {
+    let rankings = twelve();
+    let counted = Counted::of(alloc, 3, rankings.as_slice())?;
+    let mut tallies = counted.tallies()?;
+    let tails = tails_of(alloc, 3, Candidate(1))?;
+    let Seats { race, mut seats } = Race::new(alloc, 4, 2, 1)?;
+    let end = work(
+        alloc,
+        &race,
+        &mut seats[0],
+        0,
+        &tails,
+        nodes,
+        &mut tallies,
+        &NoGate,
+    )?;
+    let bound = race.finish(seats);
+    Ok(bound == 1 && took_all(&end))
+}
+
+#[test]
+fn one_worker_takes_all(rt: HostRuntime) {
+    let plenty = alone(rt.alloc(), 100_000).expect(&rt, "memory");
+    assert!(rt; plenty);
+    let few = alone(rt.alloc(), 1).expect(&rt, "memory");
+    assert!(rt; few);
 }
 
 // The first turn of the front of candidate 1 alone.
@@ -143,10 +262,9 @@ fn first_turn<L: Ledger>(
 
 // Over two ballots for candidate 0 and one for 1, of two: the suffix 1 and the order 0, 1 have 1 against them.
 fn turn_of_two(alloc: Global, bound: u32, left: u32) -> Result<Turn, Memory> {
-    let rankings = [only(Candidate(0)), only(Candidate(1)), only(Candidate(0))];
-    let bag = Bag::of(alloc, 2, rankings.as_slice())?;
-    let ahead = Ahead::fill(alloc, &bag)?;
-    let mut tallies = Tallies::new(alloc, &bag, &ahead)?;
+    let rankings = two_to_one();
+    let counted = Counted::of(alloc, 2, rankings.as_slice())?;
+    let mut tallies = counted.tallies()?;
     first_turn::<Brand>(alloc, Blank::new(1), bound, left, &mut tallies)
 }
 

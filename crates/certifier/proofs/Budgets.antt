@@ -1,5 +1,6 @@
 -- What the two searches, for the assertions and for the order, say of the counts.
-use Rattle.std.proofs.Common.{◌≡◌, ◌≢◌, ℕ, ◌-◌, ◌<◌, ◌≤◌, Bool, true, false, cond, not, ◌&&◌, ◌==◌, nat_lt, nat_le, inl, inr, List, [], ◌∷◌, filter, find, length, Option, Some, None, Result, Ok, Err, refl, sym, ap, arith, ltb-true, lt-ltb, le-ltb, le-leb, eq-eqb, ne_eqb, ◌∙◌}
+use Rattle.std.proofs.Common.{◌≡◌, ◌≢◌, ℕ, ◌+◌, ◌-◌, ◌<◌, ◌≤◌, Bool, true, false, cond, not, ◌&&◌, ◌==◌, nat_lt, nat_le, inl, inr, List, [], ◌∷◌, filter, find, length, Option, Some, None, Result, Ok, Err, refl, sym, ap, arith, ltb-true, lt-ltb, le-ltb, le-leb, eq-eqb, ne_eqb, ◌∙◌}
+use Rattle.std.proofs.Math.Path.{fun_ext}
 use Rattle.std.specs.List.{range_with_len}
 use Rattle.std.proofs.lemmas.Bool.{cases_lt, cases_eq, lt-leb, and_right, not-true, not_from_false, eqb-false}
 use Rattle.irv_base.specs.Candidates.{candidates, all_but}
@@ -11,12 +12,12 @@ use Rattle.assertions.proofs.Alternatives.{best-le}
 use Rattle.assertions.proofs.Sorted.{find-first, sorted-filter, sorted-range}
 use Rattle.suffix_walk.specs.Kept.{all_ending}
 use Rattle.suffix_walk.specs.Walks.{walked}
-use Rattle.suffix_walk.specs.Search.{first_kept, kept_count, first_over, or_spent, searched}
+use Rattle.suffix_walk.specs.Search.{first_kept, kept_count, first_over, or_spent, first_within}
 use Rattle.suffix_walk.specs.declared.walk.Stop.{Stop}
 use Rattle.suffix_walk.specs.declared.walk.Stop.TheVariants.{Found, Spent}
 use Rattle.suffix_walk.proofs.Counts.{count-same}
 use Rattle.suffix_walk.proofs.Scans.{chosen, scan, scan_from}
-use Rattle.certifier.specs.Walks.{at_most, below}
+use Rattle.certifier.specs.Walks.{is_under}
 
 -- ---- the first candidate for whom a count is above the budget
 module _ (n winner nodes : ℕ) (count : ℕ → ℕ) where
@@ -98,33 +99,40 @@ find-none : {X : Type 0} (p : X → Bool) (xs : List X) → ((x : X) → Member 
 find-none p [] h = refl
 find-none p (x ∷ xs) h = rw (h x here) (find-none p xs (λ y m. h y (there m)))
 
+-- below one more is at most
+under-suc : (a b : ℕ) → nat_lt a (b + 1) ≡ nat_le a b
+under-suc a b =
+    elim (cases_lt b a) [
+      | inl lt ↦ le-ltb a (b + 1) (omega arith) ∙ sym (lt-leb a b lt)
+      | inr le ↦ lt-ltb a (b + 1) (omega arith) ∙ sym (le-leb a b le)
+    ]
+
 module _ (n winner nodes : ℕ) (records : List (List ℕ)) (best : ℕ) (is : best ≡ best_margin n winner (low n records)) where
   reached : (order : List ℕ) → Member order (alternative_orders n winner) → best ≤ low n records order
   reached order m = let le : best_margin n winner (low n records) ≤ low n records order = best-le n winner (low n records) order m in omega arith
 
   -- the search for the assertions
-  none_below : first_kept n winner (below n records best) ≡ None
-  none_below = find-none (below n records best) (alternative_orders n winner) (λ o m. and_right (nat_lt (length o) n) (nat_lt (low n records o) best) (le-ltb (low n records o) best (reached o m)))
+  none_under : first_kept n winner (is_under n records best) ≡ None
+  none_under = find-none (is_under n records best) (alternative_orders n winner) (λ o m. le-ltb (low n records o) best (reached o m))
 
-  cover_kept : (c : ℕ) → kept_count n (below n records best) None c ≡ cover_count n (low n records) best c
-  cover_kept c = count-same (λ s. below n records best s && true) (λ s. nat_lt (low n records s) best) (parts_ending n c) same where
-    both : (a b : Bool) → a ≡ true → ((a && b) && true) ≡ b
-    both true true e = refl
-    both true false e = refl
-    both false b e = cc
+  cover_kept : (c : ℕ) → kept_count n (is_under n records best) None c ≡ cover_count n (low n records) best c
+  cover_kept c = count-same (λ s. is_under n records best s && true) (is_under n records best) (parts_ending n c) (λ s m. both (is_under n records best s)) where
+    both : (b : Bool) → (b && true) ≡ b
+    both true = refl
+    both false = refl
 
-    same : (s : List ℕ) → Member s (parts_ending n c) → (below n records best s && true) ≡ nat_lt (low n records s) best
-    same s m = both (nat_lt (length s) n) (nat_lt (low n records s) best) (from_filter (λ suffix. nat_lt (length suffix) n) (suffixes_ending n (n - 1) (c ∷ [])) m).1
-
-  pub covers_are : searched n winner nodes (below n records best) ≡ or_spent (first_over n winner nodes (cover_count n (low n records) best)) None
+  pub covers_are : first_within n winner nodes (is_under n records best) ≡ or_spent (first_over n winner nodes (cover_count n (low n records) best)) None
   covers_are =
-      ap (λ o. or_spent (first_over n winner nodes (kept_count n (below n records best) o)) o) none_below
+      ap (λ o. or_spent (first_over n winner nodes (kept_count n (is_under n records best) o)) o) none_under
       ∙ ap (λ o. or_spent o None)
-      (find-same (λ c. nat_lt nodes (kept_count n (below n records best) None c)) (λ c. nat_lt nodes (cover_count n (low n records) best c)) (all_but n winner) (λ c m. ap (nat_lt nodes) (cover_kept c)))
+      (find-same (λ c. nat_lt nodes (kept_count n (is_under n records best) None c)) (λ c. nat_lt nodes (cover_count n (low n records) best c)) (all_but n winner) (λ c m. ap (nat_lt nodes) (cover_kept c)))
 
   -- the search for the order
-  order_at_most : first_kept n winner (at_most n records best) ≡ certificate_order n winner (low n records) best
-  order_at_most = find-same (at_most n records best) (λ order. low n records order == best) (alternative_orders n winner) (λ o m. same (low n records o) (reached o m)) where
+  abbrev at_most : List ℕ → Bool
+  at_most s = nat_le (low n records s) best
+
+  order_at_most : first_kept n winner at_most ≡ certificate_order n winner (low n records) best
+  order_at_most = find-same at_most (λ order. low n records order == best) (alternative_orders n winner) (λ o m. same (low n records o) (reached o m)) where
     same : (a : ℕ) → best ≤ a → nat_le a best ≡ (a == best)
     same a le =
         elim (cases_eq a best) [
@@ -133,5 +141,7 @@ module _ (n winner nodes : ℕ) (records : List (List ℕ)) (best : ℕ) (is : b
         ]
 
   pub orders_are : (order : List ℕ) → certificate_order n winner (low n records) best ≡ Some order →
-      searched n winner nodes (at_most n records best) ≡ or_spent (first_over n winner nodes (order_count n (low n records) best order)) (Some order)
-  orders_are order h = ap (λ o. or_spent (first_over n winner nodes (kept_count n (at_most n records best) o)) o) (order_at_most ∙ h)
+      first_within n winner nodes (is_under n records (best + 1)) ≡ or_spent (first_over n winner nodes (order_count n (low n records) best order)) (Some order)
+  orders_are order h =
+      ap (first_within n winner nodes) (fun_ext (λ s. under-suc (low n records s) best))
+      ∙ ap (λ o. or_spent (first_over n winner nodes (kept_count n at_most o)) o) (order_at_most ∙ h)

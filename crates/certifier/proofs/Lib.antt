@@ -1,5 +1,4 @@
-pub mod Children
-pub mod Keeping
+pub mod Walking
 pub mod Ends
 pub mod Agreement
 pub mod Budgets

@@ -3,8 +3,8 @@ use Rattle.std.specs.Prelude.{◌≡◌, ◌≢◌, ◌<◌, ◌≤◌, ◌⊎�
 use Rattle.assertions.specs.Hardness.{low}
 use Rattle.assertions.specs.Certificate.{certificate_claims, certificate_order, cover_count, order_count}
 use Rattle.certifier.specs.declared.certificate.Certificate.{Certificate}
-use Rattle.certifier.specs.declared.task.CertFault.{CertFault}
-use Rattle.certifier.specs.declared.task.CertFault.TheVariants.{Spent, Memory}
+use Rattle.certifier.specs.declared.fault.CertFault.{CertFault}
+use Rattle.certifier.specs.declared.fault.CertFault.TheVariants.{Spent, Memory}
 
 -- neither count of c is above nodes
 abbrev pub IsWithin : ℕ → (List ℕ → ℕ) → ℕ → List ℕ → ℕ → ℕ → Type 0

@@ -1,53 +1,59 @@
--- What the walks through scored suffixes answer.
-use Rattle.std.specs.Prelude.{◌≡◌, ◌<◌, ℕ, Bool, ◌&&◌, nat_lt, nat_le, List, length, Option, Some, None, Result, Ok, Err, IsTrue, ⊤}
-use Rattle.assertions.specs.Suffixes.{is_suffix}
+-- A walk through scored suffixes, as far as their low is below a limit.
+use Rattle.std.specs.Prelude.{◌≡◌, ◌<◌, ℕ, Bool, nat_lt, List, length, filter, Result, Ok, Err, IsTrue, ⊤}
+use Rattle.assertions.specs.declared.assertion.Assertion.{Assertion}
+use Rattle.assertions.specs.contracts.assertion.AssertionOrd.TheImpl.{ghosts}
+use Rattle.irv_base.specs.Suffixes.{is_suffix}
 use Rattle.assertions.specs.Hardness.{low}
+use Rattle.assertions.specs.Certificate.{is_end}
+use Rattle.assertions.specs.Scores.{score_of}
 use Rattle.set_tallies.specs.Bags.{Kept, IsOf}
 use Rattle.suffix_tree.specs.declared.scored.Scored.{Scored}
 use Rattle.suffix_tree.specs.Scores.{IsScoredOver}
-use Rattle.suffix_walk.specs.Kept.{is_parent_kept}
+use Rattle.suffix_walk.specs.Kept.{is_parent_kept, all_ending}
+use Rattle.suffix_walk.specs.Walks.{walked}
 use Rattle.suffix_walk.specs.declared.walk.Stop as stop
 use Rattle.suffix_walk.specs.declared.walk.Stop.TheVariants as stopped
-use Rattle.certifier.specs.declared.order.OrderWalk.{OrderWalk}
-use Rattle.certifier.specs.declared.order.OrderWalk.TheVariants.{Counted, Found}
-use Rattle.certifier.specs.declared.task.CertFault.{CertFault}
-use Rattle.certifier.specs.declared.task.CertFault.TheVariants.{Spent, Memory}
+use Rattle.certifier.specs.Gathered.{gathered}
+use Rattle.certifier.specs.declared.walk.Reach.{Reach}
+use Rattle.certifier.specs.declared.walk.WalkEnd.{WalkEnd}
+use Rattle.certifier.specs.declared.walk.WalkEnd.TheVariants.{Counted, Found}
+use Rattle.certifier.specs.declared.fault.CertFault.{CertFault}
+use Rattle.certifier.specs.declared.fault.CertFault.TheVariants.{Spent, Memory}
 
--- what a walk asks of the suffix that it begins with
-pub record CanWalk (bag : Kept) (s : Scored) : Type 0 where
+-- the walk keeps these
+abbrev pub is_under : ℕ → List (List ℕ) → ℕ → List ℕ → Bool
+is_under n records limit suffix = nat_lt (low n records suffix) limit
+
+-- what a walk asks of the suffix that it begins with: that it is scored, and what it grew from is kept
+pub record CanWalk (bag : Kept) (limit : ℕ) (s : Scored) : Type 0 where
   pub contest : s.tail.n ≡ bag.n
   pub proper : IsTrue (is_suffix s.tail.n s.tail.list)
   pub some : 0 < length s.tail.list
   pub scored : IsScoredOver bag s
+  pub parent : (records : List (List ℕ)) → IsOf bag records → IsTrue (is_parent_kept (is_under s.tail.n records limit) s.tail.list)
 
--- the walk for the order keeps these
-abbrev pub at_most : ℕ → List (List ℕ) → ℕ → List ℕ → Bool
-at_most n records best suffix = nat_le (low n records suffix) best
+-- a walk over the list of the suffixes that end in this one
+abbrev pub walk_of : Reach → Scored → List (List ℕ) → ℕ → Result ℕ stop.Stop
+walk_of reach s records count = walked s.tail.n reach.nodes (is_under s.tail.n records reach.limit) count (all_ending s.tail.n s.tail.list)
 
--- the walk for the assertions keeps these, which aren't whole
-abbrev pub below : ℕ → List (List ℕ) → ℕ → List ℕ → Bool
-below n records best suffix = nat_lt (length suffix) n && nat_lt (low n records suffix) best
+-- it ends as that walk does; of want of memory nothing is said
+abbrev pub IsWalk : ℕ → Result WalkEnd CertFault → Result ℕ stop.Stop → Type 0
+IsWalk last (Ok (Counted count)) walk = walk ≡ Ok count
+IsWalk last (Ok (Found order)) walk = walk ≡ Err (stopped.Found order)
+IsWalk last (Err (Spent c)) walk = (c ≡ last) × (walk ≡ Err stopped.Spent)
+IsWalk last (Err Memory) walk = ⊤
 
--- the suffix without its first candidate doesn't reach the margin
-abbrev pub IsParentBelow : Kept → ℕ → Scored → Type 0
-IsParentBelow bag best s = (records : List (List ℕ)) → IsOf bag records → IsTrue (is_parent_kept (λ suffix. nat_lt (low s.tail.n records suffix) best) s.tail.list)
+-- where it comes to no whole order
+abbrev pub OnCounted : WalkEnd → Type 0 → Type 0
+OnCounted (Counted count) fact = fact
+OnCounted (Found order) fact = ⊤
 
--- in terms of a walk over a list of suffixes
-abbrev pub IsOrderWalk : ℕ → Result OrderWalk CertFault → Result ℕ stop.Stop → Type 0
-IsOrderWalk last (Ok (Counted count)) walk = walk ≡ Ok count
-IsOrderWalk last (Ok (Found order)) walk = walk ≡ Err (stopped.Found order)
-IsOrderWalk last (Err (Spent c)) walk = (c ≡ last) × (walk ≡ Err stopped.Spent)
-IsOrderWalk last (Err Memory) walk = ⊤
+-- of these suffixes, the first that reach the limit
+abbrev pub ends_in : ℕ → List (List ℕ) → ℕ → List (List ℕ) → List (List ℕ)
+ends_in n records limit suffixes = filter (is_end (low n records) limit) suffixes
 
-abbrev pub IsCoverWalk : ℕ → Result ℕ CertFault → Result ℕ stop.Stop → Type 0
-IsCoverWalk last (Ok count) walk = walk ≡ Ok count
-IsCoverWalk last (Err (Spent c)) walk = (c ≡ last) × (walk ≡ Err stopped.Spent)
-IsCoverWalk last (Err Memory) walk = ⊤
-
--- the order that was there, or else the one that the walk finds
-abbrev pub IsNextOrder : ℕ → Option (List ℕ) → Result (Option (List ℕ)) CertFault → Result ℕ stop.Stop → Type 0
-IsNextOrder last (Some order) result walk = result ≡ Ok (Some order)
-IsNextOrder last None (Ok None) walk = (count : ℕ) × (walk ≡ Ok count)
-IsNextOrder last None (Ok (Some order)) walk = walk ≡ Err (stopped.Found order)
-IsNextOrder last None (Err (Spent c)) walk = (c ≡ last) × (walk ≡ Err stopped.Spent)
-IsNextOrder last None (Err Memory) walk = ⊤
+-- the refuters of the ends among the suffixes that end in this one are put in
+abbrev pub HasGathered : Kept → ℕ → Scored → List (Assertion × ℕ) → List (Assertion × ℕ) → Type 0
+HasGathered bag limit s before after =
+    (records : List (List ℕ)) → IsOf bag records →
+    after ≡ gathered ghosts.cmp (score_of s.tail.n records) before (ends_in s.tail.n records limit (all_ending s.tail.n s.tail.list))

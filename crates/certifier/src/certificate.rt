@@ -1,20 +1,17 @@
 // The canonical certificate.
-ghost use Rattle.std.specs.Prelude.{◌≡◌, ◌<◌, ℕ, List, IfOk, IfErr};
+ghost use Rattle.std.specs.Prelude.{◌≡◌, ℕ, List, IfOk, IfErr};
 ghost use Rattle.assertions.specs.Hardness.{low, best_margin};
-ghost use Rattle.set_tallies.specs.Bags.{IsOf, AreFilledFrom};
+ghost use Rattle.set_tallies.specs.Bags.{IsOf};
 ghost use Rattle.irv_tabulator.specs.Results.{IsTabulation};
 ghost use Rattle.certifier.specs.Certified.{IsCertified, IsFault};
 
-use crate::cover::listed;
-use crate::search::search;
-use crate::task::CertFault;
+use crate::fault::CertFault;
+use crate::gather::{Task, gather, listed};
 use assertions::Claim;
-use irv_base::{Order, Steps};
+use irv_base::Order;
 use irv_tabulator::Tabulated;
-use set_tallies::{Ahead, Bag, Tallies};
+use set_tallies::Tallies;
 use std::alloc::Global;
-use std::marker::Brand;
-use std::sync::ledger::{Blank, Ledger};
 
 /// What is published of a contest to prove its winner.
 #[derive(Drop)]
@@ -29,28 +26,38 @@ pub struct Certificate {
     pub order: Order,
 }
 
-// The certificate, where the steps of the search stand in a ledger of its own.
-fn certify_on<L: Ledger>(
+/// The canonical certificate of the contest with the records of the tallies, whose tabulated order is that of `tab` and
+/// whose best margin, in votes, is `best`. The records alone determine it, whichever search found the best margin.
+///
+/// For each alternative winner two counts are taken, of suffixes that end in that candidate and aren't whole orders:
+/// those whose low is below the best margin; and those whose low is at most the best margin and that come before the
+/// certificate's order, both read backwards. The answer is `Spent`, with the least alternative winner for whom a count
+/// is above `nodes`, exactly where there is one. The other error is want of memory.
+///
+/// Besides the claims it holds, at one time, one suffix of each length.
+pub fn certify(
     alloc: Global,
-    blank: Blank,
-    bag: &Bag,
-    ahead: &Ahead,
+    tallies: &mut Tallies,
     tab: &Tabulated,
     best: u32,
     nodes: u32,
 ) -> Result<Certificate, CertFault>
-    requires name { blank.name ≡ L.name }
-    requires parts { blank.parts ≡ L.parts }
-    requires some { 0 < blank.parts }
-    requires filled { AreFilledFrom bag.now ahead.now }
-    requires tabulated { (records : List (List ℕ)) → IsOf bag.now records → IsTabulation bag.now.n records tab.now }
-    requires best { (records : List (List ℕ)) → IsOf bag.now records → best ≡ best_margin bag.now.n tab.now.winner (low bag.now.n records) }
-    ensures certificate { (records : List (List ℕ)) → IsOf bag.now records → IfOk result (IsCertified bag.now.n records tab.now.winner best nodes) }
-    ensures fault { (records : List (List ℕ)) → IsOf bag.now records → IfErr result (IsFault bag.now.n records tab.now.winner best nodes) }
+    requires tabulated { (records : List (List ℕ)) → IsOf tallies.old.bag records
+        → IsTabulation tallies.old.bag.n records tab.now }
+    requires best { (records : List (List ℕ)) → IsOf tallies.old.bag records
+        → best ≡ best_margin tallies.old.bag.n tab.now.winner (low tallies.old.bag.n records) }
+    ensures certificate { (records : List (List ℕ)) → IsOf tallies.old.bag records
+        → IfOk result (IsCertified tallies.old.bag.n records tab.now.winner best nodes) }
+    ensures fault { (records : List (List ℕ)) → IsOf tallies.old.bag records
+        → IfErr result (IsFault tallies.old.bag.n records tab.now.winner best nodes) }
+    ensures same { tallies.new ≡ tallies.old }
 {
-    let mut tallies = Tallies::new(alloc, bag, ahead)?;
-    let mut steps = Steps::<L>::new(blank);
-    let found = search(alloc, tab.winner, best, nodes, &mut tallies, &mut steps)?;
+    let task = Task {
+        winner: tab.winner,
+        best,
+        nodes,
+    };
+    let found = gather(alloc, &task, tallies)?;
     let claims = listed(alloc, &found.claims)?;
     // Some alternative order has the best margin, so one was found.
     let order = found.order.unwrap_or(tab.order);
@@ -59,30 +66,4 @@ fn certify_on<L: Ledger>(
         margin: best,
         order,
     })
-}
-
-/// The canonical certificate of the contest with the records of the bag, whose tabulated order is that of `tab` and whose
-/// best margin, in votes, is `best`. The records alone determine it, whichever search found the best margin.
-///
-/// For each alternative winner two counts are taken, of suffixes that end in that candidate and aren't whole orders:
-/// those whose low is below the best margin; and those whose low is at most the best margin and that come before the
-/// certificate's order, both read backwards. The answer is `Spent`, with the least alternative winner for whom a count
-/// is above `nodes`, exactly where there is one. The other error is want of memory.
-///
-/// Besides the claims it holds, at one time, the children of one suffix of each length.
-pub fn certify(
-    alloc: Global,
-    bag: &Bag,
-    ahead: &Ahead,
-    tab: &Tabulated,
-    best: u32,
-    nodes: u32,
-) -> Result<Certificate, CertFault>
-    requires filled { AreFilledFrom bag.now ahead.now }
-    requires tabulated { (records : List (List ℕ)) → IsOf bag.now records → IsTabulation bag.now.n records tab.now }
-    requires best { (records : List (List ℕ)) → IsOf bag.now records → best ≡ best_margin bag.now.n tab.now.winner (low bag.now.n records) }
-    ensures certificate { (records : List (List ℕ)) → IsOf bag.now records → IfOk result (IsCertified bag.now.n records tab.now.winner best nodes) }
-    ensures fault { (records : List (List ℕ)) → IsOf bag.now records → IfErr result (IsFault bag.now.n records tab.now.winner best nodes) }
-{
-    certify_on::<Brand>(alloc, Blank::new(1), bag, ahead, tab, best, nodes)
 }

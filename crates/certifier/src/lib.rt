@@ -3,13 +3,12 @@
 #![tactic(auto)]
 
 mod certificate;
-mod cover;
+mod fault;
+mod gather;
 pub mod laws;
-mod order;
-mod search;
-mod task;
 #[cfg(test)]
 mod tests;
+mod walk;
 
 pub use certificate::{Certificate, certify};
-pub use task::CertFault;
+pub use fault::CertFault;

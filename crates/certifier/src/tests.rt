@@ -9,7 +9,7 @@ use super::*;
 use assertions::{Assertion, Claim};
 use irv_base::{CandSet, Candidate, Ranking};
 use irv_tabulator::tabulate;
-use set_tallies::{Ahead, Bag, Tallies};
+use set_tallies::Counted;
 use std::alloc::Global;
 
 const ZERO: Candidate = Candidate(0);
@@ -23,18 +23,14 @@ const THREE: Candidate = Candidate(3);
 fn only(c: Candidate) -> Ranking
     ensures { result ≡ c ∷ [] }
 {
-    let mut ranking = Ranking::empty();
-    ranking.push(c);
-    ranking
+    Ranking::of(&[c])
 }
 
 fn both(first: Candidate, second: Candidate) -> Ranking
     requires { first ≢ second }
     ensures { result ≡ first ∷ second ∷ [] }
 {
-    let mut ranking = only(first);
-    ranking.push(second);
-    ranking
+    Ranking::of(&[first, second])
 }
 
 // The certificate, where the best margin is that of whoever is elected.
@@ -51,11 +47,10 @@ fn answer(
     requires below { All (λ ranking. All (λ c. c < n) ranking) rankings.now }
     requires best { (order : List ℕ) (winner : ℕ) → IsTrue (is_order n order) → IsTrue (is_tabulated rankings.now order) → Elects order winner → best ≡ best_margin n winner (low n rankings.now) }
 {
-    let bag = Bag::of(alloc, n, rankings)?;
-    let ahead = Ahead::fill(alloc, &bag)?;
-    let mut tallies = Tallies::new(alloc, &bag, &ahead)?;
+    let counted = Counted::of(alloc, n, rankings)?;
+    let mut tallies = counted.tallies()?;
     match tabulate(alloc, &mut tallies) {
-        Ok(tab) => certify(alloc, &bag, &ahead, &tab, best, nodes),
+        Ok(tab) => certify(alloc, &mut tallies, &tab, best, nodes),
         Err(_) => Err(CertFault::Memory),
     }
 }

@@ -1,20 +1,23 @@
 -- What a line asks for is checked.
-use Rattle.std.proofs.Common.{◌≡◌, ◌≤◌, ◌<◌, ◌&&◌, ◌==◌, ℕ, zero, suc, List, [], ◌∷◌, Option, Some, None, Bool, true, false, not, length, nat_le, refl, subst, arith, leb-true}
+use Rattle.std.proofs.Common.{◌≡◌, ◌≤◌, ◌<◌, ◌&&◌, ◌==◌, ℕ, zero, suc, List, [], ◌∷◌, Option, Some, None, Bool, true, false, not, length, nat_le, refl, sym, ◌∙◌, subst, arith, leb-true}
 use Rattle.std.specs.Prelude.{unwrap_or, option_map, is_some, if◌then◌else◌}
 use Rattle.std.specs.List.{list_all}
 use Rattle.std.proofs.lemmas.Bool.{and_parts, false≢true}
 use Rattle.command_line.specs.Laws.{LinesHaveMeanings, LinesAreChecked, IsChecked, IsNamed, IsUpTo}
-use Rattle.command_line.specs.Line.{Line, command_named, are_right, pieces_of, is_line_of, line_of_command, meaning, file, value}
+use Rattle.command_line.specs.Line.{command_named, are_right, is_given_right, pieces_of, is_line_of, command_by, meaning, file, value, number_of}
 use Rattle.command_line.specs.Pieces.{Piece, File, Given, Stray, fits, files_in}
-use Rattle.command_line.specs.Table.{form_of, kind_of}
+use Rattle.command_line.specs.Table.{kind_of, default_of}
 use Rattle.command_line.specs.Values.{is_number, number, is_value}
-use Rattle.command_line.specs.declared.limits.TheConstants.{MOST_NODES, MOST_FLOOR, DEFAULT_NODES, DEFAULT_FLOOR}
+use Rattle.command_line.specs.declared.limits.TheConstants.{MOST_NODES, MOST_FLOOR, DEFAULT_NODES, DEFAULT_FLOOR, DEFAULT_LIMIT, DEFAULT_GAMMA}
+use Rattle.irv_base.specs.declared.limits.TheConstants.{GREATEST_GAMMA, GREATEST_LIMIT, MOST_DRAWS}
+use Rattle.command_line.specs.declared.command.Command.{Command}
 use Rattle.command_line.specs.declared.table.CommandName.{CommandName}
 use Rattle.command_line.specs.declared.table.CommandName.TheVariants as command
 use Rattle.command_line.specs.declared.table.OptionName.{OptionName}
 use Rattle.command_line.specs.declared.table.OptionName.TheVariants as option
-use Rattle.command_line.specs.declared.table.ValueKind.TheVariants.{NumberTo}
+use Rattle.command_line.specs.declared.table.ValueKind.TheVariants.{Number}
 use Rattle.command_line.proofs.Meanings.{value-fits}
+use Rattle.command_line.proofs.Needed.{IsRight, parts, needed_given, seed_given}
 
 -- ---- words are a line exactly where they have a meaning
 
@@ -22,7 +25,7 @@ chosen : {X : Type 0} (b : Bool) (x : X) → b ≡ is_some (if b then Some x els
 chosen true x = refl
 chosen false x = refl
 
-by_command : (found : Option CommandName) (words : List (List ℕ)) → is_line_of found words ≡ is_some (line_of_command found words)
+by_command : (found : Option CommandName) (words : List (List ℕ)) → is_line_of found words ≡ is_some (command_by found words)
 by_command None words = refl
 by_command (Some command) words = chosen (are_right command (pieces_of command words)) (meaning command (pieces_of command words))
 
@@ -42,46 +45,84 @@ file_named (suc i) (File name ∷ pieces) h less = file_named i pieces (and_part
 file_named i (Given option text ∷ pieces) h less = file_named i pieces (and_parts (fits (Given option text)) (list_all fits pieces) h).1 less
 file_named i (Stray ∷ pieces) h less = absurd (false≢true h)
 
-number_up_to : (most default : ℕ) → IsUpTo most default → (name : OptionName) → kind_of name ≡ NumberTo most → (pieces : List Piece) → list_all fits pieces ≡ true
-    → IsUpTo most (unwrap_or (option_map number (value name pieces)) default)
-number_up_to most default within name kind pieces h = by (value name pieces) (λ v e. subst (λ k. is_value k v ≡ true) kind (value-fits name pieces h v e)) where
-  by : (r : Option (List ℕ)) → ((v : List ℕ) → r ≡ Some v → is_value (NumberTo most) v ≡ true) → IsUpTo most (unwrap_or (option_map number r) default)
-  by None fit = within
-  by (Some v) fit =
-      let (low, high) = and_parts (is_number v && nat_le 1 (number v)) (nat_le (number v) most) (fit v refl) in
-      let (written, least) = and_parts (is_number v) (nat_le 1 (number v)) low in
-      (leb-true 1 (number v) least, leb-true (number v) most high)
+number_up_to : (most : ℕ) (default : Option ℕ) (name : OptionName) → kind_of name ≡ Number 1 most default
+    → (pieces : List Piece) → list_all fits pieces ≡ true → (value name pieces ≡ None → IsUpTo most (unwrap_or default 0)) → IsUpTo most (number_of name pieces)
+number_up_to most default name kind pieces h within =
+    subst (λ k. IsUpTo most (unwrap_or (option_map number (value name pieces)) (default_of k))) (sym kind)
+    (by (value name pieces) (λ v e. subst (λ k. is_value k v ≡ true) kind (value-fits name pieces h v e)) within)
+  where
+    by : (r : Option (List ℕ)) → ((v : List ℕ) → r ≡ Some v → is_value (Number 1 most default) v ≡ true) → (r ≡ None → IsUpTo most (unwrap_or default 0))
+        → IsUpTo most (unwrap_or (option_map number r) (unwrap_or default 0))
+    by None fit within = within refl
+    by (Some v) fit within =
+        let (low, high) = and_parts (is_number v && nat_le 1 (number v)) (nat_le (number v) most) (fit v refl) in
+        let (written, least) = and_parts (is_number v) (nat_le 1 (number v)) low in
+        (leb-true 1 (number v) least, leb-true (number v) most high)
 
-as_many : (a b : ℕ) → (a == b) ≡ true → a ≡ b
-as_many a b h = grind arith
+-- of an option that may be left out
+with_default : (most default : ℕ) → IsUpTo most default → (name : OptionName) → kind_of name ≡ Number 1 most (Some default)
+    → (pieces : List Piece) → list_all fits pieces ≡ true → IsUpTo most (number_of name pieces)
+with_default most default within name kind pieces fit = number_up_to most (Some default) name kind pieces fit (λ none. within)
+
+draws-are : (pieces : List Piece) → list_all fits pieces ≡ true → is_given_right option.Draws pieces ≡ true → IsUpTo MOST_DRAWS (number_of option.Draws pieces)
+draws-are pieces fit right =
+    let (v, is) = needed_given option.Draws pieces refl right in
+    number_up_to MOST_DRAWS None option.Draws refl pieces fit (λ none. let e : Some v ≡ None = sym is ∙ none in absurd (cc e))
 
 meaning_checked : (name : CommandName) (pieces : List Piece) → are_right name pieces ≡ true → IsChecked (meaning name pieces)
-meaning_checked name pieces right =
-    let (front, once) = and_parts (list_all fits pieces && length (files_in pieces) == length (form_of name).files) _ right in
-    let (fit, count) = and_parts (list_all fits pieces) (length (files_in pieces) == length (form_of name).files) front in
-    by name fit (as_many (length (files_in pieces)) (length (form_of name).files) count)
-  where
-    nodes-is : list_all fits pieces ≡ true → IsUpTo MOST_NODES (unwrap_or (option_map number (value option.Nodes pieces)) DEFAULT_NODES)
-    nodes-is fit = number_up_to MOST_NODES DEFAULT_NODES (omega arith, omega arith) option.Nodes refl pieces fit
+meaning_checked name pieces right = by name (parts name pieces right) where
+  nodes-are : list_all fits pieces ≡ true → IsUpTo MOST_NODES (number_of option.Nodes pieces)
+  nodes-are fit = with_default MOST_NODES DEFAULT_NODES (omega arith, omega arith) option.Nodes refl pieces fit
 
-    floor-is : list_all fits pieces ≡ true → IsUpTo MOST_FLOOR (unwrap_or (option_map number (value option.Floor pieces)) DEFAULT_FLOOR)
-    floor-is fit = number_up_to MOST_FLOOR DEFAULT_FLOOR (omega arith, omega arith) option.Floor refl pieces fit
+  floor-is : list_all fits pieces ≡ true → IsUpTo MOST_FLOOR (number_of option.Floor pieces)
+  floor-is fit = with_default MOST_FLOOR DEFAULT_FLOOR (omega arith, omega arith) option.Floor refl pieces fit
 
-    by : (name : CommandName) → list_all fits pieces ≡ true → length (files_in pieces) ≡ length (form_of name).files → IsChecked (meaning name pieces)
-    by command.Search fit n = (file_named 0 pieces fit (omega arith), nodes-is fit, floor-is fit)
-    by command.Tabulate fit n = file_named 0 pieces fit (omega arith)
-    by command.Check fit n = (file_named 0 pieces fit (omega arith), file_named 1 pieces fit (omega arith), nodes-is fit)
+  limit-is : list_all fits pieces ≡ true → IsUpTo GREATEST_LIMIT (number_of option.Limit pieces)
+  limit-is fit = with_default GREATEST_LIMIT DEFAULT_LIMIT (omega arith, omega arith) option.Limit refl pieces fit
+
+  gamma-is : list_all fits pieces ≡ true → IsUpTo GREATEST_GAMMA (number_of option.Gamma pieces)
+  gamma-is fit = with_default GREATEST_GAMMA DEFAULT_GAMMA (omega arith, omega arith) option.Gamma refl pieces fit
+
+  by : (name : CommandName) → IsRight name pieces → IsChecked (meaning name pieces)
+  by command.Search line = (file_named 0 pieces line.fit (omega (arith, line.count)), nodes-are line.fit, floor-is line.fit)
+  by command.Tabulate line = file_named 0 pieces line.fit (omega (arith, line.count))
+  by command.Check line = (file_named 0 pieces line.fit (omega (arith, line.count)), file_named 1 pieces line.fit (omega (arith, line.count)), nodes-are line.fit)
+  by command.Sample line =
+      let (seed, draws) = and_parts (is_given_right option.Seed pieces) (is_given_right option.Draws pieces && true) line.options in
+      (file_named 0 pieces line.fit (omega (arith, line.count)), seed_given pieces line.fit seed, draws-are pieces line.fit (and_parts (is_given_right option.Draws pieces) true draws).0)
+  by command.Plan line = (file_named 0 pieces line.fit (omega (arith, line.count)), file_named 1 pieces line.fit (omega (arith, line.count)), limit-is line.fit, gamma-is line.fit)
+  by command.Open line =
+      let named = λ (i : ℕ) (less : i < 3). file_named i pieces line.fit (omega (arith, line.count, less)) in (
+        named 0 (omega arith),
+        named 1 (omega arith),
+        named 2 (omega arith),
+        seed_given pieces line.fit (and_parts (is_given_right option.Seed pieces) _ line.options).0,
+        limit-is line.fit,
+        gamma-is line.fit,
+        nodes-are line.fit,
+      )
+  by command.Audit line =
+      let named = λ (i : ℕ) (less : i < 5). file_named i pieces line.fit (omega (arith, line.count, less)) in (
+        named 0 (omega arith),
+        named 1 (omega arith),
+        named 2 (omega arith),
+        named 3 (omega arith),
+        named 4 (omega arith),
+        draws-are pieces line.fit (and_parts (is_given_right option.Draws pieces) _ line.options).0,
+        nodes-are line.fit,
+      )
+  by command.Report line = file_named 0 pieces line.fit (omega (arith, line.count))
 
 pub checked-meaning : (command : CommandName) (words : List (List ℕ)) → are_right command (pieces_of command words) ≡ true → IsChecked (meaning command (pieces_of command words))
 checked-meaning command words right = meaning_checked command (pieces_of command words) right
 
-checked_command : (found : Option CommandName) (words : List (List ℕ)) (line : Line) → line_of_command found words ≡ Some line → IsChecked line
-checked_command None words line e = cc
-checked_command (Some command) words line e = by (are_right command (pieces_of command words)) refl e where
-  by : (b : Bool) → are_right command (pieces_of command words) ≡ b → (if b then Some (meaning command (pieces_of command words)) else None) ≡ Some line → IsChecked line
-  by true right e = let same : meaning command (pieces_of command words) ≡ line = cc in subst IsChecked same (checked-meaning command words right)
+checked_command : (found : Option CommandName) (words : List (List ℕ)) (command : Command) → command_by found words ≡ Some command → IsChecked command
+checked_command None words command e = cc
+checked_command (Some name) words command e = by (are_right name (pieces_of name words)) refl e where
+  by : (b : Bool) → are_right name (pieces_of name words) ≡ b → (if b then Some (meaning name (pieces_of name words)) else None) ≡ Some command → IsChecked command
+  by true right e = let same : meaning name (pieces_of name words) ≡ command = cc in subst IsChecked same (checked-meaning name words right)
   by false right e = cc
 
 pub are_checked : LinesAreChecked
-are_checked [] line e = cc
-are_checked (word ∷ words) line e = checked_command (command_named word) words line e
+are_checked [] command e = cc
+are_checked (word ∷ words) command e = checked_command (command_named word) words command e

@@ -3,8 +3,8 @@ mod Places
 mod Counts
 mod Kept
 mod Meanings
+mod Needed
 mod Taken
 mod Rules
-mod Lines
 mod Texts
-mod Checked
+pub mod Checked

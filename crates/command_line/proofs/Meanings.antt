@@ -5,21 +5,47 @@ use Rattle.std.specs.List.{list_all, cons_option}
 use Rattle.std.specs.Char.{is_ascii_digit}
 use Rattle.std.specs.Str.{bytes_eq}
 use Rattle.std.proofs.lemmas.Bool.{and_parts, and_from, false≢true}
-use Rattle.command_line.specs.Line.{value, contest}
+use Rattle.command_line.specs.Line.{value, contest, number_of}
 use Rattle.command_line.specs.OneForm.{value_text, name_in, may_be_number, number_or}
 use Rattle.command_line.specs.Pieces.{Piece, File, Given, Stray, fits, value_in}
-use Rattle.command_line.specs.Table.{text_of, kind_of}
+use Rattle.command_line.specs.Table.{text_of, kind_of, is_number_kind, is_number_option, default_of}
 use Rattle.command_line.specs.Values.{is_number, number, is_value}
+use Rattle.irv_base.specs.declared.limits.TheConstants.{MOST_NUMBER_DIGITS}
 use Rattle.command_line.specs.declared.table.OptionName.{OptionName}
-use Rattle.command_line.specs.declared.table.OptionName.TheVariants.{Contest, Nodes, Floor}
-use Rattle.command_line.specs.declared.table.ValueKind.TheVariants.{Id, NumberTo}
+use Rattle.command_line.specs.declared.table.OptionName.TheVariants.{Contest, Nodes, Floor, Draws, Limit, Gamma}
+use Rattle.command_line.specs.declared.table.OptionName.TheVariants as option
+use Rattle.command_line.specs.declared.table.ValueKind.{ValueKind}
+use Rattle.command_line.specs.declared.table.ValueKind.TheVariants.{Id, Seed, Number}
+
+-- ---- a row an option
 
 -- no two options have one name
 same_option : (a b : OptionName) → bytes_eq (text_of a) (text_of b) ≡ true → a ≡ b
 same_option Contest Contest h = refl
 same_option Nodes Nodes h = refl
 same_option Floor Floor h = refl
+same_option option.Seed option.Seed h = refl
+same_option Draws Draws h = refl
+same_option Limit Limit h = refl
+same_option Gamma Gamma h = refl
 same_option _ _ h = absurd (false≢true h)
+
+abbrev most_of : ValueKind → ℕ
+most_of Id = 0
+most_of Seed = 0
+most_of (Number least most default) = most
+
+-- numbers have room
+small : (option : OptionName) → most_of (kind_of option) < 2 ^ 32
+small Contest = omega arith
+small Nodes = omega arith
+small Floor = omega arith
+small option.Seed = omega arith
+small Draws = omega arith
+small Limit = omega arith
+small Gamma = omega arith
+
+-- ---- the text of an option
 
 pub value-fits : (option : OptionName) (pieces : List Piece) → list_all fits pieces ≡ true → (v : List ℕ) → value option pieces ≡ Some v → is_value (kind_of option) v ≡ true
 value-fits option [] h v e = cc
@@ -43,36 +69,47 @@ contest-is pieces h = by (value Contest pieces) (value-fits Contest pieces h) wh
   by None fit = refl
   by (Some v) fit = rw (fit v refl) refl
 
--- the text of a number that has room
-module _ (most : ℕ) (small : most < 2 ^ 32) where
-  less : (n : ℕ) → n ≤ most → nat_lt n (2 ^ 32) ≡ true
-  less n h = grind (arith, small)
+-- ---- numbers
 
-  has_room : (v : List ℕ) → is_value (NumberTo most) v ≡ true → (is_number v && nat_lt (number v) (2 ^ 32)) ≡ true
-  has_room v h =
-      let (low, high) = and_parts (is_number v && nat_le 1 (number v)) (nat_le (number v) most) h in
-      let (written, least) = and_parts (is_number v) (nat_le 1 (number v)) low in
-      and_from (is_number v) (nat_lt (number v) (2 ^ 32)) written (less (number v) (leb-true (number v) most high))
+-- a number of this kind is written in digits, and has room
+record IsWritten (v : List ℕ) : Type 0 where
+  pub written : is_number v ≡ true
+  pub some : (length v == 0) ≡ false
+  pub room : nat_lt (number v) (2 ^ 32) ≡ true
 
-  some_text : (n : ℕ) → 1 ≤ n → (n == 0) ≡ false
-  some_text n h = grind arith
+some_text : (n : ℕ) → 1 ≤ n → (n == 0) ≡ false
+some_text n h = grind arith
 
-  not_empty : (v : List ℕ) → is_value (NumberTo most) v ≡ true → (length v == 0) ≡ false
-  not_empty v h =
-      let (low, high) = and_parts (is_number v && nat_le 1 (number v)) (nat_le (number v) most) h in
-      let (written, least) = and_parts (is_number v) (nat_le 1 (number v)) low in
-      let (range, digits) = and_parts (nat_le 1 (length v) && nat_le (length v) 10) (list_all is_ascii_digit v) written in
-      some_text (length v) (leb-true 1 (length v) (and_parts (nat_le 1 (length v)) (nat_le (length v) 10) range).0)
+has_room : (n most : ℕ) → n ≤ most → most < 2 ^ 32 → nat_lt n (2 ^ 32) ≡ true
+has_room n most h room = grind (arith, h, room)
 
-  pub may_be : (option : OptionName) (pieces : List Piece) → kind_of option ≡ NumberTo most → list_all fits pieces ≡ true → may_be_number (value_text option pieces) ≡ true
-  may_be option pieces kind h = by (value option pieces) (λ v e. subst (λ k. is_value k v ≡ true) kind (value-fits option pieces h v e)) where
-    by : (r : Option (List ℕ)) → ((v : List ℕ) → r ≡ Some v → is_value (NumberTo most) v ≡ true) → may_be_number (unwrap_or r []) ≡ true
-    by None fit = refl
-    by (Some v) fit = rw (not_empty v (fit v refl)) (has_room v (fit v refl))
+is_written : (kind : ValueKind) → is_number_kind kind ≡ true → most_of kind < 2 ^ 32 → (v : List ℕ) → is_value kind v ≡ true → IsWritten v
+is_written Id n room v h = absurd (false≢true n)
+is_written Seed n room v h = absurd (false≢true n)
+is_written (Number least most default) n room v h =
+    let (low, high) = and_parts (is_number v && nat_le least (number v)) (nat_le (number v) most) h in
+    let (written, up) = and_parts (is_number v) (nat_le least (number v)) low in
+    let (range, digits) = and_parts (nat_le 1 (length v) && nat_le (length v) MOST_NUMBER_DIGITS) (list_all is_ascii_digit v) written in
+    let some = and_parts (nat_le 1 (length v)) (nat_le (length v) MOST_NUMBER_DIGITS) range in
+    record {
+      written = written;
+      some = some_text (length v) (leb-true 1 (length v) some.0);
+      room = has_room (number v) most (leb-true (number v) most high) room;
+    }
 
-  pub number-is : (option : OptionName) (pieces : List Piece) (default : ℕ) → kind_of option ≡ NumberTo most → list_all fits pieces ≡ true
-      → number_or default (value_text option pieces) ≡ unwrap_or (option_map number (value option pieces)) default
-  number-is option pieces default kind h = by (value option pieces) (λ v e. subst (λ k. is_value k v ≡ true) kind (value-fits option pieces h v e)) where
-    by : (r : Option (List ℕ)) → ((v : List ℕ) → r ≡ Some v → is_value (NumberTo most) v ≡ true) → number_or default (unwrap_or r []) ≡ unwrap_or (option_map number r) default
-    by None fit = refl
-    by (Some v) fit = rw (not_empty v (fit v refl)) refl
+module _ (option : OptionName) (is : is_number_option option ≡ true) (pieces : List Piece) (fit : list_all fits pieces ≡ true) where
+  each : (v : List ℕ) → value option pieces ≡ Some v → IsWritten v
+  each v e = is_written (kind_of option) is (small option) v (value-fits option pieces fit v e)
+
+  pub may_be : may_be_number (value_text option pieces) ≡ true
+  may_be = by (value option pieces) each where
+    by : (r : Option (List ℕ)) → ((v : List ℕ) → r ≡ Some v → IsWritten v) → may_be_number (unwrap_or r []) ≡ true
+    by None each = refl
+    by (Some v) each = let w = each v refl in rw w.some (and_from (is_number v) (nat_lt (number v) (2 ^ 32)) w.written w.room)
+
+  pub number-is : number_or (default_of (kind_of option)) (value_text option pieces) ≡ number_of option pieces
+  number-is = by (value option pieces) each where
+    by : (r : Option (List ℕ)) → ((v : List ℕ) → r ≡ Some v → IsWritten v)
+        → number_or (default_of (kind_of option)) (unwrap_or r []) ≡ unwrap_or (option_map number r) (default_of (kind_of option))
+    by None each = refl
+    by (Some v) each = rw (each v refl).some refl

@@ -1,4 +1,4 @@
--- A line in its one form is taken by the command that is made for it, which then shows its values.
+-- A line in its one form is taken by the command that is made for it, which then shows its values: a row a command.
 use Rattle.std.proofs.Common.{◌≡◌, refl, true, List}
 use Rattle.clap.specs.Simple.{is_simple, matches_of}
 use Rattle.clap.specs.Takes.{takes}
@@ -6,21 +6,28 @@ use Rattle.clap.proofs.OnLiterals.{clap_on_literals}
 use Rattle.command_line.specs.OneForm.{app_of_command, one_form, Shows}
 use Rattle.command_line.specs.Pieces.{Piece}
 use Rattle.command_line.specs.declared.table.CommandName.{CommandName}
-use Rattle.command_line.specs.declared.table.CommandName.TheVariants.{Search, Tabulate, Check}
+use Rattle.command_line.specs.declared.table.CommandName.TheVariants.{Search, Tabulate, Check, Sample, Plan, Open, Audit, Report}
 
-pub simple : (command : CommandName) → is_simple (app_of_command command) ≡ true
-simple Search = refl
-simple Tabulate = refl
-simple Check = refl
+pub record IsTaken (command : CommandName) (pieces : List Piece) : Type 0 where
+  pub simple : is_simple (app_of_command command) ≡ true
+  pub taken : takes (app_of_command command) (one_form command pieces) ≡ true
+  pub shown : Shows command pieces (matches_of (app_of_command command) (one_form command pieces))
 
-pub taken : (command : CommandName) (pieces : List Piece) → takes (app_of_command command) (one_form command pieces) ≡ true
+pub is_taken : (command : CommandName) (pieces : List Piece) → IsTaken command pieces
 unfolding clap_on_literals
-taken Search pieces = refl
-taken Tabulate pieces = refl
-taken Check pieces = refl
-
-pub shown : (command : CommandName) (pieces : List Piece) → Shows command pieces (matches_of (app_of_command command) (one_form command pieces))
-unfolding clap_on_literals
-shown Search pieces = record { options = (refl, (refl, (refl, tt))); files = (refl, tt) }
-shown Tabulate pieces = record { options = (refl, tt); files = (refl, tt) }
-shown Check pieces = record { options = (refl, (refl, tt)); files = (refl, (refl, tt)) }
+is_taken Search pieces = record { simple = refl; taken = refl; shown = record { options = (refl, (refl, (refl, tt))); files = (refl, tt) } }
+is_taken Tabulate pieces = record { simple = refl; taken = refl; shown = record { options = (refl, tt); files = (refl, tt) } }
+is_taken Check pieces = record { simple = refl; taken = refl; shown = record { options = (refl, (refl, tt)); files = (refl, (refl, tt)) } }
+is_taken Sample pieces = record { simple = refl; taken = refl; shown = record { options = (refl, (refl, tt)); files = (refl, tt) } }
+is_taken Plan pieces = record { simple = refl; taken = refl; shown = record { options = (refl, (refl, tt)); files = (refl, (refl, tt)) } }
+is_taken Open pieces = record {
+  simple = refl;
+  taken = refl;
+  shown = record { options = (refl, (refl, (refl, (refl, (refl, tt))))); files = (refl, (refl, (refl, tt))) };
+}
+is_taken Audit pieces = record {
+  simple = refl;
+  taken = refl;
+  shown = record { options = (refl, (refl, tt)); files = (refl, (refl, (refl, (refl, (refl, tt))))) };
+}
+is_taken Report pieces = record { simple = refl; taken = refl; shown = record { options = tt; files = (refl, tt) } }

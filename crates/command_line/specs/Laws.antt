@@ -1,11 +1,21 @@
 -- The laws of lines.
-use Rattle.std.specs.Prelude.{◌≡◌, ◌≤◌, ℕ, List, length, Some, is_some}
-use Rattle.command_line.specs.Line.{Line, Search, Tabulate, Check, is_line, line_of}
-use Rattle.command_line.specs.declared.limits.TheConstants.{MOST_NODES, MOST_FLOOR}
+use Rattle.std.specs.Prelude.{◌≡◌, ◌≤◌, ℕ, Bool, true, false, List, [], ◌∷◌, length, replicate, Some, is_some, codes}
+use Rattle.irv_base.specs.declared.limits.TheConstants.{GREATEST_GAMMA, GREATEST_LIMIT, MOST_DRAWS}
+use Rattle.sampler.specs.Seeds.{is_seed}
+use Rattle.command_line.specs.Line.{is_line, command_of}
+use Rattle.command_line.specs.Table.{kind_of}
+use Rattle.command_line.specs.Values.{is_number, is_value}
+use Rattle.command_line.specs.declared.command.Command.{Command}
+use Rattle.command_line.specs.declared.command.Command.TheVariants.{Search, Tabulate, Check, Sample, Plan, Open, Audit, Report}
+use Rattle.command_line.specs.declared.limits.TheConstants.{MOST_NODES, MOST_FLOOR, DEFAULT_NODES, DEFAULT_FLOOR, DEFAULT_LIMIT, DEFAULT_GAMMA}
+use Rattle.command_line.specs.declared.table.OptionName.{OptionName}
+use Rattle.command_line.specs.declared.table.OptionName.TheVariants.{Nodes, Floor, Seed, Draws, Limit, Gamma}
 
 -- Words are a line exactly where they have a meaning.
 abbrev pub LinesHaveMeanings : Type 0
-LinesHaveMeanings = (words : List (List ℕ)) → is_line words ≡ is_some (line_of words)
+LinesHaveMeanings = (words : List (List ℕ)) → is_line words ≡ is_some (command_of words)
+
+-- ---- what a line asks for is checked
 
 abbrev pub IsNamed : List ℕ → Type 0
 IsNamed file = 1 ≤ length file
@@ -14,12 +24,80 @@ IsNamed file = 1 ≤ length file
 abbrev pub IsUpTo : ℕ → ℕ → Type 0
 IsUpTo most n = (1 ≤ n) × (n ≤ most)
 
--- the files have names, and the numbers are within their limits
-abbrev pub IsChecked : Line → Type 0
+-- the files have names, the numbers are within their limits, and a seed is one
+abbrev pub IsChecked : Command → Type 0
 IsChecked (Search ballots contest nodes floor) = IsNamed ballots × IsUpTo MOST_NODES nodes × IsUpTo MOST_FLOOR floor
 IsChecked (Tabulate ballots contest) = IsNamed ballots
 IsChecked (Check ballots assertions contest nodes) = IsNamed ballots × IsNamed assertions × IsUpTo MOST_NODES nodes
+IsChecked (Sample manifest seed draws) = IsNamed manifest × (is_seed seed ≡ true) × IsUpTo MOST_DRAWS draws
+IsChecked (Plan manifest assertions limit gamma) =
+    IsNamed manifest × IsNamed assertions × IsUpTo GREATEST_LIMIT limit × IsUpTo GREATEST_GAMMA gamma
+IsChecked (Open ballots manifest assertions seed contest limit gamma nodes) =
+    IsNamed ballots × IsNamed manifest × IsNamed assertions × (is_seed seed ≡ true) × IsUpTo GREATEST_LIMIT limit × IsUpTo GREATEST_GAMMA gamma
+    × IsUpTo MOST_NODES nodes
+IsChecked (Audit session ballots manifest assertions seen draws nodes) =
+    IsNamed session × IsNamed ballots × IsNamed manifest × IsNamed assertions × IsNamed seen × IsUpTo MOST_DRAWS draws × IsUpTo MOST_NODES nodes
+IsChecked (Report session) = IsNamed session
 
--- What a line asks for is checked.
 abbrev pub LinesAreChecked : Type 0
-LinesAreChecked = (words : List (List ℕ)) (line : Line) → line_of words ≡ Some line → IsChecked line
+LinesAreChecked = (words : List (List ℕ)) (command : Command) → command_of words ≡ Some command → IsChecked command
+
+-- ---- the limits
+
+pub record Limits : Type 0 where
+  pub nodes : MOST_NODES ≡ 200000
+  pub default_nodes : DEFAULT_NODES ≡ 100000
+  pub floor : MOST_FLOOR ≡ 1000000
+  pub default_floor : DEFAULT_FLOOR ≡ 1
+  pub default_limit : DEFAULT_LIMIT ≡ 50000
+  pub default_gamma : DEFAULT_GAMMA ≡ 100
+
+abbrev is_taken : OptionName → List ℕ → Bool
+is_taken option text = is_value (kind_of option) text
+
+-- texts on both sides of each limit
+pub record Examples : Type 0 where
+  pub least_nodes : is_taken Nodes (codes "1") ≡ true
+  pub no_nodes : is_taken Nodes (codes "0") ≡ false
+  pub most_nodes : is_taken Nodes (codes "200000") ≡ true
+  pub more_nodes : is_taken Nodes (codes "200001") ≡ false
+  pub least_floor : is_taken Floor (codes "1") ≡ true
+  pub no_floor : is_taken Floor (codes "0") ≡ false
+  pub most_floor : is_taken Floor (codes "1000000") ≡ true
+  pub more_floor : is_taken Floor (codes "1000001") ≡ false
+  pub least_draws : is_taken Draws (codes "1") ≡ true
+  pub no_draws : is_taken Draws (codes "0") ≡ false
+  pub most_draws : is_taken Draws (codes "100000") ≡ true
+  pub more_draws : is_taken Draws (codes "100001") ≡ false
+  pub least_limit : is_taken Limit (codes "1") ≡ true
+  pub no_limit : is_taken Limit (codes "0") ≡ false
+  pub most_limit : is_taken Limit (codes "999999") ≡ true
+  pub more_limit : is_taken Limit (codes "1000000") ≡ false
+  pub least_gamma : is_taken Gamma (codes "1") ≡ true
+  pub no_gamma : is_taken Gamma (codes "0") ≡ false
+  pub most_gamma : is_taken Gamma (codes "500") ≡ true
+  pub more_gamma : is_taken Gamma (codes "501") ≡ false
+  pub ten_digits : is_number (codes "0000000001") ≡ true
+  pub eleven_digits : is_number (codes "00000000001") ≡ false
+  pub no_digits : is_number (codes "") ≡ false
+  pub no_seed : is_taken Seed (codes "") ≡ false
+  pub least_seed : is_taken Seed (codes "a") ≡ true
+  pub longest_seed : is_taken Seed (replicate 64 0x61) ≡ true
+  pub longer_seed : is_taken Seed (replicate 65 0x61) ≡ false
+  pub first_seed_byte : is_taken Seed (0x20 ∷ []) ≡ true
+  pub no_seed_byte : is_taken Seed (0x1F ∷ []) ≡ false
+  pub last_seed_byte : is_taken Seed (0x7E ∷ []) ≡ true
+  pub another_seed_byte : is_taken Seed (0x7F ∷ []) ≡ false
+
+-- ---- lines
+
+abbrev sample_line : List (List ℕ) → List (List ℕ)
+sample_line options = codes "sample" ∷ codes "m.csv" ∷ options
+
+-- a sample needs a seed and a number of draws, in any order
+pub record Samples : Type 0 where
+  pub both : is_line (sample_line (codes "--seed" ∷ codes "2024" ∷ codes "--draws" ∷ codes "3" ∷ [])) ≡ true
+  pub other_order : is_line (sample_line (codes "--draws=3" ∷ codes "--seed=2024" ∷ [])) ≡ true
+  pub no_seed : is_line (sample_line (codes "--draws" ∷ codes "3" ∷ [])) ≡ false
+  pub no_draws : is_line (sample_line (codes "--seed" ∷ codes "2024" ∷ [])) ≡ false
+  pub two_seeds : is_line (sample_line (codes "--seed" ∷ codes "1" ∷ codes "--seed" ∷ codes "2" ∷ codes "--draws=3" ∷ [])) ≡ false

@@ -6,4 +6,3 @@ pub mod Views
 pub mod Line
 pub mod Laws
 pub mod OneForm
-pub mod Command

@@ -1,30 +1,34 @@
 -- What is a line, and what it asks for.
-use Rattle.std.specs.Prelude.{ℕ, Bool, false, ◌&&◌, ◌==◌, nat_le, List, [], ◌∷◌, length, find, slice_get, Option, None, Some, unwrap_or, option_map, if◌then◌else◌}
+use Rattle.std.specs.Prelude.{ℕ, Bool, false, not, ◌&&◌, ◌||◌, ◌==◌, nat_le, List, [], ◌∷◌, length, find, slice_get, Option, None, Some, unwrap_or, option_map, if◌then◌else◌}
 use Rattle.std.specs.List.{list_all}
 use Rattle.std.specs.Str.{bytes_eq}
 use Rattle.irv_base.specs.Names.{Id}
-use Rattle.command_line.specs.Table.{form_of, commands}
+use Rattle.command_line.specs.Table.{form_of, commands, kind_of, is_needed, default_of}
 use Rattle.command_line.specs.Pieces.{Piece, pieces, files_in, values_in, fits}
 use Rattle.command_line.specs.Values.{number}
-use Rattle.command_line.specs.declared.limits.TheConstants.{DEFAULT_NODES, DEFAULT_FLOOR}
+use Rattle.command_line.specs.declared.command.Command.{Command}
+use Rattle.command_line.specs.declared.command.Command.TheVariants.{Search, Tabulate, Check, Sample, Plan, Open, Audit, Report}
 use Rattle.command_line.specs.declared.table.CommandName.{CommandName}
-use Rattle.command_line.specs.declared.table.CommandName.TheVariants as command
+use Rattle.command_line.specs.declared.table.CommandName.TheVariants as name
 use Rattle.command_line.specs.declared.table.OptionName.{OptionName}
-use Rattle.command_line.specs.declared.table.OptionName.TheVariants.{Contest, Nodes, Floor}
+use Rattle.command_line.specs.declared.table.OptionName.TheVariants.{Contest, Nodes, Floor, Seed, Draws, Limit, Gamma}
 
 -- ---- the rules
 
 abbrev pub command_named : List ℕ → Option CommandName
 command_named word = find (λ command. bytes_eq (form_of command).word word) commands
 
-abbrev pub is_at_most_once : OptionName → List Piece → Bool
-is_at_most_once option pieces = nat_le (length (values_in option pieces)) 1
+-- it stands at most once, and once where a line has to give it
+abbrev pub is_given_right : OptionName → List Piece → Bool
+is_given_right option pieces =
+    let times = length (values_in option pieces) in
+    nat_le times 1 && (times == 1 || not (is_needed (kind_of option)))
 
--- each piece is right, there are as many files as the command has, and each option stands at most once
+-- each piece is right, there are as many files as the command has, and each option is given right
 abbrev pub are_right : CommandName → List Piece → Bool
 are_right command pieces =
     list_all fits pieces && length (files_in pieces) == length (form_of command).files
-    && list_all (λ option. is_at_most_once option pieces) (form_of command).options
+    && list_all (λ option. is_given_right option pieces) (form_of command).options
 
 -- the pieces of a line of the command
 abbrev pub pieces_of : CommandName → List (List ℕ) → List Piece
@@ -40,15 +44,6 @@ is_line (word ∷ words) = is_line_of (command_named word) words
 
 -- ---- the meaning
 
--- a command and its arguments
-pub data Line : Type 0 where
-  -- the ballots, the contest, the nodes, the floor
-  Search : List ℕ → Option Id → ℕ → ℕ → Line
-  -- the ballots, the contest
-  Tabulate : List ℕ → Option Id → Line
-  -- the ballots, the assertions, the contest, the nodes
-  Check : List ℕ → List ℕ → Option Id → ℕ → Line
-
 -- the file at a place, counted from 0
 abbrev pub file : ℕ → List Piece → List ℕ
 file i pieces = unwrap_or (slice_get (files_in pieces) i) []
@@ -59,23 +54,34 @@ value option pieces = slice_get (values_in option pieces) 0
 abbrev pub contest : List Piece → Option Id
 contest pieces = value Contest pieces
 
-abbrev pub nodes : List Piece → ℕ
-nodes pieces = unwrap_or (option_map number (value Nodes pieces)) DEFAULT_NODES
+-- the seed of a line that gives one
+abbrev pub seed : List Piece → List ℕ
+seed pieces = unwrap_or (value Seed pieces) []
 
-abbrev pub floor : List Piece → ℕ
-floor pieces = unwrap_or (option_map number (value Floor pieces)) DEFAULT_FLOOR
+-- the number that is given, or the one of a line that doesn't give it
+abbrev pub number_of : OptionName → List Piece → ℕ
+number_of option pieces = unwrap_or (option_map number (value option pieces)) (default_of (kind_of option))
 
-abbrev pub meaning : CommandName → List Piece → Line
-meaning command.Search pieces = Search (file 0 pieces) (contest pieces) (nodes pieces) (floor pieces)
-meaning command.Tabulate pieces = Tabulate (file 0 pieces) (contest pieces)
-meaning command.Check pieces = Check (file 0 pieces) (file 1 pieces) (contest pieces) (nodes pieces)
+-- the command with its files and the values of its options
+abbrev pub meaning : CommandName → List Piece → Command
+meaning name.Search pieces = Search (file 0 pieces) (contest pieces) (number_of Nodes pieces) (number_of Floor pieces)
+meaning name.Tabulate pieces = Tabulate (file 0 pieces) (contest pieces)
+meaning name.Check pieces = Check (file 0 pieces) (file 1 pieces) (contest pieces) (number_of Nodes pieces)
+meaning name.Sample pieces = Sample (file 0 pieces) (seed pieces) (number_of Draws pieces)
+meaning name.Plan pieces = Plan (file 0 pieces) (file 1 pieces) (number_of Limit pieces) (number_of Gamma pieces)
+meaning name.Open pieces =
+    Open (file 0 pieces) (file 1 pieces) (file 2 pieces) (seed pieces) (contest pieces) (number_of Limit pieces) (number_of Gamma pieces)
+    (number_of Nodes pieces)
+meaning name.Audit pieces =
+    Audit (file 0 pieces) (file 1 pieces) (file 2 pieces) (file 3 pieces) (file 4 pieces) (number_of Draws pieces) (number_of Nodes pieces)
+meaning name.Report pieces = Report (file 0 pieces)
 
-abbrev pub line_of_command : Option CommandName → List (List ℕ) → Option Line
-line_of_command None words = None
-line_of_command (Some command) words =
-    let found = pieces_of command words in if are_right command found then Some (meaning command found) else None
+abbrev pub command_by : Option CommandName → List (List ℕ) → Option Command
+command_by None words = None
+command_by (Some name) words =
+    let found = pieces_of name words in if are_right name found then Some (meaning name found) else None
 
--- the words as a line
-abbrev pub line_of : List (List ℕ) → Option Line
-line_of [] = None
-line_of (word ∷ words) = line_of_command (command_named word) words
+-- the command that the words ask for
+abbrev pub command_of : List (List ℕ) → Option Command
+command_of [] = None
+command_of (word ∷ words) = command_by (command_named word) words

@@ -1,15 +1,19 @@
 -- The one form in which a line is handed to `clap`, and what the matches then show.
-use Rattle.std.specs.Prelude.{◌≡◌, ℕ, suc, List, [], ◌∷◌, ◌++◌, map, fold, length, Option, None, Some, unwrap_or, codes, if◌then◌else◌, Bool, ◌&&◌, ◌||◌, ◌==◌, ◌^◌, nat_lt}
-use Rattle.std.specs.List.{range_with_len}
+use Rattle.std.specs.Prelude.{◌≡◌, ℕ, suc, List, [], ◌∷◌, ◌++◌, map, fold, length, Option, None, Some, Result, IfOk, unwrap_or, codes, if◌then◌else◌, Bool, true, ◌&&◌, ◌||◌, ◌==◌, ◌^◌, nat_lt}
+use Rattle.std.specs.List.{range_with_len, list_all}
+use Rattle.std.specs.declared.alloc.AllocError.{AllocError}
 use Rattle.clap.specs.Walk.{Row, Rule, first_of}
 use Rattle.clap.specs.Simple.{App, new_app, new_rule, with_rule}
 use Rattle.irv_base.specs.Names.{Id, is_name}
-use Rattle.command_line.specs.Line.{file, value}
-use Rattle.command_line.specs.Pieces.{Piece}
+use Rattle.sampler.specs.Seeds.{is_seed}
+use Rattle.command_line.specs.Line.{are_right, file, meaning, value}
+use Rattle.command_line.specs.Pieces.{Piece, fits}
 use Rattle.command_line.specs.Table.{form_of, text_of}
 use Rattle.command_line.specs.Values.{is_number, number}
+use Rattle.command_line.specs.declared.command.Command.{Command}
 use Rattle.command_line.specs.declared.table.CommandName.{CommandName}
 use Rattle.command_line.specs.declared.table.OptionName.{OptionName}
+use Rattle.command_line.specs.declared.table.OptionName.TheVariants.{Seed}
 
 -- the value of an option, or no text where it isn't given
 abbrev pub value_text : OptionName → List Piece → List ℕ
@@ -48,9 +52,12 @@ app_of_command command = let form = form_of command in app_for form.word form.fi
 
 -- ---- what its matches show
 
+abbrev pub IsShown : OptionName → List Piece → List Row → Type 0
+IsShown option pieces rows = first_of (text_of option) rows ≡ Some (value_text option pieces)
+
 abbrev pub ShowsOptions : List Row → List Piece → List OptionName → Type 0
 ShowsOptions rows pieces [] = Unit {0}
-ShowsOptions rows pieces (option ∷ options) = (first_of (text_of option) rows ≡ Some (value_text option pieces)) × ShowsOptions rows pieces options
+ShowsOptions rows pieces (option ∷ options) = IsShown option pieces rows × ShowsOptions rows pieces options
 
 abbrev pub ShowsFiles : List Row → List Piece → ℕ → List (List ℕ) → Type 0
 ShowsFiles rows pieces i [] = Unit {0}
@@ -59,6 +66,21 @@ ShowsFiles rows pieces i (name ∷ names) = (first_of name rows ≡ Some (file i
 pub record Shows (command : CommandName) (pieces : List Piece) (rows : List Row) : Type 0 where
   pub options : ShowsOptions rows pieces (form_of command).options
   pub files : ShowsFiles rows pieces 0 (form_of command).files
+
+-- the matches are those of a line of the command
+pub record AreOfLine (command : CommandName) (rows : List Row) : Type 0 where
+  pub pieces : List Piece
+  pub right : are_right command pieces ≡ true
+  pub shows : Shows command pieces rows
+
+-- they show a seed
+abbrev pub HasSeed : List Row → Type 0
+HasSeed rows = (text : List ℕ) × (is_seed text ≡ true) × (first_of (text_of Seed) rows ≡ Some text)
+
+-- it is the command that the pieces mean which are shown, if there is one
+abbrev pub IsMeant : CommandName → List Row → Result Command AllocError → Type 0
+IsMeant name rows result =
+    (pieces : List Piece) → list_all fits pieces ≡ true → Shows name pieces rows → IfOk result (λ command. command ≡ meaning name pieces)
 
 -- ---- a text that is handed on
 

@@ -1,12 +1,13 @@
 -- The commands and the options: a line for each.
-use Rattle.std.specs.Prelude.{ℕ, List, [], ◌∷◌, codes}
-use Rattle.command_line.specs.declared.limits.TheConstants.{MOST_NODES, MOST_FLOOR}
+use Rattle.std.specs.Prelude.{ℕ, Bool, true, false, List, [], ◌∷◌, None, Some, is_none, unwrap_or, codes}
+use Rattle.irv_base.specs.declared.limits.TheConstants.{GREATEST_GAMMA, GREATEST_LIMIT, MOST_DRAWS}
+use Rattle.command_line.specs.declared.limits.TheConstants.{MOST_NODES, MOST_FLOOR, DEFAULT_NODES, DEFAULT_FLOOR, DEFAULT_LIMIT, DEFAULT_GAMMA}
 use Rattle.command_line.specs.declared.table.CommandName.{CommandName}
-use Rattle.command_line.specs.declared.table.CommandName.TheVariants.{Search, Tabulate, Check}
+use Rattle.command_line.specs.declared.table.CommandName.TheVariants.{Search, Tabulate, Check, Sample, Plan, Open, Audit, Report}
 use Rattle.command_line.specs.declared.table.OptionName.{OptionName}
-use Rattle.command_line.specs.declared.table.OptionName.TheVariants.{Contest, Nodes, Floor}
+use Rattle.command_line.specs.declared.table.OptionName.TheVariants as option
 use Rattle.command_line.specs.declared.table.ValueKind.{ValueKind}
-use Rattle.command_line.specs.declared.table.ValueKind.TheVariants.{Id, NumberTo}
+use Rattle.command_line.specs.declared.table.ValueKind.TheVariants.{Id, Seed, Number}
 
 -- what a line of a command has: its word, its files in order, and the options that it may have
 pub record Form : Type 0 where
@@ -15,21 +16,62 @@ pub record Form : Type 0 where
   pub options : List OptionName
 
 abbrev pub form_of : CommandName → Form
-form_of Search = record { word = codes "search"; files = codes "ballots" ∷ []; options = Contest ∷ Nodes ∷ Floor ∷ [] }
-form_of Tabulate = record { word = codes "tabulate"; files = codes "ballots" ∷ []; options = Contest ∷ [] }
-form_of Check = record { word = codes "check"; files = codes "ballots" ∷ codes "assertions" ∷ []; options = Contest ∷ Nodes ∷ [] }
+form_of Search = record { word = codes "search"; files = codes "ballots" ∷ []; options = option.Contest ∷ option.Nodes ∷ option.Floor ∷ [] }
+form_of Tabulate = record { word = codes "tabulate"; files = codes "ballots" ∷ []; options = option.Contest ∷ [] }
+form_of Check = record { word = codes "check"; files = codes "ballots" ∷ codes "assertions" ∷ []; options = option.Contest ∷ option.Nodes ∷ [] }
+form_of Sample = record { word = codes "sample"; files = codes "manifest" ∷ []; options = option.Seed ∷ option.Draws ∷ [] }
+form_of Plan = record { word = codes "plan"; files = codes "manifest" ∷ codes "assertions" ∷ []; options = option.Limit ∷ option.Gamma ∷ [] }
+form_of Open = record {
+  word = codes "open";
+  files = codes "ballots" ∷ codes "manifest" ∷ codes "assertions" ∷ [];
+  options = option.Seed ∷ option.Contest ∷ option.Limit ∷ option.Gamma ∷ option.Nodes ∷ [];
+}
+form_of Audit = record {
+  word = codes "audit";
+  files = codes "session" ∷ codes "ballots" ∷ codes "manifest" ∷ codes "assertions" ∷ codes "seen" ∷ [];
+  options = option.Draws ∷ option.Nodes ∷ [];
+}
+form_of Report = record { word = codes "report"; files = codes "session" ∷ []; options = [] }
 
 abbrev pub commands : List CommandName
-commands = Search ∷ Tabulate ∷ Check ∷ []
+commands = Search ∷ Tabulate ∷ Check ∷ Sample ∷ Plan ∷ Open ∷ Audit ∷ Report ∷ []
 
 -- an option's name, without the hyphens
 abbrev pub text_of : OptionName → List ℕ
-text_of Contest = codes "contest"
-text_of Nodes = codes "nodes"
-text_of Floor = codes "floor"
+text_of option.Contest = codes "contest"
+text_of option.Nodes = codes "nodes"
+text_of option.Floor = codes "floor"
+text_of option.Seed = codes "seed"
+text_of option.Draws = codes "draws"
+text_of option.Limit = codes "limit"
+text_of option.Gamma = codes "gamma"
 
 -- what its value may be
 abbrev pub kind_of : OptionName → ValueKind
-kind_of Contest = Id
-kind_of Nodes = NumberTo MOST_NODES
-kind_of Floor = NumberTo MOST_FLOOR
+kind_of option.Contest = Id
+kind_of option.Nodes = Number 1 MOST_NODES (Some DEFAULT_NODES)
+kind_of option.Floor = Number 1 MOST_FLOOR (Some DEFAULT_FLOOR)
+kind_of option.Seed = Seed
+kind_of option.Draws = Number 1 MOST_DRAWS None
+kind_of option.Limit = Number 1 GREATEST_LIMIT (Some DEFAULT_LIMIT)
+kind_of option.Gamma = Number 1 GREATEST_GAMMA (Some DEFAULT_GAMMA)
+
+abbrev pub is_number_kind : ValueKind → Bool
+is_number_kind Id = false
+is_number_kind Seed = false
+is_number_kind (Number least most default) = true
+
+abbrev pub is_number_option : OptionName → Bool
+is_number_option option = is_number_kind (kind_of option)
+
+-- a line has to give it
+abbrev pub is_needed : ValueKind → Bool
+is_needed Id = false
+is_needed Seed = true
+is_needed (Number least most default) = is_none default
+
+-- the number of a line that doesn't give it
+abbrev pub default_of : ValueKind → ℕ
+default_of Id = 0
+default_of Seed = 0
+default_of (Number least most default) = unwrap_or default 0

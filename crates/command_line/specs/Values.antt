@@ -4,11 +4,12 @@ use Rattle.std.specs.Char.{is_ascii_digit}
 use Rattle.std.specs.List.{list_all}
 use Rattle.std.specs.Str.Parse.{digits_value}
 use Rattle.irv_base.specs.Names.{is_name}
-use Rattle.command_line.specs.declared.limits.TheConstants.{MOST_NUMBER_DIGITS}
+use Rattle.sampler.specs.Seeds.{is_seed}
+use Rattle.irv_base.specs.declared.limits.TheConstants.{MOST_NUMBER_DIGITS}
 use Rattle.command_line.specs.declared.table.ValueKind.{ValueKind}
-use Rattle.command_line.specs.declared.table.ValueKind.TheVariants.{Id, NumberTo}
+use Rattle.command_line.specs.declared.table.ValueKind.TheVariants.{Id, Seed, Number}
 
--- 1 to 10 digits, leading zeros allowed
+-- 1 to MOST_NUMBER_DIGITS digits, leading zeros allowed
 abbrev pub is_number : List ℕ → Bool
 is_number text = nat_le 1 (length text) && nat_le (length text) MOST_NUMBER_DIGITS && list_all is_ascii_digit text
 
@@ -17,4 +18,5 @@ number text = digits_value 10 text
 
 abbrev pub is_value : ValueKind → List ℕ → Bool
 is_value Id text = is_name text
-is_value (NumberTo most) text = is_number text && nat_le 1 (number text) && nat_le (number text) most
+is_value Seed text = is_seed text
+is_value (Number least most default) text = is_number text && nat_le least (number text) && nat_le (number text) most

@@ -1,117 +1,204 @@
 // A command with its arguments, as a line asks for it.
-ghost use Rattle.std.specs.Prelude.{◌≡◌, List, ℕ, true, false, IfOk, IfSome, option_map, string_bytes};
-ghost use Rattle.std.specs.List.{list_all};
-ghost use Rattle.clap.specs.Words.{first_of, rows_of, found_of};
+ghost use Rattle.std.specs.Prelude.{◌≡◌, true, false, IfOk, IfSome};
+ghost use Rattle.clap.specs.Words.{rows_of, found_of};
 ghost use Rattle.command_line.specs.Words.{texts};
-ghost use Rattle.command_line.specs.Table.{text_of};
-ghost use Rattle.command_line.specs.Pieces.{Piece, fits};
-ghost use Rattle.command_line.specs.Line.{is_line, are_right, pieces_of, line_of, meaning};
-ghost use Rattle.command_line.specs.OneForm.{Shows, name_in, may_be_number, number_or};
+ghost use Rattle.command_line.specs.Line.{is_line, are_right, pieces_of, command_of, meaning};
+ghost use Rattle.command_line.specs.OneForm.{AreOfLine, IsMeant};
 ghost use Rattle.command_line.specs.Laws.{IsChecked};
-ghost use Rattle.command_line.specs.Command.{line};
 
-use crate::limits::{DEFAULT_FLOOR, DEFAULT_NODES};
+use crate::arguments::{contest, file, number, seed};
+use crate::file_name::FileName;
 use crate::line::{are_right, command_named};
 use crate::one_form::one_form;
 use crate::parsed::parsed;
-use crate::table::{ASSERTIONS, BALLOTS, CommandName, OptionName};
+use crate::table::{ASSERTIONS, BALLOTS, CommandName, MANIFEST, OptionName, SEEN, SESSION};
 use clap::ArgMatches;
 use irv_base::{Memory, Name};
+use sampler::Seed;
 use std::alloc::{AllocError, Global};
 
-/// A command with its arguments. Files are named as the words name them, and are read by nobody yet.
+/// A command with its arguments. Its files are named, and are read by nobody yet.
 #[derive(Drop)]
 pub enum Command {
     /// The assertions that confirm the winner of a contest, or why there are none.
     Search {
-        file: String,
+        ballots: FileName,
         contest: Option<Name>,
         nodes: u32,
         floor: u32,
     },
     /// The rounds of a contest.
     Tabulate {
-        file: String,
+        ballots: FileName,
         contest: Option<Name>,
     },
     /// Whether an assertion file holds of the ballots of a contest.
     Check {
-        ballots: String,
-        assertions: String,
+        ballots: FileName,
+        assertions: FileName,
         contest: Option<Name>,
         nodes: u32,
     },
+    /// The cards that a seed draws.
+    Sample {
+        manifest: FileName,
+        seed: Seed,
+        draws: u32,
+    },
+    /// How many draws a clean audit takes, for a risk limit in millionths and a gamma in thousandths.
+    Plan {
+        manifest: FileName,
+        assertions: FileName,
+        limit: u32,
+        gamma: u32,
+    },
+    /// The session of an audit before its first round.
+    Open {
+        ballots: FileName,
+        manifest: FileName,
+        assertions: FileName,
+        seed: Seed,
+        contest: Option<Name>,
+        limit: u32,
+        gamma: u32,
+        nodes: u32,
+    },
+    /// The session with a round more, up to so many draws in all.
+    Audit {
+        session: FileName,
+        ballots: FileName,
+        manifest: FileName,
+        assertions: FileName,
+        seen: FileName,
+        draws: u32,
+        nodes: u32,
+    },
+    /// What a session says.
+    Report {
+        session: FileName,
+    },
 }
 
-// The text that the matches have of an option or a file.
-fn text<'a>(matches: &ArgMatches<'a>, id: &str) -> &'a str
-    ensures { (text : List ℕ) → first_of id.now (rows_of (found_of matches.now)) ≡ Some text → result.now ≡ text }
+fn search(alloc: Global, matches: &ArgMatches<'_>) -> Result<Command, AllocError>
+    ensures { IsMeant CommandName.Search (rows_of (found_of matches.now)) result }
 {
-    matches.get_str(id).unwrap_or("")
+    Ok(Command::Search {
+        ballots: file(alloc, BALLOTS, matches)?,
+        contest: contest(matches),
+        nodes: number(OptionName::Nodes, matches),
+        floor: number(OptionName::Floor, matches),
+    })
 }
 
-fn contest(matches: &ArgMatches<'_>) -> Option<Name>
-    ensures { (text : List ℕ) → first_of (text_of OptionName.Contest) (rows_of (found_of matches.now)) ≡ Some text → result ≡ name_in text }
+fn tabulate(alloc: Global, matches: &ArgMatches<'_>) -> Result<Command, AllocError>
+    ensures { IsMeant CommandName.Tabulate (rows_of (found_of matches.now)) result }
 {
-    Name::read(text(matches, OptionName::Contest.text()).as_bytes())
+    Ok(Command::Tabulate {
+        ballots: file(alloc, BALLOTS, matches)?,
+        contest: contest(matches),
+    })
 }
 
-fn number_or(default: u32, text: &str) -> u32
-    ensures { may_be_number text.now ≡ true → result ≡ number_or default text.now }
+fn check(alloc: Global, matches: &ArgMatches<'_>) -> Result<Command, AllocError>
+    ensures { IsMeant CommandName.Check (rows_of (found_of matches.now)) result }
 {
-    if text.is_empty() {
-        return default;
-    }
-    text.parse::<u32>().unwrap_or(default)
+    Ok(Command::Check {
+        ballots: file(alloc, BALLOTS, matches)?,
+        assertions: file(alloc, ASSERTIONS, matches)?,
+        contest: contest(matches),
+        nodes: number(OptionName::Nodes, matches),
+    })
 }
 
-fn number(option: OptionName, default: u32, matches: &ArgMatches<'_>) -> u32
-    ensures { (text : List ℕ) → first_of (text_of option) (rows_of (found_of matches.now)) ≡ Some text → may_be_number text ≡ true → result ≡ number_or default text }
+fn sample(alloc: Global, matches: &ArgMatches<'_>) -> Result<Command, AllocError>
+    requires { AreOfLine CommandName.Sample (rows_of (found_of matches.now)) }
+    ensures { IsMeant CommandName.Sample (rows_of (found_of matches.now)) result }
 {
-    number_or(default, text(matches, option.text()))
+    Ok(Command::Sample {
+        manifest: file(alloc, MANIFEST, matches)?,
+        seed: seed(matches),
+        draws: number(OptionName::Draws, matches),
+    })
 }
 
-fn file(alloc: Global, id: &str, matches: &ArgMatches<'_>) -> Result<String, AllocError>
-    ensures { (name : List ℕ) → first_of id.now (rows_of (found_of matches.now)) ≡ Some name → IfOk result (λ file. string_bytes file ≡ name) }
+fn plan(alloc: Global, matches: &ArgMatches<'_>) -> Result<Command, AllocError>
+    ensures { IsMeant CommandName.Plan (rows_of (found_of matches.now)) result }
 {
-    String::from_str(alloc, text(matches, id))
+    Ok(Command::Plan {
+        manifest: file(alloc, MANIFEST, matches)?,
+        assertions: file(alloc, ASSERTIONS, matches)?,
+        limit: number(OptionName::Limit, matches),
+        gamma: number(OptionName::Gamma, matches),
+    })
 }
 
-fn command_of(
+fn open_session(alloc: Global, matches: &ArgMatches<'_>) -> Result<Command, AllocError>
+    requires { AreOfLine CommandName.Open (rows_of (found_of matches.now)) }
+    ensures { IsMeant CommandName.Open (rows_of (found_of matches.now)) result }
+{
+    Ok(Command::Open {
+        ballots: file(alloc, BALLOTS, matches)?,
+        manifest: file(alloc, MANIFEST, matches)?,
+        assertions: file(alloc, ASSERTIONS, matches)?,
+        seed: seed(matches),
+        contest: contest(matches),
+        limit: number(OptionName::Limit, matches),
+        gamma: number(OptionName::Gamma, matches),
+        nodes: number(OptionName::Nodes, matches),
+    })
+}
+
+fn audit(alloc: Global, matches: &ArgMatches<'_>) -> Result<Command, AllocError>
+    ensures { IsMeant CommandName.Audit (rows_of (found_of matches.now)) result }
+{
+    Ok(Command::Audit {
+        session: file(alloc, SESSION, matches)?,
+        ballots: file(alloc, BALLOTS, matches)?,
+        manifest: file(alloc, MANIFEST, matches)?,
+        assertions: file(alloc, ASSERTIONS, matches)?,
+        seen: file(alloc, SEEN, matches)?,
+        draws: number(OptionName::Draws, matches),
+        nodes: number(OptionName::Nodes, matches),
+    })
+}
+
+fn report(alloc: Global, matches: &ArgMatches<'_>) -> Result<Command, AllocError>
+    ensures { IsMeant CommandName.Report (rows_of (found_of matches.now)) result }
+{
+    Ok(Command::Report {
+        session: file(alloc, SESSION, matches)?,
+    })
+}
+
+// The command of the matches of its line.
+fn read_command(
     alloc: Global,
     name: CommandName,
     matches: &ArgMatches<'_>,
 ) -> Result<Command, AllocError>
-    ensures { (pieces : List Piece) → list_all fits pieces ≡ true → Shows name pieces (rows_of (found_of matches.now)) → IfOk result (λ command. line command ≡ meaning name pieces) }
+    requires { AreOfLine name (rows_of (found_of matches.now)) }
+    ensures { IsMeant name (rows_of (found_of matches.now)) result }
 {
     match name {
-        CommandName::Search => Ok(Command::Search {
-            file: file(alloc, BALLOTS, matches)?,
-            contest: contest(matches),
-            nodes: number(OptionName::Nodes, DEFAULT_NODES, matches),
-            floor: number(OptionName::Floor, DEFAULT_FLOOR, matches),
-        }),
-        CommandName::Tabulate => Ok(Command::Tabulate {
-            file: file(alloc, BALLOTS, matches)?,
-            contest: contest(matches),
-        }),
-        CommandName::Check => Ok(Command::Check {
-            ballots: file(alloc, BALLOTS, matches)?,
-            assertions: file(alloc, ASSERTIONS, matches)?,
-            contest: contest(matches),
-            nodes: number(OptionName::Nodes, DEFAULT_NODES, matches),
-        }),
+        CommandName::Search => search(alloc, matches),
+        CommandName::Tabulate => tabulate(alloc, matches),
+        CommandName::Check => check(alloc, matches),
+        CommandName::Sample => sample(alloc, matches),
+        CommandName::Plan => plan(alloc, matches),
+        CommandName::Open => open_session(alloc, matches),
+        CommandName::Audit => audit(alloc, matches),
+        CommandName::Report => report(alloc, matches),
     }
 }
 
 // The command of a line that begins with the command's word.
 fn read_line(alloc: Global, name: CommandName, words: &[String]) -> Result<Command, Memory>
     requires { are_right name (pieces_of name (texts words.now)) ≡ true }
-    ensures { IfOk result (λ command. line command ≡ meaning name (pieces_of name (texts words.now))) }
+    ensures { IfOk result (λ command. command ≡ meaning name (pieces_of name (texts words.now))) }
 {
     let form = one_form(alloc, name, words)?;
     match parsed(alloc, name, form.as_slice()) {
-        Ok(matches) => Ok(command_of(alloc, name, &matches)?),
+        Ok(matches) => Ok(read_command(alloc, name, &matches)?),
         Err(_) => Err(Memory),
     }
 }
@@ -122,9 +209,9 @@ fn read_line(alloc: Global, name: CommandName, words: &[String]) -> Result<Comma
 ///
 /// `Memory` alone, and only for words that are a line.
 pub fn read(alloc: Global, words: &[String]) -> Result<Option<Command>, Memory>
-    ensures read { IfOk result (λ command. option_map line command ≡ line_of (texts words.now)) }
+    ensures read { IfOk result (λ command. command ≡ command_of (texts words.now)) }
     // Files have names, and numbers are within their limits.
-    ensures checked { IfOk result (λ command. IfSome command (λ command. IsChecked (line command))) }
+    ensures checked { IfOk result (λ command. IfSome command IsChecked) }
     ensures no_line { is_line (texts words.now) ≡ false → result ≡ Ok None }
 {
     match words.split_first() {

@@ -1,5 +1,5 @@
 //! The laws of lines: each holds of all words, and has no code.
-ghost use Rattle.command_line.specs.Laws.{LinesHaveMeanings, LinesAreChecked};
+ghost use Rattle.command_line.specs.Laws.{LinesHaveMeanings, LinesAreChecked, Limits, Examples, Samples};
 
 /// Words are a line exactly where they have a meaning.
 pub fn lines_have_meanings()
@@ -9,4 +9,19 @@ pub fn lines_have_meanings()
 /// The files of a line have names, and its numbers are within their limits.
 pub fn lines_are_checked()
     ensures { LinesAreChecked }
+{}
+
+/// The limits and the defaults of options, as numbers.
+pub fn limits()
+    ensures { Limits }
+{}
+
+/// Values of options on both sides of each limit.
+pub fn examples()
+    ensures { Examples }
+{}
+
+/// Lines of `sample`, with and without what they need.
+pub fn sample_lines()
+    ensures { Samples }
 {}

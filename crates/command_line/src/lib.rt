@@ -1,7 +1,9 @@
 //! The words of a call: which are a line, and the command with checked arguments that a line asks for.
 #![tactic(auto)]
 
+mod arguments;
 mod command;
+mod file_name;
 pub mod laws;
 mod limits;
 mod line;
@@ -12,7 +14,10 @@ mod table;
 mod value;
 
 pub use command::{Command, read};
-pub use limits::{DEFAULT_FLOOR, DEFAULT_NODES, MOST_FLOOR, MOST_NODES};
+pub use file_name::FileName;
+pub use limits::{
+    DEFAULT_FLOOR, DEFAULT_GAMMA, DEFAULT_LIMIT, DEFAULT_NODES, MOST_FLOOR, MOST_NODES,
+};
 pub use line::is_line;
 
 #[cfg(test)]

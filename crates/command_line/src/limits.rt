@@ -12,5 +12,8 @@ pub const MOST_FLOOR: u32 = 1_000_000;
 /// The floor where a line doesn't say.
 pub const DEFAULT_FLOOR: u32 = 1;
 
-/// The most digits of a number.
-pub const MOST_NUMBER_DIGITS: usize = 10;
+/// The risk limit where a line doesn't say, in millionths.
+pub const DEFAULT_LIMIT: u32 = 50_000;
+
+/// The gamma where a line doesn't say, in thousandths.
+pub const DEFAULT_GAMMA: u32 = 100;

@@ -2,7 +2,7 @@
 ghost use Rattle.std.specs.Prelude.{◌≡◌, length};
 ghost use Rattle.std.specs.List.{list_all};
 ghost use Rattle.command_line.specs.Words.{texts};
-ghost use Rattle.command_line.specs.Line.{is_line, are_right, command_named, is_at_most_once, pieces_of};
+ghost use Rattle.command_line.specs.Line.{is_line, are_right, command_named, is_given_right, pieces_of};
 ghost use Rattle.command_line.specs.Pieces.{pieces, files_in, values_in, fits};
 
 use crate::pieces::Pieces;
@@ -24,10 +24,18 @@ fn file_count(pieces: Pieces<'_>) -> usize
     pieces.filter(|piece| piece.is_file()).count()
 }
 
-fn is_at_most_once(option: OptionName, pieces: Pieces<'_>) -> bool
-    ensures { result ≡ is_at_most_once option pieces.entry }
+fn times_given(option: OptionName, pieces: Pieces<'_>) -> usize
+    ensures { result ≡ length (values_in option pieces.entry) }
 {
-    pieces.filter(|piece| piece.gives(option)).count() <= 1
+    pieces.filter(|piece| piece.gives(option)).count()
+}
+
+// Whether an option stands at most once, and once where a line has to give it.
+fn is_given_right(option: OptionName, pieces: Pieces<'_>) -> bool
+    ensures { result ≡ is_given_right option pieces.entry }
+{
+    let times = times_given(option, pieces);
+    times <= 1 && (times == 1 || !option.kind().is_needed())
 }
 
 fn all_fit(mut pieces: Pieces<'_>) -> bool
@@ -36,10 +44,11 @@ fn all_fit(mut pieces: Pieces<'_>) -> bool
     pieces.all(|piece| piece.fits())
 }
 
-fn are_at_most_once(options: &[OptionName], words: &[String]) -> bool
-    ensures { result ≡ list_all (λ option. is_at_most_once option (pieces options.now (texts words.now))) options.now }
+fn are_given_right(options: &[OptionName], words: &[String]) -> bool
+    ensures { let given = pieces options.now (texts words.now) in
+        result ≡ list_all (λ option. is_given_right option given) options.now }
 {
-    options.iter().all(|option| is_at_most_once(*option, Pieces::of(options, words)))
+    options.iter().all(|option| is_given_right(*option, Pieces::of(options, words)))
 }
 
 /// Whether the words after its word are a line of the command.
@@ -49,7 +58,7 @@ pub fn are_right(command: CommandName, words: &[String]) -> bool
     let form = command.form();
     all_fit(Pieces::of(form.options, words))
         && file_count(Pieces::of(form.options, words)) == form.files.len()
-        && are_at_most_once(form.options, words)
+        && are_given_right(form.options, words)
 }
 
 /// Whether the words of a call, without the program's own name, are a line. No memory is taken.

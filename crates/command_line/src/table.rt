@@ -1,8 +1,11 @@
 // The commands and the options: a line for each.
 ghost use Rattle.std.specs.Prelude.{◌≡◌, map};
-ghost use Rattle.command_line.specs.Table.{form_of, text_of, kind_of};
+ghost use Rattle.command_line.specs.Table.{form_of, text_of, kind_of, is_needed, default_of};
 
-use crate::limits::{MOST_FLOOR, MOST_NODES};
+use crate::limits::{
+    DEFAULT_FLOOR, DEFAULT_GAMMA, DEFAULT_LIMIT, DEFAULT_NODES, MOST_FLOOR, MOST_NODES,
+};
+use irv_base::{GREATEST_GAMMA, GREATEST_LIMIT, MOST_DRAWS};
 
 /// The commands that there are.
 #[derive(Clone, Copy, Debug, PartialEq, Eq)]
@@ -10,6 +13,11 @@ pub enum CommandName {
     Search,
     Tabulate,
     Check,
+    Sample,
+    Plan,
+    Open,
+    Audit,
+    Report,
 }
 
 /// The options that there are.
@@ -18,15 +26,25 @@ pub enum OptionName {
     Contest,
     Nodes,
     Floor,
+    Seed,
+    Draws,
+    Limit,
+    Gamma,
 }
 
 /// What the value of an option may be.
 #[derive(Clone, Copy, Debug, PartialEq, Eq)]
 pub enum ValueKind {
-    /// An id.
+    /// An id. A line may leave it out.
     Id,
-    /// A number from 1 to so many.
-    NumberTo(u32),
+    /// A seed. A line has to give it.
+    Seed,
+    /// A number within these limits. A line may leave it out where there is a number for that case.
+    Number {
+        least: u32,
+        most: u32,
+        default: Option<u32>,
+    },
 }
 
 /// What a line of a command has: its word, its files in order, and the options that it may have.
@@ -37,15 +55,26 @@ pub struct Form<'f> {
     pub options: &'f [OptionName],
 }
 
-pub const COMMANDS: [CommandName; 3] = [
+pub const COMMANDS: [CommandName; 8] = [
     CommandName::Search,
     CommandName::Tabulate,
     CommandName::Check,
+    CommandName::Sample,
+    CommandName::Plan,
+    CommandName::Open,
+    CommandName::Audit,
+    CommandName::Report,
 ];
 
 pub const BALLOTS: &str = "ballots";
 
 pub const ASSERTIONS: &str = "assertions";
+
+pub const MANIFEST: &str = "manifest";
+
+pub const SESSION: &str = "session";
+
+pub const SEEN: &str = "seen";
 
 impl CommandName {
     pub fn form<'f>(self) -> Form<'f>
@@ -69,6 +98,37 @@ impl CommandName {
                 files: &[BALLOTS, ASSERTIONS],
                 options: &[OptionName::Contest, OptionName::Nodes],
             },
+            CommandName::Sample => Form {
+                word: "sample",
+                files: &[MANIFEST],
+                options: &[OptionName::Seed, OptionName::Draws],
+            },
+            CommandName::Plan => Form {
+                word: "plan",
+                files: &[MANIFEST, ASSERTIONS],
+                options: &[OptionName::Limit, OptionName::Gamma],
+            },
+            CommandName::Open => Form {
+                word: "open",
+                files: &[BALLOTS, MANIFEST, ASSERTIONS],
+                options: &[
+                    OptionName::Seed,
+                    OptionName::Contest,
+                    OptionName::Limit,
+                    OptionName::Gamma,
+                    OptionName::Nodes,
+                ],
+            },
+            CommandName::Audit => Form {
+                word: "audit",
+                files: &[SESSION, BALLOTS, MANIFEST, ASSERTIONS, SEEN],
+                options: &[OptionName::Draws, OptionName::Nodes],
+            },
+            CommandName::Report => Form {
+                word: "report",
+                files: &[SESSION],
+                options: &[],
+            },
         }
     }
 }
@@ -81,6 +141,10 @@ impl OptionName {
             OptionName::Contest => "contest",
             OptionName::Nodes => "nodes",
             OptionName::Floor => "floor",
+            OptionName::Seed => "seed",
+            OptionName::Draws => "draws",
+            OptionName::Limit => "limit",
+            OptionName::Gamma => "gamma",
         }
     }
 
@@ -89,8 +153,55 @@ impl OptionName {
     {
         match self {
             OptionName::Contest => ValueKind::Id,
-            OptionName::Nodes => ValueKind::NumberTo(MOST_NODES),
-            OptionName::Floor => ValueKind::NumberTo(MOST_FLOOR),
+            OptionName::Nodes => ValueKind::Number {
+                least: 1,
+                most: MOST_NODES,
+                default: Some(DEFAULT_NODES),
+            },
+            OptionName::Floor => ValueKind::Number {
+                least: 1,
+                most: MOST_FLOOR,
+                default: Some(DEFAULT_FLOOR),
+            },
+            OptionName::Seed => ValueKind::Seed,
+            OptionName::Draws => ValueKind::Number {
+                least: 1,
+                most: MOST_DRAWS,
+                default: None,
+            },
+            OptionName::Limit => ValueKind::Number {
+                least: 1,
+                most: GREATEST_LIMIT,
+                default: Some(DEFAULT_LIMIT),
+            },
+            OptionName::Gamma => ValueKind::Number {
+                least: 1,
+                most: GREATEST_GAMMA,
+                default: Some(DEFAULT_GAMMA),
+            },
+        }
+    }
+}
+
+impl ValueKind {
+    /// Whether a line has to give a value of this kind.
+    pub fn is_needed(self) -> bool
+        ensures { result ≡ is_needed self }
+    {
+        match self {
+            ValueKind::Id => false,
+            ValueKind::Seed => true,
+            ValueKind::Number { default, .. } => default.is_none(),
+        }
+    }
+
+    /// The number of a line that doesn't give it.
+    pub fn default(self) -> u32
+        ensures { result ≡ default_of self }
+    {
+        match self {
+            ValueKind::Number { default, .. } => default.unwrap_or(0),
+            _ => 0,
         }
     }
 }

@@ -26,6 +26,15 @@ fn takes_lines(rt: HostRuntime) -> Result<(), Fail> {
         "tabulate --contest 7 -- --nodes",
         "check row1.raire f.json",
         "check --nodes=200000 a --contest 7 -- -b",
+        "sample m.csv --seed 2024 --draws 3",
+        "sample --draws=100000 --seed=- -- -m",
+        "plan m.csv f.json",
+        "plan --limit=999999 m.csv --gamma 500 f.json",
+        "open a.raire m.csv f.json --seed 2024",
+        "open --nodes 9 a.raire --contest 7 m.csv --limit=1 f.json --gamma=1 --seed=2024",
+        "audit s.json a.raire m.csv f.json v.csv --draws 4",
+        "audit --draws=100000 s.json --nodes 200000 -- a.raire m.csv f.json -v",
+        "report s.json",
     ];
     for line in lines {
         assert!(rt; is_taken(rt.alloc(), line)?);
@@ -44,6 +53,8 @@ fn takes_no_other_words(rt: HostRuntime) -> Result<(), Fail> {
         "find a",
         "search a --floor 0",
         "search a --nodes 200001",
+        "search a --nodes 00000000001",
+        "search a --floor 1000001",
         "search a --contest -1",
         "search a --contest=",
         "tabulate a --nodes 1",
@@ -55,6 +66,30 @@ fn takes_no_other_words(rt: HostRuntime) -> Result<(), Fail> {
         "check a b --floor 1",
         "check a b --nodes 0",
         "check a -- b --nodes 1",
+        "sample m.csv",
+        "sample m.csv --seed 1",
+        "sample m.csv --draws 1",
+        "sample m.csv --seed= --draws 1",
+        "sample m.csv --seed - --draws 1",
+        "sample m.csv --seed 1 --draws 0",
+        "sample m.csv --seed 1 --draws 100001",
+        "sample m.csv --seed 1 --draws 1 --nodes 1",
+        "sample a b --seed 1 --draws 1",
+        "plan m.csv",
+        "plan m.csv f.json --limit 0",
+        "plan m.csv f.json --limit 1000000",
+        "plan m.csv f.json --gamma 501",
+        "plan m.csv f.json --contest 1",
+        "open a.raire m.csv f.json",
+        "open a.raire m.csv --seed 1",
+        "open a.raire m.csv f.json --seed 1 --draws 1",
+        "open a.raire m.csv f.json --seed 1 --floor 1",
+        "audit s.json a.raire m.csv f.json v.csv",
+        "audit s.json a.raire m.csv f.json --draws 4",
+        "audit s.json a.raire m.csv f.json v.csv --draws 4 --contest 7",
+        "audit s.json a.raire m.csv f.json v.csv --draws 4 --seed 1",
+        "report",
+        "report s.json --nodes 1",
     ];
     for line in lines {
         assert!(rt; !is_taken(rt.alloc(), line)?);
@@ -68,7 +103,7 @@ fn reads_a_search(rt: HostRuntime) -> Result<(), Fail> {
     let command = read(rt.alloc(), words.as_slice()).expect(&rt, "memory");
     let Some(
         Command::Search {
-            file,
+            ballots,
             contest,
             nodes,
             floor,
@@ -77,7 +112,7 @@ fn reads_a_search(rt: HostRuntime) -> Result<(), Fail> {
     else {
         panic!(rt; "no search");
     };
-    assert!(rt; file.as_str() == "row1.raire");
+    assert!(rt; ballots.as_str() == "row1.raire");
     assert!(rt; contest.is_some_and(|name| name.bytes() == b"1".as_slice()));
     assert!(rt; nodes == 8);
     assert!(rt; floor == 1);
@@ -103,5 +138,122 @@ fn reads_a_check(rt: HostRuntime) -> Result<(), Fail> {
     assert!(rt; assertions.as_str() == "f.json");
     assert!(rt; contest.is_none());
     assert!(rt; nodes == 3);
+    Ok(())
+}
+
+#[test]
+fn reads_a_sample(rt: HostRuntime) -> Result<(), Fail> {
+    let words = words(rt.alloc(), "sample --draws 07 m.csv --seed=20,24")?;
+    let command = read(rt.alloc(), words.as_slice()).expect(&rt, "memory");
+    let Some(
+        Command::Sample {
+            manifest,
+            seed,
+            draws,
+        },
+    ) = command
+    else {
+        panic!(rt; "no sample");
+    };
+    assert!(rt; manifest.as_str() == "m.csv");
+    assert!(rt; seed.text() == "20,24");
+    assert!(rt; draws == 7);
+    Ok(())
+}
+
+#[test]
+fn reads_a_plan(rt: HostRuntime) -> Result<(), Fail> {
+    let words = words(rt.alloc(), "plan m.csv --gamma 9 f.json")?;
+    let command = read(rt.alloc(), words.as_slice()).expect(&rt, "memory");
+    let Some(
+        Command::Plan {
+            manifest,
+            assertions,
+            limit,
+            gamma,
+        },
+    ) = command
+    else {
+        panic!(rt; "no plan");
+    };
+    assert!(rt; manifest.as_str() == "m.csv");
+    assert!(rt; assertions.as_str() == "f.json");
+    assert!(rt; limit == 50_000);
+    assert!(rt; gamma == 9);
+    Ok(())
+}
+
+#[test]
+fn reads_an_opening(rt: HostRuntime) -> Result<(), Fail> {
+    let words = words(
+        rt.alloc(),
+        "open a.raire --seed 2024 m.csv --gamma 9 f.json --nodes=8",
+    )?;
+    let command = read(rt.alloc(), words.as_slice()).expect(&rt, "memory");
+    let Some(
+        Command::Open {
+            ballots,
+            manifest,
+            assertions,
+            seed,
+            contest,
+            limit,
+            gamma,
+            nodes,
+        },
+    ) = command
+    else {
+        panic!(rt; "no opening");
+    };
+    assert!(rt; ballots.as_str() == "a.raire");
+    assert!(rt; manifest.as_str() == "m.csv");
+    assert!(rt; assertions.as_str() == "f.json");
+    assert!(rt; seed.text() == "2024");
+    assert!(rt; contest.is_none());
+    assert!(rt; limit == 50_000);
+    assert!(rt; gamma == 9);
+    assert!(rt; nodes == 8);
+    Ok(())
+}
+
+#[test]
+fn reads_an_audit(rt: HostRuntime) -> Result<(), Fail> {
+    let words = words(
+        rt.alloc(),
+        "audit s.json a.raire m.csv --draws 4 -- f.json v.csv",
+    )?;
+    let command = read(rt.alloc(), words.as_slice()).expect(&rt, "memory");
+    let Some(
+        Command::Audit {
+            session,
+            ballots,
+            manifest,
+            assertions,
+            seen,
+            draws,
+            nodes,
+        },
+    ) = command
+    else {
+        panic!(rt; "no audit");
+    };
+    assert!(rt; session.as_str() == "s.json");
+    assert!(rt; ballots.as_str() == "a.raire");
+    assert!(rt; manifest.as_str() == "m.csv");
+    assert!(rt; assertions.as_str() == "f.json");
+    assert!(rt; seen.as_str() == "v.csv");
+    assert!(rt; draws == 4);
+    assert!(rt; nodes == 100_000);
+    Ok(())
+}
+
+#[test]
+fn reads_a_report(rt: HostRuntime) -> Result<(), Fail> {
+    let words = words(rt.alloc(), "report s.json")?;
+    let command = read(rt.alloc(), words.as_slice()).expect(&rt, "memory");
+    let Some(Command::Report { session }) = command else {
+        panic!(rt; "no report");
+    };
+    assert!(rt; session.as_str() == "s.json");
     Ok(())
 }

@@ -4,9 +4,9 @@ ghost use Rattle.std.specs.Char.{is_ascii_digit};
 ghost use Rattle.std.specs.List.{list_all};
 ghost use Rattle.command_line.specs.Values.{is_number, number, is_value};
 
-use crate::limits::MOST_NUMBER_DIGITS;
 use crate::table::ValueKind;
-use irv_base::Name;
+use irv_base::{MOST_NUMBER_DIGITS, Name};
+use sampler::Seed;
 
 fn are_digits(text: &[u8]) -> bool
     ensures { result ≡ list_all is_ascii_digit text.now }
@@ -35,8 +35,9 @@ impl ValueKind {
     {
         match self {
             ValueKind::Id => Name::read(text.as_bytes()).is_some(),
-            ValueKind::NumberTo(most) => {
-                is_number(text) && (1..=u64::from(most)).contains(&number(text))
+            ValueKind::Seed => Seed::read(text).is_ok(),
+            ValueKind::Number { least, most, .. } => {
+                is_number(text) && (u64::from(least)..=u64::from(most)).contains(&number(text))
             }
         }
     }

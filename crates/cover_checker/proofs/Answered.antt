@@ -4,9 +4,8 @@ use Rattle.irv_base.specs.Tabulation.{IsFirstTie}
 use Rattle.ballot_reader.specs.Ballots.{BallotFile}
 use Rattle.assertion_file.specs.Content.{Content}
 use Rattle.cover_checker.specs.Outcomes.{Won, Tied, IsWinner}
-use Rattle.cover_checker.specs.Findings.{Answer, is_about}
+use Rattle.cover_checker.specs.Findings.{Answer, is_about, IsErrOf, IsTied}
 use Rattle.cover_checker.specs.Checks.{Judges, IsAnswer, IsFault, findings, first_found}
-use Rattle.cover_checker.specs.Found.{IsErrOf, IsTied}
 use Rattle.cover_checker.specs.declared.checked.Checked.TheVariants.{OtherContest, Accepted}
 use Rattle.cover_checker.specs.declared.checked.CheckFault.{CheckFault}
 use Rattle.cover_checker.specs.declared.checked.CheckFault.TheVariants.{Tie, Spent, Memory}

@@ -21,8 +21,7 @@ use Rattle.suffix_walk.specs.Search.{is_passed}
 use Rattle.suffix_walk.proofs.Counts.{count-same}
 use Rattle.ballot_reader.specs.Ballots.{BallotFile}
 use Rattle.assertion_file.specs.Content.{Content, IsSound, candidate_count}
-use Rattle.cover_checker.specs.Unrefuted.{stands}
-use Rattle.cover_checker.specs.Covers.{covered_is, first_over, or_spent, verdict_on, standing_order, standing_count}
+use Rattle.cover_checker.specs.Covers.{stands, covered_is, first_over, or_spent, verdict_on, standing_order, standing_count}
 use Rattle.cover_checker.specs.Findings.{assertions_of}
 use Rattle.cover_checker.specs.Checks.{IsAnswer}
 use Rattle.cover_checker.specs.Holds.{Holds, IsCertificateOf}

@@ -26,7 +26,7 @@ use Rattle.cover_checker.specs.Holds.{Holds}
 use Rattle.cover_checker.specs.declared.cover.Verdict.{Verdict}
 use Rattle.cover_checker.specs.declared.cover.Verdict.TheVariants.{Covered}
 use Rattle.cover_checker.specs.declared.cover.CoverFault.{CoverFault}
-use Rattle.cover_checker.specs.declared.cover.CoverFault.TheVariants.{Spent as CoverSpent}
+use Rattle.cover_checker.specs.declared.cover.CoverFault.TheVariants.{Spent as CoverSpent, Memory as CoverMemory}
 use Rattle.cover_checker.specs.declared.checked.Checked.{Checked}
 use Rattle.cover_checker.specs.declared.checked.Checked.TheVariants.{OtherContest, Accepted}
 use Rattle.cover_checker.proofs.Nothing.{NeverAccepts, HasItsMargin, winner-none, none-winner, winner-never, margins-none, none-margins, margins-never, covered-none, covered-never, smallest-none, none-smallest, smallest-never, elects-last, elected-none, none-elected, elected-never, harder-none, none-harder, harder-never}
@@ -122,7 +122,7 @@ alternative-other n winner order (h, (c, ne, (before, e))) = ap (λ order. elect
 -- ---- a file that holds
 module _ (ballots : BallotFile) (file : Content) where
   -- the claims refute each alternative order
-  held-covers : Holds ballots file → covers (candidate_count file) file.winner (assertions_of file) ≡ true
+  pub held-covers : Holds ballots file → covers (candidate_count file) file.winner (assertions_of file) ≡ true
   held-covers h =
       list_all-each (λ order. list_any (λ a. refutes a order) (assertions_of file)) (alternative_orders (candidate_count file) file.winner) (λ order m.
       let (claim, k, r) = h.cover order (from_alternative (candidate_count file) file.winner order m) in
@@ -180,7 +180,7 @@ module _ (ballots : BallotFile) (file : Content) where
 
 -- ---- the answer
 module _ (nodes : ℕ) (ballots : BallotFile) (file : Content) where
-  accepted-held : IsSound file → IsAnswer nodes ballots file (Ok Accepted) → Holds ballots file
+  pub accepted-held : IsSound file → IsAnswer nodes ballots file (Ok Accepted) → Holds ballots file
   accepted-held sound h = go (cases_Bool (is_about ballots file)) where
     by_outcome : About ballots file → (outcome : Outcome) → IsOutcome (length ballots.candidates) ballots.rankings outcome → checked_is nodes ballots.rankings file outcome ≡ Ok Accepted → Holds ballots file
     by_outcome about (Won winner) won e =
@@ -204,7 +204,7 @@ module _ (nodes : ℕ) (ballots : BallotFile) (file : Content) where
       })
 
   -- where there is an answer, no budget was spent
-  held-covered : (checked : Checked) → Holds ballots file → IsAnswer nodes ballots file (Ok checked) → covered_is (candidate_count file) file.winner (assertions_of file) nodes ≡ Ok Covered
+  pub held-covered : (checked : Checked) → Holds ballots file → IsAnswer nodes ballots file (Ok checked) → covered_is (candidate_count file) file.winner (assertions_of file) nodes ≡ Ok Covered
   held-covered checked h answer =
       let about : About ballots file = record { contest = h.contest; candidates = h.candidates; records = h.records } in
       let j = from_answer nodes ballots file (about-from ballots file about) (Ok checked) answer in
@@ -214,6 +214,7 @@ module _ (nodes : ℕ) (ballots : BallotFile) (file : Content) where
           first_found (unless_covered result ∷ other_smallest file ∷ elected file ∷ harder ballots.rankings file ∷ []) (Ok Accepted) ≡ Ok checked → result ≡ Ok Covered
       by_cover (Ok verdict) e found = ap Ok ((covered_iff_covers (candidate_count file) file.winner nodes (assertions_of file) verdict e).1 (held-covers ballots file h))
       by_cover (Err (CoverSpent last)) e found = cc
+      by_cover (Err CoverMemory) e found = cc
 
       by_outcome : (outcome : Outcome) → IsOutcome (length ballots.candidates) ballots.rankings outcome → checked_is nodes ballots.rankings file outcome ≡ Ok checked →
           covered_is (candidate_count file) file.winner (assertions_of file) nodes ≡ Ok Covered

@@ -10,11 +10,11 @@ use Rattle.irv_base.proofs.Members.{Member, here, there, list_any-member}
 use Rattle.irv_base.proofs.Distinct.{Distinct}
 use Rattle.assertions.proofs.Parts.{part_from-same, part_from-other}
 use Rattle.irv_base.proofs.Sets.{has-set_of}
-use Rattle.assertions.specs.Suffixes.{is_suffix}
+use Rattle.irv_base.specs.Suffixes.{is_suffix}
 use Rattle.suffix_walk.specs.Kept.{is_parent_kept}
-use Rattle.suffix_walk.proofs.Masks.{suffix-distinct}
-use Rattle.cover_checker.specs.Unrefuted.{stands}
-use Rattle.cover_checker.specs.Newly.{is_new}
+use Rattle.irv_base.proofs.Suffixes.{suffix-distinct}
+use Rattle.cover_checker.specs.Covers.{stands}
+use Rattle.cover_checker.specs.Indexed.{is_new}
 
 in-other : (t : List ℕ) (c w : ℕ) → (c ≡ w → ⊥) → is_in (c ∷ t) w ≡ is_in t w
 in-other t c w ne = rw (ne_eqb c w ne) refl

@@ -1,5 +1,5 @@
 -- What an answer of `covered` says.
-use Rattle.std.proofs.Common.{◌≡◌, ◌↔◌, ◌⊎◌, inl, inr, ℕ, ◌<◌, Bool, true, List, Option, Some, None, Ok, refl, sym, ap, ◌∙◌}
+use Rattle.std.proofs.Common.{◌≡◌, ◌↔◌, ◌⊎◌, inl, inr, ℕ, ◌<◌, true, List, Option, Some, None, Ok, Err, refl, sym, ap, ◌∙◌}
 use Rattle.std.specs.List.{list_any, list_all}
 use Rattle.std.proofs.lemmas.Bool.{not-true, not_from_false, cases_Bool, both_ways}
 use Rattle.irv_base.specs.Orders.{is_order, Elects}
@@ -12,12 +12,12 @@ use Rattle.assertions.specs.Refutation.{refutes, covers}
 use Rattle.assertions.proofs.Elections.{cover_is_sound}
 use Rattle.assertions.proofs.Endings.{alternative_orders_are}
 use Rattle.assertions.proofs.Firsts.{first_alternative}
-use Rattle.suffix_walk.specs.Search.{first_kept, kept_count, searched}
+use Rattle.suffix_walk.specs.Search.{first_kept, kept_count, first_within}
 use Rattle.suffix_walk.specs.Search as walk
-use Rattle.cover_checker.specs.Unrefuted.{stands}
-use Rattle.cover_checker.specs.Covers.{covered_is, first_over, or_spent, verdict_on, standing_order}
+use Rattle.cover_checker.specs.Covers.{stands, covered_is, first_over, or_spent, verdict_on, standing_order}
 use Rattle.cover_checker.specs.declared.cover.Verdict.{Verdict}
 use Rattle.cover_checker.specs.declared.cover.Verdict.TheVariants.{Covered, Stands}
+use Rattle.cover_checker.specs.declared.cover.CoverFault.TheVariants.{Spent}
 
 module _ (n winner nodes : ℕ) (list : List Assertion) where
   -- an answer is the verdict on that order
@@ -72,12 +72,18 @@ pub covered_is_sound : (n winner nodes : ℕ) (list : List Assertion) → winner
 covered_is_sound n winner nodes list below proper h records true' order o possible =
     cover_is_sound n winner list below proper ((covered_iff_covers n winner nodes list Covered h).0 refl) records true' order o possible
 
--- what the walk finds is an order
-pub found-order : (n winner nodes : ℕ) (kept : List ℕ → Bool) (found : List ℕ) → searched n winner nodes kept ≡ Ok (Some found) → is_order n found ≡ true
-found-order n winner nodes kept found h = go (first_kept n winner kept) (walk.first_over n winner nodes (kept_count n kept (first_kept n winner kept))) refl h where
-  go : (o : Option (List ℕ)) (spent : Option ℕ) → first_kept n winner kept ≡ o → walk.or_spent spent o ≡ Ok (Some found) → is_order n found ≡ true
-  go o (Some last) e k = cc
-  go None None e k = cc
-  go (Some order) None e k =
-      let same : order ≡ found = cc in
-      ((alternative_orders_are n winner found).0 (contains-from_member (from_find kept found (alternative_orders n winner) (e ∙ ap Some same)).0)).0
+-- ---- what the walk answers, as the verdict
+
+pub none-covered : (over : Option ℕ) (standing : Option (List ℕ)) → Ok None ≡ walk.or_spent over standing → Ok Covered ≡ or_spent over (verdict_on standing)
+none-covered (Some last) standing e = cc
+none-covered None None e = refl
+none-covered None (Some order) e = cc
+
+pub some-stands : (found : List ℕ) (over : Option ℕ) (standing : Option (List ℕ)) → Ok (Some found) ≡ walk.or_spent over standing → Ok (Stands found) ≡ or_spent over (verdict_on standing)
+some-stands found (Some last) standing e = cc
+some-stands found None None e = cc
+some-stands found None (Some order) e = let same : found ≡ order = cc in ap (λ o. Ok (Stands o)) same
+
+pub error-spent : (last : ℕ) (over : Option ℕ) (standing : Option (List ℕ)) → Err last ≡ walk.or_spent over standing → Err (Spent last) ≡ or_spent over (verdict_on standing)
+error-spent last (Some other) standing e = let same : last ≡ other = cc in ap (λ c. Err (Spent c)) same
+error-spent last None standing e = cc

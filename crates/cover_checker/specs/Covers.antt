@@ -1,5 +1,5 @@
 -- What the answer of `covered` is.
-use Rattle.std.specs.Prelude.{ℕ, ◌&&◌, nat_lt, List, find, count_by, Option, Some, None, Result, Ok, Err}
+use Rattle.std.specs.Prelude.{◌≢◌, ◌<◌, ◌≤◌, ℕ, ◌&&◌, nat_lt, List, find, count_by, Option, Some, None, Result, Ok, Err, Bool, not}
 use Rattle.irv_base.specs.Candidates.{all_but}
 use Rattle.assertions.specs.declared.assertion.Assertion.{Assertion}
 use Rattle.assertions.specs.Suffixes.{alternative_orders, parts_ending}
@@ -8,7 +8,11 @@ use Rattle.cover_checker.specs.declared.cover.Verdict.{Verdict}
 use Rattle.cover_checker.specs.declared.cover.Verdict.TheVariants.{Covered, Stands}
 use Rattle.cover_checker.specs.declared.cover.CoverFault.{CoverFault}
 use Rattle.cover_checker.specs.declared.cover.CoverFault.TheVariants.{Spent}
-use Rattle.cover_checker.specs.Unrefuted.{stands}
+use Rattle.std.specs.List.{list_any}
+use Rattle.assertions.specs.Refutation.{refutes}
+
+abbrev pub stands : List Assertion → List ℕ → Bool
+stands list suffix = not (list_any (λ a. refutes a suffix) list)
 
 -- of the alternative orders that no assertion refutes, the least when read backwards
 abbrev pub standing_order : ℕ → ℕ → List Assertion → Option (List ℕ)
@@ -32,3 +36,7 @@ or_spent None verdict = Ok verdict
 
 abbrev pub covered_is : ℕ → ℕ → List Assertion → ℕ → Result Verdict CoverFault
 covered_is n winner list nodes = or_spent (first_over n winner list nodes) (verdict_on (standing_order n winner list))
+
+-- no candidate is over the nodes
+abbrev pub IsEnough : ℕ → ℕ → ℕ → List Assertion → Type 0
+IsEnough nodes n winner list = (c : ℕ) → c < n → c ≢ winner → standing_count n winner list c ≤ nodes

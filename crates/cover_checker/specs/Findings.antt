@@ -1,9 +1,9 @@
 -- What can be found wrong with an assertion file.
-use Rattle.std.specs.Prelude.{ℕ, ◌+◌, ◌-◌, Bool, not, ◌&&◌, ◌==◌, nat_lt, if◌then◌else◌, List, [], ◌∷◌, length, map, slice_index, pos, Option, Some, None, Result, Ok, Err}
+use Rattle.std.specs.Prelude.{ℕ, ◌+◌, ◌-◌, Bool, not, ◌&&◌, ◌==◌, nat_lt, if◌then◌else◌, List, [], ◌∷◌, length, map, slice_index, pos, Option, Some, None, Result, Ok, Err, ◌≡◌, ◌≤◌, ⊤}
 use Rattle.std.specs.Cmp.Lexicographic.{pointwise}
 use Rattle.std.specs.Ordering.{int_eq}
 use Rattle.irv_base.specs.Names.{Id, is_same}
-use Rattle.irv_base.specs.Tabulation.{least}
+use Rattle.irv_base.specs.Tabulation.{least, IsFirstTie}
 use Rattle.assertions.specs.declared.assertion.Assertion.{Assertion}
 use Rattle.assertions.specs.declared.assertion.Claim.{Claim}
 use Rattle.assertions.specs.Assertions.{margin}
@@ -14,11 +14,11 @@ use Rattle.cover_checker.specs.Covers.{covered_is}
 use Rattle.cover_checker.specs.declared.cover.Verdict.{Verdict}
 use Rattle.cover_checker.specs.declared.cover.Verdict.TheVariants.{Covered, Stands as OrderStands}
 use Rattle.cover_checker.specs.declared.cover.CoverFault.{CoverFault}
-use Rattle.cover_checker.specs.declared.cover.CoverFault.TheVariants.{Spent as CoverSpent}
+use Rattle.cover_checker.specs.declared.cover.CoverFault.TheVariants.{Spent as CoverSpent, Memory as CoverMemory}
 use Rattle.cover_checker.specs.declared.checked.Checked.{Checked}
 use Rattle.cover_checker.specs.declared.checked.Checked.TheVariants.{OtherWinner, OtherMargin, Stands, NotLeast, NotAlternative, Harder}
 use Rattle.cover_checker.specs.declared.checked.CheckFault.{CheckFault}
-use Rattle.cover_checker.specs.declared.checked.CheckFault.TheVariants.{Spent}
+use Rattle.cover_checker.specs.declared.checked.CheckFault.TheVariants.{Spent, Memory, Tie}
 
 abbrev pub Answer : Type 0
 Answer = Result Checked CheckFault
@@ -59,6 +59,7 @@ abbrev pub unless_covered : Result Verdict CoverFault → Option Answer
 unless_covered (Ok Covered) = None
 unless_covered (Ok (OrderStands order)) = Some (Ok (Stands order))
 unless_covered (Err (CoverSpent last)) = Some (Err (Spent last))
+unless_covered (Err CoverMemory) = Some (Err Memory)
 
 -- the order that no claim refutes, or a budget that doesn't suffice to tell
 abbrev pub uncovered : ℕ → Content → Option Answer
@@ -88,3 +89,26 @@ abbrev pub harder : List (List ℕ) → Content → Option Answer
 harder records file =
     let hardness = low (candidate_count file) records file.order in
     if nat_lt file.margin hardness then refuted_by hardness (refuter (candidate_count file) records file.order) else None
+
+-- the fault is the answer's
+abbrev pub IsErrOf : Answer → CheckFault → Type 0
+IsErrOf answer (Tie round tied tally) = answer ≡ Err (Tie round tied tally)
+IsErrOf answer (Spent last) = answer ≡ Err (Spent last)
+IsErrOf answer Memory = ⊤
+
+-- the fault is what is found
+abbrev pub IsFindingOf : Option Answer → CheckFault → Type 0
+IsFindingOf found (Tie round tied tally) = found ≡ Some (Err (Tie round tied tally))
+IsFindingOf found (Spent last) = found ≡ Some (Err (Spent last))
+IsFindingOf found Memory = ⊤
+
+-- the fault is the first tie
+abbrev pub IsTied : ℕ → List (List ℕ) → CheckFault → Type 0
+IsTied n records (Tie round tied tally) = (1 ≤ round) × IsFirstTie n records round tied tally
+IsTied n records (Spent last) = ⊥
+IsTied n records Memory = ⊤
+
+-- what a fault of `covered` is to `check`
+abbrev pub as_check_fault : CoverFault → CheckFault
+as_check_fault (CoverSpent last) = Spent last
+as_check_fault CoverMemory = Memory

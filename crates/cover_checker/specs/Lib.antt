@@ -1,11 +1,8 @@
-pub mod Unrefuted
 pub mod Shorter
-pub mod Newly
+pub mod Indexed
 pub mod Covers
-pub mod Faults
 pub mod Outcomes
 pub mod Findings
 pub mod Checks
-pub mod Found
 pub mod Holds
 pub mod Laws

@@ -3,12 +3,12 @@ use Rattle.std.specs.Prelude.{◌≡◌, ℕ, true, not, nat_lt, List, ◌∷◌
 use Rattle.std.specs.List.{list_any, list_all}
 use Rattle.std.proofs.lemmas.Bool.{and_parts, both_ways, not-true, not_from_false, false_from_ne_true}
 use Rattle.assertions.specs.declared.assertion.Assertion.{Assertion}
-use Rattle.assertions.specs.Suffixes.{is_suffix}
+use Rattle.irv_base.specs.Suffixes.{is_suffix}
 use Rattle.assertions.specs.Refutation.{refutes}
 use Rattle.irv_base.specs.Candidates.{is_in, is_distinct}
 use Rattle.irv_base.proofs.Members.{from_list_any, list_any-member}
 use Rattle.assertions.proofs.Parts.{refutes_more}
-use Rattle.cover_checker.specs.Unrefuted.{stands}
+use Rattle.cover_checker.specs.Covers.{stands}
 
 pub stands-shrinks : (n : ℕ) (list : List Assertion) (c : ℕ) (suffix : List ℕ) → is_suffix n (c ∷ suffix) ≡ true → stands list (c ∷ suffix) ≡ true → stands list suffix ≡ true
 stands-shrinks n list c suffix proper h =

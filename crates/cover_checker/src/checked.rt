@@ -1,11 +1,13 @@
 // What a check of an assertion file answers.
 ghost use Rattle.std.specs.Prelude.{◌≡◌};
 ghost use Rattle.cover_checker.specs.declared.checked.CheckFault.TheVariants.{Memory as WantOfMemory};
-ghost use Rattle.cover_checker.specs.Faults.{as_check_fault};
+ghost use Rattle.cover_checker.specs.Findings.{as_check_fault};
 
 use crate::cover::CoverFault;
 use assertions::Assertion;
 use irv_base::{CandSet, Candidate, Memory, Order};
+use std::error::Error;
+use std::fmt;
 
 /// Whether an assertion file holds of some ballots. Where it doesn't, the first that is found in this order.
 #[derive(Clone, Copy)]
@@ -30,7 +32,7 @@ pub enum Checked {
 }
 
 /// Why it isn't known whether an assertion file holds.
-#[derive(Clone, Copy)]
+#[derive(Clone, Copy, Debug)]
 pub enum CheckFault {
     /// In this round, from 1, the candidates in the set share the least tally; in each round before it one candidate alone has it.
     Tie {
@@ -47,6 +49,25 @@ pub enum CheckFault {
     Memory,
 }
 
+impl fmt::Display for CheckFault {
+    fn fmt<W: fmt::Write>(&self, f: &mut fmt::Formatter<W>) -> fmt::Result {
+        match self {
+            CheckFault::Tie { round, tally, .. } => write!(
+                f,
+                "a tie in round {round}, at a tally of {tally}"
+            ),
+            CheckFault::Spent { last } => write!(
+                f,
+                "more suffixes than the budget has count for candidate {}",
+                last.0
+            ),
+            CheckFault::Memory => write!(f, "{Memory}"),
+        }
+    }
+}
+
+impl Error for CheckFault {}
+
 impl From<Memory> for CheckFault {
     ghost from_gives = { λ _ fault. fault ≡ WantOfMemory };
 
@@ -59,7 +80,9 @@ impl From<CoverFault> for CheckFault {
     ghost from_gives = { λ of_cover fault. fault ≡ as_check_fault of_cover };
 
     fn from(of_cover: CoverFault) -> Self {
-        let CoverFault::Spent { last } = of_cover;
-        CheckFault::Spent { last }
+        match of_cover {
+            CoverFault::Spent { last } => CheckFault::Spent { last },
+            CoverFault::Memory => CheckFault::Memory,
+        }
     }
 }

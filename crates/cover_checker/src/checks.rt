@@ -4,7 +4,7 @@ ghost use Rattle.set_tallies.specs.Bags.{IsOf};
 ghost use Rattle.assertion_file.specs.Content.{candidate_count};
 ghost use Rattle.cover_checker.specs.Checks.{IsAnswer, IsFault, findings, first_found};
 ghost use Rattle.cover_checker.specs.Outcomes.{IsWinner};
-ghost use Rattle.cover_checker.specs.Found.{IsErrOf, IsTied};
+ghost use Rattle.cover_checker.specs.Findings.{IsErrOf, IsTied};
 
 use crate::checked::{CheckFault, Checked};
 use crate::findings::{
@@ -19,8 +19,10 @@ use std::alloc::Global;
 
 // The winner of the tallies' contest, or its first tie.
 fn winner_of(alloc: Global, tallies: &mut Tallies<'_>) -> Result<Candidate, CheckFault>
-    ensures winner { (records : List (List ℕ)) → IsOf tallies.old.bag records → IfOk result (IsWinner tallies.old.bag.n records) }
-    ensures tie { (records : List (List ℕ)) → IsOf tallies.old.bag records → IfErr result (IsTied tallies.old.bag.n records) }
+    ensures winner { (records : List (List ℕ)) → IsOf tallies.old.bag records
+        → IfOk result (IsWinner tallies.old.bag.n records) }
+    ensures tie { (records : List (List ℕ)) → IsOf tallies.old.bag records
+        → IfErr result (IsTied tallies.old.bag.n records) }
     ensures same { tallies.new ≡ tallies.old }
 {
     match tabulate(alloc, tallies) {
@@ -41,8 +43,12 @@ fn judge(
     nodes: u32,
 ) -> Result<Checked, CheckFault>
     requires { candidate_count file.now ≡ tallies.old.bag.n }
-    ensures checked { (records : List (List ℕ)) → IsOf tallies.old.bag records → IfOk result (λ checked. first_found (findings nodes records file.now winner) (Ok Checked.Accepted) ≡ Ok checked) }
-    ensures fault { (records : List (List ℕ)) → IsOf tallies.old.bag records → IfErr result (IsErrOf (first_found (findings nodes records file.now winner) (Ok Checked.Accepted))) }
+    ensures checked { (records : List (List ℕ)) → IsOf tallies.old.bag records
+        → IfOk result (λ checked. first_found (findings nodes records file.now winner)
+        (Ok Checked.Accepted) ≡ Ok checked) }
+    ensures fault { (records : List (List ℕ)) → IsOf tallies.old.bag records
+        → IfErr result (IsErrOf
+        (first_found (findings nodes records file.now winner) (Ok Checked.Accepted))) }
     ensures same { tallies.new ≡ tallies.old }
 {
     if let Some(found) = other_winner(winner, file) {

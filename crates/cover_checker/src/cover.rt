@@ -1,12 +1,17 @@
 // Whether a list of assertions refutes each order that elects another candidate.
-ghost use Rattle.std.specs.Prelude.{◌≡◌, ◌≤◌};
+ghost use Rattle.std.specs.Prelude.{◌≡◌, ◌≢◌, ◌≤◌, Err};
 ghost use Rattle.irv_base.specs.declared.limits.TheConstants.{ROOM};
 ghost use Rattle.cover_checker.specs.Covers.{covered_is};
+ghost use Rattle.cover_checker.specs.declared.cover.CoverFault.TheVariants.{Memory as WantOfMemory};
 
+use crate::index::Index;
 use crate::unrefuted::Unrefuted;
 use assertions::Assertion;
-use irv_base::{Candidate, Order};
-use suffix_walk::search;
+use irv_base::{Candidate, Memory, Order};
+use std::alloc::Global;
+use std::error::Error;
+use std::fmt;
+use suffix_walk::first_within;
 
 /// What a list of assertions says of the alternative orders: those that elect another candidate than the winner.
 #[derive(Clone, Copy)]
@@ -22,6 +27,31 @@ pub enum Verdict {
 pub enum CoverFault {
     /// The least alternative winner for whom more suffixes count than the budget has.
     Spent { last: Candidate },
+    /// Memory could not be had.
+    Memory,
+}
+
+impl fmt::Display for CoverFault {
+    fn fmt<W: fmt::Write>(&self, f: &mut fmt::Formatter<W>) -> fmt::Result {
+        match self {
+            CoverFault::Spent { last } => write!(
+                f,
+                "more suffixes than the budget has count for candidate {}",
+                last.0
+            ),
+            CoverFault::Memory => write!(f, "{Memory}"),
+        }
+    }
+}
+
+impl Error for CoverFault {}
+
+impl From<Memory> for CoverFault {
+    ghost from_gives = { λ _ fault. fault ≡ WantOfMemory };
+
+    fn from(_: Memory) -> Self {
+        CoverFault::Memory
+    }
 }
 
 /// Whether the assertions of the list refute each order of `n` candidates that elects another one than `winner`.
@@ -31,8 +61,10 @@ pub enum CoverFault {
 /// is refuted by no assertion, and comes before the order that stands, if there is one, both read backwards. Where
 /// more than `nodes` suffixes count for some alternative winner the answer is `Spent` with the least of these.
 ///
-/// The time is at most linear in the list, for each suffix that counts and each of its children. No memory is taken.
+/// The other error is want of memory. The list is gone through once; the time for each suffix that counts, and each of
+/// its children, doesn't grow with it.
 pub fn covered(
+    alloc: Global,
     n: u32,
     winner: Candidate,
     list: &[Assertion],
@@ -40,11 +72,12 @@ pub fn covered(
 ) -> Result<Verdict, CoverFault>
     requires some { 1 ≤ n }
     requires room { n ≤ ROOM }
-    ensures { result ≡ covered_is n winner list.now nodes }
+    ensures { result ≢ Err CoverFault.Memory → result ≡ covered_is n winner list.now nodes }
 {
-    match search(&Unrefuted { n, list }, n, winner, nodes) {
+    let list = Index::of(alloc, list)?;
+    match first_within(&Unrefuted { n, list }, n, winner, nodes) {
         Ok(None) => Ok(Verdict::Covered),
-        Ok(Some(order)) => Ok(Verdict::Stands(order.to_order())),
+        Ok(Some(order)) => Ok(Verdict::Stands(order)),
         Err(last) => Err(CoverFault::Spent { last }),
     }
 }

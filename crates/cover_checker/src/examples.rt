@@ -11,14 +11,20 @@ use assertions::Assertion;
 
 /// NEB(1,2), NEN(1,0,{0,1}) and NEN(2,0,{0,2}) prove the winner 1. Only the suffix 0 counts.
 pub fn three_candidates()
-    ensures covered { covered_is 3 1 (Assertion.Neb 1 2 ∷ Assertion.Nen 1 0 3 ∷ Assertion.Nen 2 0 5 ∷ []) 1 ≡ Ok Verdict.Covered }
-    ensures spent { covered_is 3 1 (Assertion.Neb 1 2 ∷ Assertion.Nen 1 0 3 ∷ Assertion.Nen 2 0 5 ∷ []) 0 ≡ Err (CoverFault.Spent 0) }
+    ensures covered { covered_is 3 1
+        (Assertion.Neb 1 2 ∷ Assertion.Nen 1 0 3 ∷ Assertion.Nen 2 0 5 ∷ []) 1
+        ≡ Ok Verdict.Covered }
+    ensures spent { covered_is 3 1
+        (Assertion.Neb 1 2 ∷ Assertion.Nen 1 0 3 ∷ Assertion.Nen 2 0 5 ∷ []) 0
+        ≡ Err (CoverFault.Spent 0) }
 {}
 
 /// Without its NEB the order 1,0,2 stands. The suffixes 2 and 0,2 count for its winner.
 pub fn without_neb()
-    ensures stands { covered_is 3 1 (Assertion.Nen 1 0 3 ∷ Assertion.Nen 2 0 5 ∷ []) 2 ≡ Ok (Verdict.Stands (1 ∷ 0 ∷ 2 ∷ [])) }
-    ensures spent { covered_is 3 1 (Assertion.Nen 1 0 3 ∷ Assertion.Nen 2 0 5 ∷ []) 1 ≡ Err (CoverFault.Spent 2) }
+    ensures stands { covered_is 3 1 (Assertion.Nen 1 0 3 ∷ Assertion.Nen 2 0 5 ∷ []) 2
+        ≡ Ok (Verdict.Stands (1 ∷ 0 ∷ 2 ∷ [])) }
+    ensures spent { covered_is 3 1 (Assertion.Nen 1 0 3 ∷ Assertion.Nen 2 0 5 ∷ []) 1
+        ≡ Err (CoverFault.Spent 2) }
 {}
 
 /// Where nothing is asserted, the order whose backward reading is least stands: 2,1,0.
@@ -30,7 +36,12 @@ pub fn nothing_asserted()
 /// The certificate of three candidates is accepted within one node. Without its NEB the order 1,0,2 stands. The order 2,1,0 is
 /// refuted by more than the file's margin.
 pub fn certificate()
-    ensures accepted { checked_is 1 contests.three_candidates files.three_candidates (Won 1) ≡ Ok Checked.Accepted }
-    ensures without_neb { checked_is 2 contests.three_candidates (record files.three_candidates { claims = drop 1 files.three_candidates.claims }) (Won 1) ≡ Ok (Checked.Stands (1 ∷ 0 ∷ 2 ∷ [])) }
-    ensures other_order { checked_is 1 contests.three_candidates (record files.three_candidates { order = 2 ∷ 1 ∷ 0 ∷ [] }) (Won 1) ≡ Ok (Checked.Harder (Assertion.Nen 1 0 3) 2) }
+    ensures accepted { checked_is 1 contests.three_candidates files.three_candidates (Won 1)
+        ≡ Ok Checked.Accepted }
+    ensures without_neb { checked_is 2 contests.three_candidates
+        (record files.three_candidates { claims = drop 1 files.three_candidates.claims }) (Won 1)
+        ≡ Ok (Checked.Stands (1 ∷ 0 ∷ 2 ∷ [])) }
+    ensures other_order { checked_is 1 contests.three_candidates
+        (record files.three_candidates { order = 2 ∷ 1 ∷ 0 ∷ [] }) (Won 1)
+        ≡ Ok (Checked.Harder (Assertion.Nen 1 0 3) 2) }
 {}

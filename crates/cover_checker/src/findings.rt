@@ -4,8 +4,7 @@ ghost use Rattle.irv_base.specs.Tabulation.{least};
 ghost use Rattle.set_tallies.specs.Bags.{IsOf};
 ghost use Rattle.assertions.specs.Assertions.{is_proper};
 ghost use Rattle.assertion_file.specs.Content.{candidate_count};
-ghost use Rattle.cover_checker.specs.Findings.{is_about, other_winner, other_margin_from, uncovered, unless_covered, other_smallest, elected, harder};
-ghost use Rattle.cover_checker.specs.Found.{IsFindingOf};
+ghost use Rattle.cover_checker.specs.Findings.{is_about, other_winner, other_margin_from, uncovered, unless_covered, other_smallest, elected, harder, IsFindingOf};
 
 use crate::checked::{CheckFault, Checked};
 use crate::cover::{Verdict, covered};
@@ -40,7 +39,8 @@ pub fn other_winner(winner: Candidate, file: &AssertionFile) -> Option<Checked>
 /// The first of the claims, if there is one, whose margin isn't that of its assertion.
 pub fn other_margin(claims: &[Claim], tallies: &mut Tallies<'_>) -> Result<Option<Checked>, Memory>
     requires { All (λ claim. IsTrue (is_proper tallies.old.bag.n claim.assertion)) claims.now }
-    ensures found { (records : List (List ℕ)) → IsOf tallies.old.bag records → IfOk result (λ found. option_map Ok found ≡ other_margin_from records 1 claims.now) }
+    ensures found { (records : List (List ℕ)) → IsOf tallies.old.bag records
+        → IfOk result (λ found. option_map Ok found ≡ other_margin_from records 1 claims.now) }
     ensures same { tallies.new ≡ tallies.old }
 {
     for (i, claim) in claims.iter().enumerate() {
@@ -82,7 +82,7 @@ pub fn uncovered(
 {
     let list = assertions_of(alloc, file.claims())?;
     let n = file.candidates().len() as u32;
-    let verdict = covered(n, file.winner(), &list, nodes)?;
+    let verdict = covered(alloc, n, file.winner(), &list, nodes)?;
     Ok(standing(verdict))
 }
 
@@ -122,21 +122,14 @@ fn tail_of(order: &Order) -> Tail
     ensures number { result.n ≡ length order.now }
     ensures list { result.list ≡ order.now }
 {
-    let candidates = order.candidates();
-    let n = order.len();
-    let mut at = candidates.len() - 1;
-    let mut tail = Tail::last(n, candidates[at]);
-    while at > 0 {
-        at -= 1;
-        tail = tail.front(candidates[at]);
-    }
-    tail
+    Tail::of(order.len(), order.candidates())
 }
 
 /// The assertion that refutes the file's order by more than the file's margin, if there is one.
 pub fn harder(file: &AssertionFile, tallies: &mut Tallies<'_>) -> Result<Option<Checked>, Memory>
     requires { candidate_count file.now ≡ tallies.old.bag.n }
-    ensures found { (records : List (List ℕ)) → IsOf tallies.old.bag records → IfOk result (λ found. option_map Ok found ≡ harder records file.now) }
+    ensures found { (records : List (List ℕ)) → IsOf tallies.old.bag records
+        → IfOk result (λ found. option_map Ok found ≡ harder records file.now) }
     ensures same { tallies.new ≡ tallies.old }
 {
     let tail = tail_of(file.order());

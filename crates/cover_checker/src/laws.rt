@@ -1,5 +1,7 @@
 //! What an answer of `covered` says, and one of `check`. Each law holds of every value that it names, and has no code.
-ghost use Rattle.cover_checker.specs.Laws.{CoveredIsSound, CoveredIffCovers, StandsIsLeast, AnswerIsOne, AcceptedIffHolds, AcceptedMarginIsBest, CertificateIsAccepted};
+ghost use Rattle.cover_checker.specs.Laws.{CoveredIsSound, CoveredIffCovers, StandsIsLeast, CoveredIsNeverSpent};
+ghost use Rattle.cover_checker.specs.Laws.{AnswerIsOne, AnswerExists, AnswerIsNeverSpent, AcceptedIffHolds};
+ghost use Rattle.cover_checker.specs.Laws.{AcceptedExactly, AcceptedIsCovered, AcceptedMarginIsBest, CertificateIsAccepted};
 
 /// `Covered` alone proves the winner: for every list of records of which all assertions of the list are true, every
 /// possible order elects the winner, however ties are broken. The assertions must be proper.
@@ -17,6 +19,21 @@ pub fn stands_is_least()
     ensures { StandsIsLeast }
 {}
 
+/// A budget of `2 * (n - 1)!` is never spent, whatever the list.
+pub fn covered_is_never_spent()
+    ensures { CoveredIsNeverSpent }
+{}
+
+/// A file that could be read has an answer.
+pub fn answer_exists()
+    ensures { AnswerExists }
+{}
+
+/// With a budget of `2 * (n - 1)!` the answer isn't that it is spent.
+pub fn answer_is_never_spent()
+    ensures { AnswerIsNeverSpent }
+{}
+
 /// A file has one answer.
 pub fn answer_is_one()
     ensures { AnswerIsOne }
@@ -25,6 +42,16 @@ pub fn answer_is_one()
 /// A file is accepted exactly where it holds of the ballots, if their contest has no tie and no budget is spent.
 pub fn accepted_iff_holds()
     ensures { AcceptedIffHolds }
+{}
+
+/// A file is accepted exactly where it holds of the ballots, and for no candidate more suffixes count than there are nodes.
+pub fn accepted_exactly()
+    ensures { AcceptedExactly }
+{}
+
+/// The claims of an accepted file are called covered, so that they prove the winner.
+pub fn accepted_is_covered()
+    ensures { AcceptedIsCovered }
 {}
 
 /// The margin of an accepted file is the best of the contest.

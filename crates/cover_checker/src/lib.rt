@@ -9,6 +9,7 @@ mod checks;
 mod cover;
 pub mod examples;
 mod findings;
+mod index;
 pub mod laws;
 #[cfg(test)]
 mod tests;

@@ -43,6 +43,7 @@ fn is_spent(answer: &Result<Verdict, CoverFault>, at: Candidate) -> bool {
     match answer {
         Ok(_verdict) => false,
         Err(CoverFault::Spent { last }) => *last == at,
+        Err(CoverFault::Memory) => false,
     }
 }
 
@@ -55,7 +56,7 @@ fn stands(answer: &Result<Verdict, CoverFault>, backwards: &[Candidate]) -> bool
 
 #[test]
 fn empty_list_spent(rt: HostRuntime) {
-    assert!(rt; is_spent(&covered(20, ZERO, &[], 18), ONE));
+    assert!(rt; is_spent(&covered(rt.alloc(), 20, ZERO, &[], 18), ONE));
 }
 
 #[test]
@@ -65,17 +66,17 @@ fn empty_list_stands(rt: HostRuntime) {
         backwards[usize::from(c)] = Candidate(c);
     }
     backwards[0] = ONE;
-    assert!(rt; stands(&covered(20, ZERO, &[], 19), &backwards));
+    assert!(rt; stands(&covered(rt.alloc(), 20, ZERO, &[], 19), &backwards));
 }
 
 #[test]
 fn whole_orders_covered(rt: HostRuntime) {
-    assert!(rt; is_covered(&covered(9, ZERO, &whole_orders(), 69_281)));
+    assert!(rt; is_covered(&covered(rt.alloc(), 9, ZERO, &whole_orders(), 69_281)));
 }
 
 #[test]
 fn whole_orders_spent(rt: HostRuntime) {
-    assert!(rt; is_spent(&covered(9, ZERO, &whole_orders(), 69_280), ONE));
+    assert!(rt; is_spent(&covered(rt.alloc(), 9, ZERO, &whole_orders(), 69_280), ONE));
 }
 
 #[test]
@@ -85,7 +86,7 @@ fn three_candidates_certificate(rt: HostRuntime) {
         nen(ONE, ZERO, CandSet::empty().with(ZERO).with(ONE)),
         nen(TWO, ZERO, CandSet::empty().with(ZERO).with(TWO)),
     ];
-    assert!(rt; is_covered(&covered(3, ONE, &certificate, 1)));
+    assert!(rt; is_covered(&covered(rt.alloc(), 3, ONE, &certificate, 1)));
 }
 
 #[test]
@@ -94,5 +95,5 @@ fn certificate_without_its_neb(rt: HostRuntime) {
         nen(ONE, ZERO, CandSet::empty().with(ZERO).with(ONE)),
         nen(TWO, ZERO, CandSet::empty().with(ZERO).with(TWO)),
     ];
-    assert!(rt; stands(&covered(3, ONE, &nens, 2), &[TWO, ZERO, ONE]));
+    assert!(rt; stands(&covered(rt.alloc(), 3, ONE, &nens, 2), &[TWO, ZERO, ONE]));
 }

@@ -1,5 +1,5 @@
 -- Numbers that are written in digits.
-use Rattle.std.proofs.Common.{◌≡◌, ◌&&◌, ◌==◌, ◌<◌, ◌≤◌, ℕ, zero, suc, List, [], ◌∷◌, Bool, true, false, Result, Ok, length, nat_le, refl, arith, rules, leb-true}
+use Rattle.std.proofs.Common.{◌≡◌, ◌&&◌, ◌==◌, ◌<◌, ◌≤◌, ◌^◌, ℕ, zero, suc, List, [], ◌∷◌, Bool, true, false, Result, Ok, length, nat_le, refl, arith, rules, leb-true}
 use Rattle.std.specs.Char.{is_ascii_digit}
 use Rattle.std.specs.List.{list_all}
 use Rattle.std.specs.Str.{IsUtf8, IsAscii}
@@ -8,6 +8,7 @@ use Rattle.std.proofs.lemmas.Bool.{and_parts, and_from, eqb-true, eqb-false}
 use Rattle.std.proofs.lemmas.Str.{IsUtf8-from_ascii}
 use Rattle.std.proofs.lemmas.Str.Ascii.{IsAscii-nil, IsAscii-cons}
 use Rattle.std.proofs.lemmas.Str.Parse.{IsNumeralModel, numerals_by_value, digits_value_short, parse_gives}
+use Rattle.irv_base.specs.declared.limits.TheConstants.{MOST_NUMBER_DIGITS}
 
 abbrev pub AreDigits : List ℕ → Type 0
 AreDigits text = list_all is_ascii_digit text ≡ true
@@ -25,19 +26,19 @@ IsAscii-digits (b ∷ text) h = let parts = and_parts (is_ascii_digit b) (list_a
 pub IsUtf8-digits : (text : List ℕ) → AreDigits text → IsUtf8 text
 IsUtf8-digits text h = IsUtf8-from_ascii text (IsAscii-digits text h)
 
-pub few : (text : List ℕ) → AreDigits text → length text ≤ 10 → digits_value 10 text < 10000000000
-few text h short = digits_value_short own text 10 h short
+pub few : (text : List ℕ) → AreDigits text → length text ≤ MOST_NUMBER_DIGITS → digits_value 10 text < 10 ^ MOST_NUMBER_DIGITS
+few text h short = digits_value_short own text MOST_NUMBER_DIGITS h short
 
-pub parsed : {E : Type 0} (text : List ℕ) (r : Result ℕ E) → ParsesUnsigned 64 10 text r → AreDigits text → 1 ≤ length text → length text ≤ 10 → r ≡ Ok (digits_value 10 text)
+pub parsed : {E : Type 0} (text : List ℕ) (r : Result ℕ E) → ParsesUnsigned 64 10 text r → AreDigits text → 1 ≤ length text → length text ≤ MOST_NUMBER_DIGITS → r ≡ Ok (digits_value 10 text)
 parsed text r p h some short = parse_gives own 64 text r p h (omega (arith, some)) (omega (arith, few text h short))
 
 abbrev pub is_number : List ℕ → Bool
-is_number text = nat_le 1 (length text) && nat_le (length text) 10 && list_all is_ascii_digit text
+is_number text = nat_le 1 (length text) && nat_le (length text) MOST_NUMBER_DIGITS && list_all is_ascii_digit text
 
-pub is_number-from : (text : List ℕ) → AreDigits text → 1 ≤ length text → length text ≤ 10 → is_number text ≡ true
+pub is_number-from : (text : List ℕ) → AreDigits text → 1 ≤ length text → length text ≤ MOST_NUMBER_DIGITS → is_number text ≡ true
 is_number-from text h some short =
-    and_from (nat_le 1 (length text) && nat_le (length text) 10) (list_all is_ascii_digit text)
-    (and_from (nat_le 1 (length text)) (nat_le (length text) 10) (le-nat_le 1 (length text) some) (le-nat_le (length text) 10 short)) h
+    and_from (nat_le 1 (length text) && nat_le (length text) MOST_NUMBER_DIGITS) (list_all is_ascii_digit text)
+    (and_from (nat_le 1 (length text)) (nat_le (length text) MOST_NUMBER_DIGITS) (le-nat_le 1 (length text) some) (le-nat_le (length text) MOST_NUMBER_DIGITS short)) h
   where
     le-nat_le : (a b : ℕ) → a ≤ b → nat_le a b ≡ true
     le-nat_le a b h = grind arith

@@ -24,7 +24,8 @@ records_after state None = []
 records_after state (Some bytes) = records_from default_config (length bytes + 1) state bytes
 
 abbrev pub records_left : Bool → Reader (Bor (List ℕ)) → List Fields
-records_left ended reader = if ended then [] else records_after (reader_state reader) (bytes_left reader)
+records_left ended reader =
+    if ended then [] else records_after (reader_state reader) (bytes_left reader)
 
 pub record IsBetweenRecords (reader : Reader (Bor (List ℕ))) : Type 0 where
   pub config : reader_config reader ≡ default_config

@@ -2,15 +2,14 @@
 //! blanks round a field.
 #![tactic(auto)]
 
+pub mod examples;
 mod fields;
-mod limits;
 mod mark;
 mod number;
 mod rows;
 mod trim;
 
 pub use fields::Fields;
-pub use limits::MOST_NUMBER_DIGITS;
 pub use mark::without_mark;
 pub use number::number_of;
 pub use rows::Rows;

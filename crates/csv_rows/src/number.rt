@@ -4,7 +4,7 @@ ghost use Rattle.std.specs.Char.{is_ascii_digit};
 ghost use Rattle.std.specs.List.{list_all};
 ghost use Rattle.csv_rows.specs.Numbers.{number_of};
 
-use crate::limits::MOST_NUMBER_DIGITS;
+use irv_base::MOST_NUMBER_DIGITS;
 
 fn are_digits(text: &[u8]) -> bool
     ensures { result ≡ list_all is_ascii_digit text.now }

@@ -1,5 +1,5 @@
 // The records of a text of comma-separated fields, one after the other.
-ghost use Rattle.std.specs.Prelude.{◌≡◌, ◌∷◌, [], if◌then◌else◌, IfOk};
+ghost use Rattle.std.specs.Prelude.{◌≡◌, ◌∷◌, [], if◌then◌else◌, false, IfOk, OnErr};
 ghost use Rattle.csv.specs.Records.{fields_of};
 ghost use Rattle.csv_rows.specs.Rows.{records_of};
 ghost use Rattle.csv_rows.specs.Fields.{is_blank_record, numbered, trimmed_fields};
@@ -57,7 +57,10 @@ impl<'t> Rows<'t> {
 
     /// Reads the next record into the row, if there is one.
     pub fn read(&mut self, row: &mut ByteRecord) -> Result<bool, Memory>
-        ensures { IfOk result (λ found. self.old ≡ (if found then fields_of row.new ∷ self.new else [])) }
+        ensures next { IfOk result (λ found.
+            self.old ≡ (if found then fields_of row.new ∷ self.new else [])) }
+        ensures end { IfOk result (λ found. found ≡ false → self.new ≡ []) }
+        ensures refused { OnErr result (self.new ≡ []) }
     {
         if self.ended {
             return Ok(false);
@@ -73,7 +76,8 @@ impl<'t> Rows<'t> {
     /// Reads the next record that has a number into the row, if there is one. Blank records, whose only field is empty without
     /// its spaces and tabs, have none and are passed over.
     pub fn read_numbered(&mut self, row: &mut ByteRecord) -> Result<bool, Memory>
-        ensures { IfOk result (λ found. numbered self.old ≡ (if found then trimmed_fields (fields_of row.new) ∷ numbered self.new else [])) }
+        ensures { IfOk result (λ found. numbered self.old
+            ≡ (if found then trimmed_fields (fields_of row.new) ∷ numbered self.new else [])) }
     {
         while self.read(row)? {
             if !is_blank_record(row) {

@@ -1,5 +1,6 @@
 pub mod Count
 pub mod Desk
+pub mod Passing
 pub mod Served
 pub mod Reading
 pub mod Sink

@@ -7,9 +7,20 @@ ghost use Rattle.desk.specs.Desk.{File, held_bytes, is_ok_true};
 ghost use Rattle.desk.specs.Served.{after_begin, after_read};
 ghost use Rattle.desk.specs.declared.served.Served.{Served};
 
+use std::error::Error;
+use std::fmt;
+
 /// A call to the outside failed.
 #[derive(Clone, Copy, Debug, PartialEq, Eq)]
 pub struct Failed;
+
+impl fmt::Display for Failed {
+    fn fmt<W: fmt::Write>(&self, f: &mut fmt::Formatter<W>) -> fmt::Result {
+        write!(f, "a call to the outside failed")
+    }
+}
+
+impl Error for Failed {}
 
 /// Files, of which one at a time is read. After a call that failed none is begun.
 pub trait Desk {
@@ -25,7 +36,7 @@ pub trait Desk {
     /// How often the desk has failed. The count stops at the last u64.
     ghost faults: { Self → ℕ };
 
-    /// How often there was no file, and how many bytes came.
+    /// How often a file was begun, how often there was none, and how many bytes came.
     ghost served: { Self → Served };
 
     /// Begins the file of a name, at its start. At `Ok(false)` there is none, and none is begun.
@@ -45,7 +56,8 @@ pub trait Desk {
         ensures held { held self.new ≡ held self.old }
         ensures begun { begun self.new ≡ is_ok result }
         ensures bound { ReadsAtMost result into.new }
-        ensures bytes { IfOk result (λ n. Consumes (left self.old) (left self.new) (take n into.new)) }
+        ensures bytes { IfOk result (λ n.
+            Consumes (left self.old) (left self.new) (take n into.new)) }
         ensures end { IfOk result (λ n. n ≡ 0 → 0 < length into.new → IsAtEnd (left self.new)) }
         ensures served { served self.new ≡ after_read result (served self.old) }
         ensures cause { HasCause (faults self.old) (faults self.new) result };

@@ -106,7 +106,7 @@ fn copy_from(bytes: &[u8], at: &mut usize, into: &mut [u8]) -> usize
     count
 }
 
-// The same, of the file of a place.
+// Copies the next bytes of the file of a place, as many as there is room for, and moves the place behind them.
 fn copy_next(files: &[Named], place: &mut Place, into: &mut [u8]) -> usize
     ensures count { result ≡ min (length into.new) (length (left_from files.now (Some place.old))) }
     ensures bytes { left_from files.now (Some place.old) ≡

@@ -1,6 +1,9 @@
 // What a desk has served, whether or not it tells its files.
 ghost use Rattle.std.specs.Prelude.{◌≡◌, max};
 ghost use Rattle.desk.specs.Count.{grown, one_more};
+ghost use Rattle.desk.specs.Passing.{passing};
+
+use irv_base::MOST_FILE_BYTES;
 
 /// What a desk has served so far, whether or not it tells its files. Each count stops at the last u64.
 ///
@@ -8,12 +11,16 @@ ghost use Rattle.desk.specs.Count.{grown, one_more};
 /// `begin`, then `miss` where that answers false, and `give` at each read that succeeds.
 #[derive(Clone, Copy, Debug, PartialEq, Eq)]
 pub struct Served {
+    /// How often `begin` was called.
+    pub begins: u64,
     /// How often `begin` answered false.
     pub misses: u64,
     /// How many bytes came since the last `begin`.
     pub bytes: u64,
     /// The most bytes that ever came between one `begin` and the next.
     pub longest: u64,
+    /// How often more than `MOST_FILE_BYTES` came between one `begin` and the next.
+    pub too_long: u64,
 }
 
 impl Served {
@@ -24,16 +31,19 @@ impl Served {
         ensures { result ≡ nothing }
     {
         Served {
+            begins: 0,
             misses: 0,
             bytes: 0,
             longest: 0,
+            too_long: 0,
         }
     }
 
     /// A file is asked for.
     pub fn begin(&mut self)
-        ensures { self.new ≡ record self.old { bytes = 0 } }
+        ensures { self.new ≡ record self.old { begins = one_more self.old.begins; bytes = 0 } }
     {
+        self.begins = self.begins.saturating_add(1);
         self.bytes = 0;
     }
 
@@ -47,9 +57,17 @@ impl Served {
     /// So many bytes of it are given.
     pub fn give(&mut self, count: usize)
         ensures { let bytes = grown self.old.bytes count in
-            self.new ≡ record self.old { bytes = bytes; longest = max self.old.longest bytes } }
+            self.new ≡ record self.old {
+              bytes = bytes;
+              longest = max self.old.longest bytes;
+              too_long = passing self.old.bytes bytes self.old.too_long;
+            } }
     {
-        self.bytes = self.bytes.saturating_add(count as u64);
+        let before = self.bytes;
+        self.bytes = before.saturating_add(count as u64);
         self.longest = self.longest.max(self.bytes);
+        if before <= MOST_FILE_BYTES && self.bytes > MOST_FILE_BYTES {
+            self.too_long = self.too_long.saturating_add(1);
+        }
     }
 }

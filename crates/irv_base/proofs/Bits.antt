@@ -6,7 +6,7 @@ use Rattle.std.proofs.lemmas.Nat.{pow_below, or_disjoint}
 use Rattle.std.proofs.lemmas.Nat.Bits.{and_pow, bit_at_or, bit_at_xor, bit_at-pow_same, bit_at-pow_other, bit_at-lt}
 use Rattle.irv_base.specs.Candidates.{has}
 
--- `1 << c`
+-- `1 << c` in the 32 bits of a number
 pub one_bit : (c : ℕ) → c < 32 → 1 * 2 ^ c % 4294967296 ≡ 2 ^ c
 one_bit c l = let small : 1 * 2 ^ c < 4294967296 = omega (arith, pow_below c 32 l) in mod-eq_of_lt small ∙ omega arith
 

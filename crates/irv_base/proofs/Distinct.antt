@@ -1,22 +1,22 @@
--- Lists of candidates none of which stands twice.
+-- Lists in which nothing stands twice, of candidates and of other things.
 use Rattle.std.proofs.Common.{◌≡◌, ℕ, zero, suc, ◌+◌, ◌<◌, ◌≤◌, true, not, nat_lt, ◌⊎◌, inl, inr, List, [], ◌∷◌, ◌++◌, length, refl, sym, ap, subst, arith, ltb-true}
 use Rattle.std.specs.List.{list_all, range_with_len}
 use Rattle.std.proofs.lemmas.Bool.{and_parts, and_from, cases_Bool, not-true}
 use Rattle.irv_base.specs.Candidates.{is_in, is_distinct}
 use Rattle.irv_base.proofs.Members.{Member, here, there, member_at, member_cases, member_nil, member-append_cases, member-append_left, member-append_right, member-from_in, none-from_out, out-from_none, from_list_all, from_range}
 
-pub data Distinct : List ℕ → Type 0 where
+pub data Distinct {X : Type 0} : List X → Type 0 where
   none : Distinct []
-  more : {c : ℕ} {cs : List ℕ} → (Member c cs → ⊥) → Distinct cs → Distinct (c ∷ cs)
+  more : {c : X} {cs : List X} → (Member c cs → ⊥) → Distinct cs → Distinct (c ∷ cs)
 
-pub distinct-head : {c : ℕ} {cs : List ℕ} → Distinct (c ∷ cs) → Member c cs → ⊥
+pub distinct-head : {X : Type 0} {c : X} {cs : List X} → Distinct (c ∷ cs) → Member c cs → ⊥
 distinct-head (more h d) = h
 
-pub distinct-tail : {c : ℕ} {cs : List ℕ} → Distinct (c ∷ cs) → Distinct cs
+pub distinct-tail : {X : Type 0} {c : X} {cs : List X} → Distinct (c ∷ cs) → Distinct cs
 distinct-tail (more h d) = d
 
 -- a place of a distinct list: its element isn't before it
-pub distinct-split : (before : List ℕ) (c : ℕ) (rest : List ℕ) → Distinct (before ++ c ∷ rest) → Distinct before × (Member c before → ⊥)
+pub distinct-split : {X : Type 0} (before : List X) (c : X) (rest : List X) → Distinct (before ++ c ∷ rest) → Distinct before × (Member c before → ⊥)
 distinct-split [] c rest d = (none, member_nil)
 distinct-split (b ∷ before) c rest d =
     let (apart, out) = distinct-split before c rest (distinct-tail d) in (
@@ -27,7 +27,7 @@ distinct-split (b ∷ before) c rest d =
       ],
     )
 
-pub distinct-rest : (before t : List ℕ) → Distinct (before ++ t) → Distinct t
+pub distinct-rest : {X : Type 0} (before t : List X) → Distinct (before ++ t) → Distinct t
 distinct-rest [] t d = d
 distinct-rest (c ∷ before) t d = distinct-rest before t (distinct-tail d)
 
@@ -43,7 +43,7 @@ below-from_test n cs h c m = ltb-true c n (from_list_all (λ c. nat_lt c n) m h)
 
 -- ---- counting by membership
 -- the list without one place of x
-shorter : {x : ℕ} {ys : List ℕ} → Member x ys → (zs : List ℕ) × (length ys ≡ suc (length zs)) × ((z : ℕ) → Member z ys → (x ≡ z) ⊎ Member z zs)
+shorter : {X : Type 0} {x : X} {ys : List X} → Member x ys → (zs : List X) × (length ys ≡ suc (length zs)) × ((z : X) → Member z ys → (x ≡ z) ⊎ Member z zs)
 shorter (here {xs = xs}) = (xs, refl, λ z m. member_cases m)
 shorter {x} (there {y = y} {xs = xs} m) =
     let (zs, long, rest) = shorter m in (
@@ -56,14 +56,14 @@ shorter {x} (there {y = y} {xs = xs} m) =
     )
 
 -- distinct elements of another list are at most as many
-pub distinct-le : (xs ys : List ℕ) → Distinct xs → ((z : ℕ) → Member z xs → Member z ys) → length xs ≤ length ys
+pub distinct-le : {X : Type 0} (xs ys : List X) → Distinct xs → ((z : X) → Member z xs → Member z ys) → length xs ≤ length ys
 distinct-le [] ys d h = omega arith
-distinct-le (x ∷ xs) ys d h =
+distinct-le {X} (x ∷ xs) ys d h =
     let (zs, long, rest) = shorter (h x here) in
     let le : length xs ≤ length zs = distinct-le xs zs (distinct-tail d) (λ z m. other z m (rest z (h z (there m)))) in
     omega arith
   where
-    other : {zs : List ℕ} (z : ℕ) → Member z xs → (x ≡ z) ⊎ Member z zs → Member z zs
+    other : {zs : List X} (z : X) → Member z xs → (x ≡ z) ⊎ Member z zs → Member z zs
     other z m s = elim s [ inl e ↦ absurd (distinct-head d (subst (λ y. Member y xs) (sym e) m)) | inr r ↦ r ]
 
 -- a list is distinct, or a shorter one has its elements
@@ -90,7 +90,7 @@ distinct-range a zero = none
 distinct-range a (suc n) = more (λ m. let h = from_range a (a + 1) n m in absurd (omega arith)) (distinct-range (a + 1) n)
 
 -- ---- one more at the end
-pub distinct-push : (xs : List ℕ) (c : ℕ) → Distinct xs → (Member c xs → ⊥) → Distinct (xs ++ c ∷ [])
+pub distinct-push : {X : Type 0} (xs : List X) (c : X) → Distinct xs → (Member c xs → ⊥) → Distinct (xs ++ c ∷ [])
 distinct-push [] c d out = more member_nil none
 distinct-push (x ∷ xs) c d out =
     more

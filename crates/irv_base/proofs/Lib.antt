@@ -10,3 +10,7 @@ pub mod NameBytes
 pub mod Least
 pub mod Ties
 pub mod NameText
+pub mod Suffixes
+pub mod Firsts
+pub mod Positions
+pub mod Exists

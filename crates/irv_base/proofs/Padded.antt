@@ -1,11 +1,12 @@
 -- Lists that are kept in an array with room for more, padded with zeros.
-use Rattle.std.proofs.Common.{◌≡◌, ℕ, suc, zero, ◌+◌, ◌-◌, ◌<◌, ◌≤◌, Bool, true, false, inl, inr, List, [], ◌∷◌, ◌++◌, All, length, set, take, get_or, replicate, refl, sym, ap, subst, arith, ltb-true, length-append, append_assoc, add-one, ◌∙◌}
+use Rattle.std.proofs.Common.{◌≡◌, ℕ, suc, zero, ◌+◌, ◌-◌, ◌<◌, ◌≤◌, Bool, true, false, inl, inr, List, [], ◌∷◌, ◌++◌, All, length, set, take, drop, get_or, replicate, refl, sym, ap, subst, arith, ltb-true, length-append, append_assoc, add-one, ◌∙◌}
 use Rattle.std.proofs.Math.Seq.{take-length}
-use Rattle.std.proofs.lemmas.List.{take_more, length-replicate, get_or_default}
+use Rattle.std.proofs.lemmas.List.{take_more, length-replicate, get_or_default, drop-replicate}
 use Rattle.std.proofs.lemmas.List.Elements.{All-push, All-contains}
 use Rattle.irv_base.specs.Candidates.{is_in, is_distinct, candidates}
 use Rattle.irv_base.specs.Orders.{is_order, is_in_range, is_repeated}
 use Rattle.irv_base.specs.Places.{IsRanking, IsOrder}
+use Rattle.irv_base.specs.declared.limits.TheConstants.{ROOM}
 use Rattle.irv_base.proofs.Members.{Member, member_cases, none-from_out, candidate-member, contains-from_member}
 use Rattle.irv_base.proofs.Distinct.{Distinct, none, more, distinct-from_test, distinct-le, length-range, distinct-push, test-distinct}
 use Rattle.irv_base.proofs.Orders.{order_test}
@@ -39,21 +40,21 @@ room-for_more room c xs apart below out l =
     omega (arith, length-range 0 room)
 
 pub record Pushed (len c : ℕ) (places : List ℕ) : Type 0 where
-  pub room : len < 32
-  pub wide : length places ≡ 32
+  pub room : len < ROOM
+  pub wide : length places ≡ ROOM
   pub more : take (len + 1) (set places len c) ≡ take len places ++ c ∷ []
   pub ranking : IsRanking (len + 1) (set places len c)
 
-pub ranking_pushed : (len c : ℕ) (places : List ℕ) → IsRanking len places → is_in (take len places) c ≡ false → c < 32 → Pushed len c places
+pub ranking_pushed : (len c : ℕ) (places : List ℕ) → IsRanking len places → is_in (take len places) c ≡ false → c < ROOM → Pushed len c places
 ranking_pushed len c places r out l = record {
   room = room;
-  wide = ap length r.padded ∙ length-append kept (replicate (32 - len) 0) ∙ omega (arith, room, r.long, length-replicate {A = ℕ} (32 - len) 0);
+  wide = ap length r.padded ∙ length-append kept (replicate (ROOM - len) 0) ∙ omega (arith, room, r.long, length-replicate {A = ℕ} (ROOM - len) 0);
   more = more;
   ranking = record {
     few = omega (arith, room);
     long = ap length more ∙ length-append kept (c ∷ []) ∙ omega (arith, r.long);
-    padded = set-padded kept places 32 len c r.long room r.padded ∙ ap (λ s. s ++ replicate (32 - (len + 1)) 0) (sym more);
-    below = subst (All (λ d. d < 32)) (sym more) (All-push (λ d. d < 32) kept c r.below l);
+    padded = set-padded kept places ROOM len c r.long room r.padded ∙ ap (λ s. s ++ replicate (ROOM - (len + 1)) 0) (sym more);
+    below = subst (All (λ d. d < ROOM)) (sym more) (All-push (λ d. d < ROOM) kept c r.below l);
     distinct = subst (λ s. is_distinct s ≡ true) (sym more) (test-distinct (distinct-push kept c apart (none-from_out out)));
   };
 }
@@ -64,19 +65,17 @@ ranking_pushed len c places r out l = record {
     apart : Distinct kept
     apart = distinct-from_test kept r.distinct
 
-    room : len < 32
-    room = let h = room-for_more 32 c kept apart (λ d m. All-contains (λ d. d < 32) kept d r.below (contains-from_member m)) (none-from_out out) l in omega (arith, h, r.long)
+    room : len < ROOM
+    room = let h = room-for_more ROOM c kept apart (λ d m. All-contains (λ d. d < ROOM) kept d r.below (contains-from_member m)) (none-from_out out) l in omega (arith, h, r.long)
 
     more : take (len + 1) (set places len c) ≡ kept ++ c ∷ []
     more =
-        ap (take (len + 1)) (set-padded kept places 32 len c r.long room r.padded)
-        ∙ take-whole (kept ++ c ∷ []) (replicate (32 - (len + 1)) 0) (len + 1) (length-append kept (c ∷ []) ∙ omega (arith, r.long))
+        ap (take (len + 1)) (set-padded kept places ROOM len c r.long room r.padded)
+        ∙ take-whole (kept ++ c ∷ []) (replicate (ROOM - (len + 1)) 0) (len + 1) (length-append kept (c ∷ []) ∙ omega (arith, r.long))
 
 -- as the code comes to know it
-pub pushed : (len c index : ℕ) (places now : List ℕ) (found : Bool) → IsRanking len places → take len places ≡ now → found ≡ is_in now c → found ≡ false →
-    index ≡ c → index < 32 → Pushed len c places
-pushed len c index places now found r e answer absent same below =
-    ranking_pushed len c places r (ap (λ s. is_in s c) e ∙ sym answer ∙ absent) (omega arith)
+pub pushed : (len c : ℕ) (places now : List ℕ) (found : Bool) → IsRanking len places → take len places ≡ now → c < ROOM → found ≡ is_in now c → found ≡ false → Pushed len c places
+pushed len c places now found r e below answer absent = ranking_pushed len c places r (ap (λ s. is_in s c) e ∙ sym answer ∙ absent) below
 
 -- ---- orders
 -- sound places make a list of candidates none of which stands twice
@@ -92,19 +91,35 @@ order-from_places n list long h =
     (subst Distinct (take-length list) (distinct_places list (λ k l. (h k (omega arith)).1) (length list) (omega arith)))
     (λ c m. let (k, l, e) = contains-from_member m in subst (λ x. x < n) (get_or_default list k 0 c l ∙ e) (ltb-true (get_or list k 0) n (h k (omega arith)).0))
 
-pub order_placed : (n : ℕ) (list places : List ℕ) (i : ℕ) → 1 ≤ n → n ≤ 32 → length list ≡ n → i ≡ length list → places ≡ take i list ++ replicate (32 - i) 0 →
-    ((k : ℕ) → k < i → (is_in_range n list k ≡ true) × (is_repeated list k ≡ false)) → IsOrder (length list) places × (take (length list) places ≡ list) × (is_order n list ≡ true)
-order_placed n list places i some room long last placed sound =
-    let filled : places ≡ list ++ replicate (32 - length list) 0 = placed ∙ ap (λ k. take k list ++ replicate (32 - k) 0) last ∙ ap (λ s. s ++ replicate (32 - length list) 0) (take-length list) in
-    let same : take (length list) places ≡ list = ap (take (length list)) filled ∙ take-whole list (replicate (32 - length list) 0) (length list) refl in
-    let order : is_order n list ≡ true = order-from_places n list long (λ k l. sound k (omega arith)) in (
+pub filled_order : (list places : List ℕ) → places ≡ list ++ replicate (ROOM - length list) 0 → 0 < length list → length list ≤ ROOM → is_order (length list) list ≡ true →
+    IsOrder (length list) places × (take (length list) places ≡ list)
+filled_order list places filled some room order =
+    let same : take (length list) places ≡ list = ap (take (length list)) filled ∙ take-whole list (replicate (ROOM - length list) 0) (length list) refl in (
       record {
-        some = omega arith;
-        few = omega arith;
+        some = some;
+        few = room;
         long = ap length same;
-        padded = filled ∙ ap (λ s. s ++ replicate (32 - length list) 0) (sym same);
-        permutation = ap (is_order (length list)) same ∙ ap (λ k. is_order k list) long ∙ order;
+        padded = filled ∙ ap (λ s. s ++ replicate (ROOM - length list) 0) (sym same);
+        permutation = ap (is_order (length list)) same ∙ order;
       },
       same,
-      order,
     )
+
+-- as the code makes it of a list of all
+pub copied_order : (list copied blank : List ℕ) → copied ≡ list → blank ≡ replicate ROOM 0 → 0 < length list → length list ≤ ROOM → is_order (length list) list ≡ true →
+    let places = copied ++ drop (length list) blank in
+    IsOrder (length list) places × (take (length list) places ≡ list)
+copied_order list copied blank e zeros some room order =
+    filled_order list (copied ++ drop (length list) blank)
+    (ap (λ s. s ++ drop (length list) blank) e ∙ ap (λ s. list ++ s) (ap (drop (length list)) zeros ∙ drop-replicate (length list) ROOM 0))
+    some room order
+
+-- as the code reads it place by place
+pub order_placed : (n : ℕ) (list places : List ℕ) (i : ℕ) → 1 ≤ n → n ≤ ROOM → length list ≡ n → i ≡ length list → places ≡ take i list ++ replicate (ROOM - i) 0 →
+    ((k : ℕ) → k < i → (is_in_range n list k ≡ true) × (is_repeated list k ≡ false)) → IsOrder (length list) places × (take (length list) places ≡ list) × (is_order n list ≡ true)
+order_placed n list places i some room long last placed sound =
+    let filled : places ≡ list ++ replicate (ROOM - length list) 0 =
+    placed ∙ ap (λ k. take k list ++ replicate (ROOM - k) 0) last ∙ ap (λ s. s ++ replicate (ROOM - length list) 0) (take-length list) in
+    let order : is_order n list ≡ true = order-from_places n list long (λ k l. sound k (omega arith)) in
+    let (kept, same) = filled_order list places filled (omega (arith, some, long)) (omega (arith, room, long)) (ap (λ k. is_order k list) long ∙ order) in
+    (kept, same, order)

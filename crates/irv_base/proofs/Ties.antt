@@ -19,7 +19,7 @@ pub record Same (xs ys : List ℕ) : Type 0 where
 back : {xs ys : List ℕ} → Same xs ys → Same ys xs
 back s = record { left = s.right; right = s.left }
 
-set_of-same : (xs ys : List ℕ) → Distinct xs → Distinct ys → Same xs ys → set_of xs ≡ set_of ys
+pub set_of-same : (xs ys : List ℕ) → Distinct xs → Distinct ys → Same xs ys → set_of xs ≡ set_of ys
 set_of-same xs ys dx dy s = set_of_is (set_of xs) ys dy (λ c. has-set_of xs c dx ∙ same c) where
   same : (c : ℕ) → is_in xs c ≡ is_in ys c
   same c =
@@ -69,7 +69,7 @@ tabulated-same records (c ∷ xs) (d ∷ ys) dx dy s hx hy =
     ap₂ (λ z zs. z ∷ zs) e (tabulated-same records xs ys (distinct-tail dx) (distinct-tail dy) (same-tail c xs ys dx dy'' s') rx ry)
 
 -- ---- those who share the least tally
-least-le : (records : List (List ℕ)) (cs : List ℕ) (c : ℕ) → Member c cs → least_tally records cs ≤ tally records (set_of cs) c
+pub least-le : (records : List (List ℕ)) (cs : List ℕ) (c : ℕ) → Member c cs → least_tally records cs ≤ tally records (set_of cs) c
 least-le records cs c m = least-member (tally records (set_of cs) c) (map (tally records (set_of cs)) cs) (member-map (tally records (set_of cs)) m)
 
 sharer : (records : List (List ℕ)) (cs : List ℕ) (c : ℕ) → Member c (sharing_least records cs) → Member c cs × (tally records (set_of cs) c ≡ least_tally records cs)
@@ -77,7 +77,7 @@ sharer records cs c m =
     let (in', t) = from_filter (λ c. tally records (set_of cs) c == least_tally records cs) cs m in
     (in', eqb-true (tally records (set_of cs) c) (least_tally records cs) t)
 
-distinct-filter : (p : ℕ → Bool) (xs : List ℕ) → Distinct xs → Distinct (filter p xs)
+pub distinct-filter : (p : ℕ → Bool) (xs : List ℕ) → Distinct xs → Distinct (filter p xs)
 distinct-filter p [] d = none
 distinct-filter p (x ∷ xs) d = kept (p x) (distinct-filter p xs (distinct-tail d)) where
   kept : (b : Bool) → Distinct (filter p xs) → Distinct (cond b (x ∷ filter p xs) (filter p xs))

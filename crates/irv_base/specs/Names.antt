@@ -1,5 +1,5 @@
 -- Names, also called ids, of contests, candidates and ballots.
-use Rattle.std.specs.Prelude.{ℕ, ◌-◌, Bool, true, not, ◌&&◌, ◌||◌, ◌==◌, nat_le, List, [], ◌∷◌, length, slice_index}
+use Rattle.std.specs.Prelude.{ℕ, ◌-◌, Bool, true, not, ◌&&◌, ◌||◌, ◌==◌, nat_le, List, [], ◌∷◌, length, slice_index, position, Option}
 use Rattle.std.specs.List.{list_all, list_any}
 use Rattle.std.specs.Cmp.Lexicographic.{pointwise}
 use Rattle.irv_base.specs.declared.limits.TheConstants.{MOST_NAME_BYTES}
@@ -27,7 +27,7 @@ has_name_length bytes = nat_le 1 (length bytes) && nat_le (length bytes) MOST_NA
 abbrev pub touches_space : List ℕ → Bool
 touches_space bytes = (slice_index bytes 0 == space) || (slice_index bytes (length bytes - 1) == space)
 
--- 1 to 64 such bytes that neither begin nor end with a space
+-- at most MOST_NAME_BYTES such bytes, and at least one, that neither begin nor end with a space
 abbrev pub is_name : List ℕ → Bool
 is_name bytes = has_name_length bytes && not (touches_space bytes) && list_all is_name_byte bytes
 
@@ -41,6 +41,10 @@ is_same a b = pointwise ◌==◌ a b
 
 abbrev pub is_among : List Id → Id → Bool
 is_among ids id = list_any (λ other. is_same other id) ids
+
+-- the candidate with that id, where these are the ids of the candidates
+abbrev pub candidate_named : List Id → Id → Option ℕ
+candidate_named ids id = position (λ other. is_same other id) ids
 
 abbrev pub all_differ : List Id → Bool
 all_differ [] = true

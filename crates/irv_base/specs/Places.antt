@@ -1,8 +1,10 @@
--- Candidates that are kept in an array with room for all, padded with 0.
-use Rattle.std.specs.Prelude.{◌≡◌, ◌<◌, ◌≤◌, ◌-◌, ◌++◌, ℕ, List, take, length, replicate, All, IsTrue}
-use Rattle.irv_base.specs.Candidates.{is_distinct}
+-- Lists that are kept in an array with room for the longest, padded with 0: candidates, and the bytes of a name.
+use Rattle.std.specs.Prelude.{◌≡◌, ◌<◌, ◌≤◌, ◌-◌, ◌++◌, ℕ, List, take, drop, length, replicate, All, IsTrue}
+use Rattle.irv_base.specs.Candidates.{is_distinct, set_of}
 use Rattle.irv_base.specs.Orders.{is_order}
-use Rattle.irv_base.specs.declared.limits.TheConstants.{ROOM}
+use Rattle.irv_base.specs.Suffixes.{is_suffix}
+use Rattle.irv_base.specs.Names.{is_name}
+use Rattle.irv_base.specs.declared.limits.TheConstants.{MOST_NAME_BYTES, ROOM}
 
 pub record IsRanking (len : ℕ) (places : List ℕ) : Type 0 where
   pub few : len ≤ ROOM
@@ -17,3 +19,17 @@ pub record IsOrder (len : ℕ) (places : List ℕ) : Type 0 where
   pub long : length (take len places) ≡ len
   pub padded : places ≡ take len places ++ replicate (ROOM - len) 0
   pub permutation : IsTrue (is_order len (take len places))
+
+-- a suffix stands at the end, beside its set
+pub record IsSuffix (start : ℕ) (places : List ℕ) (set : ℕ) : Type 0 where
+  pub few : length (drop start places) ≤ ROOM
+  pub long : ROOM - length (drop start places) ≡ start
+  pub padded : places ≡ replicate start 0 ++ drop start places
+  pub proper : IsTrue (is_suffix ROOM (drop start places))
+  pub members : set ≡ set_of (drop start places)
+
+pub record IsName (len : ℕ) (text : List ℕ) : Type 0 where
+  pub few : len ≤ MOST_NAME_BYTES
+  pub long : length (take len text) ≡ len
+  pub padded : text ≡ take len text ++ replicate (MOST_NAME_BYTES - len) 0
+  pub proper : IsTrue (is_name (take len text))

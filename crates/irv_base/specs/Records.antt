@@ -1,6 +1,11 @@
 -- The records are a list of rankings, and a ranking is a list of distinct candidates, the most preferred first.
-use Rattle.std.specs.Prelude.{ℕ, Bool, true, false, ◌==◌, if◌then◌else◌, List, [], ◌∷◌, count_by, find, Option, Some, None}
+use Rattle.std.specs.Prelude.{ℕ, Bool, true, false, not, ◌==◌, if◌then◌else◌, List, [], ◌∷◌, count_by, filter, find, Option, Some, None}
 use Rattle.irv_base.specs.Candidates.{has}
+
+-- each candidate at its first place alone
+abbrev pub firsts : List ℕ → List ℕ
+firsts [] = []
+firsts (c ∷ cs) = c ∷ filter (λ d. not (d == c)) (firsts cs)
 
 -- the first candidate of the ranking that is in the set
 abbrev pub top : List ℕ → ℕ → Option ℕ

@@ -62,6 +62,13 @@ impl CandSet {
         }
     }
 
+    /// Its number.
+    pub fn number(self) -> u32
+        ensures { result ≡ self }
+    {
+        self.0
+    }
+
     /// How many members it has.
     pub fn len(self) -> u32
         ensures { result ≡ length (members self) }

@@ -10,14 +10,17 @@ mod name;
 mod order;
 mod ranking;
 mod steps;
+mod suffix;
 
 pub use cand_set::CandSet;
 pub use candidate::Candidate;
 pub use limits::{
-    FEWEST_CANDIDATES, MOST_CANDIDATES, MOST_FILE_BYTES, MOST_NAME_BYTES, MOST_RECORDS, ROOM,
+    FEWEST_CANDIDATES, GREATEST_GAMMA, GREATEST_LIMIT, MOST_CANDIDATES, MOST_CARDS, MOST_DRAWS,
+    MOST_FILE_BYTES, MOST_NAME_BYTES, MOST_NUMBER_DIGITS, MOST_RECORDS, ROOM,
 };
 pub use memory::Memory;
-pub use name::Name;
+pub use name::{Name, candidate_named};
 pub use order::{BadOrder, Order};
 pub use ranking::Ranking;
 pub use steps::Steps;
+pub use suffix::Suffix;

@@ -1,18 +1,19 @@
 // Names of contests, candidates and ballots.
-ghost use Rattle.std.specs.Prelude.{◌≡◌, ◌<◌, ◌==◌, IfSome, IfNone, IsTrue, false, length};
+ghost use Rattle.std.specs.Prelude.{◌≡◌, ◌<◌, ◌≤◌, ◌==◌, IfSome, IfNone, IsTrue, false, length, position};
 ghost use Rattle.std.proofs.Common.{rules};
 ghost use Rattle.std.specs.Hash as fed;
 ghost use Rattle.std.specs.Cmp.Rules.{comparing, hashing};
 ghost use Rattle.std.specs.Cmp.Lexicographic.{pointwise};
 ghost use Rattle.std.specs.List.{list_all};
-ghost use Rattle.irv_base.specs.Names.{is_name, is_name_byte, has_name_length, touches_space};
+ghost use Rattle.irv_base.specs.Names.{is_name, is_name_byte, is_same, has_name_length, touches_space, candidate_named};
+ghost use Rattle.irv_base.specs.declared.limits.TheConstants.{ROOM};
 
-use crate::MOST_NAME_BYTES;
+use crate::{Candidate, MOST_NAME_BYTES};
 use std::hash::{Hash, Hasher};
 use std::marker::Model;
 
-/// The id of a contest, a candidate or a ballot: 1 to 64 printable ASCII characters, no comma and no double
-/// quote among them, that neither begin nor end with a space.
+/// The id of a contest, a candidate or a ballot: 1 to `MOST_NAME_BYTES` printable ASCII characters, no comma and no
+/// double quote among them, that neither begin nor end with a space.
 ///
 /// To a contract a name is its bytes.
 #[derive(Clone, Copy)]
@@ -22,21 +23,20 @@ pub struct Name {
 }
 
 impl Model for Name {
-    ghost use Rattle.std.specs.Prelude.{ℕ, List, ◌≤◌, ◌-◌, ◌≡◌, ◌++◌, take, length, replicate, IsTrue};
+    ghost use Rattle.std.specs.Prelude.{ℕ, List, ◌-◌, ◌++◌, take, length, replicate};
     ghost use Rattle.std.proofs.Common.{ap, sym, ◌∙◌};
-    ghost use Rattle.std.specs.List.{list_all};
-    ghost use Rattle.irv_base.specs.Names.{is_name};
+    ghost use Rattle.irv_base.specs.Places.{IsName};
     ghost use Rattle.irv_base.specs.declared.limits.TheConstants.{MOST_NAME_BYTES};
 
     ghost Value = { List ℕ };
 
     ghost view = { λ s. take s.len s.text };
 
-    ghost invariant = { λ s. (s.len ≤ MOST_NAME_BYTES) × (s.text ≡ take s.len s.text ++ replicate (MOST_NAME_BYTES - s.len) 0) × (length (take s.len s.text) ≡ s.len) × IsTrue (is_name (take s.len s.text)) };
+    ghost invariant = { λ s. IsName s.len s.text };
 
     ghost inverse = { λ v. record { len = length v; text = v ++ replicate (MOST_NAME_BYTES - length v) 0 } };
 
-    ghost inverse_ok = { λ a h i. record { len = h.2 i; text = (ap (λ n. take a.len a.text ++ replicate (MOST_NAME_BYTES - n) 0) h.2 ∙ sym h.1) i } };
+    ghost inverse_ok = { λ s h i. record { len = h.long i; text = (ap (λ n. take s.len s.text ++ replicate (MOST_NAME_BYTES - n) 0) h.long ∙ sym h.padded) i } };
 }
 
 fn is_name_byte(b: u8) -> bool
@@ -124,5 +124,23 @@ impl Hash for Name {
 
     fn hash<H: Hasher>(&self, state: &mut H) {
         self.bytes().hash(state);
+    }
+}
+
+fn place_of(names: &[Name], id: &[u8]) -> Option<usize>
+    ensures { result ≡ position (λ name. is_same name id.now) names.now }
+{
+    names.iter().position(|name| name.bytes() == id)
+}
+
+/// The candidate with that id, where these are the ids of the candidates.
+pub fn candidate_named(names: &[Name], id: &[u8]) -> Option<Candidate>
+    requires { length names.now ≤ ROOM }
+    ensures named { result ≡ candidate_named names.now id.now }
+    ensures within { IfSome result (λ c. c < length names.now) }
+{
+    match place_of(names, id) {
+        Some(place) => Some(Candidate(place as u8)),
+        None => None,
     }
 }

@@ -4,6 +4,8 @@ ghost use Rattle.irv_base.specs.Orders.{is_order, Refuses};
 ghost use Rattle.irv_base.specs.declared.limits.TheConstants.{ROOM};
 
 use crate::{Candidate, ROOM};
+use std::error::Error;
+use std::fmt;
 use std::marker::Model;
 
 /// Why a list of numbers is no order.
@@ -16,6 +18,18 @@ pub enum BadOrder {
     /// The number at this place, from 0, stands at an earlier one.
     Repeated(u64),
 }
+
+impl fmt::Display for BadOrder {
+    fn fmt<W: fmt::Write>(&self, f: &mut fmt::Formatter<W>) -> fmt::Result {
+        match self {
+            BadOrder::Length(found) => write!(f, "an order with {found} numbers"),
+            BadOrder::Range(i) => write!(f, "no candidate at place {i}"),
+            BadOrder::Repeated(i) => write!(f, "a candidate again at place {i}"),
+        }
+    }
+}
+
+impl Error for BadOrder {}
 
 /// An elimination order: each candidate of a contest once, first eliminated first, so that the winner stands last.
 ///
@@ -69,6 +83,21 @@ impl Order {
             len: list.len() as u8,
             places,
         })
+    }
+
+    // The order that a list of all candidates is.
+    pub(crate) fn of_all(list: &[Candidate]) -> Order
+        requires some { 0 < length list.now }
+        requires room { length list.now ≤ ROOM }
+        requires whole { IsTrue (is_order (length list.now) list.now) }
+        ensures { result ≡ list.now }
+    {
+        let mut places = [Candidate(0); ROOM as usize];
+        places[..list.len()].copy_from_slice(list);
+        Order {
+            len: list.len() as u8,
+            places,
+        }
     }
 
     /// The candidate that is eliminated in round `i`, from 0, or the winner at the last place.

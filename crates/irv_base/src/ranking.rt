@@ -1,10 +1,15 @@
 // The ranking of a ballot.
 ghost use Rattle.std.specs.Prelude.{◌≡◌, ◌<◌, ◌≤◌, ◌++◌, ◌∷◌, ◌==◌, ◌↔◌, [], true, false, length, position, IsTrue, All};
+ghost use Rattle.std.proofs.Common.{rules};
+ghost use Rattle.std.specs.Hash as fed;
+ghost use Rattle.std.specs.Cmp.Rules.{comparing, hashing};
+ghost use Rattle.std.specs.Cmp.Lexicographic.{pointwise};
 ghost use Rattle.irv_base.specs.Candidates.{is_in, is_distinct};
-ghost use Rattle.irv_base.specs.Records.{top};
+ghost use Rattle.irv_base.specs.Records.{firsts, top};
 ghost use Rattle.irv_base.specs.declared.limits.TheConstants.{ROOM};
 
 use crate::{CandSet, Candidate, ROOM};
+use std::hash::{Hash, Hasher};
 use std::marker::Model;
 
 /// The ranking of a ballot: distinct candidates, the most preferred first, possibly none.
@@ -50,13 +55,24 @@ impl Ranking {
         }
     }
 
+    /// The ranking of these candidates, the most preferred first, each of whom counts at its first place.
+    pub fn of(candidates: &[Candidate]) -> Ranking
+        ensures { result ≡ firsts candidates.now }
+    {
+        let mut ranking = Ranking::empty();
+        for c in candidates {
+            ranking.push(*c);
+        }
+        ranking
+    }
+
     /// Adds a candidate at the end. One that is there already counts at its first place.
     pub fn push(&mut self, c: Candidate)
         ensures added { is_in self.old c ≡ false → self.new ≡ self.old ++ c ∷ [] }
         ensures kept { is_in self.old c ≡ true → self.new ≡ self.old }
     {
         if !self.contains(c) {
-            let _below = c.index();
+            prove!(c.0 < ROOM);
             self.places[usize::from(self.len)] = c;
             self.len += 1;
         }
@@ -93,5 +109,29 @@ impl Ranking {
         ensures distinct { IsTrue (is_distinct self.now) }
     {
         &self.places[..usize::from(self.len)]
+    }
+}
+
+impl PartialEq for Ranking {
+    ghost eq = { pointwise ◌==◌ };
+
+    ghost laws = { Prim.search (comparing, rules) };
+
+    fn eq(&self, other: &Ranking) -> bool {
+        self.candidates() == other.candidates()
+    }
+}
+
+impl Eq for Ranking {
+    ghost laws = { Prim.search (comparing, rules) };
+}
+
+impl Hash for Ranking {
+    ghost hash_input = { fed.slice fed.u8 };
+
+    ghost respects_eq = { Prim.search (hashing, rules) };
+
+    fn hash<H: Hasher>(&self, state: &mut H) {
+        self.candidates().hash(state);
     }
 }

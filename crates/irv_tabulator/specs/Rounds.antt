@@ -1,6 +1,6 @@
 -- The rounds of a tabulation: while two or more candidates remain, their tallies, and the records that rank none of them.
-use Rattle.std.specs.Prelude.{ℕ, not, List, [], ◌∷◌, map, count_by, is_some}
-use Rattle.irv_base.specs.Candidates.{set_of}
+use Rattle.std.specs.Prelude.{◌≡◌, ◌==◌, ◌++◌, ℕ, not, List, [], ◌∷◌, map, filter, slice_index, count_by, is_some}
+use Rattle.irv_base.specs.Candidates.{members, set_of}
 use Rattle.irv_base.specs.Records.{top}
 use Rattle.set_tallies.specs.Bags.{tallies}
 use Rattle.irv_tabulator.specs.declared.tabulated.Round.{Round}
@@ -29,3 +29,11 @@ count_in round = record { votes = round.tallies.items; exhausted = round.exhaust
 
 abbrev pub counts_in : List Round → List Count
 counts_in rounds = map count_in rounds
+
+-- one round more is noted
+abbrev pub Notes : List Round → List ℕ → ℕ → List Round → Type 0
+Notes old votes exhausted new = counts_in new ≡ counts_in old ++ (record { votes = votes; exhausted = exhausted }) ∷ []
+
+-- those of the set who have this tally in the row
+abbrev pub sharing : List ℕ → ℕ → ℕ → List ℕ
+sharing row set tally = filter (λ c. slice_index row c == tally) (members set)

@@ -3,9 +3,11 @@ ghost use Rattle.std.specs.Prelude.{◌≡◌};
 ghost use Rattle.irv_tabulator.specs.declared.fault.TabFault.TheVariants.{Memory as WantOfMemory};
 
 use irv_base::{CandSet, Memory};
+use std::error::Error;
+use std::fmt;
 
 /// Why there is no tabulated order.
-#[derive(Clone, Copy)]
+#[derive(Clone, Copy, Debug)]
 pub enum TabFault {
     /// In this round, from 1, the candidates in the set share the least tally; in each round before it one candidate alone has it.
     Tie {
@@ -24,3 +26,17 @@ impl From<Memory> for TabFault {
         TabFault::Memory
     }
 }
+
+impl fmt::Display for TabFault {
+    fn fmt<W: fmt::Write>(&self, f: &mut fmt::Formatter<W>) -> fmt::Result {
+        match self {
+            TabFault::Tie { round, tally, .. } => write!(
+                f,
+                "a tie in round {round}, at a tally of {tally}"
+            ),
+            TabFault::Memory => write!(f, "{Memory}"),
+        }
+    }
+}
+
+impl Error for TabFault {}

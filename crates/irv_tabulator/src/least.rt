@@ -1,7 +1,8 @@
 // Who has the least tally among the remaining candidates.
-ghost use Rattle.std.specs.Prelude.{◌≡◌, ℕ, ◌<◌, ◌≤◌, ◌==◌, true, filter, length, slice_index};
+ghost use Rattle.std.specs.Prelude.{◌≡◌, ℕ, ◌<◌, ◌≤◌, true, length, slice_index};
 ghost use Rattle.irv_base.specs.declared.limits.TheConstants.{ROOM};
 ghost use Rattle.irv_base.specs.Candidates.{has, members, set_of};
+ghost use Rattle.irv_tabulator.specs.Rounds.{sharing};
 
 use irv_base::{CandSet, Candidate};
 
@@ -19,7 +20,8 @@ pub fn lowest(row: &[u32], remaining: CandSet) -> Candidate
     requires within { (c : ℕ) → has remaining c ≡ true → c < length row.now }
     requires room { length row.now ≤ ROOM }
     ensures remains { has remaining result ≡ true }
-    ensures least { (c : ℕ) → has remaining c ≡ true → slice_index row.now result ≤ slice_index row.now c }
+    ensures least { (c : ℕ) → has remaining c ≡ true
+        → slice_index row.now result ≤ slice_index row.now c }
 {
     let mut lowest = remaining.nth(0);
     for i in 1..remaining.len() {
@@ -41,8 +43,8 @@ pub struct Tied {
 /// The remaining candidates with this tally.
 pub fn sharing(row: &[u32], remaining: CandSet, tally: u32) -> Tied
     requires { (c : ℕ) → has remaining c ≡ true → c < length row.now }
-    ensures candidates { result.candidates ≡ set_of (filter (λ c. slice_index row.now c == tally) (members remaining)) }
-    ensures count { result.count ≡ length (filter (λ c. slice_index row.now c == tally) (members remaining)) }
+    ensures candidates { result.candidates ≡ set_of (sharing row.now remaining tally) }
+    ensures count { result.count ≡ length (sharing row.now remaining tally) }
 {
     let mut candidates = CandSet::empty();
     let mut count = 0;

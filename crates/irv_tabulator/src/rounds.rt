@@ -1,10 +1,10 @@
 // Tabulation, round by round.
-ghost use Rattle.std.specs.Prelude.{◌≡◌, ℕ, ◌<◌, ◌≤◌, ◌-◌, ◌++◌, ◌∷◌, [], List, nat_lt, slice_index, sum, IfOk, IfErr};
+ghost use Rattle.std.specs.Prelude.{◌≡◌, ℕ, ◌<◌, ◌≤◌, ◌-◌, List, nat_lt, slice_index, sum, IfOk, IfErr};
 ghost use Rattle.irv_base.specs.Candidates.{has};
 ghost use Rattle.irv_base.specs.declared.limits.TheConstants.{ROOM};
 ghost use Rattle.set_tallies.specs.Bags.{IsOf};
 ghost use Rattle.irv_tabulator.specs.Results.{IsTabulation, Names};
-ghost use Rattle.irv_tabulator.specs.Rounds.{counts_in};
+ghost use Rattle.irv_tabulator.specs.Rounds.{Notes};
 
 use crate::fault::TabFault;
 use crate::least::{lowest, sharing, votes};
@@ -36,7 +36,7 @@ fn uncounted(row: &[u32], records: u32) -> u32
 }
 
 fn note(rounds: &mut Vec<Round>, row: Vec<u32>, exhausted: u32) -> Result<(), Memory>
-    ensures { IfOk result (λ _. counts_in rounds.new.items ≡ counts_in rounds.old.items ++ (record { votes = row.items; exhausted = exhausted }) ∷ []) }
+    ensures { IfOk result (λ _. Notes rounds.old.items row.items exhausted rounds.new.items) }
 {
     let round = Round {
         tallies: row,
@@ -48,8 +48,10 @@ fn note(rounds: &mut Vec<Round>, row: Vec<u32>, exhausted: u32) -> Result<(), Me
 
 /// The tabulated order of the tallies' contest with its rounds, or the first tie.
 pub fn tabulate(alloc: Global, tallies: &mut Tallies<'_>) -> Result<Tabulated, TabFault>
-    ensures tabulated { (records : List (List ℕ)) → IsOf tallies.old.bag records → IfOk result (λ t. IsTabulation tallies.old.bag.n records t) }
-    ensures tie { (records : List (List ℕ)) → IsOf tallies.old.bag records → IfErr result (λ fault. Names tallies.old.bag.n records fault) }
+    ensures tabulated { (records : List (List ℕ)) → IsOf tallies.old.bag records
+        → IfOk result (λ t. IsTabulation tallies.old.bag.n records t) }
+    ensures tie { (records : List (List ℕ)) → IsOf tallies.old.bag records
+        → IfErr result (λ fault. Names tallies.old.bag.n records fault) }
     ensures same { tallies.new ≡ tallies.old }
 {
     let n = tallies.candidates();

@@ -1,9 +1,9 @@
 // Contests that were counted by hand: two with a winner, and one with a tie.
-ghost use Rattle.std.specs.Prelude.{◌≡◌, ◌≢◌, ◌<◌, ◌∷◌, [], All};
+ghost use Rattle.std.specs.Prelude.{◌<◌, All};
 
 use super::*;
-use irv_base::{Candidate, Ranking};
-use set_tallies::{Ahead, Bag, Tallies};
+use irv_base::{CandSet, Candidate, Ranking};
+use set_tallies::Counted;
 
 const ZERO: Candidate = Candidate(0);
 
@@ -13,29 +13,15 @@ const TWO: Candidate = Candidate(2);
 
 const THREE: Candidate = Candidate(3);
 
-fn only(c: Candidate) -> Ranking
-    ensures { result ≡ c ∷ [] }
-{
-    let mut ranking = Ranking::empty();
-    ranking.push(c);
-    ranking
-}
-
-fn both(c: Candidate, d: Candidate) -> Ranking
-    requires { c ≢ d }
-    ensures { result ≡ c ∷ d ∷ [] }
-{
-    let mut ranking = only(c);
-    ranking.push(d);
-    ranking
-}
-
 #[test]
 fn elects_the_second(rt: HostRuntime) {
-    let rankings = [only(ZERO), only(ONE), only(ONE)];
-    let bag = Bag::of(rt.alloc(), 2, rankings.as_slice()).expect(&rt, "bag");
-    let ahead = Ahead::fill(rt.alloc(), &bag).expect(&rt, "ahead");
-    let mut tallies = Tallies::new(rt.alloc(), &bag, &ahead).expect(&rt, "tallies");
+    let rankings = [
+        Ranking::of(&[ZERO]),
+        Ranking::of(&[ONE]),
+        Ranking::of(&[ONE]),
+    ];
+    let counted = Counted::of(rt.alloc(), 2, rankings.as_slice()).expect(&rt, "counted");
+    let mut tallies = counted.tallies().expect(&rt, "tallies");
     match tabulate(rt.alloc(), &mut tallies) {
         Ok(tabulated) => {
             assert!(rt; tabulated.winner == ONE);
@@ -47,10 +33,9 @@ fn elects_the_second(rt: HostRuntime) {
 
 #[test]
 fn names_a_tie(rt: HostRuntime) {
-    let rankings = [only(ZERO), only(ONE)];
-    let bag = Bag::of(rt.alloc(), 2, rankings.as_slice()).expect(&rt, "bag");
-    let ahead = Ahead::fill(rt.alloc(), &bag).expect(&rt, "ahead");
-    let mut tallies = Tallies::new(rt.alloc(), &bag, &ahead).expect(&rt, "tallies");
+    let rankings = [Ranking::of(&[ZERO]), Ranking::of(&[ONE])];
+    let counted = Counted::of(rt.alloc(), 2, rankings.as_slice()).expect(&rt, "counted");
+    let mut tallies = counted.tallies().expect(&rt, "tallies");
     let tabulated = tabulate(rt.alloc(), &mut tallies);
     assert!(rt;
         matches!(
@@ -69,16 +54,16 @@ fn county() -> [Ranking; 10]
     ensures { All (λ ranking. All (λ c. c < 4) ranking) result }
 {
     [
-        only(ONE),
-        only(ONE),
-        only(ONE),
-        only(ONE),
-        only(TWO),
-        only(TWO),
-        only(TWO),
-        both(THREE, TWO),
-        only(THREE),
-        both(ZERO, ONE),
+        Ranking::of(&[ONE]),
+        Ranking::of(&[ONE]),
+        Ranking::of(&[ONE]),
+        Ranking::of(&[ONE]),
+        Ranking::of(&[TWO]),
+        Ranking::of(&[TWO]),
+        Ranking::of(&[TWO]),
+        Ranking::of(&[THREE, TWO]),
+        Ranking::of(&[THREE]),
+        Ranking::of(&[ZERO, ONE]),
     ]
 }
 
@@ -90,9 +75,8 @@ fn says(round: &Round, tallies: [u32; 4], exhausted: u32) -> bool {
 #[test]
 fn county_contest(rt: HostRuntime) {
     let rankings = county();
-    let bag = Bag::of(rt.alloc(), 4, rankings.as_slice()).expect(&rt, "bag");
-    let ahead = Ahead::fill(rt.alloc(), &bag).expect(&rt, "ahead");
-    let mut tallies = Tallies::new(rt.alloc(), &bag, &ahead).expect(&rt, "tallies");
+    let counted = Counted::of(rt.alloc(), 4, rankings.as_slice()).expect(&rt, "counted");
+    let mut tallies = counted.tallies().expect(&rt, "tallies");
     match tabulate(rt.alloc(), &mut tallies) {
         Ok(tabulated) => {
             let rounds = tabulated.rounds.as_slice();
@@ -104,4 +88,15 @@ fn county_contest(rt: HostRuntime) {
         }
         Err(_) => assert!(rt; false),
     }
+}
+
+#[test]
+fn tells_of_a_tie(rt: HostRuntime) {
+    let tie = TabFault::Tie {
+        round: 2,
+        tied: CandSet::empty().with(ZERO).with(ONE),
+        tally: 7,
+    };
+    let text = tie.to_string(rt.alloc()).expect(&rt, "text");
+    assert!(rt; text.as_str() == "a tie in round 2, at a tally of 7");
 }

@@ -7,14 +7,15 @@ use Rattle.std.proofs.lemmas.Grind.{replicate_next}
 use Rattle.std.proofs.lemmas.List.{append-nil}
 use Rattle.std.proofs.lemmas.List.Sums.{fold_push}
 use Rattle.km_risk.proofs.Factors.{numerator_pos, denominator_pos, high_factor, divided_up-least, divided_up-most, stays}
-use Rattle.km_risk.specs.declared.limits.TheConstants.{ONE, MOST_DRAWS, MILLIONTH}
+use Rattle.irv_base.specs.declared.limits.TheConstants.{MOST_DRAWS}
+use Rattle.km_risk.specs.declared.limits.TheConstants.{ONE, MILLIONTH}
 use Rattle.km_risk.specs.Factor.{numerator, denominator}
 use Rattle.km_risk.specs.Counts.{clean, in_order}
 use Rattle.km_risk.specs.Printed.{divided_up, step, printed_risk}
-use Rattle.km_risk.specs.Clean.{clean_draws, IsLeast, IsNever}
-use Rattle.km_risk.specs.Laws.{LeastLaw, MoreDrawsLaw, LargerMarginLaw}
+use Rattle.km_risk.specs.Clean.{clean_draws, IsLeast, IsNeverWithinMost}
+use Rattle.km_risk.specs.Laws.{LeastLaw, MoreDrawsLaw, LargerMarginLaw, SameDrawsLaw}
 
-in_order-clean : (n : ℕ) → in_order (clean n) ≡ replicate n 2
+pub in_order-clean : (n : ℕ) → in_order (clean n) ≡ replicate n 2
 in_order-clean n = let draws : List ℕ = replicate n 2 in append-nil (draws ++ []) ∙ append-nil draws
 
 -- one clean draw more
@@ -70,7 +71,7 @@ least_up_to f limit cards (Some n) least = (omega (arith, least.1), omega (arith
 
 least_of : (cards margin gamma limit : ℕ) (found : Option ℕ) →
     IsLeastUpTo (λ n. printed_risk cards margin gamma (clean n)) (limit * MILLIONTH) cards found →
-    MatchOption found (IsNever cards margin gamma limit) (IsLeast cards margin gamma limit)
+    MatchOption found (IsNeverWithinMost cards margin gamma limit) (IsLeast cards margin gamma limit)
 least_of cards margin gamma limit None never = never
 least_of cards margin gamma limit (Some n) h = record { within_cards = h.0; within_draws = h.1; enough = h.2; least = h.3 }
 
@@ -135,6 +136,9 @@ module _ (cards margin larger gamma : ℕ) (some : 1 ≤ cards) (less : margin �
   unfolding printed_risk
   printed_risk_falls zero = omega arith
   printed_risk_falls (suc n) = subst FallsAt (add-one n) (falls_next n (printed_risk_falls n))
+
+pub same_draws_law : SameDrawsLaw
+same_draws_law cards margin larger gamma n some less smaller lasting = printed_risk_falls cards margin larger gamma some less smaller lasting n
 
 -- what is least for a lower risk is no larger
 lower_least : (f g : ℕ → ℕ) (limit cards : ℕ) → ((n : ℕ) → g n ≤ f n) → (found lower : Option ℕ) →

@@ -7,3 +7,7 @@ pub mod CleanDraws
 pub mod RiskBounds
 pub mod Sequences
 pub mod Confirmed
+pub mod AllCounted
+pub mod LargerDiscrepancies
+pub mod Listed
+pub mod Around

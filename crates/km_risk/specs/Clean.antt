@@ -1,7 +1,8 @@
 -- The clean draws that a limit needs.
 use Rattle.std.specs.Prelude.{ℕ, ◌+◌, ◌*◌, ◌<◌, ◌≤◌, min, nat_le, Option, find}
 use Rattle.std.specs.List.{range_with_len}
-use Rattle.km_risk.specs.declared.limits.TheConstants.{MOST_DRAWS, MILLIONTH}
+use Rattle.irv_base.specs.declared.limits.TheConstants.{MOST_DRAWS}
+use Rattle.km_risk.specs.declared.limits.TheConstants.{MILLIONTH}
 use Rattle.km_risk.specs.Counts.{clean}
 use Rattle.km_risk.specs.Printed.{printed_risk}
 
@@ -19,6 +20,6 @@ module _ (cards margin gamma limit : ℕ) where
     pub enough : printed_risk cards margin gamma (clean n) ≤ limit * MILLIONTH
     pub least : (k : ℕ) → k < n → limit * MILLIONTH < printed_risk cards margin gamma (clean k)
 
-  -- no number of clean draws is enough
-  abbrev pub IsNever : Type 0
-  IsNever = (n : ℕ) → n ≤ cards → n ≤ MOST_DRAWS → limit * MILLIONTH < printed_risk cards margin gamma (clean n)
+  -- no number of clean draws up to the cards and the most draws is enough
+  abbrev pub IsNeverWithinMost : Type 0
+  IsNeverWithinMost = (n : ℕ) → n ≤ cards → n ≤ MOST_DRAWS → limit * MILLIONTH < printed_risk cards margin gamma (clean n)

@@ -5,7 +5,7 @@
 -- the value of the overstatement assorter, (1 - o) / (2 - v), at the overstatement o = (2 - d) / 2 and the margin
 -- v = margin / cards (SHANGRLA, section 3.2). Above and below it is multiplied by 1000 * (2 * cards - margin).
 use Rattle.std.specs.Prelude.{ℕ, ◌+◌, ◌-◌, ◌*◌, ◌≤◌}
-use Rattle.km_risk.specs.declared.limits.TheConstants.{MOST_CARDS, GREATEST_GAMMA}
+use Rattle.irv_base.specs.declared.limits.TheConstants.{MOST_CARDS, GREATEST_GAMMA}
 
 -- the three numbers are within the limits of an audit
 pub record IsSetting (cards margin gamma : ℕ) : Type 0 where

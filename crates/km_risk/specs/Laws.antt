@@ -1,14 +1,20 @@
 -- Laws of the risk.
-use Rattle.std.specs.Prelude.{◌≡◌, ℕ, ◌+◌, ◌*◌, ◌^◌, ◌<◌, ◌≤◌, IsTrue, List, [], map, length, All, sum, count_by, MatchOption, IfSome, IsSomeAnd}
-use Rattle.km_risk.specs.declared.limits.TheConstants.{ONE}
+use Rattle.std.specs.Prelude.{◌≡◌, ◌≢◌, ◌↔◌, ℕ, ◌+◌, ◌*◌, ◌^◌, ◌<◌, ◌≤◌, IsTrue, List, [], map, length, All, AllPairs, Contains, sum, count_by, MatchOption, IfSome, IsSomeAnd}
+use Rattle.std.specs.List.{range_with_len}
+use Rattle.km_risk.specs.declared.limits.TheConstants.{MILLIONTH, ONE}
 use Rattle.km_risk.specs.declared.draws.Counts.{Counts}
 use Rattle.km_risk.specs.Factor.{threshold, numerator, denominator}
 use Rattle.km_risk.specs.Exact.{exact_numerator, exact_denominator, is_within}
-use Rattle.km_risk.specs.Counts.{in_order, counts_of, clean}
+use Rattle.km_risk.specs.Counts.{draws_in, in_order, counts_of, clean}
 use Rattle.km_risk.specs.Printed.{printed_risk, is_printed_within}
 use Rattle.km_risk.specs.Bounds.{IsNotBelow, IsNotFarAbove}
-use Rattle.km_risk.specs.Clean.{clean_draws, IsLeast, IsNever}
-use Rattle.km_risk.specs.Reach.{sequences, some_prefix, reach}
+use Rattle.km_risk.specs.Clean.{clean_draws, IsLeast, IsNeverWithinMost}
+use Rattle.km_risk.specs.Reach.{IsSequence, sequences, some_prefix, reach}
+
+-- the units of a risk
+pub record UnitsLaw : Type 0 where
+  pub one : ONE ≡ 10 ^ 18
+  pub millionth : ONE ≡ 1000000 * MILLIONTH
 
 -- a draw lowers the risk exactly where its d is 2 or more
 abbrev pub FactorLaw : Type 0
@@ -23,6 +29,16 @@ OrderLaw =
     (cards margin gamma : ℕ) (draws : List ℕ) → All (λ d. d ≤ 4) draws →
     (exact_numerator cards margin gamma (in_order (counts_of draws)) ≡ exact_numerator cards margin gamma draws)
     × (exact_denominator cards margin gamma (in_order (counts_of draws)) ≡ exact_denominator cards margin gamma draws)
+
+-- the counts of draws are of as many
+abbrev pub AllCountedLaw : Type 0
+AllCountedLaw = (draws : List ℕ) → All (λ d. d ≤ 4) draws → draws_in (counts_of draws) ≡ length draws
+
+-- at larger discrepancies of the cards, the exact risk of the same draws is no larger
+abbrev pub LargerDiscrepanciesLaw : Type 0
+LargerDiscrepanciesLaw =
+    (cards margin gamma limit : ℕ) (smaller larger : ℕ → ℕ) → ((card : ℕ) → smaller card ≤ larger card) → (drawn : List ℕ) →
+    IsTrue (is_within cards margin gamma limit (map smaller drawn)) → IsTrue (is_within cards margin gamma limit (map larger drawn))
 
 -- the printed risk is at most one
 abbrev pub AtMostOneLaw : Type 0
@@ -57,6 +73,13 @@ SequencesLaw =
     (length (sequences cards n) ≡ length cards ^ n)
     × (map (λ drawn. map discrepancy drawn) (sequences cards n) ≡ sequences (map discrepancy cards) n)
 
+-- the sequences are all there are, each once
+abbrev pub ListedLaw : Type 0
+ListedLaw =
+    (cards n : ℕ) →
+    AllPairs ◌≢◌ (sequences (range_with_len 1 cards) n)
+    × ((draws : List ℕ) → Contains (sequences (range_with_len 1 cards) n) draws ↔ IsSequence cards n draws)
+
 -- reach counts the sequences of draws of which some prefix has an exact risk within the limit
 abbrev pub ReachLaw : Type 0
 ReachLaw =
@@ -86,7 +109,7 @@ RiskLimitLaw =
 abbrev pub LeastLaw : Type 0
 LeastLaw =
     (cards margin gamma limit : ℕ) →
-    MatchOption (clean_draws cards margin gamma limit) (IsNever cards margin gamma limit) (IsLeast cards margin gamma limit)
+    MatchOption (clean_draws cards margin gamma limit) (IsNeverWithinMost cards margin gamma limit) (IsLeast cards margin gamma limit)
 
 -- one clean draw more never raises the printed risk
 abbrev pub MoreDrawsLaw : Type 0
@@ -99,3 +122,9 @@ abbrev pub LargerMarginLaw : Type 0
 LargerMarginLaw =
     (cards margin larger gamma limit : ℕ) → 1 ≤ cards → margin ≤ larger → larger ≤ cards → 1 ≤ gamma →
     IfSome (clean_draws cards margin gamma limit) (λ n. IsSomeAnd (clean_draws cards larger gamma limit) (λ k. k ≤ n))
+
+-- with a larger margin, the printed risk of the same clean draws is no larger, however many they are
+abbrev pub SameDrawsLaw : Type 0
+SameDrawsLaw =
+    (cards margin larger gamma n : ℕ) → 1 ≤ cards → margin ≤ larger → larger ≤ cards → 1 ≤ gamma →
+    printed_risk cards larger gamma (clean n) ≤ printed_risk cards margin gamma (clean n)

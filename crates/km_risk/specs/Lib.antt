@@ -7,3 +7,4 @@ pub mod Clean
 pub mod Reach
 pub mod Laws
 pub mod Examples
+pub mod Around

@@ -1,5 +1,5 @@
 -- How many sequences of draws get to a risk within the limit.
-use Rattle.std.specs.Prelude.{ℕ, zero, suc, ◌^◌, Bool, if◌then◌else◌, List, [], ◌∷◌, ◌++◌, map, sum_by}
+use Rattle.std.specs.Prelude.{◌≡◌, ℕ, zero, suc, ◌^◌, ◌≤◌, Bool, if◌then◌else◌, List, [], ◌∷◌, ◌++◌, map, length, sum_by, All}
 use Rattle.std.specs.List.{flat_map, list_any}
 use Rattle.km_risk.specs.Exact.{is_within}
 
@@ -7,6 +7,12 @@ use Rattle.km_risk.specs.Exact.{is_within}
 abbrev pub sequences : {X : Type 0} → List X → ℕ → List (List X)
 sequences cards zero = [] ∷ []
 sequences cards (suc n) = flat_map (λ card. map (λ more. card ∷ more) (sequences cards n)) cards
+
+-- n cards are drawn, of the cards from 1 to this many
+pub record IsSequence (cards n : ℕ) (draws : List ℕ) : Type 0 where
+  pub long : length draws ≡ n
+  pub some : All (λ card. 1 ≤ card) draws
+  pub within : All (λ card. card ≤ cards) draws
 
 -- the first draws of a sequence: none, one, two, and so on to all of them
 abbrev pub prefixes : {X : Type 0} → List X → List (List X)

@@ -1,16 +1,37 @@
 // The clean draws that a limit needs.
 ghost use Rattle.std.specs.Prelude.{◌≡◌, ◌≤◌};
 ghost use Rattle.km_risk.specs.Factor.{IsSetting};
-ghost use Rattle.km_risk.specs.declared.limits.TheConstants.{GREATEST_LIMIT};
+ghost use Rattle.irv_base.specs.declared.limits.TheConstants.{GREATEST_LIMIT};
 ghost use Rattle.km_risk.specs.Clean.{clean_draws};
 
-use crate::limits::{MILLIONTH, MOST_DRAWS, ONE};
+use crate::bounds::{climb, no_draws, one_draw};
+use crate::limits::{MILLIONTH, ONE};
 use crate::setting::Setting;
+use irv_base::MOST_DRAWS;
+
+// One draw after the other: the first number whose risk is at most the limit.
+fn first_within(setting: Setting, limit: u32) -> Option<u32>
+    requires { limit ≤ GREATEST_LIMIT }
+    ensures { result ≡ clean_draws setting.cards setting.margin setting.gamma limit }
+{
+    let allowed = u64::from(limit) * MILLIONTH;
+    let mut now = ONE;
+    for n in 0..=setting.cards.min(MOST_DRAWS) {
+        if now <= allowed {
+            return Some(n);
+        }
+        now = setting.after_draw(now, 2);
+    }
+    None
+}
 
 /// The least number of draws without a discrepancy, and no others, whose printed risk is at most `limit` millionths,
 /// for a manifest of `cards` cards, an assertion with a margin of `margin` votes, and `gamma` thousandths.
 ///
-/// `None` exactly where more draws than there are cards, or more than 100,000, are needed.
+/// `None` exactly where more draws than there are cards, or more than `MOST_DRAWS`, are needed.
+///
+/// Bounds of the risk mostly tell it in about as many steps as the number has binary digits. Where they leave a doubt, each
+/// draw is a step.
 pub fn clean_draws(cards: u32, margin: u32, gamma: u32, limit: u32) -> Option<u32>
     requires setting { IsSetting cards margin gamma }
     requires limit { (1 ≤ limit) × (limit ≤ GREATEST_LIMIT) }
@@ -21,13 +42,15 @@ pub fn clean_draws(cards: u32, margin: u32, gamma: u32, limit: u32) -> Option<u3
         margin,
         gamma,
     };
-    let allowed = u64::from(limit) * MILLIONTH;
-    let mut now = ONE;
-    for n in 0..=cards.min(MOST_DRAWS) {
-        if now <= allowed {
-            return Some(n);
-        }
-        now = setting.after_draw(now, 2);
+    let most = cards.min(MOST_DRAWS);
+    let one = one_draw(setting);
+    let last = climb(setting, limit, most, one);
+    if last.draws == most {
+        return None;
     }
-    None
+    let next = last.joined(setting, one);
+    if next.is_within(setting, limit) {
+        return Some(next.draws);
+    }
+    first_within(setting, limit)
 }

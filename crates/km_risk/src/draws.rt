@@ -1,7 +1,7 @@
 // The risk of numbers of draws.
 ghost use Rattle.std.specs.Prelude.{◌≡◌, ◌≤◌};
 ghost use Rattle.km_risk.specs.Factor.{IsSetting};
-ghost use Rattle.km_risk.specs.declared.limits.TheConstants.{MOST_DRAWS};
+ghost use Rattle.irv_base.specs.declared.limits.TheConstants.{MOST_DRAWS};
 ghost use Rattle.km_risk.specs.Counts.{draws_in, in_order};
 ghost use Rattle.km_risk.specs.Printed.{printed_risk};
 ghost use Rattle.km_risk.specs.Bounds.{IsNotBelow, IsNotFarAbove};

@@ -1,5 +1,10 @@
 //! Laws of the risk, one for each function: its contract is the law, and its body is empty.
-ghost use Rattle.km_risk.specs.Laws.{FactorLaw, OrderLaw, AtMostOneLaw, NotBelowLaw, NotFarAboveLaw, ConfirmedLaw, SequencesLaw, ReachLaw, CountingLaw, RiskLimitLaw, LeastLaw, MoreDrawsLaw, LargerMarginLaw};
+ghost use Rattle.km_risk.specs.Laws.{UnitsLaw, FactorLaw, OrderLaw, AllCountedLaw, LargerDiscrepanciesLaw, AtMostOneLaw, NotBelowLaw, NotFarAboveLaw, ConfirmedLaw, SequencesLaw, ListedLaw, ReachLaw, CountingLaw, RiskLimitLaw, LeastLaw, MoreDrawsLaw, LargerMarginLaw, SameDrawsLaw};
+
+/// The units of a risk.
+pub fn units()
+    ensures { UnitsLaw }
+{}
 
 /// A draw with d of 2 to 4 lowers the risk, and a draw with d of 0 or 1 doesn't.
 pub fn factors()
@@ -9,6 +14,16 @@ pub fn factors()
 /// The exact risk of draws doesn't depend on their order.
 pub fn any_order()
     ensures { OrderLaw }
+{}
+
+/// The counts of draws count each draw once.
+pub fn all_counted()
+    ensures { AllCountedLaw }
+{}
+
+/// At larger discrepancies of the cards, the exact risk of the same draws is no larger.
+pub fn larger_discrepancies()
+    ensures { LargerDiscrepanciesLaw }
 {}
 
 /// The printed risk is at most one.
@@ -34,6 +49,11 @@ pub fn confirmed()
 /// There are `cards ^ n` sequences of `n` draws, one for each sequence of cards.
 pub fn all_sequences()
     ensures { SequencesLaw }
+{}
+
+/// The listed sequences of draws are all sequences of cards, each once.
+pub fn listed()
+    ensures { ListedLaw }
 {}
 
 /// What the counting law bounds is a number of sequences of draws.
@@ -66,4 +86,9 @@ pub fn more_draws()
 /// A larger margin never needs more clean draws.
 pub fn larger_margin()
     ensures { LargerMarginLaw }
+{}
+
+/// With a larger margin, the printed risk of the same clean draws is no larger.
+pub fn same_draws()
+    ensures { SameDrawsLaw }
 {}

@@ -5,6 +5,7 @@
 //! units of 10^-18, and each rounding goes up, so it is never too small.
 #![tactic(auto)]
 
+mod bounds;
 mod clean;
 mod draws;
 pub mod laws;
@@ -15,4 +16,4 @@ mod tests;
 
 pub use clean::clean_draws;
 pub use draws::{Counts, risk};
-pub use limits::{GREATEST_GAMMA, GREATEST_LIMIT, MILLIONTH, MOST_CARDS, MOST_DRAWS, ONE};
+pub use limits::{MILLIONTH, ONE};

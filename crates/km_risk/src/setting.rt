@@ -35,7 +35,8 @@ impl Setting {
     /// The risk after a number of draws with the discrepancy `d`.
     pub fn after_draws(self, risk: u64, number: u32, d: u8) -> u64
         requires { risk ≤ ONE }
-        ensures value { result ≡ fold (step self.cards self.margin self.gamma) risk (replicate number d) }
+        ensures value { result
+            ≡ fold (step self.cards self.margin self.gamma) risk (replicate number d) }
         ensures at_most_one { result ≤ ONE }
     {
         let mut now = risk;

@@ -2,6 +2,7 @@
 ghost use Rattle.std.specs.Prelude.{◌≡◌};
 
 use super::*;
+use irv_base::{GREATEST_GAMMA, GREATEST_LIMIT, MOST_CARDS, MOST_DRAWS};
 use std::process::Abort;
 use std::str::SplitWhitespace;
 

@@ -1,12 +1,13 @@
 -- The card with a number, batch after batch.
-use Rattle.std.proofs.Common.{◌≡◌, ◌∙◌, ◌++◌, ◌∷◌, [], ◌+◌, ◌-◌, ◌<◌, ◌≤◌, ℕ, zero, suc, List, Some, length, drop, get_or, map, refl, sym, ap, arith, length-append}
+use Rattle.std.proofs.Common.{◌≡◌, ◌∙◌, ◌++◌, ◌∷◌, [], ◌+◌, ◌-◌, ◌<◌, ◌≤◌, ℕ, zero, suc, List, Some, length, take, get_or, map, inl, inr, refl, ap, arith, length-append}
 use Rattle.std.specs.List.{range_with_len, slice_get, sum}
-use Rattle.std.proofs.lemmas.List.{drop_more}
+use Rattle.std.proofs.Math.Nat.{eq-or-lt_of_le}
+use Rattle.std.proofs.lemmas.List.{take_all}
 use Rattle.std.proofs.lemmas.List.FromFn.{length-map-range_with_len}
 use Rattle.std.proofs.lemmas.List.Sums.{sum_by-cons}
-use Rattle.std.proofs.lemmas.Option.{get_or_from_slice_get, slice_get_read}
 use Rattle.irv_base.specs.Names.{Id}
 use Rattle.manifest.specs.Cards.{cards_in, cards_of_batch}
+use Rattle.manifest.specs.Firsts.{firsts_from}
 use Rattle.manifest.specs.declared.card.Card.{Card}
 
 abbrev pub card : Id → ℕ → Card
@@ -31,33 +32,60 @@ length-cards (id ∷ ids) [] h = absurd (omega (arith, h))
 length-cards (id ∷ ids) (n ∷ counts) h =
     omega (arith, length-append (cards_of_batch id n) (cards_in ids counts), length-map-range_with_len (card id) 1 n, length-cards ids counts (omega (arith, h)), sum-cons n counts)
 
-split : (ids : List Id) (counts : List ℕ) (batch : ℕ) → batch < length counts → length counts ≡ length ids
-    → cards_in (drop batch ids) (drop batch counts) ≡ cards_of_batch (get_or ids batch []) (get_or counts batch 0) ++ cards_in (drop (batch + 1) ids) (drop (batch + 1) counts)
-split ids counts batch within same = rw (drop_more ids batch [] (omega (arith, within, same)), drop_more counts batch 0 within) refl
+-- ---- the card with number j + 1 of batch b
 
--- what is left is the card with number left, from 0, of the batches from batch on
-pub record IsLeft (ids : List Id) (counts : List ℕ) (i batch left : ℕ) : Type 0 where
-  pub same : slice_get (cards_in (drop batch ids) (drop batch counts)) left ≡ slice_get (cards_in ids counts) (i - 1)
-  pub within : left < length (cards_in (drop batch ids) (drop batch counts))
+pub card-in : (ids : List Id) (counts : List ℕ) (b j : ℕ) → length counts ≡ length ids → b < length counts → j < get_or counts b 0
+    → slice_get (cards_in ids counts) (sum (take b counts) + j) ≡ Some (card (get_or ids b []) (j + 1))
+card-in [] [] b j same within less = absurd (omega (arith, within))
+card-in [] (n ∷ counts) b j same within less = absurd (omega (arith, same))
+card-in (id ∷ ids) [] b j same within less = absurd (omega (arith, within))
+card-in (id ∷ ids) (n ∷ counts) zero j same within less =
+    let none : sum [] ≡ 0 = refl in
+    let e : sum (take 0 (n ∷ counts)) + j ≡ j = omega (arith, none) in
+    ap (slice_get (cards_in (id ∷ ids) (n ∷ counts))) e ∙ in_first id 1 n j (cards_in ids counts) less ∙ ap (λ k. Some (card id k)) (omega arith)
+card-in (id ∷ ids) (n ∷ counts) (suc b) j same within less =
+    let e : sum (take (suc b) (n ∷ counts)) + j ≡ n + (sum (take b counts) + j) = omega (arith, sum-cons n (take b counts)) in
+    ap (slice_get (cards_in (id ∷ ids) (n ∷ counts))) e ∙ in_rest id 1 n (sum (take b counts) + j) (cards_in ids counts)
+    ∙ card-in ids counts b j (omega (arith, same)) (omega (arith, within)) less
 
-pub is_here : (ids : List Id) (counts : List ℕ) (i batch left : ℕ) → length counts ≡ length ids → batch < length counts → IsLeft ids counts i batch left → left < get_or counts batch 0
-    → slice_get (cards_in ids counts) (i - 1) ≡ Some (card (get_or ids batch []) (left + 1))
-is_here ids counts i batch left same below h less =
-    sym h.same ∙ ap (λ cards. slice_get cards left) (split ids counts batch below same)
-    ∙ in_first (get_or ids batch []) 1 (get_or counts batch 0) left (cards_in (drop (batch + 1) ids) (drop (batch + 1) counts)) less
-    ∙ ap (λ k. Some (card (get_or ids batch []) k)) (omega arith)
+sum-next : (counts : List ℕ) (b : ℕ) → b < length counts → sum (take (b + 1) counts) ≡ sum (take b counts) + get_or counts b 0
+sum-next [] b less = absurd (omega (arith, less))
+sum-next (n ∷ counts) zero less = let none : sum [] ≡ 0 = refl in omega (arith, none, sum-cons n [])
+sum-next (n ∷ counts) (suc b) less =
+    let e : suc b + 1 ≡ suc (b + 1) = omega arith in
+    ap (λ k. sum (take k (n ∷ counts))) e
+    ∙ omega (arith, sum-cons n (take (b + 1) counts), sum-cons n (take b counts), sum-next counts b (omega (arith, less)))
 
-pub is_later : (ids : List Id) (counts : List ℕ) (i batch left : ℕ) → length counts ≡ length ids → batch < length counts → IsLeft ids counts i batch left → get_or counts batch 0 ≤ left
-    → IsLeft ids counts i (batch + 1) (left - get_or counts batch 0)
-is_later ids counts i batch left same below h more =
-    let n = get_or counts batch 0 in
-    let rest = cards_in (drop (batch + 1) ids) (drop (batch + 1) counts) in
-    let e : left ≡ n + (left - n) = omega (arith, more) in
-    let s = split ids counts batch below same in
-    record {
-      same = sym (in_rest (get_or ids batch []) 1 n (left - n) rest) ∙ ap (λ j. slice_get (cards_of_batch (get_or ids batch []) n ++ rest) j) (sym e) ∙ ap (λ cards. slice_get cards left) (sym s) ∙ h.same;
-      within = omega (arith, more, h.within, ap length s, length-append (cards_of_batch (get_or ids batch []) n) rest, length-map-range_with_len (card (get_or ids batch [])) 1 n);
-    }
+pub length-firsts : (a : ℕ) (counts : List ℕ) → length (firsts_from a counts) ≡ length counts
+length-firsts a [] = refl
+length-firsts a (n ∷ counts) = ap suc (length-firsts (a + n) counts)
 
-pub read_at : {X : Type 0} (xs : List X) (i : ℕ) (x d : X) → i < length xs → x ≡ get_or xs i x → get_or xs i d ≡ x
-read_at xs i x d within e = get_or_from_slice_get xs i x d (slice_get_read xs (length xs) i x refl within e)
+pub first_at : (a : ℕ) (counts : List ℕ) (i : ℕ) → i < length counts → get_or (firsts_from a counts) i 0 ≡ a + sum (take i counts)
+first_at a [] i less = absurd (omega (arith, less))
+first_at a (n ∷ counts) zero less = let none : sum [] ≡ 0 = refl in omega (arith, none)
+first_at a (n ∷ counts) (suc i) less = omega (arith, first_at (a + n) counts i (omega (arith, less)), sum-cons n (take i counts))
+
+-- card i stands in batch b, whose first card it isn't before, and the next one's it is
+pub in_batch : (counts firsts : List ℕ) (i b : ℕ) → firsts ≡ firsts_from 1 counts → i ≤ sum counts → b < length counts → get_or firsts b 0 ≤ i
+    → (b + 1 < length firsts → i < get_or firsts (b + 1) 0) → i - get_or firsts b 0 < get_or counts b 0
+in_batch counts firsts i b e most within begun last =
+    let first = ap (λ fs. get_or fs b 0) e ∙ first_at 1 counts b within in
+    let all = ap length e ∙ length-firsts 1 counts in
+    elim (eq-or-lt_of_le {n = b + 1} {m = length counts} (omega (arith, within))) [
+      | inr less ↦
+          let next = ap (λ fs. get_or fs (b + 1) 0) e ∙ first_at 1 counts (b + 1) less in
+          omega (arith, first, next, sum-next counts b within, last (omega (arith, less, all)), begun)
+      | inl end ↦ omega (arith, first, ap sum (take_all (b + 1) counts (omega (arith, end))), sum-next counts b within, most, begun)
+    ]
+
+pub card-at : (ids : List Id) (counts firsts : List ℕ) (i b : ℕ) → length counts ≡ length ids → firsts ≡ firsts_from 1 counts → i ≤ sum counts → b < length counts
+    → get_or firsts b 0 ≤ i → (b + 1 < length firsts → i < get_or firsts (b + 1) 0)
+    → slice_get (cards_in ids counts) (i - 1) ≡ Some (card (get_or ids b []) (i - get_or firsts b 0 + 1))
+card-at ids counts firsts i b same e most within begun last =
+    let first = ap (λ fs. get_or fs b 0) e ∙ first_at 1 counts b within in
+    let place : i - 1 ≡ sum (take b counts) + (i - get_or firsts b 0) = omega (arith, first, begun) in
+    ap (slice_get (cards_in ids counts)) place ∙ card-in ids counts b (i - get_or firsts b 0) same within (in_batch counts firsts i b e most within begun last)
+
+pub first_first : (counts : List ℕ) → 1 ≤ length counts → get_or (firsts_from 1 counts) 0 0 ≡ 1
+first_first [] some = absurd (omega (arith, some))
+first_first (n ∷ counts) some = refl

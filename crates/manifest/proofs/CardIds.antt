@@ -7,6 +7,7 @@ use Rattle.std.proofs.lemmas.Bool.{and_parts, cases_Bool, both_ways}
 use Rattle.std.proofs.lemmas.Fmt.{decimal_injective, digits_decimal}
 use Rattle.irv_base.specs.Names.{Id, is_same}
 use Rattle.manifest.specs.Cards.{NamesNone, card_id, is_batch_id, underscore}
+use Rattle.manifest.specs.declared.limits.TheConstants.{MOST_BATCH_CARDS}
 use Rattle.manifest.proofs.Finding.{Names, card}
 use Rattle.csv_rows.proofs.Numbers.{AreDigits, own}
 use Rattle.manifest.proofs.Numbers.{same-equal}
@@ -46,11 +47,11 @@ none_in_digits (b ∷ text) h =
     let (one, all) = and_parts (is_ascii_digit b) (list_all is_ascii_digit text) h in
     rw (not_underscore b (leb-true b 57 (and_parts (nat_le 48 b) (nat_le b 57) one).1)) (none_in_digits text all)
 
-none_in_decimal : (k : ℕ) → k ≤ 1000000 → has_underscore (decimal k) ≡ false
+none_in_decimal : (k : ℕ) → k ≤ MOST_BATCH_CARDS → has_underscore (decimal k) ≡ false
 none_in_decimal k h = none_in_digits (decimal k) (digits_decimal own k (omega (arith, h)))
 
 -- the id of a card, as it is cut
-pub cut_card : (b : Id) (k : ℕ) (front back : List ℕ) → k ≤ 1000000 → has_underscore back ≡ false → card_id (card b k) ≡ front ++ underscore ∷ back → (b ≡ front) × (decimal k ≡ back)
+pub cut_card : (b : Id) (k : ℕ) (front back : List ℕ) → k ≤ MOST_BATCH_CARDS → has_underscore back ≡ false → card_id (card b k) ≡ front ++ underscore ∷ back → (b ≡ front) × (decimal k ≡ back)
 cut_card b k front back most n h = cut_once b (decimal k) front back (none_in_decimal k most) n h
 
 pub differs : (a b : Id) → (a ≡ b → ⊥) → is_same a b ≡ false
@@ -68,14 +69,14 @@ pub no_batch : (id front back : Id) → id ≡ front ++ underscore ∷ back → 
 no_batch id front back e n f b k v first most =
     differs (card_id (card b k)) id (λ s. both_ways (is_batch_id front) f (ap is_batch_id (sym (cut_card b k front back most n (s ∙ e)).0) ∙ v))
 
-pub no_number : (id front back : Id) → id ≡ front ++ underscore ∷ back → has_underscore back ≡ false → ((k : ℕ) → 1 ≤ k → k ≤ 1000000 → is_same (decimal k) back ≡ false) → NamesNone id
+pub no_number : (id front back : Id) → id ≡ front ++ underscore ∷ back → has_underscore back ≡ false → ((k : ℕ) → 1 ≤ k → k ≤ MOST_BATCH_CARDS → is_same (decimal k) back ≡ false) → NamesNone id
 no_number id front back e n f b k v first most =
     differs (card_id (card b k)) id
     (λ s. both_ways (is_same (decimal k) back) (f k first most) ((bytes_decides (decimal k) back).1 (cut_card b k front back most n (s ∙ e)).1))
 
 -- ---- what names a card
 
-pub names : (id batch : Id) (k : ℕ) → card_id (card batch k) ≡ id → 1 ≤ k → k ≤ 1000000 → Names (λ c. is_same (card_id c) id) batch k
+pub names : (id batch : Id) (k : ℕ) → card_id (card batch k) ≡ id → 1 ≤ k → k ≤ MOST_BATCH_CARDS → Names (λ c. is_same (card_id c) id) batch k
 names id batch k e first most = record {
   first = first;
   alone = record {

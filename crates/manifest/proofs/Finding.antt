@@ -1,66 +1,18 @@
 -- The place of a card in the list of all.
-use Rattle.std.proofs.Common.{◌⊎◌, inl, inr, ◌≡◌, ◌∙◌, ◌++◌, ◌∷◌, [], ◌+◌, ◌-◌, ◌<◌, ◌≤◌, ℕ, zero, suc, Bool, true, false, not, List, Option, Some, None, length, map, take, get_or, nat_le, refl, sym, ap, subst, arith, leb-true, ltb-true, ltb-false, ◌≢◌, cond, nat_lt}
+use Rattle.std.proofs.Common.{◌⊎◌, inl, inr, ◌≡◌, ◌∙◌, ◌∷◌, [], ◌+◌, ◌-◌, ◌<◌, ◌≤◌, ℕ, zero, suc, Bool, true, false, not, List, Option, Some, None, length, map, take, get_or, nat_le, refl, sym, ap, subst, arith, leb-true, ltb-true, ltb-false, ◌≢◌, nat_lt}
 use Rattle.std.specs.Prelude.{option_map, position}
-use Rattle.std.specs.List.{list_all, range_with_len, sum, position_or_len}
+use Rattle.std.specs.List.{list_all, range_with_len, sum}
 use Rattle.std.proofs.lemmas.Bool.{and_parts, cases_Bool, not-true}
 use Rattle.std.proofs.lemmas.Cmp.{nat_list_eq_equiv}
 use Rattle.std.proofs.lemmas.List.FromFn.{length-map-range_with_len}
 use Rattle.irv_base.specs.Names.{Id, is_same, is_among, all_differ}
-use Rattle.ballot_reader.proofs.Ids.{or-false}
-use Rattle.manifest.specs.Firsts.{firsts_from}
+use Rattle.ballot_reader.proofs.Differing.{or-false}
+use Rattle.irv_base.proofs.Positions.{first_place, later_place, none_first, some_first}
 use Rattle.manifest.specs.Cards.{is_batch_id, is_count, cards_in, cards_of_batch}
 use Rattle.manifest.specs.declared.card.Card.{Card}
+use Rattle.manifest.specs.declared.limits.TheConstants.{MOST_BATCH_CARDS}
 use Rattle.manifest.proofs.CardAt.{sum-cons}
 use Rattle.manifest.proofs.Numbers.{same-equal}
-
--- ---- the first place that passes a test
-
-lt-zero : (n m : ℕ) → m ≡ 1 + n → nat_lt 0 m ≡ true
-lt-zero n m h = grind arith
-
-pub here : {X : Type 0} (p : X → Bool) (x : X) (xs : List X) → p x ≡ true → position p (x ∷ xs) ≡ Some 0
-here p x xs h = rw h (ap (λ b. cond b (Some 0) None) (lt-zero (length xs) (length (x ∷ xs)) (omega arith)))
-
-later-by : (b : Bool) (a : ℕ) → cond b (Some (1 + a)) None ≡ option_map (λ i. 1 + i) (cond b (Some a) None)
-later-by true a = refl
-later-by false a = refl
-
-lt-suc : (a n m : ℕ) → m ≡ 1 + n → nat_lt (1 + a) m ≡ nat_lt a n
-lt-suc a n m h = grind arith
-
-pub later : {X : Type 0} (p : X → Bool) (x : X) (xs : List X) → p x ≡ false → position p (x ∷ xs) ≡ option_map (λ i. 1 + i) (position p xs)
-later p x xs h = rw h (ap (λ b. cond b (Some (1 + position_or_len p xs)) None) (lt-suc (position_or_len p xs) (length xs) (length (x ∷ xs)) (omega arith)) ∙ later-by (nat_lt (position_or_len p xs) (length xs)) (position_or_len p xs))
-
-pub some_first : {X : Type 0} (p : X → Bool) (xs ys : List X) (i : ℕ) → position p xs ≡ Some i → position p (xs ++ ys) ≡ Some i
-some_first p [] ys i h = absurd cc
-some_first p (x ∷ xs) ys i h = by (p x) refl (some_first p xs ys) where
-  in_rest : (o : Option ℕ) → position p xs ≡ o → option_map (λ j. 1 + j) o ≡ Some i → ((j : ℕ) → position p xs ≡ Some j → position p (xs ++ ys) ≡ Some j) → option_map (λ j. 1 + j) (position p (xs ++ ys)) ≡ Some i
-  in_rest None e g ih = absurd cc
-  in_rest (Some j) e g ih = ap (option_map (λ j. 1 + j)) (ih j e) ∙ g
-
-  by : (b : Bool) → p x ≡ b → ((j : ℕ) → position p xs ≡ Some j → position p (xs ++ ys) ≡ Some j) → position p (x ∷ (xs ++ ys)) ≡ Some i
-  by true t ih = here p x (xs ++ ys) t ∙ sym (here p x xs t) ∙ h
-  by false t ih = later p x (xs ++ ys) t ∙ in_rest (position p xs) refl (sym (later p x xs t) ∙ h) ih
-
-shifted : (n : ℕ) (o : Option ℕ) → option_map (λ i. 1 + i) (option_map (λ i. n + i) o) ≡ option_map (λ i. suc n + i) o
-shifted n None = refl
-shifted n (Some i) = ap Some (omega arith)
-
-unshifted : (o : Option ℕ) → o ≡ option_map (λ i. 0 + i) o
-unshifted None = refl
-unshifted (Some i) = ap Some (omega arith)
-
-pub none_first : {X : Type 0} (p : X → Bool) (xs ys : List X) → position p xs ≡ None → position p (xs ++ ys) ≡ option_map (λ i. length xs + i) (position p ys)
-none_first p [] ys h = unshifted (position p ys)
-none_first p (x ∷ xs) ys h = by (p x) refl (none_first p xs ys) where
-  of_none : (o : Option ℕ) → option_map (λ i. 1 + i) o ≡ None → o ≡ None
-  of_none None e = refl
-  of_none (Some i) e = absurd cc
-
-  by : (b : Bool) → p x ≡ b → (position p xs ≡ None → position p (xs ++ ys) ≡ option_map (λ i. length xs + i) (position p ys)) → position p (x ∷ (xs ++ ys)) ≡ option_map (λ i. length (x ∷ xs) + i) (position p ys)
-  by true t ih = absurd (let e = sym (here p x xs t) ∙ h in cc)
-  by false t ih =
-      later p x (xs ++ ys) t ∙ ap (option_map (λ i. 1 + i)) (ih (of_none (position p xs) (sym (later p x xs t) ∙ h))) ∙ shifted (length xs) (position p ys)
 
 -- ---- cards of one batch
 
@@ -69,46 +21,46 @@ card b k = record { batch = b; k = k }
 
 -- no card of a batch of so many passes
 abbrev pub NonePasses : (Card → Bool) → Id → Type 0
-NonePasses p b = (k : ℕ) → 1 ≤ k → k ≤ 1000000 → p (card b k) ≡ false
+NonePasses p b = (k : ℕ) → 1 ≤ k → k ≤ MOST_BATCH_CARDS → p (card b k) ≡ false
 
-none_of : (p : Card → Bool) (b : Id) (a n : ℕ) → 1 ≤ a → a + n ≤ 1000001 → NonePasses p b → position p (map (card b) (range_with_len a n)) ≡ None
+none_of : (p : Card → Bool) (b : Id) (a n : ℕ) → 1 ≤ a → a + n ≤ MOST_BATCH_CARDS + 1 → NonePasses p b → position p (map (card b) (range_with_len a n)) ≡ None
 none_of p b a zero l m h = refl
-none_of p b a (suc n) l m h = later p (card b a) (map (card b) (range_with_len (a + 1) n)) (h a l (omega (arith, m))) ∙ ap (option_map (λ i. 1 + i)) (none_of p b (a + 1) n (omega (arith, l)) (omega (arith, m)) h)
+none_of p b a (suc n) l m h = later_place p (card b a) (map (card b) (range_with_len (a + 1) n)) (h a l (omega (arith, m))) ∙ ap (option_map (λ i. 1 + i)) (none_of p b (a + 1) n (omega (arith, l)) (omega (arith, m)) h)
 
 -- what passes is the card with number k alone
 pub record PassesAlone (p : Card → Bool) (b : Id) (k : ℕ) : Type 0 where
   pub passes : p (card b k) ≡ true
-  pub alone : (j : ℕ) → 1 ≤ j → j ≤ 1000000 → j ≢ k → p (card b j) ≡ false
+  pub alone : (j : ℕ) → 1 ≤ j → j ≤ MOST_BATCH_CARDS → j ≢ k → p (card b j) ≡ false
 
-pub found_in : (p : Card → Bool) (b : Id) (k a n : ℕ) → 1 ≤ a → a + n ≤ 1000001 → a ≤ k → k < a + n → PassesAlone p b k → position p (map (card b) (range_with_len a n)) ≡ Some (k - a)
+pub found_in : (p : Card → Bool) (b : Id) (k a n : ℕ) → 1 ≤ a → a + n ≤ MOST_BATCH_CARDS + 1 → a ≤ k → k < a + n → PassesAlone p b k → position p (map (card b) (range_with_len a n)) ≡ Some (k - a)
 found_in p b k a zero l m low high h = absurd (omega (arith, low, high))
 found_in p b k a (suc n) l m low high h = by (cases_Bool (nat_lt a k)) (λ next. found_in p b k (a + 1) n (omega (arith, l)) (omega (arith, m)) next (omega (arith, high)) h) where
   rest : position p (map (card b) (range_with_len (a + 1) n)) ≡ Some (k - (a + 1)) → a < k → position p (map (card b) (range_with_len a (suc n))) ≡ Some (k - a)
   rest e less =
       let e' : 1 + (k - (a + 1)) ≡ k - a = omega (arith, less) in
-      later p (card b a) (map (card b) (range_with_len (a + 1) n)) (h.alone a l (omega (arith, m)) (λ s. omega (arith, s, less)))
+      later_place p (card b a) (map (card b) (range_with_len (a + 1) n)) (h.alone a l (omega (arith, m)) (λ s. omega (arith, s, less)))
       ∙ ap (option_map (λ i. 1 + i)) e ∙ ap Some e'
 
   by : (nat_lt a k ≡ true) ⊎ (nat_lt a k ≡ false) → (a + 1 ≤ k → position p (map (card b) (range_with_len (a + 1) n)) ≡ Some (k - (a + 1))) → position p (map (card b) (range_with_len a (suc n))) ≡ Some (k - a)
   by (inl t) ih = let less : a < k = ltb-true a k t in rest (ih (omega (arith, less))) less
   by (inr f) ih =
       let same : a ≡ k = omega (arith, low, ltb-false a k f) in
-      here p (card b a) (map (card b) (range_with_len (a + 1) n)) (ap (λ j. p (card b j)) same ∙ h.passes) ∙ ap Some (omega (arith, same))
+      first_place p (card b a) (map (card b) (range_with_len (a + 1) n)) (ap (λ j. p (card b j)) same ∙ h.passes) ∙ ap Some (omega (arith, same))
 
-past_in : (p : Card → Bool) (b : Id) (k a n : ℕ) → 1 ≤ a → a + n ≤ 1000001 → a + n ≤ k → PassesAlone p b k → position p (map (card b) (range_with_len a n)) ≡ None
+past_in : (p : Card → Bool) (b : Id) (k a n : ℕ) → 1 ≤ a → a + n ≤ MOST_BATCH_CARDS + 1 → a + n ≤ k → PassesAlone p b k → position p (map (card b) (range_with_len a n)) ≡ None
 past_in p b k a zero l m past h = refl
 past_in p b k a (suc n) l m past h =
-    later p (card b a) (map (card b) (range_with_len (a + 1) n)) (h.alone a l (omega (arith, m)) (λ s. omega (arith, s, past)))
+    later_place p (card b a) (map (card b) (range_with_len (a + 1) n)) (h.alone a l (omega (arith, m)) (λ s. omega (arith, s, past)))
     ∙ ap (option_map (λ i. 1 + i)) (past_in p b k (a + 1) n (omega (arith, l)) (omega (arith, m)) (omega (arith, past)) h)
 
 -- ---- cards of all batches
 
-pub counted : (n : ℕ) (counts : List ℕ) → list_all is_count (n ∷ counts) ≡ true → (n ≤ 1000000) × (list_all is_count counts ≡ true)
+pub counted : (n : ℕ) (counts : List ℕ) → list_all is_count (n ∷ counts) ≡ true → (n ≤ MOST_BATCH_CARDS) × (list_all is_count counts ≡ true)
 counted n counts h =
     let (one, all) = and_parts (is_count n) (list_all is_count counts) h in
-    (leb-true n 1000000 (and_parts (nat_le 1 n) (nat_le n 1000000) one).1, all)
+    (leb-true n MOST_BATCH_CARDS (and_parts (nat_le 1 n) (nat_le n MOST_BATCH_CARDS) one).1, all)
 
-pub none_then : (p : Card → Bool) (b : Id) (n : ℕ) (ids : List Id) (counts : List ℕ) → n ≤ 1000000 → NonePasses p b
+pub none_then : (p : Card → Bool) (b : Id) (n : ℕ) (ids : List Id) (counts : List ℕ) → n ≤ MOST_BATCH_CARDS → NonePasses p b
     → position p (cards_in (b ∷ ids) (n ∷ counts)) ≡ option_map (λ i. n + i) (position p (cards_in ids counts))
 none_then p b n ids counts few h =
     none_first p (cards_of_batch b n) (cards_in ids counts) (none_of p b 1 n (omega arith) (omega (arith, few)) h)
@@ -176,8 +128,8 @@ found p id k i (b ∷ ids) (n ∷ counts) l v c h at few = by (is_same id b) ref
 
   by : (x : Bool) → is_same id b ≡ x → ((j : ℕ) → position (is_same id) ids ≡ Some j → k ≤ get_or counts j 0 → position p (cards_in ids counts) ≡ Some (sum (take j counts) + (k - 1)))
       → position p (cards_in (b ∷ ids) (n ∷ counts)) ≡ Some (sum (take i (n ∷ counts)) + (k - 1))
-  by true t ih = let e : 0 ≡ i = (let q = sym (here (is_same id) b ids t) ∙ at in cc) in subst Goal e (at_first t) few
-  by false t ih = in_rest t (position (is_same id) ids) refl (sym (later (is_same id) b ids t) ∙ at) ih few
+  by true t ih = let e : 0 ≡ i = (let q = sym (first_place (is_same id) b ids t) ∙ at in cc) in subst Goal e (at_first t) few
+  by false t ih = in_rest t (position (is_same id) ids) refl (sym (later_place (is_same id) b ids t) ∙ at) ih few
 
 -- it has fewer cards
 pub past : (p : Card → Bool) (id : Id) (k i : ℕ) (ids : List Id) (counts : List ℕ) → length counts ≡ length ids → list_all is_batch_id ids ≡ true → all_differ ids ≡ true → list_all is_count counts ≡ true → Names p id k
@@ -210,19 +162,10 @@ past p id k i (b ∷ ids) (n ∷ counts) l v d c h at few = by (is_same id b) re
       ∙ ap (option_map (λ x. n + x)) (ih j e less))
 
   by : (x : Bool) → is_same id b ≡ x → ((j : ℕ) → position (is_same id) ids ≡ Some j → get_or counts j 0 < k → position p (cards_in ids counts) ≡ None) → position p (cards_in (b ∷ ids) (n ∷ counts)) ≡ None
-  by true t ih = let e : 0 ≡ i = (let q = sym (here (is_same id) b ids t) ∙ at in cc) in subst Goal e (at_first t) few
-  by false t ih = in_rest t (position (is_same id) ids) refl (sym (later (is_same id) b ids t) ∙ at) ih few
+  by true t ih = let e : 0 ≡ i = (let q = sym (first_place (is_same id) b ids t) ∙ at in cc) in subst Goal e (at_first t) few
+  by false t ih = in_rest t (position (is_same id) ids) refl (sym (later_place (is_same id) b ids t) ∙ at) ih few
 
 -- ---- the first cards of the batches
-
-pub length-firsts : (a : ℕ) (counts : List ℕ) → length (firsts_from a counts) ≡ length counts
-length-firsts a [] = refl
-length-firsts a (n ∷ counts) = omega (arith, length-firsts (a + n) counts)
-
-pub first_at : (a : ℕ) (counts : List ℕ) (i : ℕ) → i < length counts → get_or (firsts_from a counts) i 0 ≡ a + sum (take i counts)
-first_at a [] i h = absurd (omega (arith, h))
-first_at a (n ∷ counts) zero h = let e : sum [] ≡ 0 = refl in omega (arith, e)
-first_at a (n ∷ counts) (suc i) h = omega (arith, first_at (a + n) counts i (omega (arith, h)), sum-cons n (take i counts))
 
 pub within_sum : (counts : List ℕ) (i : ℕ) → sum (take i counts) + get_or counts i 0 ≤ sum counts
 within_sum [] zero = let e : sum [] ≡ 0 = refl in omega (arith, e)

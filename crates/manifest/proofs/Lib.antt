@@ -3,6 +3,8 @@ pub mod Pairs
 pub mod Judged
 pub mod SoFar
 pub mod CardAt
+pub mod Walked
+pub mod Spelled
 pub mod Finding
 pub mod CardIds
 pub mod Places

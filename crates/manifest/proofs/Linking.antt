@@ -9,14 +9,14 @@ use Rattle.std.proofs.lemmas.List.Folds.{list_any_at}
 use Rattle.std.proofs.lemmas.List.Quantifiers.{position-Some}
 use Rattle.irv_base.specs.Names.{Id, is_same, is_among, all_differ}
 use Rattle.ballot_reader.specs.Ballots.{BallotFile}
-use Rattle.ballot_reader.proofs.Ids.{among-set, differ-split, or-false}
+use Rattle.ballot_reader.proofs.Differing.{among-set, differ-split, or-false}
 use Rattle.manifest.specs.BallotNumbers.{ballot_number, ballot_numbers, from_one, recorded_at}
 use Rattle.manifest.specs.Cards.{AreBatches, Batches, card_id, cards_of, place_of}
 use Rattle.manifest.specs.Linked.{first_without_card, has_card, ranked_by, recorded_of}
 use Rattle.manifest.specs.declared.card.Card.{Card}
 use Rattle.manifest.specs.declared.recorded.Recorded.TheVariants.{Ranked}
 use Rattle.manifest.proofs.CardIds.{differs}
-use Rattle.manifest.proofs.Finding.{here, later, none_first, some_first}
+use Rattle.irv_base.proofs.Positions.{first_place as here, later_place as later, none_first, some_first}
 use Rattle.manifest.proofs.Placed.{card_ids_differ, card_undoes_place}
 
 -- ---- the first place of a list that passes a test, and whether there is one

@@ -10,8 +10,10 @@ use Rattle.std.proofs.lemmas.Fmt.{digits_decimal, decimal-digits_value, first_de
 use Rattle.irv_base.specs.Names.{is_same}
 use Rattle.csv_rows.specs.Numbers.{number_of}
 use Rattle.csv_rows.proofs.Numbers.{few, is_number, is_number-from, own}
+use Rattle.irv_base.specs.declared.limits.TheConstants.{MOST_NUMBER_DIGITS}
+use Rattle.manifest.specs.declared.limits.TheConstants.{MOST_BATCH_CARDS}
 
-zero_first : (k : ℕ) (text : List ℕ) → 1 ≤ k → k ≤ 1000000 → get_or text 0 0 ≡ 48 → decimal k ≡ text → ⊥
+zero_first : (k : ℕ) (text : List ℕ) → 1 ≤ k → k ≤ MOST_BATCH_CARDS → get_or text 0 0 ≡ 48 → decimal k ≡ text → ⊥
 zero_first k text some most z e = omega (arith, first_decimal k (omega (arith, some)) (omega (arith, most)), ap (λ t. get_or t 0 0) e, z)
 
 pub same-equal : (a b : List ℕ) → is_same a b ≡ true → a ≡ b
@@ -23,10 +25,10 @@ not_written k text h = elim (cases_Bool (is_same (decimal k) text)) [
   | inr f ↦ f
 ]
 
-pub padded : (text : List ℕ) → get_or text 0 0 ≡ 48 → (k : ℕ) → 1 ≤ k → k ≤ 1000000 → is_same (decimal k) text ≡ false
+pub padded : (text : List ℕ) → get_or text 0 0 ≡ 48 → (k : ℕ) → 1 ≤ k → k ≤ MOST_BATCH_CARDS → is_same (decimal k) text ≡ false
 padded text z k some most = not_written k text (zero_first k text some most z)
 
-pub empty : (text : List ℕ) → length text ≡ 0 → (k : ℕ) → 1 ≤ k → k ≤ 1000000 → is_same (decimal k) text ≡ false
+pub empty : (text : List ℕ) → length text ≡ 0 → (k : ℕ) → 1 ≤ k → k ≤ MOST_BATCH_CARDS → is_same (decimal k) text ≡ false
 empty text z k some most = not_written k text (λ e. omega (arith, decimal_nonempty k (omega (arith, most)), ap length e, z))
 
 zero_written : decimal 0 ≡ 48 ∷ []
@@ -36,9 +38,9 @@ pub written : (text : List ℕ) (k : ℕ) → (get_or text 0 0 ≡ 48 → ⊥) �
 written text k first h = by (is_number text) refl h where
   value : is_number text ≡ true → digits_value 10 text ≡ k → (decimal k ≡ text) × (1 ≤ k)
   value t e =
-      let (range, digits) = and_parts (nat_le 1 (length text) && nat_le (length text) 10) (list_all is_ascii_digit text) t in
-      let (low, high) = and_parts (nat_le 1 (length text)) (nat_le (length text) 10) range in
-      let less = few text digits (leb-true (length text) 10 high) in
+      let (range, digits) = and_parts (nat_le 1 (length text) && nat_le (length text) MOST_NUMBER_DIGITS) (list_all is_ascii_digit text) t in
+      let (low, high) = and_parts (nat_le 1 (length text)) (nat_le (length text) MOST_NUMBER_DIGITS) range in
+      let less = few text digits (leb-true (length text) MOST_NUMBER_DIGITS high) in
       let same : decimal (digits_value 10 text) ≡ text = decimal-digits_value own text digits (omega (arith, leb-true 1 (length text) low)) (λ z. absurd (first z)) (omega (arith, less)) in
       let same_k : decimal k ≡ text = ap decimal (sym e) ∙ same in
       (same_k, positive k same_k)
@@ -51,16 +53,16 @@ written text k first h = by (is_number text) refl h where
   by true t g = value t cc
   by false t g = absurd cc
 
-pub reads : (k : ℕ) (text : List ℕ) → k ≤ 1000000 → decimal k ≡ text → number_of text ≡ Some k
+pub reads : (k : ℕ) (text : List ℕ) → k ≤ MOST_BATCH_CARDS → decimal k ≡ text → number_of text ≡ Some k
 reads k text most e = subst (λ t. number_of t ≡ Some k) e (rw digits (ap Some (digits_value-decimal own k (omega (arith, most))))) where
   digits : is_number (decimal k) ≡ true
   digits =
-      is_number-from (decimal k) (digits_decimal own k (omega (arith, most))) (omega (arith, decimal_nonempty k (omega (arith, most)))) (omega (arith, length-decimal-le 7 k (omega arith) (omega (arith, most)) (omega (arith, most))))
+      is_number-from (decimal k) (digits_decimal own k (omega (arith, most))) (omega (arith, decimal_nonempty k (omega (arith, most)))) (omega (arith, length-decimal-le MOST_NUMBER_DIGITS k (omega arith) (omega (arith, most)) (omega (arith, most))))
 
-pub unread : (text : List ℕ) → number_of text ≡ None → (k : ℕ) → 1 ≤ k → k ≤ 1000000 → is_same (decimal k) text ≡ false
+pub unread : (text : List ℕ) → number_of text ≡ None → (k : ℕ) → 1 ≤ k → k ≤ MOST_BATCH_CARDS → is_same (decimal k) text ≡ false
 unread text h k some most = not_written k text (λ e. let r = reads k text most e in cc)
 
-pub too_many : (text : List ℕ) (n : ℕ) → number_of text ≡ Some n → 1000000 < n → (k : ℕ) → 1 ≤ k → k ≤ 1000000 → is_same (decimal k) text ≡ false
+pub too_many : (text : List ℕ) (n : ℕ) → number_of text ≡ Some n → MOST_BATCH_CARDS < n → (k : ℕ) → 1 ≤ k → k ≤ MOST_BATCH_CARDS → is_same (decimal k) text ≡ false
 too_many text n h many k some most = not_written k text (λ e. let r = reads k text most e in let s : k ≡ n = cc in omega (arith, s, many, most))
 
 -- ---- lengths

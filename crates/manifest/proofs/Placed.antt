@@ -10,9 +10,11 @@ use Rattle.irv_base.specs.Names.{Id, is_same, is_among, all_differ}
 use Rattle.manifest.specs.Cards.{AreBatches, Batches, card_id, cards_in, cards_of, cards_of_batch, is_batch_id, is_count}
 use Rattle.manifest.specs.Laws.{CardIdsDiffer, CardUndoesPlace, PlaceUndoesCard}
 use Rattle.manifest.specs.declared.card.Card.{Card}
+use Rattle.manifest.specs.declared.limits.TheConstants.{MOST_BATCH_CARDS}
 use Rattle.manifest.proofs.CardAt.{in_first, in_rest}
 use Rattle.manifest.proofs.CardIds.{differs, names, or_true}
-use Rattle.manifest.proofs.Finding.{card, counted, found_in, named, none_then, some_first}
+use Rattle.manifest.proofs.Finding.{card, counted, found_in, named, none_then}
+use Rattle.irv_base.proofs.Positions.{some_first}
 use Rattle.manifest.proofs.Numbers.{same-equal}
 
 abbrev has_id : Id → Card → Bool
@@ -26,7 +28,7 @@ not_same ids a b out in_ids = differs a b (λ e. both_ways (is_among ids b) (ap 
 record IsPlaced (ids : List Id) (counts : List ℕ) (i : ℕ) (c : Card) : Type 0 where
   among : is_among ids c.batch ≡ true
   first : 1 ≤ c.k
-  most : c.k ≤ 1000000
+  most : c.k ≤ MOST_BATCH_CARDS
   placed : position (has_id (card_id c)) (cards_in ids counts) ≡ Some i
 
 same-refl : (a : Id) → is_same a a ≡ true
@@ -37,7 +39,7 @@ placed : (ids : List Id) (counts : List ℕ) (i : ℕ) (c : Card) → length cou
 placed [] counts i c l v d k h = absurd cc
 placed (b ∷ ids) [] i c l v d k h = absurd cc
 placed (b ∷ ids) (n ∷ counts) i c l v d k h = by (cases_Bool (nat_lt i n)) (λ at. placed ids counts (i - n) c (omega (arith, l)) (named b ids v).1 (and_parts (not (is_among ids b)) (all_differ ids) d).1 (counted n counts k).1 at) where
-  few : n ≤ 1000000
+  few : n ≤ MOST_BATCH_CARDS
   few = (counted n counts k).0
 
   in_batch : i < n → IsPlaced (b ∷ ids) (n ∷ counts) i (card b (1 + i))

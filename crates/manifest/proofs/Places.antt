@@ -6,8 +6,10 @@ use Rattle.irv_base.specs.Names.{Id, is_same, is_among}
 use Rattle.manifest.specs.Cards.{AreBatches, NamesNone, card_id, cards_in, place_of}
 use Rattle.manifest.specs.Firsts.{IsManifest}
 use Rattle.manifest.specs.declared.card.Card.{Card}
+use Rattle.manifest.specs.declared.limits.TheConstants.{MOST_BATCH_CARDS}
 use Rattle.manifest.proofs.CardIds.{names}
-use Rattle.manifest.proofs.Finding.{absent, card, found, nowhere, past, first_at}
+use Rattle.manifest.proofs.CardAt.{first_at}
+use Rattle.manifest.proofs.Finding.{absent, card, found, nowhere, past}
 
 abbrev has_id : Id → Card → Bool
 has_id id = λ c. is_same (card_id c) id
@@ -22,7 +24,7 @@ place_none id ids counts m h = as_place id ids counts None (nowhere (has_id id) 
 pub record HasId (id batch : Id) (k : ℕ) : Type 0 where
   pub same : card_id (card batch k) ≡ id
   pub first : 1 ≤ k
-  pub most : k ≤ 1000000
+  pub most : k ≤ MOST_BATCH_CARDS
 
 pub place_absent : (id batch : Id) (k : ℕ) (ids : List Id) (counts : List ℕ) → AreBatches ids counts → HasId id batch k → is_among ids batch ≡ false → None ≡ place_of (cards_in ids counts) id
 place_absent id batch k ids counts m h none = as_place id ids counts None (absent (has_id id) batch k ids counts m.named m.counted (names id batch k h.same h.first h.most) none)

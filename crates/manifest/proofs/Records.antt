@@ -8,6 +8,7 @@ use Rattle.irv_base.specs.Names.{Id}
 use Rattle.ballot_reader.specs.Ballots.{BallotFile}
 use Rattle.manifest.specs.BallotNumbers.{AreNumbers, ballot_number, ballot_numbers, recorded_at}
 use Rattle.manifest.specs.Cards.{Batches, cards_of}
+use Rattle.manifest.specs.declared.limits.TheConstants.{MOST_CARDS}
 use Rattle.manifest.proofs.Linking.{IsLinking, all_within, none_yet}
 
 pub begins : (batches : Batches) (ids : List Id) (n : ℕ) (numbers : List ℕ) → n ≡ length (cards_of batches) → numbers ≡ replicate n 0 → IsLinking batches ids 0 numbers
@@ -19,7 +20,7 @@ begins batches ids n numbers e h = record {
 pub length-numbers : (batches : Batches) (ids : List Id) (i : ℕ) (numbers : List ℕ) → IsLinking batches ids i numbers → length numbers ≡ length (cards_of batches)
 length-numbers batches ids i numbers h = ap length h.numbered ∙ length-map (cards_of batches) (ballot_number (take i ids))
 
-pub kept : (batches : Batches) (file : BallotFile) (numbers : List ℕ) → length file.ids ≡ length file.rankings → length (cards_of batches) ≤ 10000000 → numbers ≡ ballot_numbers file.ids (cards_of batches) → AreNumbers file.rankings numbers
+pub kept : (batches : Batches) (file : BallotFile) (numbers : List ℕ) → length file.ids ≡ length file.rankings → length (cards_of batches) ≤ MOST_CARDS → numbers ≡ ballot_numbers file.ids (cards_of batches) → AreNumbers file.rankings numbers
 kept batches file numbers one few e = record {
   few = omega (arith, ap length e, length-map (cards_of batches) (ballot_number file.ids), few);
   within = subst (All (λ number. number ≤ length file.rankings)) (sym e) (all_within (length file.rankings) file.ids (cards_of batches) one);

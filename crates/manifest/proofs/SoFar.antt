@@ -6,7 +6,7 @@ use Rattle.std.proofs.lemmas.Bool.{and_parts, and_from}
 use Rattle.std.proofs.lemmas.List.Folds.{list_all-append}
 use Rattle.std.proofs.lemmas.List.Sums.{sum_by_push}
 use Rattle.irv_base.specs.Names.{Id, is_among}
-use Rattle.ballot_reader.proofs.Ids.{differ-push}
+use Rattle.ballot_reader.proofs.Differing.{differ-push}
 use Rattle.csv_rows.specs.Rows.{Fields}
 use Rattle.manifest.proofs.CardAt.{sum-cons}
 use Rattle.manifest.specs.Cards.{AreBatches, is_batch_id, is_count}
@@ -16,6 +16,7 @@ use Rattle.manifest.specs.Manifest.{and_then, at_end, batch_of, batch_with, batc
 use Rattle.manifest.specs.declared.batch.Batch.{Batch}
 use Rattle.manifest.specs.declared.fault.MRule.{MRule}
 use Rattle.manifest.specs.declared.fault.MRule.TheVariants.{M6}
+use Rattle.manifest.specs.declared.limits.TheConstants.{MOST_BATCH_CARDS, MOST_CARDS}
 
 -- ---- a batch that is accepted
 
@@ -23,16 +24,16 @@ pub record IsNext (ids : List Id) (others : ℕ) (batch : Batch) : Type 0 where
   pub named : is_batch_id batch.id ≡ true
   pub new : is_among ids batch.id ≡ false
   pub counted : is_count batch.cards ≡ true
-  pub most : others + batch.cards ≤ 10000000
+  pub most : others + batch.cards ≤ MOST_CARDS
 
 next_with : (ids : List Id) (others : ℕ) (id : Id) (o : Option ℕ) (batch : Batch) → is_batch_id id ≡ true → is_among ids id ≡ false → batch_with id others o ≡ Ok batch → IsNext ids others batch
 next_with ids others id None batch named new h = absurd cc
-next_with ids others id (Some n) batch named new h = by (is_count n) (nat_le (others + n) 10000000) refl refl h where
-  by : (c m : Bool) → is_count n ≡ c → nat_le (others + n) 10000000 ≡ m → (if c then (if m then Ok (record { id = id; cards = n }) else Err Rattle.manifest.specs.declared.fault.MRule.TheVariants.M5) else Err Rattle.manifest.specs.declared.fault.MRule.TheVariants.M3) ≡ Ok batch
+next_with ids others id (Some n) batch named new h = by (is_count n) (nat_le (others + n) MOST_CARDS) refl refl h where
+  by : (c m : Bool) → is_count n ≡ c → nat_le (others + n) MOST_CARDS ≡ m → (if c then (if m then Ok (record { id = id; cards = n }) else Err Rattle.manifest.specs.declared.fault.MRule.TheVariants.M5) else Err Rattle.manifest.specs.declared.fault.MRule.TheVariants.M3) ≡ Ok batch
       → IsNext ids others batch
   by true true e f g =
       let s : record { id = id; cards = n } ≡ batch = cc in
-      subst (IsNext ids others) s (record { named = named; new = new; counted = e; most = leb-true (others + n) 10000000 f })
+      subst (IsNext ids others) s (record { named = named; new = new; counted = e; most = leb-true (others + n) MOST_CARDS f })
   by true false e f g = absurd cc
   by false m e f g = absurd cc
 
@@ -73,7 +74,7 @@ pub length-le-sum : (counts : List ℕ) → list_all is_count counts ≡ true �
 length-le-sum [] h = omega arith
 length-le-sum (n ∷ counts) h =
     let (one, all) = and_parts (is_count n) (list_all is_count counts) h in
-    omega (arith, leb-true 1 n (and_parts (nat_le 1 n) (nat_le n 1000000) one).0, length-le-sum counts all, sum-cons n counts)
+    omega (arith, leb-true 1 n (and_parts (nat_le 1 n) (nat_le n MOST_BATCH_CARDS) one).0, length-le-sum counts all, sum-cons n counts)
 
 -- the records are these batches, and then those of the rest
 pub record BatchesSoFar (rows : List Fields) (ids : List Id) (counts firsts : List ℕ) (cards : ℕ) (rest : List Fields) : Type 0 where

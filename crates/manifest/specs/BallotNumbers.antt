@@ -18,7 +18,8 @@ abbrev pub ballot_numbers : List Id → List Card → List ℕ
 ballot_numbers ids cards = map (ballot_number ids) cards
 
 abbrev pub recorded_at : List (List ℕ) → ℕ → Recorded
-recorded_at rankings number = if number == 0 then Without else Ranked (slice_index_or rankings (number - 1) [])
+recorded_at rankings number =
+    if number == 0 then Without else Ranked (slice_index_or rankings (number - 1) [])
 
 pub record AreNumbers (rankings : List (List ℕ)) (numbers : List ℕ) : Type 0 where
   pub few : length numbers ≤ MOST_CARDS

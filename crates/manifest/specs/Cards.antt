@@ -35,7 +35,9 @@ is_batch_id id = is_name id && nat_le (length id) MOST_BATCH_BYTES
 
 -- no card of a batch can have that id
 abbrev pub NamesNone : Id → Type 0
-NamesNone id = (batch : Id) (k : ℕ) → is_batch_id batch ≡ true → 1 ≤ k → k ≤ MOST_BATCH_CARDS → is_same (card_id (record { batch = batch; k = k })) id ≡ false
+NamesNone id =
+    (batch : Id) (k : ℕ) → is_batch_id batch ≡ true → 1 ≤ k → k ≤ MOST_BATCH_CARDS →
+    is_same (card_id (record { batch = batch; k = k })) id ≡ false
 
 -- the number of the card with that id, from 1
 abbrev pub place_of : List Card → Id → Option ℕ

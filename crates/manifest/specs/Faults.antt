@@ -1,11 +1,22 @@
 -- Why a manifest isn't read.
-use Rattle.std.specs.Prelude.{◌≡◌, Result, Err}
+use Rattle.std.specs.Prelude.{◌≡◌, ℕ, List, Result, Err, codes}
 use Rattle.manifest.specs.Cards.{Batches}
 use Rattle.manifest.specs.Manifest.{Refusal}
 use Rattle.manifest.specs.declared.fault.ManifestFault.{ManifestFault}
 use Rattle.manifest.specs.declared.fault.ManifestFault.TheVariants.{Refused, Memory}
+use Rattle.manifest.specs.declared.fault.MRule.{MRule}
+use Rattle.manifest.specs.declared.fault.MRule.TheVariants.{M1, M2, M3, M4, M5, M6}
 
 -- it is refused by this rule at this record; memory may always be wanting
 abbrev pub Refuses : Result Batches Refusal → ManifestFault → Type 0
 Refuses said (Refused rule at) = said ≡ Err (record { rule = rule; at = at })
 Refuses said Memory = Unit {0}
+
+-- the name of a rule in the text of a refusal
+abbrev pub rule_name : MRule → List ℕ
+rule_name M1 = codes "M1"
+rule_name M2 = codes "M2"
+rule_name M3 = codes "M3"
+rule_name M4 = codes "M4"
+rule_name M5 = codes "M5"
+rule_name M6 = codes "M6"

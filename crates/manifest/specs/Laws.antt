@@ -11,7 +11,8 @@ use Rattle.manifest.specs.declared.recorded.Recorded.TheVariants.{Ranked}
 -- the id of the card with number i + 1 is placed there
 abbrev pub PlaceUndoesCard : Type 0
 PlaceUndoesCard =
-    (batches : Batches) (i : ℕ) (card : Card) → AreBatches batches.ids batches.counts → slice_get (cards_of batches) i ≡ Some card →
+    (batches : Batches) (i : ℕ) (card : Card) → AreBatches batches.ids batches.counts →
+    slice_get (cards_of batches) i ≡ Some card →
     place_of (cards_of batches) (card_id card) ≡ Some (i + 1)
 
 -- the card at the place of an id has that id
@@ -24,18 +25,23 @@ CardUndoesPlace =
 abbrev pub CardIdsDiffer : Type 0
 CardIdsDiffer =
     (batches : Batches) (i j : ℕ) (card other : Card) → AreBatches batches.ids batches.counts →
-    slice_get (cards_of batches) i ≡ Some card → slice_get (cards_of batches) j ≡ Some other → card_id card ≡ card_id other → i ≡ j
+    slice_get (cards_of batches) i ≡ Some card → slice_get (cards_of batches) j ≡ Some other →
+    card_id card ≡ card_id other → i ≡ j
 
 -- ---- linked ballots
 
 -- of the card that a ballot's id names, the ballot's ranking is recorded
 abbrev pub BallotsAreLinked : Type 0
 BallotsAreLinked =
-    (batches : Batches) (file : BallotFile) (i k : ℕ) (id : Id) (ranking : List ℕ) → IsTrue (all_differ file.ids) → slice_get file.ids i ≡ Some id →
-    slice_get file.rankings i ≡ Some ranking → place_of (cards_of batches) id ≡ Some (k + 1) → slice_get (linked_of batches file) k ≡ Some (Ranked ranking)
+    (batches : Batches) (file : BallotFile) (i k : ℕ) (id : Id) (ranking : List ℕ) →
+    IsTrue (all_differ file.ids) → slice_get file.ids i ≡ Some id →
+    slice_get file.rankings i ≡ Some ranking → place_of (cards_of batches) id ≡ Some (k + 1) →
+    slice_get (linked_of batches file) k ≡ Some (Ranked ranking)
 
 -- no two ballots name one card
 abbrev pub LinksDiffer : Type 0
 LinksDiffer =
-    (batches : Batches) (file : BallotFile) (i j place : ℕ) (id other : Id) → IsTrue (all_differ file.ids) → slice_get file.ids i ≡ Some id →
-    slice_get file.ids j ≡ Some other → place_of (cards_of batches) id ≡ Some place → place_of (cards_of batches) other ≡ Some place → i ≡ j
+    (batches : Batches) (file : BallotFile) (i j place : ℕ) (id other : Id) →
+    IsTrue (all_differ file.ids) → slice_get file.ids i ≡ Some id →
+    slice_get file.ids j ≡ Some other → place_of (cards_of batches) id ≡ Some place →
+    place_of (cards_of batches) other ≡ Some place → i ≡ j

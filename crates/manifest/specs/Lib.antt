@@ -1,5 +1,6 @@
 pub mod Cards
 pub mod Manifest
+pub mod Spelling
 pub mod Faults
 pub mod Firsts
 pub mod Laws

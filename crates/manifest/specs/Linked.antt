@@ -30,7 +30,9 @@ has_card batches id = list_any (λ card. is_same (card_id card) id) (cards_of ba
 
 -- the number of the record of the first ballot whose id is no card's
 abbrev pub first_without_card : Batches → BallotFile → Option ℕ
-first_without_card batches file = option_map (λ i. slice_index_or file.places i 0) (position (λ id. not (has_card batches id)) file.ids)
+first_without_card batches file =
+    option_map (λ i. slice_index_or file.places i 0)
+    (position (λ id. not (has_card batches id)) file.ids)
 
 -- so it is refused; memory may always be wanting
 abbrev pub RefusesLink : Option ℕ → LinkFault → Type 0

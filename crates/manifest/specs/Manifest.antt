@@ -24,13 +24,18 @@ is_header (first ∷ second ∷ next ∷ rest) = false
 -- that many cards after so many others
 abbrev pub batch_with : Id → ℕ → Option ℕ → Result Batch MRule
 batch_with id others None = Err M3
-batch_with id others (Some n) = if is_count n then (if nat_le (others + n) MOST_CARDS then Ok (record { id = id; cards = n }) else Err M5) else Err M3
+batch_with id others (Some n) =
+    if is_count n then
+    (if nat_le (others + n) MOST_CARDS then Ok (record { id = id; cards = n })
+    else Err M5) else Err M3
 
 -- the batch, or the first rule that its record breaks, after batches with these ids and so many cards
 abbrev pub batch_of : List Id → ℕ → Fields → Result Batch MRule
 batch_of ids others [] = Err M2
 batch_of ids others (id ∷ []) = Err M2
-batch_of ids others (id ∷ number ∷ []) = if not (is_batch_id id) || is_among ids id then Err M4 else batch_with id others (number_of number)
+batch_of ids others (id ∷ number ∷ []) =
+    if not (is_batch_id id) || is_among ids id then Err M4
+    else batch_with id others (number_of number)
 batch_of ids others (id ∷ number ∷ next ∷ rest) = Err M2
 
 -- ---- the file
@@ -44,7 +49,8 @@ abbrev pub refused : MRule → ℕ → Result Batches Refusal
 refused rule at = Err (record { rule = rule; at = at })
 
 -- what follows the record number at, or its refusal
-abbrev pub and_then : Result Batch MRule → ℕ → (Batch → Result Batches Refusal) → Result Batches Refusal
+abbrev pub and_then :
+    Result Batch MRule → ℕ → (Batch → Result Batches Refusal) → Result Batches Refusal
 and_then (Ok batch) at more = more batch
 and_then (Err rule) at more = refused rule at
 
@@ -56,7 +62,8 @@ at_end (id ∷ ids) counts = Ok (record { ids = id ∷ ids; counts = counts })
 abbrev pub batches_after : List Id → List ℕ → ℕ → List Fields → Result Batches Refusal
 batches_after ids counts at [] = at_end ids counts
 batches_after ids counts at (row ∷ rows) =
-    and_then (batch_of ids (sum counts) row) at (λ batch. batches_after (ids ++ batch.id ∷ []) (counts ++ batch.cards ∷ []) (at + 1) rows)
+    and_then (batch_of ids (sum counts) row) at (λ batch.
+    batches_after (ids ++ batch.id ∷ []) (counts ++ batch.cards ∷ []) (at + 1) rows)
 
 abbrev pub manifest_in : List Fields → Result Batches Refusal
 manifest_in [] = refused M1 1

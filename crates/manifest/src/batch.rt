@@ -23,7 +23,8 @@ pub struct Batch {
 
 // The two fields of a record that has two.
 fn pair_of(row: &ByteRecord) -> Option<(&[u8], &[u8])>
-    ensures two { IfSome result (λ pair. trimmed_fields (fields_of row.now) ≡ pair.0.now ∷ pair.1.now ∷ []) }
+    ensures two { IfSome result (λ pair.
+        trimmed_fields (fields_of row.now) ≡ pair.0.now ∷ pair.1.now ∷ []) }
     ensures not_two { IfNone result (length (fields_of row.now) ≡ 2 → ⊥) }
 {
     if row.len() != 2 {

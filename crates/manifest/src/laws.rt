@@ -1,4 +1,7 @@
-//! The laws of cards, their ids and their ballots. None has code.
+//! The laws of manifests, their cards, and the ballots of these. None has code.
+ghost use Rattle.std.specs.Prelude.{◌≡◌};
+ghost use Rattle.manifest.specs.declared.limits.TheConstants as limit;
+ghost use Rattle.manifest.specs.Spelling.{FirstBrokenRuleRefuses, RecordsSpellBatches};
 ghost use Rattle.manifest.specs.Laws.{BallotsAreLinked, CardIdsDiffer, CardUndoesPlace, LinksDiffer, PlaceUndoesCard};
 
 /// The id of each card is placed at its number.
@@ -24,4 +27,21 @@ pub fn ballots_are_linked()
 /// Distinct ballots are linked to distinct cards.
 pub fn links_differ()
     ensures { LinksDiffer }
+{}
+
+/// Records are read as batches exactly where they spell them: the header, and a record of an id and a number for each.
+pub fn records_spell_batches()
+    ensures { RecordsSpellBatches }
+{}
+
+/// Records are refused exactly by the first rule that the first of them breaks, and there. Each rule is one of records alone.
+pub fn first_broken_rule_refuses()
+    ensures { FirstBrokenRuleRefuses }
+{}
+
+/// The numbers of the limits.
+pub fn limits()
+    ensures most_batch_bytes { limit.MOST_BATCH_BYTES ≡ 56 }
+    ensures most_batch_cards { limit.MOST_BATCH_CARDS ≡ 1000000 }
+    ensures most_cards { limit.MOST_CARDS ≡ 10000000 }
 {}

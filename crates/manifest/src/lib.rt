@@ -3,6 +3,7 @@
 
 mod batch;
 mod card;
+pub mod examples;
 mod fault;
 pub mod laws;
 mod limits;

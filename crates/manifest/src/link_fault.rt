@@ -2,7 +2,10 @@
 ghost use Rattle.std.specs.Prelude.{◌≡◌};
 ghost use Rattle.manifest.specs.declared.link_fault.LinkFault.TheVariants.{Memory as WantOfMemory};
 
+use irv_base::Memory;
 use std::alloc::AllocError;
+use std::error::Error;
+use std::fmt;
 
 /// Why ballots aren't linked to the cards of a manifest.
 #[derive(Clone, Copy, Debug, PartialEq, Eq)]
@@ -12,6 +15,17 @@ pub enum LinkFault {
     /// Memory could not be had.
     Memory,
 }
+
+impl fmt::Display for LinkFault {
+    fn fmt<W: fmt::Write>(&self, f: &mut fmt::Formatter<W>) -> fmt::Result {
+        match self {
+            LinkFault::NoCard { at } => write!(f, "M7 at {at}"),
+            LinkFault::Memory => write!(f, "{Memory}"),
+        }
+    }
+}
+
+impl Error for LinkFault {}
 
 impl From<AllocError> for LinkFault {
     ghost from_gives = { λ _ fault. fault ≡ WantOfMemory };

@@ -62,7 +62,8 @@ impl Linked {
 
 // The number of the ballot of each card.
 fn numbers_of(alloc: Global, m: &Manifest, b: &Ballots) -> Result<Vec<u32>, LinkFault>
-    ensures numbers { IfOk result (λ numbers. numbers.items ≡ ballot_numbers b.now.ids (cards_of m.now)) }
+    ensures numbers { IfOk result (λ numbers.
+        numbers.items ≡ ballot_numbers b.now.ids (cards_of m.now)) }
     ensures placed { IfOk result (λ _. first_without_card m.now b.now ≡ None) }
     ensures kept { IfOk result (λ numbers. AreNumbers b.now.rankings numbers.items) }
     ensures no_card { IfErr result (RefusesLink (first_without_card m.now b.now)) }
@@ -71,7 +72,8 @@ fn numbers_of(alloc: Global, m: &Manifest, b: &Ballots) -> Result<Vec<u32>, Link
     let ids = b.ids();
     let places = b.places();
     for i in 0..b.rankings().len() {
-        let Some(card) = m.place(ids[i].bytes()) else {
+        let id = ids.at(i);
+        let Some(card) = m.place(id) else {
             return Err(LinkFault::NoCard { at: places[i] });
         };
         numbers[card as usize - 1] = i as u32 + 1;

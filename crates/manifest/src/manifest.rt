@@ -1,5 +1,5 @@
 // The manifest: batches of cards.
-ghost use Rattle.std.specs.Prelude.{◌≡◌, ◌≤◌, ◌-◌, ◌<◌, ◌==◌, ◌++◌, ◌∷◌, length, slice_get, Some, IsTrue, IfSome, IfNone, false};
+ghost use Rattle.std.specs.Prelude.{◌≡◌, ◌≤◌, ◌+◌, ◌-◌, ◌<◌, ◌==◌, ◌++◌, ◌∷◌, length, slice_get, slice_index_or, Some, IsTrue, IfSome, IfNone, false};
 ghost use Rattle.std.specs.List.{list_any, sum};
 ghost use Rattle.manifest.specs.Cards.{AreBatches, NamesNone, card_id, cards_of, place_of, underscore};
 ghost use Rattle.manifest.specs.declared.limits.TheConstants.{MOST_BATCH_CARDS, MOST_CARDS};
@@ -73,6 +73,27 @@ fn card_named(id: &[u8]) -> Option<Card>
     Some(Card { batch, k })
 }
 
+// The last batch whose first card has no greater number than i, found by halving.
+fn batch_of_card(firsts: &[u32], i: u32) -> usize
+    requires some { 1 ≤ length firsts.now }
+    requires first { slice_index_or firsts.now 0 0 ≤ i }
+    ensures within { result < length firsts.now }
+    ensures begun { slice_index_or firsts.now result 0 ≤ i }
+    ensures last { result + 1 < length firsts.now → i < slice_index_or firsts.now (result + 1) 0 }
+{
+    let mut low = 0;
+    let mut high = firsts.len();
+    'halves: while low + 1 < high {
+        let middle = low + (high - low) / 2;
+        if firsts[middle] <= i {
+            low = middle;
+        } else {
+            high = middle;
+        }
+    }
+    low
+}
+
 impl Manifest {
     pub(crate) fn new(
         ids: IndexSet<Name>,
@@ -107,18 +128,11 @@ impl Manifest {
         requires last { i ≤ length (cards_of self.now) }
         ensures { slice_get (cards_of self.now) (i - 1) ≡ Some result }
     {
-        let mut left = i - 1;
-        for batch in 0..self.counts.len() {
-            let cards = self.counts[batch];
-            if left < cards {
-                return Card {
-                    batch: self.ids.as_slice()[batch],
-                    k: left + 1,
-                };
-            }
-            left -= cards;
+        let batch = batch_of_card(self.firsts.as_slice(), i);
+        Card {
+            batch: self.ids.as_slice()[batch],
+            k: i - self.firsts[batch] + 1,
         }
-        unreachable!()
     }
 
     /// The number of the card with that id, from 1: the id of its batch, an underscore, and its number in the batch, from 1, in

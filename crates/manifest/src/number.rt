@@ -11,7 +11,8 @@ pub fn card_number(text: &[u8]) -> Option<u32>
     ensures written { IfSome result (λ k. decimal k ≡ text.now) }
     ensures first { IfSome result (λ k. 1 ≤ k) }
     ensures most { IfSome result (λ k. k ≤ MOST_BATCH_CARDS) }
-    ensures none { IfNone result ((k : ℕ) → 1 ≤ k → k ≤ MOST_BATCH_CARDS → is_same (decimal k) text.now ≡ false) }
+    ensures none { IfNone result
+        ((k : ℕ) → 1 ≤ k → k ≤ MOST_BATCH_CARDS → is_same (decimal k) text.now ≡ false) }
 {
     if text.is_empty() {
         return None;

@@ -21,7 +21,8 @@ fn batches_left(
     rows: &mut Rows<'_>,
     row: &mut ByteRecord,
 ) -> Result<Manifest, ManifestFault>
-    ensures read { IfOk result (λ manifest. batches_after [] [] 2 (numbered rows.old) ≡ Ok manifest) }
+    ensures read { IfOk result (λ manifest.
+        batches_after [] [] 2 (numbered rows.old) ≡ Ok manifest) }
     ensures refused { IfErr result (Refuses (batches_after [] [] 2 (numbered rows.old))) }
 {
     let mut ids = IndexSet::new(alloc);
@@ -54,7 +55,7 @@ fn batches_left(
 
 /// Reads a manifest.
 ///
-/// The first record is `batch,cards`. Each other one is a batch id and its number of cards, in 1 to `csv_rows::MOST_NUMBER_DIGITS` digits.
+/// The first record is `batch,cards`. Each other one is a batch id and its number of cards, in 1 to `irv_base::MOST_NUMBER_DIGITS` digits.
 /// Spaces and tabs round a field are taken off. A record whose only field is empty then is passed over and has no number. A byte
 /// order mark at the front is taken off.
 ///

@@ -1,10 +1,12 @@
 // What a call takes, and what comes of it.
-use crate::table::{CASES, FILES};
+use crate::table::{CASES, FAILING, FILES, File};
+use crate::{audit_table, session_table};
 use desk::{MemoryDesk, MemorySink, Named, NoGate};
 use irv_base::{MOST_FILE_BYTES, Name};
 use raire_cli::run;
 use std::alloc::{AllocError, Global};
 use std::test::Fail;
+use std::thread::Threads;
 
 // Bytes that a sink has room for.
 const SINK_ROOM: u32 = 20_000;
@@ -39,17 +41,24 @@ pub(crate) fn hold(
     Ok(())
 }
 
+fn hold_all(alloc: Global, files: &mut Vec<Named>, more: &[File]) -> Result<(), AllocError> {
+    for file in more {
+        hold(alloc, files, file.name, file.text)?;
+    }
+    Ok(())
+}
+
 fn held(alloc: Global) -> Result<Vec<Named>, AllocError> {
     let mut files = Vec::new(alloc);
-    for file in &FILES {
-        hold(alloc, &mut files, file.name, file.text)?;
-    }
+    hold_all(alloc, &mut files, &FILES)?;
+    hold_all(alloc, &mut files, &audit_table::FILES)?;
+    hold_all(alloc, &mut files, &session_table::FILES)?;
     Ok(files)
 }
 
 /// Runs the words over some files, where these calls of the desk and these writes of both sinks fail.
-pub(crate) fn ran_over(
-    rt: &HostRuntime,
+pub(crate) fn ran_over<R: AllocGlobal + Threads + Sync>(
+    rt: &R,
     files: Vec<Named>,
     words: &[&str],
     desk_fails: &[u32],
@@ -75,20 +84,72 @@ fn sink(alloc: Global, fails: &[u32]) -> Result<MemorySink, AllocError> {
     }
 }
 
+// Whether the text of this status goes to `out`.
+fn is_answer(status: u8) -> bool {
+    matches!(status, 0 | 3..=6 | 10)
+}
+
+fn is_as_wanted(ran: &Ran, status: u8, text: &str) -> bool {
+    let (said, silent) = if is_answer(status) {
+        (&ran.out, &ran.err)
+    } else {
+        (&ran.err, &ran.out)
+    };
+    ran.status == status && said.as_slice() == text.as_bytes() && silent.is_empty()
+}
+
+fn case_ran<R: AllocGlobal + Threads + Sync>(
+    rt: &R,
+    line: &str,
+    desk_fails: &[u32],
+    sink_fails: &[u32],
+) -> Result<Ran, AllocError> {
+    let files = held(rt.alloc())?;
+    let mut words = Vec::new(rt.alloc());
+    for word in line.split(' ') {
+        words.push(word)?;
+    }
+    ran_over(rt, files, &words, desk_fails, sink_fails)
+}
+
 #[test]
-fn each_case_comes_to_its_status_and_texts(rt: HostRuntime) -> Result<(), Fail> {
-    for case in &CASES {
-        let files = held(rt.alloc())?;
-        let ran = ran_over(&rt, files, case.words, case.desk_fails, case.sink_fails)?;
-        assert_eq!(rt; ran.status, case.status);
-        assert_eq!(rt; ran.out.as_slice(), case.out.as_bytes());
-        assert_eq!(rt; ran.err.as_slice(), case.err.as_bytes());
+fn each_case_comes_to_its_status_and_text(rt: HostRuntime) -> Result<(), Fail> {
+    for (line, status, text) in CASES {
+        let ran = case_ran(&rt, line, &[], &[])?;
+        assert!(rt; is_as_wanted(&ran, status, text), "{line}");
+    }
+    Ok(())
+}
+
+#[test]
+fn each_case_of_an_audit_comes_to_its_status_and_text(rt: HostRuntime) -> Result<(), Fail> {
+    for (line, status, text) in audit_table::CASES {
+        let ran = case_ran(&rt, line, &[], &[])?;
+        assert!(rt; is_as_wanted(&ran, status, text), "{line}");
+    }
+    Ok(())
+}
+
+#[test]
+fn each_case_of_a_session_comes_to_its_status_and_text(rt: HostRuntime) -> Result<(), Fail> {
+    for (line, status, text) in session_table::CASES {
+        let ran = case_ran(&rt, line, &[], &[])?;
+        assert!(rt; is_as_wanted(&ran, status, text), "{line}");
+    }
+    Ok(())
+}
+
+#[test]
+fn each_failing_call_comes_to_its_status_and_line(rt: HostRuntime) -> Result<(), Fail> {
+    for (line, desk_fails, sink_fails, status, text) in FAILING {
+        let ran = case_ran(&rt, line, desk_fails, sink_fails)?;
+        assert!(rt; is_as_wanted(&ran, status, text), "{line}");
     }
     Ok(())
 }
 
 // A file of so many zeros: its first field is no number.
-fn zeros(rt: &HostRuntime, bytes: u64) -> Result<Ran, AllocError> {
+fn zeros<R: AllocGlobal + Threads + Sync>(rt: &R, bytes: u64) -> Result<Ran, AllocError> {
     let alloc = rt.alloc();
     let mut files = Vec::new(alloc);
     if let Some(name) = Name::read(b"large.raire") {

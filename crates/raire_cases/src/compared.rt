@@ -5,6 +5,7 @@ use crate::plain::{Contest, Plain, search};
 use desk::Named;
 use std::alloc::{AllocError, Global};
 use std::test::Fail;
+use std::thread::Threads;
 
 // The file of a contest.
 const FILE: &str = "generated.raire";
@@ -16,7 +17,7 @@ fn file_of(alloc: Global, contest: &Contest) -> Result<Vec<Named>, AllocError> {
     Ok(files)
 }
 
-fn searched(rt: &HostRuntime, contest: &Contest) -> Result<Ran, AllocError> {
+fn searched<R: AllocGlobal + Threads + Sync>(rt: &R, contest: &Contest) -> Result<Ran, AllocError> {
     let files = file_of(rt.alloc(), contest)?;
     ran_over(rt, files, &["search", FILE], &[], &[])
 }
@@ -30,7 +31,7 @@ fn is_same(ran: &Ran, plain: &Plain) -> bool {
     ran.status == status && ran.out.as_slice() == text.as_bytes() && ran.err.is_empty()
 }
 
-fn agree(rt: &HostRuntime, number: u64) -> Result<bool, AllocError> {
+fn agree<R: AllocGlobal + Threads + Sync>(rt: &R, number: u64) -> Result<bool, AllocError> {
     let contest = generated(rt.alloc(), number)?;
     let plain = search(rt.alloc(), &contest)?;
     let ran = searched(rt, &contest)?;

@@ -3,6 +3,8 @@
 #![tactic(auto)]
 
 #[cfg(test)]
+mod audit_table;
+#[cfg(test)]
 mod cases;
 #[cfg(test)]
 mod checks;
@@ -12,5 +14,7 @@ mod compared;
 mod contests;
 #[cfg(test)]
 mod plain;
+#[cfg(test)]
+mod session_table;
 #[cfg(test)]
 mod table;

@@ -1,5 +1,5 @@
 -- What it means that a check accepts an assertion file.
-use Rattle.std.specs.Prelude.{◌≡◌, ℕ, List, Option, Some, Ok}
+use Rattle.std.specs.Prelude.{◌≡◌, ℕ, List, Option, Some, IfSome, Ok}
 use Rattle.desk.specs.Desk.{File, held_bytes}
 use Rattle.irv_base.specs.Names.{Id}
 use Rattle.ballot_reader.specs.Ballots.{BallotFile}
@@ -7,7 +7,10 @@ use Rattle.ballot_reader.specs.Grammar.{ballots_of}
 use Rattle.assertion_file.specs.Content.{Content}
 use Rattle.assertion_file.specs.Reading.{assertion_file_of}
 use Rattle.cover_checker.specs.Holds.{Holds}
-use Rattle.command_line.specs.Line.{Check, line_of}
+use Rattle.cli_base.specs.Ends.{Writing, Took}
+use Rattle.command_line.specs.Line.{command_of}
+use Rattle.command_line.specs.declared.command.Command.TheVariants.{Check}
+use Rattle.contest_commands.specs.Check.{yes_text}
 
 -- the words ask for a check
 pub record AsksForCheck (words : List (List ℕ)) : Type 0 where
@@ -15,7 +18,7 @@ pub record AsksForCheck (words : List (List ℕ)) : Type 0 where
   pub assertions : List ℕ
   pub contest : Option Id
   pub nodes : ℕ
-  pub asked : line_of words ≡ Some (Check ballots assertions contest nodes)
+  pub asked : command_of words ≡ Some (Check ballots assertions contest nodes)
 
 -- its ballot file is held, and says this of the contest
 pub record HasBallots {words : List (List ℕ)} (asked : AsksForCheck words) (files : List File) (ballots : BallotFile) : Type 0 where
@@ -36,3 +39,10 @@ pub record HoldsAsked (words : List (List ℕ)) (files : List File) (file : Cont
   pub of_ballots : HasBallots asks files ballots
   pub of_assertions : HasAssertions asks files file
   pub holds : Holds ballots file
+
+-- ---- what `run` promises
+
+-- Status 0 of a check: its assertion file holds of the ballots, and `out` has `yes`, the number of its assertions and its margin.
+abbrev pub IsUpheld : Option (List File) → List (List ℕ) → ℕ → Writing → Type 0
+IsUpheld held words status out = IfSome held (λ files. AsksForCheck words → status ≡ 0 →
+    (file : Content) × HoldsAsked words files file × Took out (yes_text file))

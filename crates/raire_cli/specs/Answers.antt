@@ -1,27 +1,43 @@
--- What the words of a call ask for, and the answers to it.
-use Rattle.std.specs.Prelude.{◌≡◌, ◌⊎◌, ℕ, List, Option, None, Some}
-use Rattle.desk.specs.Desk.{File}
-use Rattle.command_line.specs.Line.{Line, Search, Tabulate, Check, line_of}
-use Rattle.raire_cli.specs.Outcome.{Outcome, bad_words, out_of_memory}
-use Rattle.raire_cli.specs.Script.{Script, Readings, AsHeld, May}
-use Rattle.raire_cli.specs.Search.{search}
-use Rattle.raire_cli.specs.Tabulate.{tabulate}
-use Rattle.raire_cli.specs.Check.{check}
+-- What the words of a call ask for: a command is the files that it reads, one after the other, and what it comes to.
+use Rattle.std.specs.Prelude.{ℕ, Bool, true, false, List, Option, None, Some}
+use Rattle.cli_base.specs.Script.{Script, Asked, Nothing, Runs}
+use Rattle.command_line.specs.Line.{command_of}
+use Rattle.command_line.specs.declared.command.Command.{Command}
+use Rattle.command_line.specs.declared.command.Command.TheVariants.{Search, Tabulate, Check, Sample, Plan, Open, Audit, Report}
+use Rattle.contest_commands.specs.Search as search
+use Rattle.contest_commands.specs.Tabulate as tabulate
+use Rattle.contest_commands.specs.Check as check
+use Rattle.audit_commands.specs.Sample as sample
+use Rattle.audit_commands.specs.Plan as plan
+use Rattle.session_commands.specs.Open as opening
+use Rattle.session_commands.specs.Audit as audit
+use Rattle.session_commands.specs.Report as report
 
-abbrev pub script_of : Line → Script
-script_of (Search file contest nodes floor) = search file contest (record { nodes = nodes; floor = floor })
-script_of (Tabulate file contest) = tabulate file contest
-script_of (Check ballots assertions contest nodes) = check ballots assertions contest nodes
+abbrev pub script_of : Command → Script
+script_of (Search ballots contest nodes floor) = search.script ballots contest (record { nodes = nodes; floor = floor })
+script_of (Tabulate ballots contest) = tabulate.script ballots contest
+script_of (Check ballots assertions contest nodes) = check.script ballots assertions contest nodes
+script_of (Sample manifest seed draws) = sample.script manifest seed draws
+script_of (Plan manifest assertions limit gamma) = plan.script manifest assertions (record { limit = limit; gamma = gamma })
+script_of (Open ballots manifest assertions seed contest limit gamma nodes) =
+    opening.script ballots manifest assertions contest (record { seed = seed; limit = limit; gamma = gamma; nodes = nodes })
+script_of (Audit session ballots manifest assertions seen draws nodes) = audit.script session ballots manifest assertions seen draws nodes
+script_of (Report session) = report.script session
 
--- A line, or words that are none, may come to this.
-abbrev pub MayCome : Readings → Option Line → Outcome → Type 0
-MayCome readings None due = due ≡ bad_words
-MayCome readings (Some line) due = May readings (script_of line) due
+abbrev pub asked_by : Option Command → Asked
+asked_by None = Nothing
+asked_by (Some command) = Runs (script_of command)
 
--- the same, where memory may run out
-abbrev pub IsDue : Readings → Option Line → Outcome → Type 0
-IsDue readings line due = MayCome readings line due ⊎ (due ≡ out_of_memory)
+abbrev pub asked : List (List ℕ) → Asked
+asked words = asked_by (command_of words)
 
--- The status and the texts that are defined for the words and the files.
-abbrev pub Answers : List (List ℕ) → List File → ℕ → List ℕ → List ℕ → Type 0
-Answers words files status out err = MayCome (AsHeld files) (line_of words) (record { status = status; out = out; err = err })
+-- a budget may leave open what the command comes to
+abbrev pub is_open : Command → Bool
+is_open (Search ballots contest nodes floor) = true
+is_open (Tabulate ballots contest) = false
+is_open (Check ballots assertions contest nodes) = false
+is_open (Sample manifest seed draws) = false
+is_open (Plan manifest assertions limit gamma) = false
+is_open (Open ballots manifest assertions seed contest limit gamma nodes) = false
+is_open (Audit session ballots manifest assertions seen draws nodes) = false
+is_open (Report session) = false

@@ -1,5 +1,5 @@
 -- What it means that assertions confirm the winner of some records.
-use Rattle.std.specs.Prelude.{◌≡◌, ◌≤◌, ◌<◌, ℕ, List, All, Contains, Option, Some, Ok, IsTrue, length}
+use Rattle.std.specs.Prelude.{◌≡◌, ◌≤◌, ◌<◌, ℕ, List, All, Contains, Option, Some, IfSome, Ok, IsTrue, length}
 use Rattle.desk.specs.Desk.{File, held_bytes}
 use Rattle.assertions.specs.declared.assertion.Assertion.{Assertion}
 use Rattle.assertions.specs.declared.assertion.Claim.{Claim}
@@ -9,11 +9,14 @@ use Rattle.assertions.specs.Suffixes.{IsAlternative}
 use Rattle.ballot_reader.specs.Ballots.{BallotFile}
 use Rattle.ballot_reader.specs.Grammar.{ballots_of}
 use Rattle.assertion_file.specs.Content.{Content}
-use Rattle.command_line.specs.Line.{Search, line_of}
+use Rattle.assertion_file.specs.Text.{assertion_file_text}
 use Rattle.irv_base.specs.Names.{Id}
-use Rattle.raire_cli.specs.Contest.{candidate_count, IsWon}
 use Rattle.report.specs.Texts.{order_text}
-use Rattle.raire_cli.specs.Search.{full_count_lines}
+use Rattle.cli_base.specs.Ends.{Writing, Took}
+use Rattle.command_line.specs.Line.{command_of}
+use Rattle.command_line.specs.declared.command.Command.TheVariants.{Search}
+use Rattle.contest_commands.specs.Contest.{candidate_count, IsWon}
+use Rattle.contest_commands.specs.Search.{full_count_lines}
 
 -- an assertion among n candidates that is true of the records, by the margin that is claimed
 pub record Holds (n : ℕ) (records : List (List ℕ)) (claim : Claim) : Type 0 where
@@ -50,7 +53,7 @@ pub record AsksForSearch (words : List (List ℕ)) : Type 0 where
   pub contest : Option Id
   pub nodes : ℕ
   pub floor : ℕ
-  pub asked : line_of words ≡ Some (Search name contest nodes floor)
+  pub asked : command_of words ≡ Some (Search name contest nodes floor)
 
 -- its file is held and accepted, and the contest has this winner
 pub record AsksFor (words : List (List ℕ)) (files : List File) (ballots : BallotFile) (winner : ℕ) : Type 0 where
@@ -85,3 +88,15 @@ pub record GivesReason (words : List (List ℕ)) (files : List File) (text : Lis
   -- each such order is refuted by a true assertion of at least that margin
   pub least : IsLeast (candidate_count ballots) ballots.rankings winner margin
   pub shown : text ≡ full_count_lines (order_text ballots.candidates order) margin asks.search.floor
+
+-- ---- what `run` promises
+
+-- Status 0 of a search: the printed assertions are all true of the records, and refute every elimination order that elects another
+-- candidate. The printed margin is the smallest of theirs, and no true assertion of larger margin refutes the printed order.
+abbrev pub IsConfirmed : Option (List File) → List (List ℕ) → ℕ → Writing → Type 0
+IsConfirmed held words status out = IfSome held (λ files. AsksForSearch words → status ≡ 0 →
+    (file : Content) × ConfirmsAsked words files file × Took out (assertion_file_text file))
+
+-- Status 5: an order that elects another candidate is printed, which no true assertion refutes by a margin that reaches the floor.
+abbrev pub IsReasoned : Option (List File) → List (List ℕ) → ℕ → Writing → Type 0
+IsReasoned held words status out = IfSome held (λ files. status ≡ 5 → (text : List ℕ) × GivesReason words files text × Took out text)

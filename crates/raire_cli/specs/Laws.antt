@@ -1,31 +1,27 @@
--- How many nodes suffice for a search; and what a check says of what a search prints.
-use Rattle.std.specs.Prelude.{◌≡◌, ℕ, ◌≤◌, ◌-◌, ◌*◌, List, Option, Ok}
-use Rattle.assertions.specs.Suffixes.{factorial}
-use Rattle.irv_base.specs.Names.{Id}
+-- How many nodes suffice for a search, and which sessions of an audit the risk limit counts.
+use Rattle.std.specs.Prelude.{◌≡◌, ℕ, ◌≤◌, List, length, IsTrue}
+use Rattle.desk.specs.Desk.{File}
+use Rattle.manifest.specs.Linked.{linked_of}
+use Rattle.audit_rounds.specs.Content.{Content}
+use Rattle.audit_rounds.specs.Sessions.{is_signed_off}
+use Rattle.audit_laws.specs.Laws.{AreTrueEntries}
+use Rattle.audit_laws.specs.RiskLimit.{MayBeSignedOff}
 use Rattle.ballot_reader.specs.Ballots.{BallotFile}
-use Rattle.ballot_reader.specs.Grammar.{ballots_of}
-use Rattle.assertion_file.specs.Content.{Content}
-use Rattle.assertion_file.specs.Reading.{assertion_file_of}
 use Rattle.command_line.specs.declared.limits.TheConstants.{DEFAULT_NODES}
-use Rattle.raire_cli.specs.Contest.{candidate_count, IsOther}
-use Rattle.raire_cli.specs.Search.{nodes_for, HasCertificate}
-use Rattle.raire_cli.specs.Check.{Checks, yes_text}
-use Rattle.raire_cli.specs.Outcome.{Verdict, Answered, Done}
-use Rattle.raire_cli.specs.declared.commands.search.Terms.{Terms}
+use Rattle.contest_commands.specs.Contest.{candidate_count, IsOther}
+use Rattle.contest_commands.specs.Search.{nodes_for}
+use Rattle.raire_cli.specs.Audits.{GoesOn, cards, drawn}
 
-abbrev pub NodesAreFew : Type 0
-NodesAreFew =
-    (ballots : BallotFile) (tabulated : List ℕ) (winner c : ℕ) → IsOther ballots winner c → nodes_for ballots tabulated winner c ≤ 2 * factorial (candidate_count ballots - 1)
-
--- for up to nine candidates
+-- The default suffices for up to nine candidates.
 abbrev pub DefaultSuffices : Type 0
 DefaultSuffices =
     (ballots : BallotFile) (tabulated : List ℕ) (winner c : ℕ) → IsOther ballots winner c → candidate_count ballots ≤ 9 → nodes_for ballots tabulated winner c ≤ DEFAULT_NODES
 
--- What a search prints reads as an assertion file, and a check of it against the same ballots, with the same nodes, comes to yes and to
--- nothing else.
-abbrev pub PrintedIsAccepted : Type 0
-PrintedIsAccepted =
-    (terms : Terms) (bytes : List ℕ) (asked : Option Id) (ballots : BallotFile) (text : List ℕ) → ballots_of bytes asked ≡ Ok ballots → HasCertificate terms ballots text →
-    (file : Content) × (assertion_file_of text ≡ Ok file) × Checks terms.nodes ballots file (Answered Done (yes_text file))
-    × ((verdict : Verdict) → Checks terms.nodes ballots file verdict → verdict ≡ Answered Done (yes_text file))
+-- A session that an audit signs off is one that the risk limit counts, where the cards that were seen were read as they are; also
+-- among sequences of more draws.
+abbrev pub SignedOffIsCounted : Type 0
+SignedOffIsCounted =
+    (words : List (List ℕ)) (files : List File) (next : Content) (on : GoesOn words files next) (actual : List (List ℕ)) (most : ℕ) →
+    IsTrue (is_signed_off next.session) → on.asks.draws ≤ most → length actual ≡ cards on.inputs → AreTrueEntries actual on.inputs.entries →
+    MayBeSignedOff on.inputs.session.session.limit on.inputs.session.session.gamma on.inputs.file.claims
+    (linked_of on.inputs.batches on.inputs.ballots) actual (drawn on.inputs most)

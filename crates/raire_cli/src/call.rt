@@ -1,28 +1,25 @@
 // The top call.
-ghost use Rattle.std.specs.Prelude.{◌≡◌, ◌≢◌, ◌⊎◌, ◌≤◌, ℕ, List, IfSome};
+ghost use Rattle.std.specs.Prelude.{◌≡◌, ◌≤◌};
 ghost use Rattle.std.specs.Io.KnownBytes.{Keeps};
 ghost use Rattle.desk.specs.Count.{Rose};
-ghost use Rattle.assertion_file.specs.Text.{assertion_file_text};
-ghost use Rattle.assertion_file.specs.Content.{Content};
-ghost use Rattle.raire_cli.specs.Acceptance.{AsksForCheck, HoldsAsked};
-ghost use Rattle.raire_cli.specs.Accounts.{IsAccountedFor};
-ghost use Rattle.raire_cli.specs.Check.{yes_text};
-ghost use Rattle.raire_cli.specs.Confirmation.{AsksForSearch, ConfirmsAsked, GivesReason};
-ghost use Rattle.raire_cli.specs.Script.{ByDesk};
+ghost use Rattle.cli_base.specs.Accounts.{IsAccountedFor};
+ghost use Rattle.cli_base.specs.Due.{due};
+ghost use Rattle.cli_base.specs.Ends.{writing};
+ghost use Rattle.cli_base.specs.Script.{ByDesk, IsDue};
+ghost use Rattle.cli_base.specs.Statuses.{IsAnswered, IsForErr};
+ghost use Rattle.cli_base.specs.Story.{Story};
 ghost use Rattle.command_line.specs.Words.{texts};
-ghost use Rattle.raire_cli.specs.Story.{Story};
-ghost use Rattle.raire_cli.specs.Promises.{IsUndone, IsQuiet, IsAnswered, Statuses, IsForErr, IsAccepted, IsExact};
-ghost use Rattle.command_line.specs.Line.{line_of};
-ghost use Rattle.raire_cli.specs.Answers.{IsDue};
-ghost use Rattle.raire_cli.specs.Ends.{writing, Took};
-ghost use Rattle.raire_cli.specs.Said.{due};
+ghost use Rattle.raire_cli.specs.Acceptance.{IsUpheld};
+ghost use Rattle.raire_cli.specs.Answers.{asked};
+ghost use Rattle.raire_cli.specs.Audits.{IsAudited};
+ghost use Rattle.raire_cli.specs.Confirmation.{IsConfirmed, IsReasoned};
+ghost use Rattle.raire_cli.specs.Promises.{IsComplete, IsExactUnlessOpen, HasCause};
 
 use crate::commands::answer_command;
-use crate::deliver::deliver;
-use crate::outcome::{Answer, Refusal};
+use cli_base::{Answer, Refusal, deliver};
 use command_line::read;
 use desk::{Desk, Gate, Sink};
-use std::alloc::Global;
+use std::thread::Threads;
 
 /// Runs the command of the words over the files of the desk, and gives the status that the program ends with.
 ///
@@ -38,9 +35,10 @@ use std::alloc::Global;
 /// | 7 | a file could not be read | `err` |
 /// | 8 | a text could not be written | a part of it |
 /// | 9 | memory could not be had | `err` |
-/// | 11 | a file has more than 67,108,864 bytes | `err` |
+/// | 10 | the audit isn't signed off yet | `out` |
+/// | 11 | a file has more than `MOST_FILE_BYTES` bytes | `err` |
 /// | 12 | there is no such file | `err` |
-pub fn run<R: AllocGlobal, D: Desk, O: Sink, E: Sink, G: Gate + Sync>(
+pub fn run<R: AllocGlobal + Threads + Sync, D: Desk, O: Sink, E: Sink, G: Gate + Sync>(
     rt: &R,
     words: &[String],
     desk: &mut D,
@@ -48,41 +46,32 @@ pub fn run<R: AllocGlobal, D: Desk, O: Sink, E: Sink, G: Gate + Sync>(
     err: &mut E,
     gate: &G,
 ) -> u8
-    // Status 0 of a search: the printed assertions are all true of the records, and refute every elimination order
-    // that elects another candidate. The printed margin is the smallest of theirs, and no true assertion of larger
-    // margin refutes the printed order.
-    ensures headline { IfSome (D.held desk.old) (λ files. AsksForSearch (texts words.now) → result ≡ 0 → (file : Content)
-        × ConfirmsAsked (texts words.now) files file × Took (writing O.Sink out.old out.new) (assertion_file_text file)) }
+    // Assertions confirm the winner.
+    ensures headline { IsConfirmed (D.held desk.old) (texts words.now) result (writing O.Sink out.old out.new) }
 
-    // Status 5: an order that elects another candidate is printed, which no true assertion refutes by a margin that reaches the floor.
-    ensures full_count { IfSome (D.held desk.old) (λ files. result ≡ 5 → (text : List ℕ)
-        × GivesReason (texts words.now) files text × Took (writing O.Sink out.old out.new) text) }
+    // An order gives reason for a full count.
+    ensures full_count { IsReasoned (D.held desk.old) (texts words.now) result (writing O.Sink out.old out.new) }
 
-    // A search of an accepted file whose contest has no tie ends in one of these two ways where its budget is large enough and no
-    // count of faults rose, if memory was found.
-    ensures complete { IfSome (D.held desk.old) (λ files. IsAccepted (texts words.now) files →
-        IsQuiet (Rose (D.faults desk.old) (D.faults desk.new)) (writing O.Sink out.old out.new) (writing E.Sink err.old err.new) →
-        (result ≡ 0) ⊎ (result ≡ 5) ⊎ (result ≡ 9)) }
+    // A search whose budget is large enough ends in one of these two ways.
+    ensures complete { IsComplete (D.held desk.old) (texts words.now) (Rose (D.faults desk.old) (D.faults desk.new))
+        result (writing O.Sink out.old out.new) (writing E.Sink err.old err.new) }
 
-    // Status 0 of a check: its assertion file holds of the ballots, and `out` has `yes`, the number of its assertions and its margin.
-    ensures accepted { IfSome (D.held desk.old) (λ files. AsksForCheck (texts words.now) → result ≡ 0 → (file : Content)
-        × HoldsAsked (texts words.now) files file × Took (writing O.Sink out.old out.new) (yes_text file)) }
+    // An assertion file that is accepted holds.
+    ensures accepted { IsUpheld (D.held desk.old) (texts words.now) result (writing O.Sink out.old out.new) }
 
-    // Of a check also 0 and 4 come exactly where that is what the files make it.
-    ensures exact { IfSome (D.held desk.old) (λ files. AsksForCheck (texts words.now) → IsExact (texts words.now) files result) }
+    // A session goes on by the round that its files make, and is signed off exactly with status 0.
+    ensures audited { IsAudited (D.held desk.old) (texts words.now) result (writing O.Sink out.old out.new) }
 
-    // Where the desk tells its files and no count of faults rose: want of memory, or the defined status and texts.
-    ensures answer { IfSome (D.held desk.old) (λ files.
-        IsQuiet (Rose (D.faults desk.old) (D.faults desk.new)) (writing O.Sink out.old out.new) (writing E.Sink err.old err.new) →
-        result ≢ 9 → IsAnswered (texts words.now) files result (writing O.Sink out.old out.new) (writing E.Sink err.old err.new)) }
-
-    // The same where a count rose, but for 7 and 8.
-    ensures answer_but { IfSome (D.held desk.old) (λ files. IsUndone result ⊎
-        IsAnswered (texts words.now) files result (writing O.Sink out.old out.new) (writing E.Sink err.old err.new)) }
+    // The defined status and texts, of the files that are told, or of some that the desk may have given.
+    ensures answer { IsAnswered (asked (texts words.now)) (D.held desk.old) (Rose (D.faults desk.old) (D.faults desk.new))
+        result (writing O.Sink out.old out.new) (writing E.Sink err.old err.new) }
 
     // When each status comes, and what the sinks then took.
-    ensures status { Statuses (texts words.now) (D.held desk.old) (Rose (D.faults desk.old) (D.faults desk.new)) result
-        (writing O.Sink out.old out.new) (writing E.Sink err.old err.new) }
+    ensures status { HasCause (D.held desk.old) (texts words.now) (Rose (D.faults desk.old) (D.faults desk.new))
+        result (writing O.Sink out.old out.new) (writing E.Sink err.old err.new) }
+
+    // No budget leaves open what another command than a search comes to.
+    ensures exact { IsExactUnlessOpen (D.held desk.old) (texts words.now) result }
 
     // 11 and 12 come exactly where the desk served so, told or not told what it holds.
     ensures served { IsAccountedFor (D.served desk.old) (D.served desk.new) result }
@@ -91,28 +80,28 @@ pub fn run<R: AllocGlobal, D: Desk, O: Sink, E: Sink, G: Gate + Sync>(
     ensures kept { IsForErr result → Keeps (O.taken out.old) (O.taken out.new) }
     ensures held { D.held desk.new ≡ D.held desk.old }
 {
-    perform(rt.alloc(), words, desk, out, err, gate)
+    perform(rt, words, desk, out, err, gate)
 }
 
-fn perform<D: Desk, O: Sink, E: Sink, G: Gate>(
-    alloc: Global,
+fn perform<R: AllocGlobal + Threads + Sync, D: Desk, O: Sink, E: Sink, G: Gate + Sync>(
+    rt: &R,
     words: &[String],
     desk: &mut D,
     out: &mut O,
     err: &mut E,
     gate: &G,
 ) -> u8
-    ensures story { Story (texts words.now) (D.held desk.old) (Rose (D.faults desk.old) (D.faults desk.new)) result
+    ensures story { Story (asked (texts words.now)) (D.held desk.old) (Rose (D.faults desk.old) (D.faults desk.new)) result
         (writing O.Sink out.old out.new) (writing E.Sink err.old err.new) }
     ensures served { IsAccountedFor (D.served desk.old) (D.served desk.new) result }
     ensures held { D.held desk.new ≡ D.held desk.old }
 {
-    let said = answer(alloc, words, desk, gate);
+    let said = answer(rt, words, desk, gate);
     deliver(&said, out, err)
 }
 
-fn answer<D: Desk, G: Gate>(
-    alloc: Global,
+fn answer<R: AllocGlobal + Threads + Sync, D: Desk, G: Gate + Sync>(
+    rt: &R,
     words: &[String],
     desk: &mut D,
     gate: &G,
@@ -120,11 +109,11 @@ fn answer<D: Desk, G: Gate>(
     ensures held { D.held desk.new ≡ D.held desk.old }
     ensures later { D.faults desk.old ≤ D.faults desk.new }
     ensures due { IsDue (ByDesk (D.held desk.old) (Rose (D.faults desk.old) (D.faults desk.new)))
-        (line_of (texts words.now)) (due result) }
+        (asked (texts words.now)) (due result) }
     ensures served { IsAccountedFor (D.served desk.old) (D.served desk.new) (due result).status }
 {
-    match read(alloc, words)? {
-        Some(command) => answer_command(alloc, &command, desk, gate),
+    match read(rt.alloc(), words)? {
+        Some(command) => answer_command(rt, &command, desk, gate),
         None => Err(Refusal::Words),
     }
 }

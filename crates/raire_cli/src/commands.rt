@@ -1,41 +1,41 @@
-// The commands, one a file.
-ghost use Rattle.std.specs.Prelude.{◌≡◌, ◌≤◌, Some};
+// Where commands are told apart.
+ghost use Rattle.std.specs.Prelude.{◌≡◌, ◌≤◌};
 ghost use Rattle.desk.specs.Count.{Rose};
-ghost use Rattle.command_line.specs.Command.{line};
-ghost use Rattle.raire_cli.specs.Answers.{IsDue};
-ghost use Rattle.raire_cli.specs.Accounts.{IsAccountedFor};
-ghost use Rattle.raire_cli.specs.Script.{ByDesk};
-ghost use Rattle.raire_cli.specs.Said.{due};
+ghost use Rattle.cli_base.specs.Accounts.{IsAccountedFor};
+ghost use Rattle.cli_base.specs.Script.{ByDesk, MayOrMemory};
+ghost use Rattle.cli_base.specs.Due.{due};
+ghost use Rattle.command_line.specs.Laws.{IsChecked};
+ghost use Rattle.raire_cli.specs.Answers.{script_of};
 
-mod check;
-mod contest;
-mod differences;
-mod found;
-mod search;
-mod tabulate;
-mod texts;
-
-use crate::outcome::{Answer, Refusal};
+use audit_commands::{plan, sample};
+use cli_base::{Answer, Refusal};
 use command_line::Command;
+use contest_commands::{check, search, tabulate};
 use desk::{Desk, Gate};
-use std::alloc::Global;
+use session_commands::{audit, open, tell};
+use std::thread::Threads;
+
+// How many workers a search has.
+const WORKERS: u32 = 4;
 
 /// Reads the files of a command, and answers it or refuses.
-pub(crate) fn answer_command<D: Desk, G: Gate>(
-    alloc: Global,
+pub(crate) fn answer_command<R: AllocGlobal + Threads + Sync, D: Desk, G: Gate + Sync>(
+    rt: &R,
     command: &Command,
     desk: &mut D,
     gate: &G,
 ) -> Result<Answer, Refusal>
+    requires { IsChecked command.now }
     ensures held { D.held desk.new ≡ D.held desk.old }
     ensures later { D.faults desk.old ≤ D.faults desk.new }
-    ensures due { IsDue (ByDesk (D.held desk.old) (Rose (D.faults desk.old) (D.faults desk.new)))
-        (Some (line command.now)) (due result) }
+    ensures due { MayOrMemory (ByDesk (D.held desk.old) (Rose (D.faults desk.old) (D.faults desk.new)))
+        (script_of command.now) (due result) }
     ensures served { IsAccountedFor (D.served desk.old) (D.served desk.new) (due result).status }
 {
+    let alloc = rt.alloc();
     match command {
         Command::Search {
-            file,
+            ballots,
             contest,
             nodes,
             floor,
@@ -44,17 +44,18 @@ pub(crate) fn answer_command<D: Desk, G: Gate>(
                 nodes: *nodes,
                 floor: *floor,
             };
-            search::search(alloc, desk, file.as_str(), contest.as_ref(), terms, gate)
+            let (file, contest) = (ballots.as_str(), contest.as_ref());
+            search::answer(rt, desk, file, contest, terms, WORKERS, gate)
         }
-        Command::Tabulate { file, contest } => {
-            tabulate::tabulate(alloc, desk, file.as_str(), contest.as_ref())
+        Command::Tabulate { ballots, contest } => {
+            tabulate::answer(alloc, desk, ballots.as_str(), contest.as_ref())
         }
         Command::Check {
             ballots,
             assertions,
             contest,
             nodes,
-        } => check::check(
+        } => check::answer(
             alloc,
             desk,
             ballots.as_str(),
@@ -62,5 +63,67 @@ pub(crate) fn answer_command<D: Desk, G: Gate>(
             contest.as_ref(),
             *nodes,
         ),
+        Command::Sample {
+            manifest,
+            seed,
+            draws,
+        } => sample::answer(alloc, desk, manifest.as_str(), seed, *draws),
+        Command::Plan {
+            manifest,
+            assertions,
+            limit,
+            gamma,
+        } => {
+            let setting = plan::Setting {
+                limit: *limit,
+                gamma: *gamma,
+            };
+            plan::answer(alloc, desk, manifest.as_str(), assertions.as_str(), setting)
+        }
+        Command::Open {
+            ballots,
+            manifest,
+            assertions,
+            seed,
+            contest,
+            limit,
+            gamma,
+            nodes,
+        } => {
+            let terms = open::Terms {
+                seed: *seed,
+                limit: *limit,
+                gamma: *gamma,
+                nodes: *nodes,
+            };
+            open::answer(
+                alloc,
+                desk,
+                ballots.as_str(),
+                manifest.as_str(),
+                assertions.as_str(),
+                contest.as_ref(),
+                &terms,
+            )
+        }
+        Command::Audit {
+            session,
+            ballots,
+            manifest,
+            assertions,
+            seen,
+            draws,
+            nodes,
+        } => {
+            let files = audit::Files {
+                session: session.as_str(),
+                ballots: ballots.as_str(),
+                manifest: manifest.as_str(),
+                assertions: assertions.as_str(),
+                seen: seen.as_str(),
+            };
+            audit::answer(alloc, desk, files, *draws, *nodes)
+        }
+        Command::Report { session } => tell::answer(alloc, desk, session.as_str()),
     }
 }

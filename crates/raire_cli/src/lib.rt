@@ -3,10 +3,7 @@
 
 mod call;
 mod commands;
-mod deliver;
-mod files;
 pub mod laws;
-mod outcome;
 
 pub use call::run;
 pub use command_line::is_line;

@@ -23,13 +23,14 @@ round_text ids i remaining loser count =
     codes "round " ++ decimal i ++ codes ":" ++ tallies_text ids count.votes (in_number_order (length ids) remaining)
     ++ codes " exhausted=" ++ decimal count.exhausted ++ codes "\neliminated " ++ id_of ids loser ++ codes "\n"
 
--- of the rounds from round i on, when these of the order remain
+-- the lines of the rounds from round i on, in which these candidates of the order remain
 abbrev pub rounds_text : List Id → ℕ → List ℕ → List Count → List ℕ
 rounds_text ids i [] counts = []
 rounds_text ids i (c ∷ rest) [] = []
-rounds_text ids i (c ∷ rest) (count ∷ counts) = round_text ids i (c ∷ rest) c count ++ rounds_text ids (i + 1) rest counts
+rounds_text ids i (c ∷ rest) (count ∷ counts) =
+    round_text ids i (c ∷ rest) c count ++ rounds_text ids (i + 1) rest counts
 
--- the ballots with their tabulated order and its winner
+-- the lines of ballots with their tabulated order and its winner
 abbrev pub tabulation_text : BallotFile → List ℕ → ℕ → List ℕ
 tabulation_text ballots order winner =
     codes "contest " ++ ballots.contest ++ codes "\nrecords " ++ decimal (length ballots.rankings) ++ codes "\n"

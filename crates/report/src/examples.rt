@@ -1,5 +1,5 @@
 //! Worked examples: the texts of small contests, computed by the checker.
-ghost use Rattle.std.specs.Prelude.{◌≡◌, ◌∷◌, [], codes};
+ghost use Rattle.std.specs.Prelude.{◌≡◌, ◌∷◌, ◌++◌, [], codes};
 ghost use Rattle.assertions.specs.declared.assertion.Assertion.TheVariants.{Neb, Nen};
 ghost use Rattle.report.specs.Examples as examples;
 ghost use Rattle.report.specs.Texts.{assertion_text, order_text, set_text};
@@ -7,12 +7,21 @@ ghost use Rattle.report.specs.Tabulations.{tabulation_text};
 
 /// Three candidates and two rounds.
 pub fn three_candidates()
-    ensures { tabulation_text examples.three_candidates (2 ∷ 0 ∷ 1 ∷ []) 1 ≡ codes "contest 1\nrecords 12\nround 1: 1=5 2=4 3=3 exhausted=0\neliminated 3\nround 2: 1=5 2=7 exhausted=0\neliminated 1\nwinner 2\n" }
+    ensures { tabulation_text examples.three_candidates (2 ∷ 0 ∷ 1 ∷ []) 1 ≡
+        codes "contest 1\nrecords 12\n" ++
+        codes "round 1: 1=5 2=4 3=3 exhausted=0\neliminated 3\n" ++
+        codes "round 2: 1=5 2=7 exhausted=0\neliminated 1\n" ++
+        codes "winner 2\n" }
 {}
 
 /// Four candidates, and a ballot that is exhausted in the last round.
 pub fn county()
-    ensures { tabulation_text examples.county (0 ∷ 3 ∷ 2 ∷ 1 ∷ []) 1 ≡ codes "contest county\nrecords 10\nround 1: A=1 B=4 C=3 D=2 exhausted=0\neliminated A\nround 2: B=5 C=3 D=2 exhausted=0\neliminated D\nround 3: B=5 C=4 exhausted=1\neliminated C\nwinner B\n" }
+    ensures { tabulation_text examples.county (0 ∷ 3 ∷ 2 ∷ 1 ∷ []) 1 ≡
+        codes "contest county\nrecords 10\n" ++
+        codes "round 1: A=1 B=4 C=3 D=2 exhausted=0\neliminated A\n" ++
+        codes "round 2: B=5 C=3 D=2 exhausted=0\neliminated D\n" ++
+        codes "round 3: B=5 C=4 exhausted=1\neliminated C\n" ++
+        codes "winner B\n" }
 {}
 
 /// An order, a set and both kinds of assertion.

@@ -1,4 +1,5 @@
-//! The texts that tell of a contest: its tabulation round by round, and its candidates, orders and assertions by their ids.
+//! The texts that tell of a contest: its tabulation round by round, and its candidates, orders and assertions by
+//! their ids.
 #![tactic(auto)]
 
 pub mod examples;

@@ -7,7 +7,8 @@ ghost use Rattle.irv_tabulator.specs.Rounds.{count_in, counts_in};
 ghost use Rattle.irv_tabulator.specs.Results.{IsTabulation};
 ghost use Rattle.report.specs.Tabulations.{in_number_order, tallies_text, round_text, rounds_text, tabulation_text};
 
-use crate::text::{choose, id_of};
+use crate::text::choose;
+use assertion_file::id_of;
 use ballot_reader::Ballots;
 use irv_base::{Candidate, Memory, Name, Order};
 use irv_tabulator::{Round, Tabulated};
@@ -33,7 +34,8 @@ fn in_number_order(alloc: Global, n: usize, list: &[Candidate]) -> Result<Vec<Ca
 }
 
 fn add_tally(text: &mut String, id: &str, votes: u32) -> Result<(), AllocError>
-    ensures { IfOk result (λ _. string_bytes text.new ≡ string_bytes text.old ++ (codes " " ++ id.now ++ codes "=" ++ decimal votes)) }
+    ensures { IfOk result (λ _. string_bytes text.new ≡
+        string_bytes text.old ++ (codes " " ++ id.now ++ codes "=" ++ decimal votes)) }
 {
     write!(text, " {id}={votes}")
 }
@@ -46,7 +48,8 @@ fn tallies_text(
 ) -> Result<String, Memory>
     requires named { All (λ c. c < length names.now) remaining.now }
     requires tallied { length row.now ≡ length names.now }
-    ensures { IfOk result (λ text. string_bytes text ≡ tallies_text names.now row.now remaining.now) }
+    ensures { IfOk result (λ text.
+        string_bytes text ≡ tallies_text names.now row.now remaining.now) }
 {
     let mut text = String::new(alloc);
     for c in remaining {
@@ -62,7 +65,9 @@ fn round_lines(
     exhausted: u32,
     loser: &str,
 ) -> Result<String, AllocError>
-    ensures { IfOk result (λ text. string_bytes text ≡ codes "round " ++ decimal i ++ codes ":" ++ tallies.now ++ codes " exhausted=" ++ decimal exhausted ++ codes "\neliminated " ++ loser.now ++ codes "\n") }
+    ensures { IfOk result (λ text. string_bytes text ≡
+        codes "round " ++ decimal i ++ codes ":" ++ tallies.now ++
+        codes " exhausted=" ++ decimal exhausted ++ codes "\neliminated " ++ loser.now ++ codes "\n") }
 {
     format!(in alloc; "round {i}:{tallies} exhausted={exhausted}\neliminated {loser}\n")
 }
@@ -79,7 +84,8 @@ fn round_text(
     requires few { length names.now ≤ ROOM }
     requires named { loser < length names.now }
     requires tallied { length (count_in round.now).votes ≡ length names.now }
-    ensures { IfOk result (λ text. string_bytes text ≡ round_text names.now i remaining.now loser (count_in round.now)) }
+    ensures { IfOk result (λ text. string_bytes text ≡
+        round_text names.now i remaining.now loser (count_in round.now)) }
 {
     let remaining = in_number_order(alloc, names.len(), remaining)?;
     let tallies = tallies_text(alloc, names, &round.tallies, &remaining)?;
@@ -103,7 +109,8 @@ fn rounds_text(
     requires named { length order.now ≡ length names.now }
     requires fewer { length rounds.now < length order.now }
     requires tallied { All (λ round. length (count_in round).votes ≡ length names.now) rounds.now }
-    ensures { IfOk result (λ text. string_bytes text ≡ rounds_text names.now 1 order.now (counts_in rounds.now)) }
+    ensures { IfOk result (λ text. string_bytes text ≡
+        rounds_text names.now 1 order.now (counts_in rounds.now)) }
 {
     let mut text = String::new(alloc);
     let places = order.candidates();
@@ -128,17 +135,20 @@ fn whole_text(
     rounds: &str,
     winner: &str,
 ) -> Result<String, AllocError>
-    ensures { IfOk result (λ text. string_bytes text ≡ codes "contest " ++ contest.now ++ codes "\nrecords " ++ decimal records ++ codes "\n" ++ rounds.now ++ codes "winner " ++ winner.now ++ codes "\n") }
+    ensures { IfOk result (λ text. string_bytes text ≡
+        codes "contest " ++ contest.now ++ codes "\nrecords " ++ decimal records ++ codes "\n" ++
+        rounds.now ++ codes "winner " ++ winner.now ++ codes "\n") }
 {
     format!(in alloc; "contest {contest}\nrecords {records}\n{rounds}winner {winner}\n")
 }
 
-/// The lines of a tabulation: the contest, how many records there are, each round with the tallies of the candidates who
-/// remain, the records that rank none of them and the candidate who is eliminated, and the winner. Every line ends with a
-/// line feed.
+/// The lines of a tabulation: the contest, how many records there are, each round with the tallies of the candidates
+/// who remain, the records that rank none of them and the candidate who is eliminated, and the winner. Every line ends
+/// with a line feed.
 pub fn tabulation(alloc: Global, b: &Ballots, t: &Tabulated) -> Result<String, Memory>
     requires { IsTabulation (length (b.now).candidates) (b.now).rankings t.now }
-    ensures { IfOk result (λ text. string_bytes text ≡ tabulation_text b.now (t.now).order (t.now).winner) }
+    ensures { IfOk result (λ text.
+        string_bytes text ≡ tabulation_text b.now (t.now).order (t.now).winner) }
 {
     let names = b.candidates();
     let rounds = rounds_text(alloc, names, &t.order, &t.rounds)?;

@@ -4,23 +4,17 @@ ghost use Rattle.irv_base.specs.Candidates.{candidates, has};
 ghost use Rattle.irv_base.specs.Names.{comma};
 ghost use Rattle.irv_base.specs.declared.limits.TheConstants.{ROOM};
 ghost use Rattle.assertions.specs.Assertions.{is_proper};
-ghost use Rattle.assertion_file.specs.Ids.{id_of, ids_of};
+ghost use Rattle.assertion_file.specs.Ids.{ids_of};
 ghost use Rattle.report.specs.Texts.{joined, order_text, set_text, assertion_text};
 
+use assertion_file::id_of;
 use assertions::Assertion;
 use irv_base::{CandSet, Candidate, Memory, Name, Order};
 use std::alloc::{AllocError, Global};
 
-/// The id of a candidate.
-pub(crate) fn id_of(names: &[Name], c: Candidate) -> &str
-    requires { c < length names.now }
-    ensures { result.now ≡ id_of names.now c }
-{
-    names[c.index()].text()
-}
-
 fn add_id(text: &mut String, is_first: bool, id: &str) -> Result<(), AllocError>
-    ensures { IfOk result (λ _. string_bytes text.new ≡ string_bytes text.old ++ (if is_first then id.now else comma ∷ id.now)) }
+    ensures { IfOk result (λ _. string_bytes text.new ≡
+        string_bytes text.old ++ (if is_first then id.now else comma ∷ id.now)) }
 {
     if is_first {
         return text.push_str(id);
@@ -42,7 +36,8 @@ fn joined(alloc: Global, names: &[Name], candidates: &[Candidate]) -> Result<Str
 
 /// Adds the candidate to the list if it is chosen.
 pub(crate) fn choose(list: &mut Vec<Candidate>, c: Candidate, is_chosen: bool) -> Result<(), Memory>
-    ensures { IfOk result (λ _. list.new.items ≡ (if is_chosen then list.old.items ++ c ∷ [] else list.old.items)) }
+    ensures { IfOk result (λ _. list.new.items ≡
+        (if is_chosen then list.old.items ++ c ∷ [] else list.old.items)) }
 {
     if !is_chosen {
         return Ok(());
@@ -88,7 +83,8 @@ fn neb_text(alloc: Global, w: &str, l: &str) -> Result<String, AllocError>
 }
 
 fn nen_text(alloc: Global, w: &str, l: &str, rest: &str) -> Result<String, AllocError>
-    ensures { IfOk result (λ text. string_bytes text ≡ codes "NEN " ++ w.now ++ codes " " ++ l.now ++ codes " {" ++ rest.now ++ codes "}") }
+    ensures { IfOk result (λ text. string_bytes text ≡
+        codes "NEN " ++ w.now ++ codes " " ++ l.now ++ codes " {" ++ rest.now ++ codes "}") }
 {
     format!(in alloc; "NEN {w} {l} {{{rest}}}")
 }

@@ -1,3 +1,4 @@
 pub mod SeedBytes
 pub mod Numbers
 pub mod DrawTexts
+pub mod SeedText

@@ -1,6 +1,11 @@
--- The law of draws.
+-- The laws of seeds and draws.
 use Rattle.std.specs.Prelude.{◌≡◌, ◌<◌, ◌^◌, ℕ, List}
+use Rattle.sampler.specs.declared.seed.TheConstants.{MOST_SEED_BYTES}
 use Rattle.sampler.specs.Draws.{draw_text}
+
+-- the most bytes of a seed
+abbrev pub LimitsLaw : Type 0
+LimitsLaw = MOST_SEED_BYTES ≡ 64
 
 -- what is hashed tells the seed and the number of the draw, though a seed may have commas too
 abbrev pub TextTellsDraw : Type 0

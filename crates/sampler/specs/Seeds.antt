@@ -18,7 +18,7 @@ is_seed_byte b = nat_le space b && nat_le b tilde
 abbrev pub has_seed_length : List ℕ → Bool
 has_seed_length bytes = nat_le 1 (length bytes) && nat_le (length bytes) MOST_SEED_BYTES
 
--- 1 to 64 such bytes
+-- 1 to MOST_SEED_BYTES such bytes
 abbrev pub is_seed : List ℕ → Bool
 is_seed bytes = has_seed_length bytes && list_all is_seed_byte bytes
 

@@ -1,5 +1,10 @@
-//! The law of draws: it holds of every value that it names, and has no code.
-ghost use Rattle.sampler.specs.Laws.{TextTellsDraw};
+//! The laws of seeds and draws: each holds of every value that it names, and has no code.
+ghost use Rattle.sampler.specs.Laws.{LimitsLaw, TextTellsDraw};
+
+/// The most bytes of a seed.
+pub fn limits()
+    ensures { LimitsLaw }
+{}
 
 /// No two draws hash the same text.
 pub fn text_tells_draw()

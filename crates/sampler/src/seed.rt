@@ -2,6 +2,8 @@
 ghost use Rattle.std.specs.Prelude.{◌≡◌, IfOk, IfErr, IsTrue, is_ok};
 ghost use Rattle.sampler.specs.Seeds.{is_seed, is_seed_byte, has_seed_length, first_bad_byte, Refuses};
 
+use std::error::Error;
+use std::fmt;
 use std::marker::Model;
 
 /// The most bytes of a seed.
@@ -16,7 +18,24 @@ pub enum BadSeed {
     Byte(u64),
 }
 
-/// The seed of an audit: 1 to 64 printable ASCII characters, spaces among them.
+impl fmt::Display for BadSeed {
+    fn fmt<W: fmt::Write>(&self, f: &mut fmt::Formatter<W>) -> fmt::Result {
+        match *self {
+            BadSeed::Length(found) => write!(
+                f,
+                "a seed has 1 to {MOST_SEED_BYTES} bytes, and this has {found}"
+            ),
+            BadSeed::Byte(place) => write!(
+                f,
+                "byte {place} of the seed, counted from 0, is no printable ASCII character"
+            ),
+        }
+    }
+}
+
+impl Error for BadSeed {}
+
+/// The seed of an audit: 1 to `MOST_SEED_BYTES` printable ASCII characters, spaces among them.
 ///
 /// To a contract a seed is its bytes.
 #[derive(Clone, Copy)]
@@ -87,5 +106,13 @@ impl Seed {
         ensures valid { IsTrue (is_seed self.now) }
     {
         &self.text[..usize::from(self.len)]
+    }
+
+    /// The seed as a text.
+    pub fn text(&self) -> &str
+        ensures same { result.now ≡ self.now }
+        ensures valid { IsTrue (is_seed self.now) }
+    {
+        str::from_utf8(self.bytes()).unwrap()
     }
 }

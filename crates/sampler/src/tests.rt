@@ -63,3 +63,18 @@ fn bad_seeds_are_refused(rt: HostRuntime) {
         assert_eq!(rt; Seed::read(text).err(), Some(bad), "{text}");
     }
 }
+
+#[test]
+fn a_bad_seed_is_told(rt: HostRuntime) -> Result<(), Fail> {
+    let length = format!(in rt.alloc(); "{}", BadSeed::Length(65))?;
+    assert_eq!(rt;
+        length.as_str(),
+        "a seed has 1 to 64 bytes, and this has 65"
+    );
+    let byte = format!(in rt.alloc(); "{}", BadSeed::Byte(4))?;
+    assert_eq!(rt;
+        byte.as_str(),
+        "byte 4 of the seed, counted from 0, is no printable ASCII character"
+    );
+    Ok(())
+}

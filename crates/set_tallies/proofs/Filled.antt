@@ -8,7 +8,7 @@ use Rattle.std.proofs.lemmas.List.Sums.{sum_by-cons}
 use Rattle.std.proofs.lemmas.List.Sorted.{sum_by-IsPermutation, length_permutation}
 use Rattle.irv_base.specs.Candidates.{candidates, has}
 use Rattle.irv_base.specs.Records.{top, is_some_of, tally, is_first, is_ahead}
-use Rattle.set_tallies.specs.Bags.{Kept, IsOf, Counts, AreFilledFrom, IsTable, missing, total, entries_of, everyone, tallies}
+use Rattle.set_tallies.specs.Bags.{Kept, IsOf, is_before, Counts, AreFilledFrom, IsTable, missing, total, entries_of, everyone, tallies}
 use Rattle.set_tallies.specs.Befores.{before, is_missed, Counted}
 use Rattle.set_tallies.specs.Rows.{votes_of, IsRow, AreRows, AreTallies}
 use Rattle.set_tallies.specs.declared.entry.Entry.{Entry}
@@ -28,20 +28,20 @@ count-none p [] h = refl
 count-none p (x ∷ xs) h = sum_by-cons (λ y. cond (p y) 1 0) x xs ∙ ap₂ (λ b n. cond b 1 0 + n) (h x) (count-none p xs h)
 
 -- ---- the entries of each candidate
-abbrev pub AllCounted : List (List Entry) → List (List ℕ) → Type 0
-AllCounted lists records = (c : ℕ) → c < length lists → Counted (get_or lists c []) records c
+abbrev pub AllCounted : ℕ → List (List Entry) → List (List ℕ) → Type 0
+AllCounted n lists records = (c : ℕ) → c < length lists → Counted (get_or lists c []) records n c
 
-pub counted-push : (lists : List (List Entry)) (entries : List Entry) (records : List (List ℕ)) (n : ℕ) → length lists ≡ n → AllCounted lists records → Counted entries records n → AllCounted (lists ++ entries ∷ []) records
-counted-push lists entries records n long h last c l =
+pub counted-push : (n : ℕ) (lists : List (List Entry)) (entries : List Entry) (records : List (List ℕ)) (k : ℕ) → length lists ≡ k → AllCounted n lists records → Counted entries records n k → AllCounted n (lists ++ entries ∷ []) records
+counted-push n lists entries records k long h last c l =
     elim (cases_lt c (length lists)) [
-      | inl k ↦ subst (λ es. Counted es records c) (sym (get_or_append_left lists (entries ∷ []) [] c k)) (h c k)
+      | inl m ↦ subst (λ es. Counted es records n c) (sym (get_or_append_left lists (entries ∷ []) [] c m)) (h c m)
       | inr g ↦
           let wide : length (lists ++ entries ∷ []) ≡ length lists + 1 = length-append lists (entries ∷ []) in
-          let at : n ≡ c = omega (arith, wide, long, g, l) in
-          subst (λ es. Counted es records c) (sym (get_or_push lists entries [] c (long ∙ at))) (subst (Counted entries records) at last)
+          let at : k ≡ c = omega (arith, wide, long, g, l) in
+          subst (λ es. Counted es records n c) (sym (get_or_push lists entries [] c (long ∙ at))) (subst (Counted entries records n) at last)
     ]
 
-pub bag-of : (n : ℕ) (lists : List (List Entry)) (records : List (List ℕ)) → n ≤ 32 → length lists ≡ n → All (All (λ c. c < n)) records → AllCounted lists records →
+pub bag-of : (n : ℕ) (lists : List (List Entry)) (records : List (List ℕ)) → n ≤ 32 → length lists ≡ n → All (All (λ c. c < n)) records → AllCounted n lists records →
     IsOf (record { n = n; records = length records; entries = lists }) records
 bag-of n lists records room long below h = record {
   all = refl;
@@ -50,8 +50,11 @@ bag-of n lists records room long below h = record {
   ahead = λ l w k. (h l (omega (arith, long, k))).missing (2 ^ w) ∙ count-same (λ r. is_missed (2 ^ w) (before r l)) (λ r. is_ahead r l w) records (λ k d m. missed_ahead w 0 (get_or records k d) l (misses-none (2 ^ w)));
 }
 
-pub lists-few : (lists : List (List Entry)) (records : List (List ℕ)) → AllCounted lists records → All (λ es. total es ≤ length records) lists
-lists-few lists records h k d l = subst (λ es. total es ≤ length records) (Rattle.std.proofs.lemmas.List.get_or_default lists k [] d l) (h k l).few
+pub lists-few : (n : ℕ) (lists : List (List Entry)) (records : List (List ℕ)) → AllCounted n lists records → All (λ es. total es ≤ length records) lists
+lists-few n lists records h k d l = subst (λ es. total es ≤ length records) (get_or_default lists k [] d l) (h k l).few
+
+pub lists-before : (n : ℕ) (lists : List (List Entry)) (records : List (List ℕ)) → length lists ≡ n → AllCounted n lists records → (c : ℕ) → c < n → All (λ entry. is_before n c entry.before ≡ true) (get_or lists c [])
+lists-before n lists records long h c l = (h c (omega (arith, long, l))).before
 
 -- ---- in another order
 pub order_is_free : (bag : Kept) (records others : List (List ℕ)) → IsPermutation records others → IsOf bag records → IsOf bag others
@@ -74,6 +77,9 @@ pub at-place : {X Y : Type 0} (P : Y → Type 0) (f : X → Y) (xs : List X) (k 
 at-place P f xs k d l h at =
     let within : k < length (map f xs) = rw (length-map xs f) l in
     subst P (get_or-map f xs k d (f d) l ∙ ap f (sym at)) (h k (f d) within)
+
+pub own-entries : {X : Type 0} (f : X → List Entry) (xs : List X) (k : ℕ) (d : X) → k < length xs → d ≡ get_or xs k d → get_or (map f xs) k [] ≡ f d
+own-entries f xs k d l at = get_or-map f xs k d [] l ∙ ap f (sym at)
 
 pub cell : {X : Type 0} (f : X → List ℕ) (xs : List X) (k j v : ℕ) (d : X) → k < length xs → d ≡ get_or xs k d → j < length (f d) → v ≡ get_or (f d) j v → get_or (get_or (map f xs) k []) j 0 ≡ v
 cell f xs k j v d l at m e = ap (λ r. get_or r j 0) (get_or-map f xs k d [] l ∙ ap f (sym at)) ∙ get_or_default (f d) j 0 v m ∙ sym e
@@ -99,9 +105,10 @@ row-kept bag places row set some rows own there =
     subst (λ place. IfSome place (IsRow bag)) there (rows (set % length places) None (mod-lt set some)) ∙ ap (votes_of bag) own
 
 -- no row is kept
-pub are-tallies : (bag : Kept) (counts : Counts) (n : ℕ) (places : List (Option Row)) → 0 < n → places ≡ replicate n None → AreFilledFrom bag counts → AreTallies bag counts places
+pub are-tallies : (bag : Kept) (counts : Counts) (n : ℕ) (places : List (Option Row)) → 0 < n → places ≡ replicate n None → AreFilledFrom bag counts → AreTallies bag counts places None
 are-tallies bag counts n places some empty filled = record {
   filled = filled;
+  sums = tt;
   some = omega (arith, ap length empty, long, some);
   rows = subst (AreRows bag) (sym empty) (λ k d l. subst (λ place. IfSome place (IsRow bag)) (sym (get_or-replicate n k none d (omega (arith, long, l)))) tt);
 }

@@ -1,6 +1,6 @@
 -- What is kept of the records of a contest, and what it has to say of them. Of each candidate a bag keeps the sets of those who
 -- stand before it on a ballot, each with the number of such ballots.
-use Rattle.std.specs.Prelude.{◌≡◌, ℕ, ◌<◌, ◌≤◌, ◌-◌, ◌^◌, Bool, true, ◌==◌, if◌then◌else◌, List, [], length, map, sum_by, count_by, get_or, All, bit_and}
+use Rattle.std.specs.Prelude.{◌≡◌, ℕ, ◌<◌, ◌≤◌, ◌-◌, ◌^◌, Bool, true, not, ◌&&◌, ◌==◌, nat_lt, if◌then◌else◌, List, [], length, map, sum_by, count_by, get_or, All, bit_and}
 use Rattle.irv_base.specs.Candidates.{candidates, has}
 use Rattle.irv_base.specs.Records.{tally, is_first, is_ahead}
 use Rattle.irv_base.specs.declared.limits.TheConstants.{FEWEST_CANDIDATES, ROOM, MOST_RECORDS}
@@ -39,6 +39,10 @@ pub record IsOf (bag : Kept) (records : List (List ℕ)) : Type 0 where
   pub firsts : (w : ℕ) → w < bag.n → missing everyone (entries_of bag w) ≡ count_by (λ ranking. is_first ranking w) records
   pub ahead : (l w : ℕ) → l < bag.n → missing (2 ^ w) (entries_of bag l) ≡ count_by (λ ranking. is_ahead ranking l w) records
 
+-- of n candidates those may stand before the candidate c
+abbrev pub is_before : ℕ → ℕ → ℕ → Bool
+is_before n c set = nat_lt set (2 ^ n) && not (has set c)
+
 -- what every bag keeps
 pub record IsKept (bag : Kept) : Type 0 where
   pub fewest : FEWEST_CANDIDATES ≤ bag.n
@@ -46,6 +50,7 @@ pub record IsKept (bag : Kept) : Type 0 where
   pub most : bag.records ≤ MOST_RECORDS
   pub one_each : length bag.entries ≡ bag.n
   pub few : All (λ entries. total entries ≤ bag.records) bag.entries
+  pub before : (c : ℕ) → c < bag.n → All (λ entry. is_before bag.n c entry.before ≡ true) (entries_of bag c)
 
 -- the tallies of a set: one for each candidate, 0 for those outside
 abbrev pub tallies : List (List ℕ) → ℕ → ℕ → List ℕ

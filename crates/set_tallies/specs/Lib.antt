@@ -2,3 +2,4 @@ pub mod Bags
 pub mod Befores
 pub mod Laws
 pub mod Rows
+pub mod Sums

@@ -3,6 +3,7 @@
 use Rattle.std.specs.Prelude.{◌≡◌, ℕ, ◌<◌, Option, IfSome, List, length, map, if◌then◌else◌, All}
 use Rattle.irv_base.specs.Candidates.{candidates, has}
 use Rattle.set_tallies.specs.Bags.{Kept, Counts, AreFilledFrom, entries_of, missing}
+use Rattle.set_tallies.specs.Sums.{AreSums}
 use Rattle.set_tallies.specs.declared.rows.Row.{Row}
 
 -- the tallies of a set, as a bag's entries have them
@@ -18,7 +19,8 @@ abbrev pub AreRows : Kept → List (Option Row) → Type 0
 AreRows bag places = All (λ place. IfSome place (IsRow bag)) places
 
 -- what tallies keep
-pub record AreTallies (bag : Kept) (counts : Counts) (places : List (Option Row)) : Type 0 where
+pub record AreTallies (bag : Kept) (counts : Counts) (places : List (Option Row)) (made : Option (List (List ℕ))) : Type 0 where
   pub filled : AreFilledFrom bag counts
+  pub sums : IfSome made (AreSums bag)
   pub some : 0 < length places
   pub rows : AreRows bag places

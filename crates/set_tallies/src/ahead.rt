@@ -27,16 +27,25 @@ impl Model for Ahead {
 
     ghost Value = { Counts };
 
-    ghost view = { λ a. record { n = a.n; firsts = a.firsts.items; ahead = map (λ v. v.items) a.ahead.items } };
+    ghost view = { λ a. record {
+      n = a.n;
+      firsts = a.firsts.items;
+      ahead = map (λ v. v.items) a.ahead.items;
+    } };
 
-    ghost invariant = { λ a. IsTable (record { n = a.n; firsts = a.firsts.items; ahead = map (λ v. v.items) a.ahead.items }) };
+    ghost invariant = { λ a. IsTable (record {
+      n = a.n;
+      firsts = a.firsts.items;
+      ahead = map (λ v. v.items) a.ahead.items;
+    }) };
 }
 
 // On how many ballots the candidate with these entries is ahead of each other one.
 fn row(alloc: Global, entries: &[Entry], n: u32) -> Result<Vec<u32>, Memory>
     requires room { n ≤ ROOM }
     requires few { total entries.now ≤ MOST_RECORDS }
-    ensures { IfOk result (λ row. row.items ≡ map (λ w. missing (2 ^ w) entries.now) (candidates n)) }
+    ensures { IfOk result (λ row.
+        row.items ≡ map (λ w. missing (2 ^ w) entries.now) (candidates n)) }
 {
     let mut row = Vec::new(alloc);
     for w in 0..n {
@@ -64,7 +73,8 @@ impl Ahead {
     /// On how many ballots `w` is first.
     pub fn first(&self, w: Candidate) -> u32
         requires { w < self.now.n }
-        ensures { (records : List (List ℕ)) → AreOf self.now records → result ≡ count_by (λ ranking. is_first ranking w) records }
+        ensures { (records : List (List ℕ)) → AreOf self.now records
+            → result ≡ count_by (λ ranking. is_first ranking w) records }
     {
         self.firsts[w.index()]
     }
@@ -73,7 +83,8 @@ impl Ahead {
     pub fn ahead(&self, l: Candidate, w: Candidate) -> u32
         requires loser { l < self.now.n }
         requires winner { w < self.now.n }
-        ensures { (records : List (List ℕ)) → AreOf self.now records → result ≡ count_by (λ ranking. is_ahead ranking l w) records }
+        ensures { (records : List (List ℕ)) → AreOf self.now records
+            → result ≡ count_by (λ ranking. is_ahead ranking l w) records }
     {
         self.ahead[l.index()][w.index()]
     }

@@ -1,9 +1,10 @@
 // The records of a contest.
-ghost use Rattle.std.specs.Prelude.{◌≡◌, ℕ, ◌<◌, ◌≤◌, List, length, All, IfOk};
+ghost use Rattle.std.specs.Prelude.{◌≡◌, ℕ, ◌<◌, ◌≤◌, true, List, length, All, IfOk};
 ghost use Rattle.irv_base.specs.declared.limits.TheConstants.{FEWEST_CANDIDATES, ROOM, MOST_RECORDS};
-ghost use Rattle.set_tallies.specs.Bags.{IsOf, entries_of, total};
+ghost use Rattle.set_tallies.specs.Bags.{IsOf, is_before, entries_of, total};
 
 use crate::count::entries_of;
+use crate::distinct::Distinct;
 use crate::entry::Entry;
 use irv_base::{Candidate, Memory, Ranking};
 use std::alloc::Global;
@@ -27,9 +28,17 @@ impl Model for Bag {
 
     ghost Value = { Kept };
 
-    ghost view = { λ b. record { n = b.n; records = b.records; entries = map (λ v. v.items) b.entries.items } };
+    ghost view = { λ b. record {
+      n = b.n;
+      records = b.records;
+      entries = map (λ v. v.items) b.entries.items;
+    } };
 
-    ghost invariant = { λ b. IsKept (record { n = b.n; records = b.records; entries = map (λ v. v.items) b.entries.items }) };
+    ghost invariant = { λ b. IsKept (record {
+      n = b.n;
+      records = b.records;
+      entries = map (λ v. v.items) b.entries.items;
+    }) };
 }
 
 impl Bag {
@@ -42,9 +51,16 @@ impl Bag {
         ensures candidates { IfOk result (λ bag. bag.n ≡ n) }
         ensures records { IfOk result (λ bag. IsOf bag rankings.now) }
     {
-        let mut entries = Vec::new(alloc);
+        let distinct = Distinct::of(alloc, rankings)?;
+        let mut entries = Vec::with_capacity(alloc, n as usize)?;
         for c in 0..n {
-            entries.push(entries_of(alloc, rankings, Candidate(c as u8))?)?;
+            let own = entries_of(
+                alloc,
+                distinct.rankings.as_slice(),
+                &distinct.counts,
+                Candidate(c as u8),
+            )?;
+            entries.push(own)?;
         }
         Ok(Bag {
             n,
@@ -64,7 +80,8 @@ impl Bag {
 
     /// How many records there are.
     pub fn records(&self) -> u32
-        ensures same { (records : List (List ℕ)) → IsOf self.now records → result ≡ length records }
+        ensures same { (records : List (List ℕ)) → IsOf self.now records
+            → result ≡ length records }
         ensures most { result ≤ MOST_RECORDS }
     {
         self.records
@@ -74,6 +91,7 @@ impl Bag {
         requires { c < self.now.n }
         ensures same { result.now ≡ entries_of self.now c }
         ensures few { total result.now ≤ MOST_RECORDS }
+        ensures before { All (λ entry. is_before self.now.n c entry.before ≡ true) result.now }
     {
         self.entries[c.index()].as_slice()
     }

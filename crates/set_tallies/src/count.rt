@@ -1,9 +1,8 @@
 // Counting the ballots by the candidates who stand before another.
-ghost use Rattle.std.specs.Prelude.{◌≡◌, ℕ, ◌≤◌, length, count_by, IfOk};
-ghost use Rattle.std.specs.List.{filter_map};
+ghost use Rattle.std.specs.Prelude.{◌≡◌, ◌≤◌, length, IfOk};
 ghost use Rattle.irv_base.specs.declared.limits.TheConstants.{MOST_RECORDS};
-ghost use Rattle.set_tallies.specs.Bags.{misses, missing, total};
-ghost use Rattle.set_tallies.specs.Befores.{Counted, before};
+ghost use Rattle.set_tallies.specs.Bags.{missing, total};
+ghost use Rattle.set_tallies.specs.Befores.{AreOfFirst, SayTheSame, before, count_of_first, every};
 
 use crate::entry::Entry;
 use irv_base::{Candidate, Memory, Ranking};
@@ -23,53 +22,68 @@ fn before(ranking: &Ranking, c: Candidate) -> Option<u32>
     None
 }
 
-fn sets_before(alloc: Global, rankings: &[Ranking], c: Candidate) -> Result<Vec<u32>, Memory>
-    ensures { IfOk result (λ sets. sets.items ≡ filter_map (λ ranking. before ranking c) rankings.now) }
+// The entries of `c` in these rankings, one for each ranking that has `c`.
+fn entries_with(
+    alloc: Global,
+    rankings: &[Ranking],
+    counts: &[u32],
+    c: Candidate,
+) -> Result<Vec<Entry>, Memory>
+    requires { length counts.now ≡ length rankings.now }
+    ensures { IfOk result (λ entries.
+        AreOfFirst (length rankings.now) c rankings.now counts.now entries.items) }
 {
-    let mut sets = Vec::new(alloc);
-    for ranking in rankings {
-        match before(ranking, c) {
-            Some(set) => sets.push(set)?,
+    let mut entries = Vec::new(alloc);
+    for i in 0..rankings.len() {
+        match before(&rankings[i], c) {
+            Some(set) => entries.push(Entry {
+                before: set,
+                count: counts[i],
+            })?,
             None => {}
         }
     }
-    Ok(sets)
+    Ok(entries)
 }
 
 // An entry for each run of the same set.
-fn runs(alloc: Global, sets: &[u32]) -> Result<Vec<Entry>, Memory>
-    requires most { length sets.now ≤ MOST_RECORDS }
-    ensures missing { IfOk result (λ entries. (set : ℕ) → missing set entries.items ≡ count_by (misses set) sets.now) }
-    ensures total { IfOk result (λ entries. total entries.items ≡ length sets.now) }
+fn runs(alloc: Global, entries: &[Entry]) -> Result<Vec<Entry>, Memory>
+    requires { total entries.now ≤ MOST_RECORDS }
+    ensures { IfOk result (λ runs. SayTheSame entries.now runs.items) }
 {
-    let mut entries = Vec::new(alloc);
+    let mut runs = Vec::new(alloc);
     let mut run = Entry {
         before: 0,
         count: 0,
     };
-    for set in sets {
-        if *set == run.before {
-            run.count += 1;
+    for entry in entries {
+        if entry.before == run.before {
+            run.count += entry.count;
         } else {
-            entries.push(run)?;
-            run = Entry {
-                before: *set,
-                count: 1,
-            };
+            runs.push(run)?;
+            run = *entry;
         }
     }
-    entries.push(run)?;
-    Ok(entries)
+    runs.push(run)?;
+    Ok(runs)
 }
 
-/// The entries of a candidate: one for each set of those who stand before it, with the number of the ballots.
-pub fn entries_of(alloc: Global, rankings: &[Ranking], c: Candidate) -> Result<Vec<Entry>, Memory>
-    requires { length rankings.now ≤ MOST_RECORDS }
-    ensures { IfOk result (λ entries. Counted entries.items rankings.now c) }
+/// The entries of `c` in different rankings, each of which counts so often: one for each set of those who stand before `c`.
+pub fn entries_of(
+    alloc: Global,
+    rankings: &[Ranking],
+    counts: &[u32],
+    c: Candidate,
+) -> Result<Vec<Entry>, Memory>
+    requires same { length counts.now ≡ length rankings.now }
+    requires most { count_of_first (length rankings.now) every rankings.now counts.now
+        ≤ MOST_RECORDS }
+    ensures { IfOk result (λ entries.
+        AreOfFirst (length rankings.now) c rankings.now counts.now entries.items) }
 {
-    let mut sets = sets_before(alloc, rankings, c)?;
-    sets.sort_unstable();
-    let entries = runs(alloc, &sets)?;
+    let mut entries = entries_with(alloc, rankings, counts, c)?;
+    entries.sort_unstable_by_key(|entry| entry.before);
+    let entries = runs(alloc, &entries)?;
     Ok(entries)
 }
 

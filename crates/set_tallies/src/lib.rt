@@ -5,13 +5,17 @@
 mod ahead;
 mod bag;
 mod count;
+mod counted;
+mod distinct;
 mod entry;
 pub mod laws;
 mod rows;
+mod sums;
 mod tallies;
 
 pub use ahead::Ahead;
 pub use bag::Bag;
+pub use counted::Counted;
 pub use tallies::Tallies;
 
 #[cfg(test)]

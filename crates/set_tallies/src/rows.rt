@@ -29,8 +29,10 @@ pub fn places(alloc: Global, number: usize) -> Result<Vec<Option<Row>>, Memory>
 pub fn kept(places: &[Option<Row>], set: u32) -> Option<&Row>
     requires { 0 < length places.now }
     ensures own { IfSome result (λ row. row.now.set ≡ set) }
-    ensures there { IfSome result (λ row. get_or places.now (set % length places.now) None ≡ Some row.now) }
-    ensures other { IfNone result (IfSome (get_or places.now (set % length places.now) None) (λ row. row.set ≢ set)) }
+    ensures there { IfSome result (λ row.
+        get_or places.now (set % length places.now) None ≡ Some row.now) }
+    ensures other { IfNone result
+        (IfSome (get_or places.now (set % length places.now) None) (λ row. row.set ≢ set)) }
 {
     match &places[set as usize % places.len()] {
         Some(row) if row.set == set => Some(row),
@@ -41,7 +43,8 @@ pub fn kept(places: &[Option<Row>], set: u32) -> Option<&Row>
 /// Keeps a row at the place of its set, over what was there.
 pub fn keep(places: &mut Vec<Option<Row>>, row: Row)
     requires { 0 < length places.old.items }
-    ensures { places.new.items ≡ set places.old.items (row.set % length places.old.items) (Some row) }
+    ensures { places.new.items
+        ≡ set places.old.items (row.set % length places.old.items) (Some row) }
 {
     let place = row.set as usize % places.len();
     places[place] = Some(row);

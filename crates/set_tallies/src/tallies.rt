@@ -1,29 +1,38 @@
 // The tallies of sets of candidates.
-ghost use Rattle.std.specs.Prelude.{◌≡◌, ℕ, ◌<◌, ◌≤◌, ◌^◌, List, length, map, if◌then◌else◌, min, IfOk};
+ghost use Rattle.std.specs.Prelude.{◌≡◌, ℕ, ◌<◌, ◌≤◌, ◌^◌, List, length, map, if◌then◌else◌, min, IfOk, IfSome};
 ghost use Rattle.irv_base.specs.Candidates.{candidates, has};
 ghost use Rattle.irv_base.specs.declared.limits.TheConstants.{FEWEST_CANDIDATES, ROOM, MOST_RECORDS};
 ghost use Rattle.set_tallies.specs.Bags.{IsOf, AreFilledFrom, entries_of, missing, tallies};
 ghost use Rattle.set_tallies.specs.Rows.{votes_of};
+ghost use Rattle.set_tallies.specs.Sums.{AreSums};
 ghost use Rattle.set_tallies.specs.declared.rows.TheConstants.{MOST_ROWS};
 
 use crate::ahead::Ahead;
 use crate::bag::Bag;
 use crate::count::missing;
 use crate::rows::{MOST_ROWS, Row, keep, kept, places};
-use irv_base::{CandSet, Candidate, Memory, ROOM};
+use crate::sums::{MOST_SUMMED, Sums};
+use irv_base::{CandSet, Candidate, Memory};
 use std::alloc::Global;
 use std::marker::Model;
 
+// So many entries are looked at in the time that it takes to make one sum.
+const ENTRIES_A_SUM: u64 = 4;
+
 /// The tallies of the sets of candidates, over the records of a bag.
 ///
-/// A row that was counted is kept until another set's takes its place. To a contract they are what they are made from, the bag and
-/// the two numbers of NEB's margin.
+/// A row that was counted is kept until another set's takes its place. Once counting rows has taken as long as making the sums over all
+/// sets, these are made, and rows are read from them. To a contract the tallies are what they are made from, the bag and the two
+/// numbers of NEB's margin.
 #[derive(Drop)]
 pub struct Tallies<'b> {
     alloc: Global,
     bag: &'b Bag,
     ahead: &'b Ahead,
     rows: Vec<Option<Row>>,
+    sums: Option<Sums>,
+    // how many entries are still looked at before the sums are made, 0 where they no longer are to be
+    patience: u64,
 }
 
 impl<'b> Model for Tallies<'b> {
@@ -34,44 +43,76 @@ impl<'b> Model for Tallies<'b> {
 
     ghost view = { λ t. record { bag = t.bag.now; counts = t.ahead.now } };
 
-    ghost invariant = { λ t. AreTallies t.bag.now t.ahead.now t.rows.items };
+    ghost invariant = { λ t. AreTallies t.bag.now t.ahead.now t.rows.items t.sums };
 }
 
-// The set as a number with a bit each.
-fn mask_of(s: CandSet) -> u32
-    requires { s < 2 ^ 32 }
-    ensures { result ≡ s }
+fn votes(bag: &Bag, sums: &Option<Sums>, s: CandSet, set: u32, c: Candidate) -> u32
+    requires candidate { c < bag.now.n }
+    requires below { set < 2 ^ bag.now.n }
+    requires sums { IfSome sums.now (AreSums bag.now) }
+    ensures { result ≡ (if has s c then missing set (entries_of bag.now c) else 0) }
 {
-    let mut mask = 0u32;
-    for c in 0..ROOM {
-        if s.has(Candidate(c)) {
-            mask |= 1 << c;
-        }
+    if !s.has(c) {
+        return 0;
     }
-    mask
-}
-
-fn votes(bag: &Bag, s: CandSet, mask: u32, c: Candidate) -> u32
-    requires { c < bag.now.n }
-    ensures { result ≡ (if has s c then missing mask (entries_of bag.now c) else 0) }
-{
-    if s.has(c) {
-        missing(bag.entries(c), mask)
-    } else {
-        0
+    match sums {
+        Some(sums) => sums.at(c, set),
+        None => missing(bag.entries(c), set),
     }
 }
 
-// The tallies of the set `s`, counted. `mask` is its number.
-fn row_of(alloc: Global, bag: &Bag, s: CandSet, mask: u32) -> Result<Vec<u32>, Memory>
-    requires { mask ≡ s }
-    ensures { IfOk result (λ row. row.items ≡ votes_of bag.now mask) }
+// The tallies of the set `s`, from the sums where they are made, and else counted. `set` is its number.
+fn row_of(
+    alloc: Global,
+    bag: &Bag,
+    sums: &Option<Sums>,
+    s: CandSet,
+    set: u32,
+) -> Result<Vec<u32>, Memory>
+    requires same { set ≡ s }
+    requires below { s < 2 ^ bag.now.n }
+    requires sums { IfSome sums.now (AreSums bag.now) }
+    ensures { IfOk result (λ row. row.items ≡ votes_of bag.now set) }
 {
-    let mut row = Vec::new(alloc);
+    let mut row = Vec::with_capacity(alloc, bag.candidates() as usize)?;
     for c in 0..bag.candidates() {
-        row.push(votes(bag, s, mask, Candidate(c as u8)))?;
+        row.push(votes(bag, sums, s, set, Candidate(c as u8)))?;
     }
     Ok(row)
+}
+
+// How many entries are looked at where a row of all candidates is counted.
+fn entries_in(bag: &Bag) -> u64 {
+    let mut entries = 0u64;
+    for c in 0..bag.candidates() {
+        entries = entries.saturating_add(bag.entries(Candidate(c as u8)).len() as u64);
+    }
+    entries
+}
+
+// In the time that this takes with entries, the sums of `n` candidates are made.
+fn patience_for(n: u32) -> u64 {
+    if n == 0 || n > MOST_SUMMED {
+        return 0;
+    }
+    ENTRIES_A_SUM * (u64::from(n) << (n - 1))
+}
+
+// Notes that a row was counted. Where that was once too often the sums are made, if there is memory for them.
+fn note(alloc: Global, bag: &Bag, sums: &mut Option<Sums>, patience: &mut u64)
+    requires { IfSome sums.old (AreSums bag.now) }
+    ensures { IfSome sums.new (AreSums bag.now) }
+{
+    if *patience == 0 || bag.candidates() > MOST_SUMMED {
+        return;
+    }
+    *patience = patience.saturating_sub(entries_in(bag));
+    if *patience == 0 {
+        match Sums::of(alloc, bag) {
+            Ok(made) => *sums = Some(made),
+            Err(_memory) => {}
+        }
+    }
 }
 
 // A place for each set of `n` candidates, as far as places go.
@@ -95,6 +136,8 @@ impl<'b> Tallies<'b> {
             bag,
             ahead,
             rows,
+            sums: None,
+            patience: patience_for(bag.candidates()),
         })
     }
 
@@ -109,7 +152,8 @@ impl<'b> Tallies<'b> {
 
     /// How many records there are.
     pub fn records(&self) -> u32
-        ensures same { (records : List (List ℕ)) → IsOf self.now.bag records → result ≡ length records }
+        ensures same { (records : List (List ℕ)) → IsOf self.now.bag records
+            → result ≡ length records }
         ensures most { result ≤ MOST_RECORDS }
     {
         self.bag.records()
@@ -126,17 +170,23 @@ impl<'b> Tallies<'b> {
     /// The tallies of the candidates in the set `s`, one number for each candidate, 0 for those outside.
     pub fn tally(&mut self, s: CandSet) -> Result<Vec<u32>, Memory>
         requires { s < 2 ^ self.old.bag.n }
-        ensures tallies { IfOk result (λ row. (records : List (List ℕ)) → IsOf self.old.bag records → row.items ≡ tallies records self.old.bag.n s) }
+        ensures tallies { IfOk result (λ row. (records : List (List ℕ)) → IsOf self.old.bag records
+            → row.items ≡ tallies records self.old.bag.n s) }
         ensures one_each { IfOk result (λ row. length row.items ≡ self.old.bag.n) }
         ensures same { self.new ≡ self.old }
     {
-        let mask = mask_of(s);
-        if let Some(row) = kept(&self.rows, mask) {
+        let set = s.number();
+        if self.sums.is_some() {
+            let row = row_of(self.alloc, self.bag, &self.sums, s, set)?;
+            return Ok(row);
+        }
+        if let Some(row) = kept(&self.rows, set) {
             return Ok(Vec::from_slice(self.alloc, &row.votes)?);
         }
-        let votes = row_of(self.alloc, self.bag, s, mask)?;
+        let votes = row_of(self.alloc, self.bag, &self.sums, s, set)?;
         let answer = Vec::from_slice(self.alloc, &votes)?;
-        keep(&mut self.rows, Row { set: mask, votes });
+        keep(&mut self.rows, Row { set, votes });
+        note(self.alloc, self.bag, &mut self.sums, &mut self.patience);
         Ok(answer)
     }
 }

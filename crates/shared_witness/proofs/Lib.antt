@@ -6,3 +6,4 @@ pub mod Ends
 pub mod Events
 pub mod Fresh
 pub mod Histories
+pub mod Joined

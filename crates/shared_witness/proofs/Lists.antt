@@ -1,6 +1,6 @@
 -- Sums and the least post over the views, when one view changes, is added or is spent.
-use Rattle.std.proofs.Common.{◌≡◌, ◌≢◌, ℕ, zero, suc, ◌+◌, ◌≤◌, ◌<◌, ◌==◌, min, nat_lt, true, false, cond, inl, inr, List, [], ◌∷◌, ◌++◌, length, get_or, set, slice_get, sum_by, count_by, All, Some, refl, sym, ap, ◌∙◌, subst, arith, length-append}
-use Rattle.std.proofs.lemmas.Bool.{or_parts, or_cases, cases_lt, lt-ltb, le-ltb, eq-eqb}
+use Rattle.std.proofs.Common.{◌≡◌, ◌≢◌, ℕ, zero, suc, ◌+◌, ◌≤◌, ◌<◌, ◌==◌, min, nat_lt, true, false, not, cond, inl, inr, List, [], ◌∷◌, ◌++◌, length, get_or, set, slice_get, sum_by, count_by, All, Some, refl, sym, ap, ◌∙◌, subst, arith, length-append}
+use Rattle.std.proofs.lemmas.Bool.{or_parts, or_cases, cases_lt, lt-ltb, le-ltb, eq-eqb, cases_Bool, not_from_false}
 use Rattle.std.proofs.lemmas.List.Folds.{list_any_at}
 use Rattle.std.proofs.lemmas.List.{get_or_at}
 use Rattle.std.proofs.Math.Numerals.{add-one}
@@ -100,6 +100,18 @@ times_some (x ∷ xs) p some =
       | inl here ↦ let one : cond (x == p) 1 0 + times xs p ≡ 1 + times xs p = ap (λ b. cond b 1 0 + times xs p) here in omega (arith, more ∙ one)
       | inr later ↦ let rest = times_some xs p later in omega (arith, more, rest)
     ]
+
+pub none_in : (xs : List ℕ) (p : ℕ) → times xs p ≡ 0 → not (is_in xs p) ≡ true
+none_in xs p none = elim (cases_Bool (is_in xs p)) [
+  | inl some ↦ let more = times_some xs p some in absurd (omega (arith, more, none))
+  | inr out ↦ not_from_false (is_in xs p) out
+]
+
+pub some_in : (xs : List ℕ) (p : ℕ) → 1 ≤ times xs p → is_in xs p ≡ true
+some_in xs p some = elim (cases_Bool (is_in xs p)) [
+  | inl here ↦ here
+  | inr out ↦ let none = times_none xs p out in absurd (omega (arith, some, none))
+]
 
 -- ---- the numbers below n, each once, are n numbers
 

@@ -1,5 +1,5 @@
 -- The laws of a race that threads share: each step keeps the rule, and is the event of the race that it is named after.
-use Rattle.std.specs.Prelude.{ℕ, ◌+◌, ◌≡◌, ◌≢◌, ◌≤◌, ◌<◌, ◌↔◌, min, not, IsTrue, List, slice_get, slice_index, length, IfSome, Some}
+use Rattle.std.specs.Prelude.{ℕ, ◌+◌, ◌≡◌, ◌≢◌, ◌≤◌, ◌<◌, ◌↔◌, ◌⊎◌, min, not, IsTrue, List, slice_get, slice_index, length, IfSome, Some}
 use Rattle.race_core.specs.declared.event.Event.{Event}
 use Rattle.race_core.specs.declared.event.Event.TheVariants.{Take, Look, Post, Close}
 use Rattle.irv_base.specs.Candidates.{is_in}
@@ -7,7 +7,7 @@ use Rattle.irv_base.specs.Tabulation.{least}
 use Rattle.race_core.specs.Race.{start, after, run}
 use Rattle.shared_witness.specs.declared.view.View.{View}
 use Rattle.shared_witness.specs.declared.view.Terms.{Terms}
-use Rattle.shared_witness.specs.Moment.{Moment, RaceRule, EachOnce, times, taken_pieces, opening, after_take, after_look, after_post, after_close, after_split, after_join}
+use Rattle.shared_witness.specs.Moment.{Moment, RaceRule, EachOnce, times, taken_pieces, closed_pieces, all_looks, least_posted, opening, after_take, after_look, after_post, after_close, after_split, after_join}
 use Rattle.shared_witness.specs.Words.{AreTerms}
 use Rattle.shared_witness.specs.Shown.{shown_race}
 use Rattle.shared_witness.specs.History.{seated, after_events}
@@ -56,6 +56,22 @@ abbrev pub AllJoined : Type 0
 AllJoined =
     (t : Terms) (m : Moment) (k : ℕ) (v : View) → AreTerms t → RaceRule t m → slice_get m.views k ≡ Some v → v.ends + v.may ≡ t.workers →
     (m.bound ≡ min t.first v.posted) × EachOnce (min m.ticket t.pieces) v.taken
+
+-- where the pieces that the seats took are all pieces, each once, some seat took each
+abbrev pub EachHasTaker : Type 0
+EachHasTaker =
+    (n : ℕ) (views : List View) → EachOnce n (taken_pieces views) → (p : ℕ) → p < n → (k : ℕ) × (v : View) × (slice_get views k ≡ Some v) × IsTrue (is_in v.taken p)
+
+-- the least of the first bound and of all posts is the first bound, or some seat's least post
+abbrev pub LeastHasPoster : Type 0
+LeastHasPoster =
+    (first : ℕ) (views : List View) → (least_posted first views ≡ first) ⊎ ((k : ℕ) × (v : View) × (slice_get views k ≡ Some v) × (least_posted first views ≡ v.posted))
+
+-- a joining loses no look, and no piece that was closed
+abbrev pub JoiningLosesNothing : Type 0
+JoiningLosesNothing =
+    (m : Moment) (k : ℕ) (v : View) (i : ℕ) (w : View) → slice_get m.views k ≡ Some v → slice_get m.views i ≡ Some w → i ≢ k →
+    (all_looks (after_join m k v i w).views ≡ all_looks m.views) × ((p : ℕ) → times (closed_pieces (after_join m k v i w).views) p ≡ times (closed_pieces m.views) p)
 
 -- ---- the words and the views show a race, and each step is an event of it
 

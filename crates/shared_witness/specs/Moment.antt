@@ -13,6 +13,13 @@ pub record Moment : Type 0 where
 abbrev pub taken_pieces : List View → List ℕ
 taken_pieces views = flat_map (λ v. v.taken) views
 
+abbrev pub closed_pieces : List View → List ℕ
+closed_pieces views = flat_map (λ v. v.closed) views
+
+-- how often the bound was looked at
+abbrev pub all_looks : List View → ℕ
+all_looks views = sum_by (λ v. v.looks) views
+
 -- how many takes found no piece
 abbrev pub ended_takes : List View → ℕ
 ended_takes views = sum_by (λ v. v.ends) views

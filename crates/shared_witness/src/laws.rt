@@ -1,6 +1,6 @@
 // The laws of a race that threads share.
 ghost use Rattle.shared_witness.specs.Laws.{OpeningKeeps, TakeKeeps, LookKeeps, PostKeeps, CloseKeeps, SplitKeeps, JoinKeeps};
-ghost use Rattle.shared_witness.specs.Laws.{TicketIsSmall, TakeIsFresh, AllJoined, StartIsShown, HistoryIsShown, TakeIsEvent, LookIsEvent, PostIsEvent, CloseIsEvent};
+ghost use Rattle.shared_witness.specs.Laws.{TicketIsSmall, TakeIsFresh, AllJoined, EachHasTaker, LeastHasPoster, JoiningLosesNothing, StartIsShown, HistoryIsShown, TakeIsEvent, LookIsEvent, PostIsEvent, CloseIsEvent};
 
 /// The rule holds when a race is made.
 pub fn opening_keeps()
@@ -50,6 +50,21 @@ pub fn take_is_fresh()
 /// A seat that the seats of all workers were joined to has all pieces and posts.
 pub fn all_joined()
     ensures { AllJoined }
+{}
+
+/// Where the pieces that the seats took are all pieces, some seat took each.
+pub fn each_has_taker()
+    ensures { EachHasTaker }
+{}
+
+/// The bound is the first one, or some seat's least post.
+pub fn least_has_poster()
+    ensures { LeastHasPoster }
+{}
+
+/// Where a seat is joined to another, the looks of both and the pieces that they closed are the other's.
+pub fn joining_loses_nothing()
+    ensures { JoiningLosesNothing }
 {}
 
 /// New seats show the start of the race.

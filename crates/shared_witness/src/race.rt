@@ -91,6 +91,9 @@ impl Race {
         ensures most { result ≤ self.now.terms.pieces }
         ensures view { seat.new.view ≡ view_after_take self.now.terms.pieces result seat.old.view }
         ensures step { TakesPiece self.now.terms seat.old.view result seat.new.view }
+        ensures fresh { result < self.now.terms.pieces → IsTrue (not (is_in seat.old.view.taken result)) }
+        ensures open_piece { result < self.now.terms.pieces → IsTrue (is_in seat.new.view.taken result) × IsTrue (not (is_in seat.new.view.closed result)) }
+        ensures few { length seat.new.view.taken ≤ self.now.terms.pieces }
     {
         take_word::<Brand>(&self.words, &mut seat.seat).min(u64::from(self.pieces)) as u32
     }

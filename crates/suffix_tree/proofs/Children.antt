@@ -61,7 +61,7 @@ range-push a (suc n) = ap (λ s. a ∷ s) (range-push (a + 1) n ∙ ap (λ x. ra
 candidates-more : (n : ℕ) → candidates (n + 1) ≡ candidates n ++ n ∷ []
 candidates-more n = ap candidates (add-one n) ∙ range-push 0 n ∙ ap (λ x. candidates n ++ x ∷ []) (zero-add n)
 
-filter-more : {X : Type 0} (f : ℕ → X) (p : ℕ → Bool) (n : ℕ) →
+pub filter-more : {X : Type 0} (f : ℕ → X) (p : ℕ → Bool) (n : ℕ) →
     map f (filter p (candidates (n + 1))) ≡ (if p n then map f (filter p (candidates n)) ++ f n ∷ [] else map f (filter p (candidates n)))
 filter-more f p n =
     ap (λ s. map f (filter p s)) (candidates-more n)

@@ -1,3 +1,4 @@
 pub mod Tails
 pub mod Offered
 pub mod Children
+pub mod Compared

@@ -1,3 +1,4 @@
 pub mod Suffixes
 pub mod Places
 pub mod Scores
+pub mod Compared

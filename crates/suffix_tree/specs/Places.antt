@@ -1,13 +1,9 @@
--- Suffixes that are kept at the end of an array with room for all candidates, beside their set.
-use Rattle.std.specs.Prelude.{◌≡◌, ◌≤◌, ℕ, List, drop, length, IsTrue}
-use Rattle.irv_base.specs.Candidates.{set_of}
+-- Suffixes of orders of n candidates, for whom there is room.
+use Rattle.std.specs.Prelude.{◌≤◌, ℕ, List, IsTrue}
+use Rattle.irv_base.specs.Suffixes.{is_suffix}
 use Rattle.irv_base.specs.declared.limits.TheConstants.{ROOM}
-use Rattle.assertions.specs.Suffixes.{is_suffix}
 
-pub record IsTail (n start : ℕ) (places : List ℕ) (set : ℕ) : Type 0 where
+pub record IsTail (n : ℕ) (suffix : List ℕ) : Type 0 where
   pub some : 1 ≤ n
   pub room : n ≤ ROOM
-  pub long : length places ≡ ROOM
-  pub few : start ≤ ROOM
-  pub proper : IsTrue (is_suffix n (drop start places))
-  pub members : set ≡ set_of (drop start places)
+  pub proper : IsTrue (is_suffix n suffix)

@@ -1,9 +1,12 @@
 -- Suffixes with what they have against them.
-use Rattle.std.specs.Prelude.{◌≡◌, ℕ, List}
+use Rattle.std.specs.Prelude.{◌≡◌, ℕ, List, reverse}
+use Rattle.std.specs.declared.cmp.Ordering.{Ordering}
+use Rattle.std.specs.Cmp.Lexicographic.{slice_cmp}
+use Rattle.std.specs.Option.{option_cmp}
+use Rattle.std.specs.Ordering.{flip_args, nat_cmp, on, then_cmp}
+use Rattle.assertions.specs.contracts.assertion.AssertionOrd.TheImpl.{ghosts as assertion_order}
 use Rattle.assertions.specs.Hardness.{low, refuter}
 use Rattle.set_tallies.specs.Bags.{Kept, IsOf}
-use Rattle.std.specs.declared.cmp.Ordering.{Ordering}
-use Rattle.std.specs.Ordering.{flip_args, nat_cmp, on}
 use Rattle.suffix_tree.specs.declared.scored.Scored.{Scored}
 
 -- the low of the suffix and its refuter, over the records
@@ -15,6 +18,14 @@ pub record IsScored (records : List (List ℕ)) (s : Scored) : Type 0 where
 abbrev pub IsScoredOver : Kept → Scored → Type 0
 IsScoredOver bag s = (records : List (List ℕ)) → IsOf bag records → IsScored records s
 
--- the least low is the greatest
-abbrev pub by_low : Scored → Scored → Ordering
-by_low = flip_args (on (λ s. s.low) nat_cmp)
+-- which of two suffixes is searched first: the one of the lower low; of equal lows the one that stands first where both are read
+-- backwards; and then by the number of candidates and the refuter, so that only equal ones stand together
+abbrev pub search_cmp : Scored → Scored → Ordering
+search_cmp =
+    then_cmp (on (λ s. s.low) nat_cmp)
+    (then_cmp (on (λ s. reverse s.tail.list) (slice_cmp nat_cmp))
+    (then_cmp (on (λ s. s.tail.n) nat_cmp) (on (λ s. s.by) (option_cmp assertion_order.cmp))))
+
+-- the one that is searched first is the greatest
+abbrev pub first_is_greatest : Scored → Scored → Ordering
+first_is_greatest = flip_args search_cmp

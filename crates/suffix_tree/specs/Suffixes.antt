@@ -1,6 +1,7 @@
 -- The last candidates of an elimination order, in a contest with n candidates.
-use Rattle.std.specs.Prelude.{ℕ, not, ◌==◌, if◌then◌else◌, List, ◌∷◌, length, map, filter, Option, Some, None}
+use Rattle.std.specs.Prelude.{ℕ, not, List, ◌∷◌, map, filter, Option}
 use Rattle.irv_base.specs.Candidates.{candidates, is_in}
+use Rattle.irv_base.specs.Suffixes.{whole as whole_of}
 
 pub record Suffix : Type 0 where
   pub n : ℕ
@@ -16,4 +17,4 @@ children t = map (with_front t) (filter (λ c. not (is_in t.list c)) (candidates
 
 -- the whole order that it is, if it has all candidates
 abbrev pub whole : Suffix → Option (List ℕ)
-whole t = if length t.list == t.n then Some t.list else None
+whole t = whole_of t.n t.list

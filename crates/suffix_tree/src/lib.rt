@@ -7,7 +7,7 @@ mod offers;
 mod scored;
 mod tail;
 
-pub use scored::{Scored, expand, score};
+pub use scored::{Scored, child, expand, score};
 pub use tail::Tail;
 
 #[cfg(test)]

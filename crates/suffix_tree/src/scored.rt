@@ -1,12 +1,13 @@
 // Suffixes with their low and their refuter.
-ghost use Rattle.std.specs.Prelude.{◌≡◌, ◌==◌, ◌<◌, ◌+◌, map, IfOk, IsFalse, All};
-ghost use Rattle.std.proofs.Common.{rules};
-ghost use Rattle.std.specs.Cmp.Rules.{comparing};
-ghost use Rattle.std.specs.Cmp.{partial_order_from_own_ties};
-ghost use Rattle.std.specs.Ordering.{as_partial_cmp};
+ghost use Rattle.std.specs.Prelude.{◌≡◌, ◌<◌, ◌+◌, map, reverse, IfOk, IsFalse, All};
+ghost use Rattle.std.proofs.Common.{refl};
+ghost use Rattle.std.specs.Cmp.{eq_by_cmp_equiv, partial_equiv_from_equiv, partial_order_from_agreeing_total};
+ghost use Rattle.std.specs.Cmp.Lexicographic.{slice_cmp};
+ghost use Rattle.std.specs.Ordering.{as_partial_cmp, eq_by_cmp, nat_cmp};
 ghost use Rattle.irv_base.specs.Candidates.{is_in};
 ghost use Rattle.suffix_tree.specs.Suffixes.{with_front, children};
-ghost use Rattle.suffix_tree.specs.Scores.{IsScoredOver, by_low};
+ghost use Rattle.suffix_tree.specs.Compared.{search_total};
+ghost use Rattle.suffix_tree.specs.Scores.{IsScoredOver, search_cmp, first_is_greatest};
 
 use crate::offers::{Score, offer_nebs, offer_nens};
 use crate::tail::Tail;
@@ -28,47 +29,67 @@ pub struct Scored {
     pub by: Option<Assertion>,
 }
 
-// Scored suffixes are compared by their low alone. The least low is the greatest, so that it leaves a heap first.
-impl PartialEq for Scored {
-    ghost eq = { λ a b. a.low == b.low };
+// Which of two lists stands first, both read backwards.
+fn cmp_backwards(a: &[Candidate], b: &[Candidate]) -> Ordering
+    ensures { result ≡ slice_cmp nat_cmp (reverse a.now) (reverse b.now) }
+{
+    a.iter().rev().cmp(b.iter().rev())
+}
 
-    ghost laws = { Prim.search (comparing, rules) };
+// Which of two suffixes is searched first.
+fn cmp_search(a: &Scored, b: &Scored) -> Ordering
+    ensures { result ≡ search_cmp a.now b.now }
+{
+    if a.low != b.low {
+        return a.low.cmp(&b.low);
+    }
+    cmp_backwards(a.tail.list(), b.tail.list())
+        .then(a.tail.candidates().cmp(&b.tail.candidates()))
+        .then(a.by.cmp(&b.by))
+}
+
+// The suffix that is searched first is the greatest, so that it leaves a heap first.
+impl PartialEq for Scored {
+    ghost eq = { eq_by_cmp first_is_greatest };
+
+    ghost laws = { partial_equiv_from_equiv (eq_by_cmp_equiv search_total) };
 
     fn eq(&self, other: &Scored) -> bool {
-        self.low == other.low
+        self.cmp(other) == Ordering::Equal
     }
 }
 
 impl Eq for Scored {
-    ghost laws = { Prim.search (comparing, rules) };
+    ghost laws = { eq_by_cmp_equiv search_total };
 }
 
 impl Ord for Scored {
-    ghost cmp = { by_low };
+    ghost cmp = { first_is_greatest };
 
-    ghost total = { Prim.search (comparing, rules) };
+    ghost total = { search_total };
 
-    ghost matches_partial_cmp = { Prim.search (comparing, rules) };
+    ghost matches_partial_cmp = { λ x y. refl };
 
-    ghost matches_eq = { Prim.search (comparing, rules) };
+    ghost matches_eq = { λ x y. refl };
 
     fn cmp(&self, other: &Scored) -> Ordering {
-        other.low.cmp(&self.low)
+        cmp_search(other, self)
     }
 }
 
 impl PartialOrd for Scored {
-    ghost partial_cmp = { as_partial_cmp by_low };
+    ghost partial_cmp = { as_partial_cmp first_is_greatest };
 
-    ghost laws = { partial_order_from_own_ties (Prim.search (comparing, rules)) (Prim.search (comparing, rules)) };
+    ghost laws = { partial_order_from_agreeing_total first_is_greatest search_total (λ x y. refl) (λ x y. refl) };
 
     fn partial_cmp(&self, other: &Scored) -> Option<Ordering> {
         Some(self.cmp(other))
     }
 }
 
-// The suffix with one more candidate in front, scored from the one without.
-fn child(parent: &Scored, c: Candidate, tallies: &mut Tallies) -> Result<Scored, Memory>
+/// The suffix with one more candidate in front, scored from the one without: what the candidate adds is the NEBs over it of those
+/// outside, and its NENs over those behind it, from one row of tallies. The one error is want of memory.
+pub fn child(parent: &Scored, c: Candidate, tallies: &mut Tallies) -> Result<Scored, Memory>
     requires below { c < parent.now.tail.n }
     requires other { IsFalse (is_in parent.now.tail.list c) }
     requires contest { parent.now.tail.n ≡ tallies.old.bag.n }

@@ -1,47 +1,34 @@
-// The last candidates of an elimination order.
-ghost use Rattle.std.specs.Prelude.{◌≡◌, ◌<◌, ◌≤◌, ◌==◌, ◌∷◌, [], length, IsTrue, IsFalse};
+// The last candidates of an elimination order, in a contest of so many.
+ghost use Rattle.std.specs.Prelude.{◌≡◌, ◌<◌, ◌≤◌, ◌==◌, ◌∷◌, ◌++◌, [], length, IsTrue, IsFalse};
 ghost use Rattle.irv_base.specs.Candidates.{is_in, set_of};
+ghost use Rattle.irv_base.specs.Suffixes.{is_suffix};
 ghost use Rattle.irv_base.specs.declared.limits.TheConstants.{ROOM};
-ghost use Rattle.assertions.specs.Suffixes.{is_suffix};
 ghost use Rattle.suffix_tree.specs.Suffixes.{with_front, whole};
 
-use irv_base::{CandSet, Candidate, Order, ROOM};
+use irv_base::{CandSet, Candidate, Order, Suffix};
 use std::marker::Model;
 
-/// The last candidates of an elimination order, first eliminated first, so that the winner stands last. It grows at
-/// its front.
+/// The last candidates of an elimination order, first eliminated first, so that the winner stands last, in a
+/// contest of `n` candidates. It grows at its front.
 ///
 /// To a contract it is the list of these candidates, with the number of candidates of the contest.
-#[derive(Drop)]
+#[derive(Clone, Copy)]
 pub struct Tail {
     n: u32,
-    start: usize,
-    set: CandSet,
-    places: [Candidate; ROOM as usize],
+    suffix: Suffix,
 }
 
 impl Model for Tail {
-    ghost use Rattle.std.specs.Prelude.{drop};
     ghost use Rattle.suffix_tree.specs.Suffixes.{Suffix};
     ghost use Rattle.suffix_tree.specs.Places.{IsTail};
 
     ghost Value = { Suffix };
 
-    ghost view = { λ t. record { n = t.n; list = drop t.start t.places } };
+    ghost view = { λ t. record { n = t.n; list = t.suffix } };
 
-    ghost invariant = { λ t. IsTail t.n t.start t.places t.set };
-}
+    ghost invariant = { λ t. IsTail t.n t.suffix };
 
-// The numbers of the candidates.
-fn numbers(places: &[Candidate; ROOM as usize]) -> [u8; ROOM as usize]
-    ensures { result ≡ places.now }
-{
-    let mut numbers = [0; ROOM as usize];
-    for i in 0..ROOM as usize {
-        let c = places[i];
-        numbers[i] = c.0;
-    }
-    numbers
+    ghost inverse = { λ v. record { n = v.n; suffix = v.list } };
 }
 
 impl Tail {
@@ -54,9 +41,7 @@ impl Tail {
     {
         Tail {
             n,
-            start: ROOM as usize,
-            set: CandSet::empty(),
-            places: [Candidate(0); ROOM as usize],
+            suffix: Suffix::empty(),
         }
     }
 
@@ -70,21 +55,42 @@ impl Tail {
         Tail::none(n).front(c)
     }
 
+    /// These candidates, of a contest with `n` candidates.
+    pub fn of(n: u32, list: &[Candidate]) -> Tail
+        requires some { 1 ≤ n }
+        requires room { n ≤ ROOM }
+        requires suffix { IsTrue (is_suffix n list.now) }
+        ensures number { result.n ≡ n }
+        ensures list { result.list ≡ list.now }
+    {
+        Tail::none(n).fronts(list)
+    }
+
     /// The suffix with `c` eliminated before all of it.
     pub fn front(&self, c: Candidate) -> Tail
         requires below { c < self.now.n }
         requires other { IsFalse (is_in self.now.list c) }
         ensures { result ≡ with_front self.now c }
     {
-        let start = self.start - 1;
-        let mut places = self.places;
-        places[start] = c;
         Tail {
             n: self.n,
-            start,
-            set: self.set.with(c),
-            places,
+            suffix: self.suffix.with(c),
         }
+    }
+
+    /// The suffix with these candidates eliminated before all of it, first eliminated first.
+    pub fn fronts(&self, list: &[Candidate]) -> Tail
+        requires { IsTrue (is_suffix self.now.n (list.now ++ self.now.list)) }
+        ensures number { result.n ≡ self.now.n }
+        ensures list { result.list ≡ list.now ++ self.now.list }
+    {
+        let mut tail = *self;
+        let mut at = list.len();
+        while at > 0 {
+            at -= 1;
+            tail = tail.front(list[at]);
+        }
+        tail
     }
 
     /// Its candidates, first eliminated first.
@@ -92,38 +98,21 @@ impl Tail {
         ensures same { result.now ≡ self.now.list }
         ensures suffix { IsTrue (is_suffix self.now.n self.now.list) }
     {
-        let places = &self.places[..];
-        &places[self.start..]
+        self.suffix.list()
     }
 
     /// The order that it is, where it has all candidates of the contest.
     pub fn whole(&self) -> Option<Order>
         ensures { result ≡ whole self.now }
     {
-        let numbers = numbers(&self.places);
-        match Order::read(self.n, &numbers[self.start..]) {
-            Ok(order) => Some(order),
-            Err(_bad) => None,
-        }
+        self.suffix.whole(self.n)
     }
 
     /// Has it all candidates of the contest?
     pub fn is_whole(&self) -> bool
         ensures { result ≡ (length self.now.list == self.now.n) }
     {
-        ROOM as usize - self.start == self.n as usize
-    }
-
-    /// The same suffix once more.
-    pub fn copied(&self) -> Tail
-        ensures { result ≡ self.now }
-    {
-        Tail {
-            n: self.n,
-            start: self.start,
-            set: self.set,
-            places: self.places,
-        }
+        self.suffix.len() == self.n
     }
 
     /// How many candidates the contest has.
@@ -139,13 +128,13 @@ impl Tail {
     pub fn set(&self) -> CandSet
         ensures { result ≡ set_of self.now.list }
     {
-        self.set
+        self.suffix.set()
     }
 
     /// Is the candidate in it?
     pub fn has(&self, c: Candidate) -> bool
         ensures { result ≡ is_in self.now.list c }
     {
-        self.set.has(c)
+        self.suffix.contains(c)
     }
 }

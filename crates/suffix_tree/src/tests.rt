@@ -1,22 +1,14 @@
 // Each call that allocates once, on a contest of three ballots that was counted by hand.
-ghost use Rattle.std.specs.Prelude.{◌≡◌, ◌<◌, ◌∷◌, [], map, IfOk};
+ghost use Rattle.std.specs.Prelude.{◌≡◌, ◌<◌, map, IfOk};
 ghost use Rattle.suffix_tree.specs.Suffixes.{children};
 ghost use Rattle.suffix_tree.specs.Scores.{IsScoredOver};
 
 use super::*;
 use irv_base::{Candidate, Memory, Ranking, Steps};
-use set_tallies::{Ahead, Bag, Tallies};
+use set_tallies::{Counted, Tallies};
 use std::alloc::Global;
 use std::marker::Brand;
 use std::sync::ledger::{Blank, Ledger};
-
-fn only(c: Candidate) -> Ranking
-    ensures { result ≡ c ∷ [] }
-{
-    let mut ranking = Ranking::empty();
-    ranking.push(c);
-    ranking
-}
 
 fn longer<L: Ledger>(
     alloc: Global,
@@ -37,10 +29,10 @@ fn longer<L: Ledger>(
 
 #[test]
 fn scores_two_candidates(rt: HostRuntime) {
-    let rankings = [only(Candidate(0)), only(Candidate(1)), only(Candidate(1))];
-    let bag = Bag::of(rt.alloc(), 2, rankings.as_slice()).expect(&rt, "bag");
-    let ahead = Ahead::fill(rt.alloc(), &bag).expect(&rt, "ahead");
-    let mut tallies = Tallies::new(rt.alloc(), &bag, &ahead).expect(&rt, "tallies");
+    let one = Ranking::of(&[Candidate(0)]);
+    let two = Ranking::of(&[Candidate(1)]);
+    let counted = Counted::of(rt.alloc(), 2, &[one, two, two]).expect(&rt, "counted");
+    let mut tallies = counted.tallies().expect(&rt, "tallies");
     let alone = score(&Tail::last(2, Candidate(0)), &mut tallies).expect(&rt, "score");
     assert!(rt; alone.low == 1);
     let more = longer::<Brand>(rt.alloc(), Blank::new(1), &alone, &mut tallies).expect(

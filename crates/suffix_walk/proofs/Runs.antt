@@ -1,12 +1,13 @@
 -- How a walk goes on from one list of suffixes to the next.
-use Rattle.std.proofs.Common.{◌≡◌, ℕ, zero, suc, ◌+◌, ◌-◌, ◌<◌, ◌≤◌, Bool, true, false, not, nat_lt, inl, inr, List, [], ◌∷◌, ◌++◌, length, flat_map, if◌then◌else◌, Result, Ok, Err, refl, sym, ap, arith, ltb-true, lt-ltb, le-ltb, ◌∙◌}
-use Rattle.std.specs.List.{list_all, range_with_len}
-use Rattle.std.proofs.lemmas.Bool.{and_parts, and_from, cases_Bool, both_ways, false_from_ne_true, not_from_false}
+use Rattle.std.proofs.Common.{◌≡◌, ℕ, zero, suc, ◌+◌, ◌-◌, ◌<◌, ◌≤◌, Bool, true, false, nat_lt, inl, inr, List, [], ◌∷◌, ◌++◌, length, flat_map, if◌then◌else◌, Option, Some, None, Result, Ok, Err, refl, sym, ap, arith, ltb-true, lt-ltb, le-ltb, eq-eqb, ne_eqb, ◌∙◌}
+use Rattle.std.specs.List.{range_with_len}
+use Rattle.std.proofs.lemmas.Bool.{cases_Bool, cases_eq, both_ways, false_from_ne_true}
 use Rattle.irv_base.specs.Candidates.{candidates, is_in}
-use Rattle.irv_base.specs.Candidates.{is_distinct}
-use Rattle.assertions.specs.Suffixes.{is_suffix, suffixes_ending}
+use Rattle.irv_base.specs.Suffixes.{is_suffix, whole}
 use Rattle.irv_base.proofs.Members.{Member, here, there, member_cases, member_nil, from_flat_map, from_candidates}
-use Rattle.suffix_walk.specs.Kept.{all_ending}
+use Rattle.irv_base.proofs.Suffixes.{suffix_more, suffix-short}
+use Rattle.assertions.specs.Suffixes.{suffixes_ending}
+use Rattle.suffix_walk.specs.Kept.{is_parent_kept, all_ending}
 use Rattle.suffix_walk.specs.Walks.{walked}
 use Rattle.suffix_walk.specs.declared.walk.Stop.{Stop}
 use Rattle.suffix_walk.specs.declared.walk.Stop.TheVariants.{Found, Spent}
@@ -24,24 +25,49 @@ all_ending-whole n t h =
     let e : n - length t ≡ 0 = omega arith in
     ap (λ k. suffixes_ending n k t) e
 
-pub suffix_more : (n c : ℕ) (t : List ℕ) → c < n → is_in t c ≡ false → is_suffix n t ≡ true → is_suffix n (c ∷ t) ≡ true
-suffix_more n c t l out h =
-    let (d, b) = and_parts (is_distinct t) (list_all (λ c. nat_lt c n) t) h in
-    and_from (is_distinct (c ∷ t)) (list_all (λ c. nat_lt c n) (c ∷ t))
-    (and_from (not (is_in t c)) (is_distinct t) (not_from_false (is_in t c) out) d)
-    (and_from (nat_lt c n) (list_all (λ c. nat_lt c n) t) (lt-ltb c n l) b)
+-- ---- what ends in the children of a suffix, from a candidate in front on
+abbrev pub below_from : ℕ → List ℕ → ℕ → List (List ℕ)
+below_from n t c = flat_map (child n t) (range_with_len c (n - c))
 
-pub suffix_wider : (n m : ℕ) (t : List ℕ) → n ≤ m → is_suffix n t ≡ true → is_suffix m t ≡ true
-suffix_wider n m t le h =
-    let (d, b) = and_parts (is_distinct t) (list_all (λ c. nat_lt c n) t) h in
-    and_from (is_distinct t) (list_all (λ c. nat_lt c m) t) d (wider t b)
-  where
-    wider : (t : List ℕ) → list_all (λ c. nat_lt c n) t ≡ true → list_all (λ c. nat_lt c m) t ≡ true
-    wider [] h = refl
-    wider (c ∷ t) h =
-        let (a, b) = and_parts (nat_lt c n) (list_all (λ c. nat_lt c n) t) h in
-        let l : c < n = ltb-true c n a in
-        and_from (nat_lt c m) (list_all (λ c. nat_lt c m) t) (lt-ltb c m (omega arith)) (wider t b)
+pub below_from-start : (n : ℕ) (t : List ℕ) → below_from n t 0 ≡ flat_map (child n t) (candidates n)
+below_from-start n t = let e : n - 0 ≡ n = omega arith in ap (λ k. flat_map (child n t) (range_with_len 0 k)) e
+
+below_from-step : (n : ℕ) (t : List ℕ) (c : ℕ) → c < n → below_from n t c ≡ child n t c ++ below_from n t (c + 1)
+below_from-step n t c l = let e : n - c ≡ suc (n - (c + 1)) = omega arith in ap (λ k. flat_map (child n t) (range_with_len c k)) e
+
+pub below_from-end : (n : ℕ) (t : List ℕ) (c : ℕ) → n ≤ c → below_from n t c ≡ []
+below_from-end n t c l = let e : n - c ≡ 0 = omega arith in ap (λ k. flat_map (child n t) (range_with_len c k)) e
+
+pub below_from-passes : (n : ℕ) (t : List ℕ) (c : ℕ) → c < n → is_in t c ≡ true → below_from n t c ≡ below_from n t (c + 1)
+below_from-passes n t c l h = below_from-step n t c l ∙ (rw h refl)
+
+pub below_from-goes : (n : ℕ) (t : List ℕ) (c : ℕ) → c < n → is_in t c ≡ false → below_from n t c ≡ all_ending n (c ∷ t) ++ below_from n t (c + 1)
+below_from-goes n t c l h = below_from-step n t c l ∙ (rw h refl)
+
+-- ---- whole orders
+pub record IsWhole (n : ℕ) (t order : List ℕ) : Type 0 where
+  pub long : n ≤ length t
+  pub same : t ≡ order
+
+pub from_whole : (n : ℕ) (t order : List ℕ) → whole n t ≡ Some order → IsWhole n t order
+from_whole n t order h =
+    elim (cases_eq (length t) n) [
+      | inl e ↦ let w : whole n t ≡ Some t = rw (eq-eqb (length t) n e) refl in record { long = omega arith; same = cc }
+      | inr ne ↦ let w : whole n t ≡ None = rw (ne_eqb (length t) n ne) refl in cc
+    ]
+
+pub short-from_none : (n : ℕ) (t : List ℕ) → is_suffix n t ≡ true → whole n t ≡ None → length t < n
+short-from_none n t proper h =
+    let le : length t ≤ n = suffix-short n t proper in
+    elim (cases_eq (length t) n) [
+      | inl e ↦ let w : whole n t ≡ Some t = rw (eq-eqb (length t) n e) refl in cc
+      | inr ne ↦ omega (arith, ne)
+    ]
+
+-- a suffix is the parent of a longer one
+pub parent-kept : (kept : List ℕ → Bool) (c : ℕ) (t : List ℕ) → 0 < length t → kept t ≡ true → is_parent_kept kept (c ∷ t) ≡ true
+parent-kept kept c [] some h = absurd (omega arith)
+parent-kept kept c (d ∷ t) some h = h
 
 -- what comes after a walk
 abbrev pub after : Result ℕ Stop → (ℕ → Result ℕ Stop) → Result ℕ Stop
@@ -111,33 +137,22 @@ module _ (n nodes : ℕ) (kept : List ℕ → Bool) where
 
   -- ---- the loop over the candidates
   abbrev pub rest : ℕ → List ℕ → ℕ → Result ℕ Stop
-  rest count t c = walked n nodes kept count (flat_map (child n t) (range_with_len c (n - c)))
-
-  range-step : (c : ℕ) → c < n → range_with_len c (n - c) ≡ c ∷ range_with_len (c + 1) (n - (c + 1))
-  range-step c l =
-      let e : n - c ≡ suc (n - (c + 1)) = omega arith in
-      ap (range_with_len c) e
+  rest count t c = walked n nodes kept count (below_from n t c)
 
   pub rest-start : (count : ℕ) (t : List ℕ) → rest count t 0 ≡ walked n nodes kept count (flat_map (child n t) (candidates n))
-  rest-start count t =
-      let e : n - 0 ≡ n = omega arith in
-      ap (λ k. walked n nodes kept count (flat_map (child n t) (range_with_len 0 k))) e
+  rest-start count t = ap (walked n nodes kept count) (below_from-start n t)
 
-  pub rest-step : (count : ℕ) (t : List ℕ) (c : ℕ) → c < n → rest count t c ≡ after (walked n nodes kept count (child n t c)) (λ j. rest j t (c + 1))
-  rest-step count t c l =
-      ap (λ r. walked n nodes kept count (flat_map (child n t) r)) (range-step c l)
-      ∙ walked-append count (child n t c) (flat_map (child n t) (range_with_len (c + 1) (n - (c + 1))))
+  pub rest-step : (count : ℕ) (t : List ℕ) (c : ℕ) → c < n → is_in t c ≡ false → rest count t c ≡ after (walked n nodes kept count (all_ending n (c ∷ t))) (λ j. rest j t (c + 1))
+  rest-step count t c l out = ap (walked n nodes kept count) (below_from-goes n t c l out) ∙ walked-append count (all_ending n (c ∷ t)) (below_from n t (c + 1))
 
   pub rest-end : (count : ℕ) (t : List ℕ) (c : ℕ) → n ≤ c → rest count t c ≡ Ok count
-  rest-end count t c l =
-      let e : n - c ≡ 0 = omega arith in
-      ap (λ r. walked n nodes kept count (flat_map (child n t) (range_with_len c r))) e
+  rest-end count t c l = ap (walked n nodes kept count) (below_from-end n t c l)
 
   pub rest-passes : (count : ℕ) (t : List ℕ) (c : ℕ) → c < n → is_in t c ≡ true → rest count t c ≡ rest count t (c + 1)
-  rest-passes count t c l h = rest-step count t c l ∙ (rw h refl)
+  rest-passes count t c l h = ap (walked n nodes kept count) (below_from-passes n t c l h)
 
   pub rest-goes : (count j : ℕ) (t : List ℕ) (c : ℕ) → c < n → is_in t c ≡ false → walked n nodes kept count (all_ending n (c ∷ t)) ≡ Ok j → rest count t c ≡ rest j t (c + 1)
-  rest-goes count j t c l out e = rest-step count t c l ∙ (rw out (ap (λ r. after r (λ j. rest j t (c + 1))) e))
+  rest-goes count j t c l out e = rest-step count t c l out ∙ ap (λ r. after r (λ j. rest j t (c + 1))) e
 
   pub rest-stops : (count : ℕ) (stop : Stop) (t : List ℕ) (c : ℕ) → c < n → is_in t c ≡ false → walked n nodes kept count (all_ending n (c ∷ t)) ≡ Err stop → rest count t c ≡ Err stop
-  rest-stops count stop t c l out e = rest-step count t c l ∙ (rw out (ap (λ r. after r (λ j. rest j t (c + 1))) e))
+  rest-stops count stop t c l out e = rest-step count t c l out ∙ ap (λ r. after r (λ j. rest j t (c + 1))) e

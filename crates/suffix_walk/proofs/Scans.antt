@@ -13,7 +13,7 @@ use Rattle.assertions.proofs.Sorted.{Sorted, none, more, sorted-range, sorted-fi
 use Rattle.assertions.proofs.Enumerated.{suffixes_ending-sorted}
 use Rattle.suffix_walk.specs.Kept.{all_ending}
 use Rattle.suffix_walk.specs.Walks.{walked}
-use Rattle.suffix_walk.specs.Search.{first_kept, is_passed, kept_count, or_spent, searched}
+use Rattle.suffix_walk.specs.Search.{first_kept, is_passed, kept_count, or_spent, stopped_at, first_within}
 use Rattle.suffix_walk.specs.declared.walk.Stop.{Stop}
 use Rattle.suffix_walk.specs.declared.walk.Stop.TheVariants.{Found, Spent}
 use Rattle.suffix_walk.proofs.Before.{before-not_self, before-not_after, pieces-across}
@@ -178,8 +178,8 @@ module _ (n nodes : ℕ) (kept : List ℕ → Bool) where
         let t : over (order_of (c ∷ cs)) c ≡ true = lt-ltb nodes (kept_count n kept (order_of (c ∷ cs)) c) (omega arith) in
         sym (ap (λ o. or_spent o (order_of (c ∷ cs))) (find-first (over (order_of (c ∷ cs))) c cs t))
 
-  pub scan-searched : (winner : ℕ) → 0 < n → scan (all_but n winner) ≡ searched n winner nodes kept
-  scan-searched winner some =
+  pub scan-first_within : (winner : ℕ) → 0 < n → scan (all_but n winner) ≡ first_within n winner nodes kept
+  scan-first_within winner some =
       let same : order_of (all_but n winner) ≡ first_kept n winner kept =
       sym (find-flat_map kept (is_whole n kept) (λ c. orders_ending n (n - 1) (c ∷ [])) (piece n kept) (all_but n winner) (λ c. find-whole n kept (n - 1) (c ∷ []) (long c))) in
       scan_is (sorted-filter ◌<◌ (λ c. not (c == winner)) (sorted-range 0 n)) ∙ ap (λ o. answer o (all_but n winner)) same
@@ -191,10 +191,10 @@ module _ (n nodes : ℕ) (kept : List ℕ → Bool) where
   abbrev pub scan_from : ℕ → ℕ → Result (Option (List ℕ)) ℕ
   scan_from winner c = scan (filter (λ d. not (d == winner)) (range_with_len c (n - c)))
 
-  pub scan-start : (winner : ℕ) → 0 < n → scan_from winner 0 ≡ searched n winner nodes kept
+  pub scan-start : (winner : ℕ) → 0 < n → scan_from winner 0 ≡ first_within n winner nodes kept
   scan-start winner some =
       let e : n - 0 ≡ n = omega arith in
-      ap (λ k. scan (filter (λ d. not (d == winner)) (range_with_len 0 k))) e ∙ scan-searched winner some
+      ap (λ k. scan (filter (λ d. not (d == winner)) (range_with_len 0 k))) e ∙ scan-first_within winner some
 
   scan-range : (winner c : ℕ) → c < n → scan_from winner c ≡ scan (filter (λ d. not (d == winner)) (c ∷ range_with_len (c + 1) (n - (c + 1))))
   scan-range winner c l =
@@ -211,3 +211,8 @@ module _ (n nodes : ℕ) (kept : List ℕ → Bool) where
   scan-end winner c l =
       let e : n - c ≡ 0 = omega arith in
       ap (λ k. scan (filter (λ d. not (d == winner)) (range_with_len c k))) e
+
+  -- the walk stops
+  pub scan-stops : (winner c : ℕ) (stop : Stop) → c < n → (c ≡ winner → ⊥) → Err stop ≡ walked n nodes kept 0 (all_ending n (c ∷ [])) → scan_from winner c ≡ stopped_at c stop
+  scan-stops winner c (Found order) l ne e = scan-other winner c (Err (Found order)) l ne e
+  scan-stops winner c Spent l ne e = scan-other winner c (Err Spent) l ne e

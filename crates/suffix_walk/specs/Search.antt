@@ -1,6 +1,8 @@
 -- The alternative orders and the suffixes that a test keeps, and how many of these come before the least such order.
 use Rattle.std.specs.Prelude.{ℕ, Bool, true, ◌&&◌, nat_lt, List, find, count_by, Option, Some, None, Result, Ok, Err}
 use Rattle.irv_base.specs.Candidates.{all_but}
+use Rattle.suffix_walk.specs.declared.walk.Stop.{Stop}
+use Rattle.suffix_walk.specs.declared.walk.Stop.TheVariants.{Found, Spent}
 use Rattle.assertions.specs.Suffixes.{alternative_orders, parts_ending, comes_before}
 
 -- of the alternative orders that are kept, the least when read backwards
@@ -25,7 +27,12 @@ abbrev pub or_spent : Option ℕ → Option (List ℕ) → Result (Option (List 
 or_spent (Some last) order = Err last
 or_spent None order = Ok order
 
-abbrev pub searched : ℕ → ℕ → ℕ → (List ℕ → Bool) → Result (Option (List ℕ)) ℕ
-searched n winner nodes kept =
+-- a walk through the suffixes that end in this candidate has stopped
+abbrev pub stopped_at : ℕ → Stop → Result (Option (List ℕ)) ℕ
+stopped_at last (Found order) = Ok (Some order)
+stopped_at last Spent = Err last
+
+abbrev pub first_within : ℕ → ℕ → ℕ → (List ℕ → Bool) → Result (Option (List ℕ)) ℕ
+first_within n winner nodes kept =
     let order = first_kept n winner kept in
     or_spent (first_over n winner nodes (kept_count n kept order)) order

@@ -1,10 +1,10 @@
 // What a walk keeps.
 ghost use Rattle.std.specs.Prelude.{◌≡◌, ℕ, List, Bool, ◌∷◌, ◌<◌, ◌≤◌, length, IsTrue};
 ghost use Rattle.irv_base.specs.declared.limits.TheConstants.{ROOM};
-ghost use Rattle.assertions.specs.Suffixes.{is_suffix};
+ghost use Rattle.irv_base.specs.Suffixes.{is_suffix};
 ghost use Rattle.suffix_walk.specs.Kept.{is_parent_kept};
 
-use crate::Suffix;
+use irv_base::Suffix;
 
 /// A test of suffixes. Where it keeps a suffix, it keeps each shorter one that this ends in.
 pub trait Keeps {
@@ -21,5 +21,6 @@ pub trait Keeps {
         requires parent { IsTrue (is_parent_kept (kept self.now) suffix.now) }
         ensures { result ≡ kept self.now suffix.now };
 
-    ghost shrinks: { (t : Self) (c : ℕ) (suffix : List ℕ) → IsTrue (is_suffix (size t) (c ∷ suffix)) → IsTrue (kept t (c ∷ suffix)) → IsTrue (kept t suffix) };
+    ghost shrinks: { (t : Self) (c : ℕ) (suffix : List ℕ) → IsTrue (is_suffix (size t) (c ∷ suffix))
+        → IsTrue (kept t (c ∷ suffix)) → IsTrue (kept t suffix) };
 }

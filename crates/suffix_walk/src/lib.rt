@@ -6,9 +6,7 @@
 #![tactic(auto)]
 
 mod keeps;
-mod suffix;
 mod walk;
 
 pub use keeps::Keeps;
-pub use suffix::Suffix;
-pub use walk::search;
+pub use walk::first_within;

@@ -1,39 +1,39 @@
 // A walk in the order of the suffixes read backwards, to the first whole order that is kept.
-ghost use Rattle.std.specs.Prelude.{◌≡◌, ◌<◌, ◌≤◌, ◌-◌, length, IsTrue};
+ghost use Rattle.std.specs.Prelude.{◌≡◌, ◌<◌, ◌≤◌, length, IsTrue};
+ghost use Rattle.irv_base.specs.Suffixes.{is_suffix};
 ghost use Rattle.irv_base.specs.declared.limits.TheConstants.{ROOM};
-ghost use Rattle.assertions.specs.Suffixes.{is_suffix};
 ghost use Rattle.suffix_walk.specs.Kept.{is_parent_kept, all_ending};
 ghost use Rattle.suffix_walk.specs.Walks.{walked};
-ghost use Rattle.suffix_walk.specs.Search.{searched};
+ghost use Rattle.suffix_walk.specs.Search.{stopped_at, first_within};
 
-use crate::{Keeps, Suffix};
-use irv_base::Candidate;
+use crate::Keeps;
+use irv_base::{Candidate, Order, Suffix};
 
 /// Why a walk stops before its end.
 #[derive(Drop)]
 pub enum Stop {
     /// A whole order is kept.
-    Found(Suffix),
+    Found(Order),
     /// More suffixes are kept than the budget has.
     Spent,
 }
 
 // Walks the suffixes that end in this one, and adds those that are kept, and aren't whole orders, to the count.
-fn walk<T: Keeps>(test: &T, n: u32, nodes: u32, suffix: Suffix, count: u32) -> Result<u32, Stop>
+fn walk<T: Keeps>(test: &T, n: u32, nodes: u32, suffix: &Suffix, count: u32) -> Result<u32, Stop>
     requires size { n ≡ T.size test.now }
+    requires number { 1 ≤ n }
     requires room { n ≤ ROOM }
-    requires proper { IsTrue (is_suffix n suffix) }
-    requires some { 0 < length suffix }
-    requires short { length suffix ≤ n }
-    requires parent { IsTrue (is_parent_kept (T.kept test.now) suffix) }
+    requires proper { IsTrue (is_suffix n suffix.now) }
+    requires some { 0 < length suffix.now }
+    requires parent { IsTrue (is_parent_kept (T.kept test.now) suffix.now) }
     requires left { count ≤ nodes }
-    ensures { result ≡ walked n nodes (T.kept test.now) count (all_ending n suffix) }
+    ensures { result ≡ walked n nodes (T.kept test.now) count (all_ending n suffix.now) }
 {
-    if !test.keeps(&suffix) {
+    if !test.keeps(suffix) {
         return Ok(count);
     }
-    if suffix.len() >= n {
-        return Err(Stop::Found(suffix));
+    if let Some(order) = suffix.whole(n) {
+        return Err(Stop::Found(order));
     }
     if count >= nodes {
         return Err(Stop::Spent);
@@ -41,34 +41,43 @@ fn walk<T: Keeps>(test: &T, n: u32, nodes: u32, suffix: Suffix, count: u32) -> R
     let mut seen = count + 1;
     for c in 0..n as u8 {
         if !suffix.contains(Candidate(c)) {
-            seen = walk(test, n, nodes, suffix.with(Candidate(c)), seen)?;
+            seen = walk(test, n, nodes, &suffix.with(Candidate(c)), seen)?;
         }
     }
     Ok(seen)
+}
+
+// The order that was found, or the candidate in whom the walk's suffixes end.
+fn stopped(stop: Stop, last: Candidate) -> Result<Option<Order>, Candidate>
+    ensures { result ≡ stopped_at last stop }
+{
+    match stop {
+        Stop::Found(order) => Ok(Some(order)),
+        Stop::Spent => Err(last),
+    }
 }
 
 /// The least order, read backwards, that the test keeps and that elects another candidate than the winner, or none.
 ///
 /// A suffix counts for the candidate whom it elects where it is kept, is no whole order, and comes before that
 /// order, both read backwards. Where more than `nodes` count for a candidate, the least such candidate is the error.
-pub fn search<T: Keeps>(
+pub fn first_within<T: Keeps>(
     test: &T,
     n: u32,
     winner: Candidate,
     nodes: u32,
-) -> Result<Option<Suffix>, Candidate>
+) -> Result<Option<Order>, Candidate>
     requires size { n ≡ T.size test.now }
     requires some { 1 ≤ n }
     requires room { n ≤ ROOM }
-    ensures { result ≡ searched n winner nodes (T.kept test.now) }
+    ensures { result ≡ first_within n winner nodes (T.kept test.now) }
 {
     for c in 0..n as u8 {
         let last = Candidate(c);
         if last != winner {
-            match walk(test, n, nodes, Suffix::of(last), 0) {
+            match walk(test, n, nodes, &Suffix::of(last), 0) {
                 Ok(_count) => {}
-                Err(Stop::Found(order)) => return Ok(Some(order)),
-                Err(Stop::Spent) => return Err(last),
+                Err(stop) => return stopped(stop, last),
             }
         }
     }

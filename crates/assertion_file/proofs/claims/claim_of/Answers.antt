@@ -5,7 +5,7 @@ use Rattle.irv_base.specs.Names.{is_same}
 use Rattle.serde_json.specs.View.{view}
 use Rattle.assertion_file.specs.Views.{stated_entry}
 use Rattle.assertion_file.proofs.Entries.{claim-none, claim-some, no_winner, no_loser, itself, Pair, no_assertion, no_margin, a_claim}
-use Rattle.assertion_file.proofs.Found.{found, absent}
+use Rattle.irv_base.proofs.Positions.{stands_at, stands_nowhere}
 use Rattle.assertion_file.proofs.claims.claim_of.Goals as goal
 
 pub returns-in_default : goal.returns-in_default
@@ -15,23 +15,23 @@ pub returns-in_default-candidate : goal.returns-in_default-candidate
 returns-in_default-candidate c =
     let names = c.args.names.now in
     let entry = stated_entry c.in-Some.entry in
-    let w = absent (λ other. is_same other entry.winner) names (sym c.candidate.ensures ∙ c.in_default-candidate.is) in
+    let w = stands_nowhere (λ other. is_same other entry.winner) names (sym c.candidate.ensures ∙ c.in_default-candidate.is) in
     sym (claim-some names c.args.records (view c.args.value.now) entry (sym c.in-Some.ensures) ∙ no_winner names c.args.records entry w)
 
 pub returns-in_default-candidate-2 : goal.returns-in_default-candidate-2
 returns-in_default-candidate-2 c =
     let names = c.args.names.now in
     let entry = stated_entry c.in-Some.entry in
-    let w = found (λ other. is_same other entry.winner) names _ [] (sym c.in-Some-candidate.ensures) in
-    let l = absent (λ other. is_same other entry.loser) names (sym c.candidate-2.ensures ∙ c.in_default-candidate-2.is) in
+    let w = stands_at (λ other. is_same other entry.winner) names _ [] (sym c.in-Some-candidate.ensures) in
+    let l = stands_nowhere (λ other. is_same other entry.loser) names (sym c.candidate-2.ensures ∙ c.in_default-candidate-2.is) in
     sym (claim-some names c.args.records (view c.args.value.now) entry (sym c.in-Some.ensures) ∙ no_loser names c.args.records entry w.among l)
 
 pub returns-then-eq : goal.returns-then-eq
 returns-then-eq c =
     let names = c.args.names.now in
     let entry = stated_entry c.in-Some.entry in
-    let w = found (λ other. is_same other entry.winner) names _ [] (sym c.in-Some-candidate.ensures) in
-    let l = found (λ other. is_same other entry.loser) names _ [] (sym c.in-Some-candidate-2.ensures) in
+    let w = stands_at (λ other. is_same other entry.winner) names _ [] (sym c.in-Some-candidate.ensures) in
+    let l = stands_at (λ other. is_same other entry.loser) names _ [] (sym c.in-Some-candidate-2.ensures) in
     let same : is_same entry.winner entry.loser ≡ _ = sym c.eq.ensures ∙ c.if-eq.true in
     sym (claim-some names c.args.records (view c.args.value.now) entry (sym c.in-Some.ensures) ∙ itself names c.args.records entry w.among l.among same)
 
@@ -39,8 +39,8 @@ pub returns-in_err-assertion : goal.returns-in_err-assertion
 returns-in_err-assertion c =
     let names = c.args.names.now in
     let entry = stated_entry c.in-Some.entry in
-    let w = found (λ other. is_same other entry.winner) names _ [] (sym c.in-Some-candidate.ensures) in
-    let l = found (λ other. is_same other entry.loser) names _ [] (sym c.in-Some-candidate-2.ensures) in
+    let w = stands_at (λ other. is_same other entry.winner) names _ [] (sym c.in-Some-candidate.ensures) in
+    let l = stands_at (λ other. is_same other entry.loser) names _ [] (sym c.in-Some-candidate-2.ensures) in
     let pair : Pair names entry c.in-Some-candidate.w c.in-Some-candidate-2.l = record { winner = w.among; loser = l.among; differ = sym c.eq.ensures ∙ c.if-eq.false; w_is = w.number; l_is = l.number } in
     let p = err_from_is_err_and c.from_residual.result c.from_residual.ensures.1 in
     p.1 ∙ ap Err p.2
@@ -50,8 +50,8 @@ pub returns-then-not-is_margin : goal.returns-then-not-is_margin
 returns-then-not-is_margin c =
     let names = c.args.names.now in
     let entry = stated_entry c.in-Some.entry in
-    let w = found (λ other. is_same other entry.winner) names _ [] (sym c.in-Some-candidate.ensures) in
-    let l = found (λ other. is_same other entry.loser) names _ [] (sym c.in-Some-candidate-2.ensures) in
+    let w = stands_at (λ other. is_same other entry.winner) names _ [] (sym c.in-Some-candidate.ensures) in
+    let l = stands_at (λ other. is_same other entry.loser) names _ [] (sym c.in-Some-candidate-2.ensures) in
     let pair : Pair names entry c.in-Some-candidate.w c.in-Some-candidate-2.l = record { winner = w.among; loser = l.among; differ = sym c.eq.ensures ∙ c.if-eq.false; w_is = w.number; l_is = l.number } in
     sym (claim-some names c.args.records (view c.args.value.now) entry (sym c.in-Some.ensures)
     ∙ no_margin names c.args.records entry _ _ _ pair (sym c.in_ok-assertion.ensures) (sym c.is_margin.ensures ∙ c.if-not-is_margin.true))
@@ -60,8 +60,8 @@ pub returns : goal.returns
 returns c =
     let names = c.args.names.now in
     let entry = stated_entry c.in-Some.entry in
-    let w = found (λ other. is_same other entry.winner) names _ [] (sym c.in-Some-candidate.ensures) in
-    let l = found (λ other. is_same other entry.loser) names _ [] (sym c.in-Some-candidate-2.ensures) in
+    let w = stands_at (λ other. is_same other entry.winner) names _ [] (sym c.in-Some-candidate.ensures) in
+    let l = stands_at (λ other. is_same other entry.loser) names _ [] (sym c.in-Some-candidate-2.ensures) in
     let pair : Pair names entry c.in-Some-candidate.w c.in-Some-candidate-2.l = record { winner = w.among; loser = l.among; differ = sym c.eq.ensures ∙ c.if-eq.false; w_is = w.number; l_is = l.number } in
     sym (claim-some names c.args.records (view c.args.value.now) entry (sym c.in-Some.ensures)
     ∙ a_claim names c.args.records entry _ _ _ pair (sym c.in_ok-assertion.ensures) (sym c.is_margin.ensures ∙ c.if-not-is_margin.false))

@@ -1,7 +1,7 @@
 use Rattle.std.proofs.Common.{◌≡◌, ◌∷◌, ◌++◌, [], ap, ap₂, sym, ◌∙◌}
 use Rattle.irv_base.specs.Names.{is_among, is_same}
 use Rattle.assertion_file.specs.Ids.{number_of}
-use Rattle.assertion_file.proofs.Found.{found, absent}
+use Rattle.irv_base.proofs.Positions.{stands_at, stands_nowhere}
 use Rattle.assertion_file.proofs.Listed.{texts, next, outside, one_more, map-next}
 use Rattle.assertion_file.proofs.ids.numbers.Goals as goal
 
@@ -9,14 +9,14 @@ pub returns-in_default-clause-none : goal.returns-in_default-clause-none
 returns-in_default-clause-none c =
     let names = c.args.names.now in
     let n = next c.args.ids.now c.loop-id.id-index c.id-item.result c.loop-id-test.true c.id-item.is in
-    let none = absent (λ other. is_same other c.text_of.result.now) names (sym c.candidate.ensures ∙ c.in_default.is) in
+    let none = stands_nowhere (λ other. is_same other c.text_of.result.now) names (sym c.candidate.ensures ∙ c.in_default.is) in
     outside (is_among names) (texts c.args.ids.now) c.loop-id.id-index _ n (ap (is_among names) (sym c.text_of.ensures) ∙ none)
 
 pub loop-id-preserved : goal.loop-id-preserved
 loop-id-preserved c =
     let names = c.args.names.now in
     let n = next c.args.ids.now c.loop-id.id-index c.id-item.result c.loop-id-test.true c.id-item.is in
-    let stands = found (λ other. is_same other c.text_of.result.now) names c.in-Some.c [] (sym c.in-Some.ensures) in
+    let stands = stands_at (λ other. is_same other c.text_of.result.now) names c.in-Some.c [] (sym c.in-Some.ensures) in
     let same : c.c.inside.0 ≡ c.in-Some.c = cc in
     record {
       numbers =

@@ -7,7 +7,7 @@ use Rattle.irv_base.proofs.Distinct.{distinct-from_test}
 use Rattle.irv_base.proofs.Sets.{set_of_is}
 use Rattle.assertion_file.specs.Ids.{number_of, numbers_of}
 use Rattle.assertion_file.proofs.Differ.{in-more, repeats-more}
-use Rattle.assertion_file.proofs.Found.{found, absent}
+use Rattle.irv_base.proofs.Positions.{stands_at, stands_nowhere}
 use Rattle.assertion_file.proofs.Listed.{texts, next, outside, one_more, map-next, all_taken}
 use Rattle.assertion_file.proofs.ids.set_of.Goals as goal
 
@@ -15,7 +15,7 @@ pub returns-in_default : goal.returns-in_default
 returns-in_default c =
     let names = c.args.names.now in
     let n = next c.args.ids.now c.loop-id.id-index c.id-item.result c.loop-id-test.true c.id-item.is in
-    let none = absent (λ other. is_same other c.text_of.result.now) names (sym c.candidate.ensures ∙ c.in_default.is) in
+    let none = stands_nowhere (λ other. is_same other c.text_of.result.now) names (sym c.candidate.ensures ∙ c.in_default.is) in
     let out = outside (is_among names) (texts c.args.ids.now) c.loop-id.id-index _ n (ap (is_among names) (sym c.text_of.ensures) ∙ none) in
     rw out refl
 
@@ -25,7 +25,7 @@ loop-id-preserved c =
     let all = texts c.args.ids.now in
     let i = c.loop-id.id-index in
     let n = next c.args.ids.now i c.id-item.result c.loop-id-test.true c.id-item.is in
-    let stands = found (λ other. is_same other c.text_of.result.now) names c.in-Some.c [] (sym c.in-Some.ensures) in
+    let stands = stands_at (λ other. is_same other c.text_of.result.now) names c.in-Some.c [] (sym c.in-Some.ensures) in
     let so_far = numbers_of names (take i all) in
     let numbers = map-next (number_of names) all i _ c.in-Some.c n (ap (number_of names) (sym c.text_of.ensures) ∙ stands.number) in
     record {

@@ -1,7 +1,7 @@
 use Rattle.std.proofs.Common.{◌∙◌, ◌++◌, ◌∷◌, [], take, length, sym, ap, arith}
 use Rattle.std.proofs.lemmas.Bool.{not-true, not-false}
 use Rattle.irv_base.specs.Names.{is_among}
-use Rattle.ballot_reader.proofs.Ids.{among-set}
+use Rattle.ballot_reader.proofs.Differing.{among-set}
 use Rattle.ballot_reader.proofs.Names.{first-so_far, names-invalid, names-more, names-repeated}
 use Rattle.ballot_reader.proofs.contest.names_of.Goals as goal
 

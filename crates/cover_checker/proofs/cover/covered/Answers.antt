@@ -1,19 +1,27 @@
-use Rattle.std.proofs.Common.{◌≡◌, Ok, Some, true, sym, ap, arith, ◌∙◌}
-use Rattle.irv_base.specs.Orders.{is_order}
-use Rattle.irv_base.proofs.Orders.{order_facts}
-use Rattle.suffix_walk.specs.Search.{searched}
-use Rattle.cover_checker.specs.Unrefuted.{stands}
-use Rattle.cover_checker.proofs.Verdicts.{found-order}
+use Rattle.std.proofs.Common.{Ok, sym, ap, ◌∙◌}
+use Rattle.suffix_walk.specs.Search.{first_within, first_kept, kept_count}
+use Rattle.suffix_walk.specs.Search as walk
+use Rattle.cover_checker.specs.Covers.{stands}
+use Rattle.cover_checker.proofs.Verdicts.{none-covered, some-stands, error-spent}
 use Rattle.cover_checker.proofs.cover.covered.Goals as goal
 
-pub to_order-requires-clause-some : goal.to_order-requires-clause-some
-to_order-requires-clause-some c =
-    let found : searched c.args.n c.args.winner c.args.nodes (stands c.args.list.now) ≡ Ok (Some c.in-Ok-Some.order) = sym c.search.ensures ∙ c.in-Ok-Some.is ∙ ap Ok c.in-Ok-Some.field-0-is in
-    let order = order_facts c.args.n c.in-Ok-Some.order (found-order c.args.n c.args.winner c.args.nodes (stands c.args.list.now) c.in-Ok-Some.order found) in
-    omega (arith, order.long, c.requires.some)
+pub returns-in-Ok-None : goal.returns-in-Ok-None
+returns-in-Ok-None c = λ _.
+    let kept = stands c.args.list.now in
+    let standing = first_kept c.args.n c.args.winner kept in
+    none-covered (walk.first_over c.args.n c.args.winner c.args.nodes (kept_count c.args.n kept standing)) standing
+    (sym (sym c.first_within.ensures ∙ c.in-Ok-None.is ∙ ap Ok c.in-Ok-None.field-0-is) ∙ ap (λ list. first_within c.args.n c.args.winner c.args.nodes (stands list)) c.in_ok-list.ensures)
 
-pub to_order-requires-clause-whole : goal.to_order-requires-clause-whole
-to_order-requires-clause-whole c =
-    let found : searched c.args.n c.args.winner c.args.nodes (stands c.args.list.now) ≡ Ok (Some c.in-Ok-Some.order) = sym c.search.ensures ∙ c.in-Ok-Some.is ∙ ap Ok c.in-Ok-Some.field-0-is in
-    let whole : is_order c.args.n c.in-Ok-Some.order ≡ true = found-order c.args.n c.args.winner c.args.nodes (stands c.args.list.now) c.in-Ok-Some.order found in
-    ap (λ k. is_order k c.in-Ok-Some.order) (order_facts c.args.n c.in-Ok-Some.order whole).long ∙ whole
+pub returns-in-Ok-Some : goal.returns-in-Ok-Some
+returns-in-Ok-Some c = λ _.
+    let kept = stands c.args.list.now in
+    let standing = first_kept c.args.n c.args.winner kept in
+    some-stands c.in-Ok-Some.order (walk.first_over c.args.n c.args.winner c.args.nodes (kept_count c.args.n kept standing)) standing
+    (sym (sym c.first_within.ensures ∙ c.in-Ok-Some.is ∙ ap Ok c.in-Ok-Some.field-0-is) ∙ ap (λ list. first_within c.args.n c.args.winner c.args.nodes (stands list)) c.in_ok-list.ensures)
+
+pub returns : goal.returns
+returns c = λ _.
+    let kept = stands c.args.list.now in
+    let standing = first_kept c.args.n c.args.winner kept in
+    error-spent c.in-Err.last (walk.first_over c.args.n c.args.winner c.args.nodes (kept_count c.args.n kept standing)) standing
+    (sym (sym c.first_within.ensures ∙ c.in-Err.is) ∙ ap (λ list. first_within c.args.n c.args.winner c.args.nodes (stands list)) c.in_ok-list.ensures)

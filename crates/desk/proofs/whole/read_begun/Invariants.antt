@@ -1,6 +1,7 @@
 -- What was read so far is gone from what was left, and was counted.
 use Rattle.std.proofs.Common.{◌≡◌, ◌-◌, ◌≤◌, true, max, vec_len}
 use Rattle.std.specs.Io.KnownBytes.{Consumes}
+use Rattle.desk.specs.Passing.{too_long_after}
 use Rattle.desk.proofs.whole.read_begun.Given as goal
 
 abbrev pub invariant-loop-bytes : goal.invariant-loop-bytes
@@ -10,9 +11,11 @@ invariant-loop-bytes g l = record {
   later : g.D.Desk.faults l.initial.desk ≤ g.D.Desk.faults l.desk;
   short : vec_len l.bytes ≤ l.limit;
   given : Consumes (g.D.Desk.left l.initial.desk) (g.D.Desk.left l.desk) l.bytes.items;
+  begins : (g.D.Desk.served l.desk).begins ≡ (g.D.Desk.served l.initial.desk).begins;
   misses : (g.D.Desk.served l.desk).misses ≡ (g.D.Desk.served l.initial.desk).misses;
   all : (g.D.Desk.served l.desk).bytes ≡ vec_len l.bytes;
   longest : (g.D.Desk.served l.desk).longest ≡ max (g.D.Desk.served l.initial.desk).longest (vec_len l.bytes);
+  over : (g.D.Desk.served l.desk).too_long ≡ too_long_after (vec_len l.bytes) (g.D.Desk.served l.initial.desk).too_long;
 }
 
 abbrev pub decreases-loop-bytes : goal.decreases-loop-bytes

@@ -1,23 +1,29 @@
-use Rattle.std.proofs.Common.{rules, ◌∙◌, ap, sym, arith, ◌*◌}
+use Rattle.std.proofs.Common.{◌≡◌, ◌∙◌, ◌+◌, ◌*◌, ◌<◌, ◌≤◌, min, ap, sym, arith}
+use Rattle.irv_base.specs.declared.limits.TheConstants.{MOST_DRAWS}
 use Rattle.km_risk.specs.declared.limits.TheConstants.{MILLIONTH}
 use Rattle.km_risk.specs.Counts.{clean}
-use Rattle.km_risk.specs.Printed.{printed_risk, step}
-use Rattle.km_risk.specs.Clean.{clean_draws}
-use Rattle.km_risk.proofs.CleanDraws.{find_behind, printed_risk-clean}
+use Rattle.km_risk.specs.Printed.{printed_risk}
+use Rattle.km_risk.proofs.Around.{falls_to, least-is, never-is}
 use Rattle.km_risk.proofs.clean.clean_draws.Goals as goal
 
-pub loop-n-init : goal.loop-n-init
-unfolding printed_risk clean_draws
-loop-n-init c = search rules
+pub returns-then-last-most : goal.returns-then-last-most
+returns-then-last-most c =
+    let last = c.climb-last.result.draws in
+    sym (never-is c.args.cards c.args.margin c.args.gamma c.args.limit (λ n few fewer.
+    let falls = falls_to c.args.cards c.args.margin c.args.gamma (omega arith) (omega arith) (omega arith) last n (omega arith) in
+    omega (arith, falls, c.climb-last.ensures.above)))
 
-pub loop-n-preserved : goal.loop-n-preserved
-loop-n-preserved c = record {
-  value =
-      c.after_draw-now.ensures.value
-      ∙ ap (λ risk. step c.args.cards c.args.margin c.args.gamma risk 2) c.loop-n.invariant.value
-      ∙ sym (printed_risk-clean c.args.cards c.args.margin c.args.gamma c.loop-n.n);
-  at_most_one = c.after_draw-now.ensures.at_most_one;
-  rest =
-      c.loop-n.invariant.rest
-      ∙ find_behind (λ k. printed_risk c.args.cards c.args.margin c.args.gamma (clean k)) (c.args.limit * MILLIONTH) c.loop-n.n _ (omega arith) (omega (arith, c.loop-n.invariant.value));
-}
+pub returns-then-is_within : goal.returns-then-is_within
+returns-then-is_within c =
+    let last = c.climb-last.result.draws in
+    let next = c.joined-next.result.draws in
+    let one_more : next ≡ last + 1 = c.joined-next.ensures.draws ∙ ap (λ one. last + one) c.one_draw-one.ensures.one in
+    let enough = rw c.if-is_within.true at c.is_within.ensures in
+    sym (least-is c.args.cards c.args.margin c.args.gamma c.args.limit next record {
+      within_cards = omega arith;
+      within_draws = omega arith;
+      enough = enough;
+      least = λ k fewer.
+          let falls = falls_to c.args.cards c.args.margin c.args.gamma (omega arith) (omega arith) (omega arith) last k (omega arith) in
+          omega (arith, falls, c.climb-last.ensures.above);
+    })

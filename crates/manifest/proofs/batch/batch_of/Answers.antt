@@ -1,6 +1,6 @@
 use Rattle.std.proofs.Common.{◌∙◌, sym}
 use Rattle.csv.specs.Records.{fields_of}
-use Rattle.ballot_reader.proofs.Ids.{among-set}
+use Rattle.ballot_reader.proofs.Differing.{among-set}
 use Rattle.csv_rows.specs.Fields.{trimmed_fields}
 use Rattle.manifest.proofs.Judged.{accepted, repeats}
 use Rattle.manifest.proofs.batch.batch_of.Goals as goal

@@ -1,6 +1,6 @@
 use Rattle.std.proofs.Common.{◌≡◌, ◌∙◌, ◌<◌, [], length, get_or, sym, ap, arith}
-use Rattle.manifest.specs.Cards.{cards_of, place_of}
-use Rattle.manifest.proofs.CardAt.{read_at}
+use Rattle.std.specs.List.{slice_get}
+use Rattle.std.proofs.lemmas.Option.{get_or_from_slice_get}
 use Rattle.manifest.proofs.Linking.{all_linked, is_placed, lacks_card, links_next}
 use Rattle.manifest.proofs.Records.{begins, kept, length-numbers}
 use Rattle.manifest.proofs.linked.numbers_of.Goals as goal
@@ -14,15 +14,19 @@ returns-in_default-clause-no_card c =
     let file = c.args.b.now in
     let i = c.loop-i.i in
     let below : i < length file.ids = omega (arith, c.loop-i-test.true, ap length c.rankings-i-end.ensures.same, c.ids-ids.ensures.one_each) in
-    let id = read_at file.ids i c.index-ids-i.result [] below (c.index-ids-i.is ∙ ap (λ ids. get_or ids i c.index-ids-i.result) c.ids-ids.ensures.same) in
+    let id = get_or_from_slice_get file.ids i c.at-id.result.now [] (ap (λ ids. slice_get ids i) (sym c.ids-ids.ensures.same) ∙ c.at-id.ensures) in
     let at = ap (λ places. get_or places i 0) (sym c.places-places.ensures.same) in
-    lacks_card m file i (get_or c.places-places.result.now i 0) c.index-ids-i.result c.loop-i.numbers.items below id at
-    (sym (c.in_default.ensures ∙ ap (place_of (cards_of m)) c.bytes.ensures.same)) c.loop-i.invariant
+    lacks_card m file i (get_or c.places-places.result.now i 0) c.at-id.result.now c.loop-i.numbers.items below id at
+    (sym c.in_default.ensures) c.loop-i.invariant
+
+pub at-id-requires : goal.at-id-requires
+at-id-requires c =
+    omega (arith, c.loop-i-test.true, ap length c.rankings-i-end.ensures.same, c.ids-ids.ensures.one_each, ap length c.ids-ids.ensures.same)
 
 pub index_mut-requires : goal.index_mut-requires
 index_mut-requires c =
     let m = c.args.m.now in
-    let place = is_placed m c.index-ids-i.result c.in-Some.card (sym (c.in-Some.ensures ∙ ap (place_of (cards_of m)) c.bytes.ensures.same)) in
+    let place = is_placed m c.at-id.result.now c.in-Some.card (sym c.in-Some.ensures) in
     omega (arith, place.0, place.1, length-numbers m c.args.b.now.ids c.loop-i.i c.loop-i.numbers.items c.loop-i.invariant)
 
 pub loop-i-preserved : goal.loop-i-preserved
@@ -31,9 +35,9 @@ loop-i-preserved c =
     let file = c.args.b.now in
     let i = c.loop-i.i in
     let below : i < length file.ids = omega (arith, c.loop-i-test.true, ap length c.rankings-i-end.ensures.same, c.ids-ids.ensures.one_each) in
-    let id = read_at file.ids i c.index-ids-i.result [] below (c.index-ids-i.is ∙ ap (λ ids. get_or ids i c.index-ids-i.result) c.ids-ids.ensures.same) in
-    links_next m file.ids i c.in-Some.card c.index-ids-i.result c.loop-i.numbers.items c.cards.ensures.batches c.ids-ids.ensures.differ below id
-    (sym (c.in-Some.ensures ∙ ap (place_of (cards_of m)) c.bytes.ensures.same)) c.loop-i.invariant
+    let id = get_or_from_slice_get file.ids i c.at-id.result.now [] (ap (λ ids. slice_get ids i) (sym c.ids-ids.ensures.same) ∙ c.at-id.ensures) in
+    links_next m file.ids i c.in-Some.card c.at-id.result.now c.loop-i.numbers.items c.cards.ensures.batches c.ids-ids.ensures.differ below id
+    (sym c.in-Some.ensures) c.loop-i.invariant
 
 pub returns-clause-numbers : goal.returns-clause-numbers
 returns-clause-numbers c =

@@ -2,7 +2,7 @@ use Rattle.std.proofs.Common.{◌∙◌, sym, arith}
 use Rattle.csv.specs.Records.{fields_of}
 use Rattle.csv_rows.specs.Fields.{numbered, trimmed_fields}
 use Rattle.manifest.proofs.SoFar.{goes_on, is_next, length-le-sum}
-use Rattle.ballot_reader.proofs.Ids.{among-set}
+use Rattle.ballot_reader.proofs.Differing.{among-set}
 use Rattle.manifest.proofs.read.batches_left.Goals as goal
 
 pub overflow_cast-result : goal.overflow_cast-result

@@ -5,7 +5,7 @@ use Rattle.suffix_walk.proofs.Runs.{rest}
 use Rattle.suffix_walk.proofs.walk.+walk.Given as goal
 
 abbrev pub decreases-walk : goal.decreases-walk
-decreases-walk g l = l.n - length l.suffix
+decreases-walk g l = l.n - length l.suffix.now
 
 abbrev pub invariant-loop-c : goal.invariant-loop-c
 invariant-loop-c g l = record {

@@ -5,7 +5,7 @@ use Rattle.bound_search.proofs.front.Front.new.Goals as goal
 
 pub returns-clause-front : goal.returns-clause-front
 returns-clause-front c = λ bag number scored.
-    front_start bag _ c.args.start number c.list-suffix.ensures.suffix scored c.copied-piece.ensures
+    front_start bag _ c.args.start number c.list-suffix.ensures.suffix scored refl
     (pushed_alone c.args.start _ _ c.new-suffixes.ensures.items c.in_ok-push.ensures.permutation) refl
 
 pub returns-clause-alone : goal.returns-clause-alone

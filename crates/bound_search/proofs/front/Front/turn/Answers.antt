@@ -74,6 +74,7 @@ pub returns-in-Some-clause-grows : goal.returns-in-Some-clause-grows
 returns-in-Some-clause-grows g c =
     grows_more c.args.tallies.now.bag c.args.bound c.args.self.now c.loop-self.self c.expand_first.new.self c.in_ok-order-in-Part.field-0 c.loop-self.invariant.grows c.loop-self.invariant.bound
     (subst (λ (t : Source). IsExpanded t.bag c.loop-self.self c.expand_first.new.self c.in_ok-order-in-Part.field-0) c.loop-self.invariant.same c.in_ok-order-in-Part.ensures.expanded)
+    c.loop-self.invariant.piece c.loop-self.invariant.least
 
 pub loop-self-preserved : goal.loop-self-preserved
 loop-self-preserved g c =
@@ -82,7 +83,7 @@ loop-self-preserved g c =
     let least : IsNewlyFound c.args.tallies.now.bag c.loop-self.self c.expand_first.new.self None = subst (IsNewlyFound c.args.tallies.now.bag c.loop-self.self c.expand_first.new.self) c.in_default.is e.newly in
     record {
       front = front_more c.args.tallies.now.bag c.loop-self.self c.expand_first.new.self c.in_ok-order-in-Part.field-0 c.loop-self.invariant.front e;
-      grows = grows_more c.args.tallies.now.bag c.args.bound c.args.self.now c.loop-self.self c.expand_first.new.self c.in_ok-order-in-Part.field-0 c.loop-self.invariant.grows c.loop-self.invariant.bound e;
+      grows = grows_more c.args.tallies.now.bag c.args.bound c.args.self.now c.loop-self.self c.expand_first.new.self c.in_ok-order-in-Part.field-0 c.loop-self.invariant.grows c.loop-self.invariant.bound e c.loop-self.invariant.piece c.loop-self.invariant.least;
       piece = e.piece ∙ c.loop-self.invariant.piece;
       bound = e.bound ∙ c.loop-self.invariant.bound;
       least = least ∙ c.loop-self.invariant.least;

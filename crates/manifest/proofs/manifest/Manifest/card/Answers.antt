@@ -1,30 +1,81 @@
-use Rattle.std.proofs.Common.{◌∙◌, ◌-◌, ◌+◌, ◌<◌, [], Some, length, get_or, sym, ap, arith, subst}
-use Rattle.std.specs.List.{slice_get}
+use Rattle.std.proofs.Common.{◌∙◌, ◌-◌, ◌+◌, ◌<◌, ◌≤◌, [], Some, length, get_or, sym, ap, subst, arith}
+use Rattle.std.specs.List.{slice_get, sum}
+use Rattle.ballot_reader.proofs.IdBytes.{read_at}
 use Rattle.manifest.specs.Cards.{cards_of}
-use Rattle.manifest.proofs.CardAt.{IsLeft, card, is_here, is_later, read_at}
+use Rattle.manifest.proofs.CardAt.{card, card-at, first_first, length-cards, length-firsts}
 use Rattle.manifest.proofs.manifest.Manifest.card.Goals as goal
 
-pub returns-then-left-cards : goal.returns-then-left-cards
-returns-then-left-cards c =
-    let ids = c.self.inside.ids.keys in
-    let counts = c.self.inside.counts.items in
-    let batch = c.loop-batch.batch in
-    let left = c.loop-batch.left in
-    let same = c.self.invariant.batches.a_count_each in
-    let below : batch < length counts = omega (arith, c.loop-batch-test.true, c.len-batch-end.ensures, c.self.inside.counts.ok) in
-    let n = read_at counts batch c.index-cards.result.now 0 below c.index-cards.ensures in
-    let id = read_at ids batch c.index-as_slice-batch.result [] (omega (arith, below, same)) (c.index-as_slice-batch.is ∙ ap (λ keys. get_or keys batch c.index-as_slice-batch.result) c.as_slice.ensures.keys) in
-    ap (λ m. slice_get (cards_of m) (c.args.i - 1)) (sym c.self.view_is)
-    ∙ is_here ids counts c.args.i batch left same below c.loop-batch.invariant (omega (arith, n, c.if-left-cards.true))
-    ∙ ap (λ b. Some (card b (left + 1))) id
+pub batch_of_card-batch-requires-clause-some : goal.batch_of_card-batch-requires-clause-some
+batch_of_card-batch-requires-clause-some c =
+    let m = c.self.invariant in
+    omega (arith, m.some, m.batches.a_count_each, length-firsts 1 c.self.inside.counts.items, ap length m.first_each, ap length c.as_slice.ensures.value)
 
-pub loop-batch-preserved : goal.loop-batch-preserved
-loop-batch-preserved c =
+pub batch_of_card-batch-requires-clause-first : goal.batch_of_card-batch-requires-clause-first
+batch_of_card-batch-requires-clause-first c =
+    let m = c.self.invariant in
+    let counts = c.self.inside.counts.items in
+    omega (
+      arith,
+      c.requires.first,
+      ap (λ fs. get_or fs 0 0) (c.as_slice.ensures.value ∙ m.first_each),
+      first_first counts (omega (arith, m.some, m.batches.a_count_each)),
+    )
+
+pub bounds-as_slice-batch : goal.bounds-as_slice-batch
+bounds-as_slice-batch c =
+    omega (
+      arith,
+      c.batch_of_card-batch.ensures.within,
+      ap length c.as_slice.ensures.value,
+      ap length c.self.invariant.first_each,
+      length-firsts 1 c.self.inside.counts.items,
+      c.self.invariant.batches.a_count_each,
+      ap length c.as_slice-2.ensures.keys,
+    )
+
+pub offset_bounds-as_slice-batch : goal.offset_bounds-as_slice-batch
+offset_bounds-as_slice-batch c =
+    omega (
+      arith,
+      c.batch_of_card-batch.ensures.within,
+      ap length c.as_slice.ensures.value,
+      ap length c.self.invariant.first_each,
+      length-firsts 1 c.self.inside.counts.items,
+      c.self.invariant.batches.a_count_each,
+      ap length c.as_slice-2.ensures.keys,
+      c.as_slice-2.type_inv.1,
+    )
+
+pub overflow_add-result : goal.overflow_add-result
+overflow_add-result c =
+    let m = c.self.invariant in
+    omega (
+      arith,
+      c.requires.last,
+      ap (λ b. length (cards_of b)) c.self.view_is,
+      length-cards c.self.inside.ids.keys c.self.inside.counts.items m.batches.a_count_each,
+      m.batches.most,
+    )
+
+pub returns : goal.returns
+returns c =
+    let m = c.self.invariant in
+    let i = c.args.i in
+    let b = c.batch_of_card-batch.result in
     let ids = c.self.inside.ids.keys in
     let counts = c.self.inside.counts.items in
-    let batch = c.loop-batch.batch in
-    let left = c.loop-batch.left in
-    let same = c.self.invariant.batches.a_count_each in
-    let below : batch < length counts = omega (arith, c.loop-batch-test.true, c.len-batch-end.ensures, c.self.inside.counts.ok) in
-    let n = read_at counts batch c.index-cards.result.now 0 below c.index-cards.ensures in
-    subst (λ m. IsLeft ids counts c.args.i (batch + 1) (left - m)) n (is_later ids counts c.args.i batch left same below c.loop-batch.invariant (omega (arith, n, c.if-left-cards.false)))
+    let firsts = c.self.inside.firsts.items in
+    let same = m.batches.a_count_each in
+    let all = ap length m.first_each in
+    let values = c.as_slice.ensures.value in
+    let below : b < length counts = omega (arith, c.batch_of_card-batch.ensures.within, ap length values, all, length-firsts 1 counts) in
+    let most : i ≤ sum counts = omega (arith, c.requires.last, ap (λ x. length (cards_of x)) c.self.view_is, length-cards ids counts same) in
+    let begun = subst (λ fs. get_or fs b 0 ≤ i) values c.batch_of_card-batch.ensures.begun in
+    let last = subst (λ fs. b + 1 < length fs → i < get_or fs (b + 1) 0) values c.batch_of_card-batch.ensures.last in
+    let id = read_at ids b c.index-as_slice-batch.result [] (omega (arith, below, same))
+    (c.index-as_slice-batch.is ∙ ap (λ keys. get_or keys b c.index-as_slice-batch.result) c.as_slice-2.ensures.keys) in
+    let first = read_at firsts b c.index.result.now 0 (omega (arith, below, all, length-firsts 1 counts)) c.index.ensures in
+    ap (λ x. slice_get (cards_of x) (i - 1)) (sym c.self.view_is)
+    ∙ card-at ids counts firsts i b same m.first_each most below begun last
+    ∙ ap (λ x. Some (card x (i - get_or firsts b 0 + 1))) id
+    ∙ ap (λ f. Some (card c.index-as_slice-batch.result (i - f + 1))) first

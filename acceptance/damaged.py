@@ -1,0 +1,162 @@
+#!/usr/bin/env python3
+"""Damaged files: cuts, flipped bits, repeats, swaps and words put in, of every kind of file, given to the built program.
+
+acceptance/damaged.py PROGRAM [FILES] gives it each beginning of a file of each kind, and so many damaged files, 5,000 if no
+number is given. Each run has to end with the status and both texts that plain_audit.py gives, which has no answer but those of
+docs/formats.md. The last line says how many did.
+"""
+import collections
+import multiprocessing
+import os
+import subprocess
+import sys
+import tempfile
+
+import audits
+import plain_audit
+from draws import Draws
+
+TOP = os.path.dirname(os.path.dirname(os.path.abspath(__file__)))
+
+# Of each kind of file the commands that read it, with other files whole.
+COMMANDS = {
+    "ballots.raire": [["tabulate", "ballots.raire"], ["open", "ballots.raire", "whole.csv", "whole.json", "--seed=1"]],
+    "assertions.json": [["check", "whole.raire", "assertions.json"], ["plan", "whole.csv", "assertions.json"]],
+    "manifest.csv": [["sample", "manifest.csv", "--seed=1", "--draws=5"], ["open", "whole.raire", "manifest.csv", "whole.json", "--seed=1"]],
+    "session.json": [
+        ["report", "session.json"], ["audit", "session.json", "whole.raire", "whole.csv", "whole.json", "whole_seen.csv", "--draws=20"],
+    ],
+    "seen.csv": [["audit", "opened.json", "whole.raire", "whole.csv", "whole.json", "seen.csv", "--draws=20"]],
+}
+WORDS = {
+    "csv": [b",", b"\n", b"\r\n", b"\r", b'"', b'""', b" ", b"\t", b"\xef\xbb\xbf", b"\0", b"\xff", b"0", b"1", b"-1", b"1000001", b"Contest",
+            b"ballot", b"missing", b"batch,cards\n", b"_", b"x" * 65, b"99999999999"],
+    "json": [b",", b"\n", b'"', b"{", b"}", b"[", b"]", b":", b"\\", b"\\u0041", b"\\ud800", b"\xff", b"0", b"-1", b"1.0", b"1e1", b"1e999", b"null",
+             b"true", b"4294967296", b"18446744073709551616", b"NaN", b'"version":1,', b'"margin":1,', b"[" * 130, b"NEB", b"NEN"],
+}
+
+
+def one_of(draws, choices):
+    return choices[draws.below(len(choices))]
+
+
+def damaged(draws, data, words):
+    """The bytes with one to three things done to them."""
+    for _ in range(1 + draws.below(3)):
+        at, size = draws.below(len(data) + 1), 1 + draws.below(12)
+        other = draws.below(len(data) + 1)
+        change = draws.below(8)
+        if change == 0 and at < len(data):
+            data = data[:at] + bytes([data[at] ^ 1 << draws.below(8)]) + data[at + 1:]
+        elif change == 1:
+            data = data[:at]
+        elif change == 2:
+            data = data[:at] + data[at:at + size] * (1 + draws.below(3)) + data[at:]
+        elif change == 3:
+            data = data[:at] + data[at + size:]
+        elif change == 4:
+            low, high = sorted((at, other))
+            data = data[:low] + data[high:high + size] + data[low + size:high] + data[low:low + size] + data[max(high, low + size) + size:]
+        elif change == 5:
+            lines = data.split(b"\n")
+            lines.insert(draws.below(len(lines) + 1), one_of(draws, lines))
+            data = b"\n".join(lines)
+        else:
+            data = data[:at] + one_of(draws, words) + data[at + (size if change == 6 else 0):]
+    return data
+
+
+def whole_files(draws):
+    """An audit with a session of one round, and its files once more under names that nothing damages."""
+    while True:
+        audits.Made(draws)
+        status, text, _ = plain_audit.run(["search", "ballots.raire"])
+        if status == 0:
+            break
+    audits.write("assertions.json", text)
+    names = {"ballots.raire": "whole.raire", "manifest.csv": "whole.csv", "assertions.json": "whole.json", "seen.csv": "whole_seen.csv"}
+    for name, other in names.items():
+        with open(name) as file:
+            audits.write(other, file.read())
+    audits.write("opened.json", plain_audit.run(["open", "whole.raire", "whole.csv", "whole.json", "--seed=7"])[1])
+    words = ["audit", "opened.json", "whole.raire", "whole.csv", "whole.json", "seen.csv", "--draws=9"]
+    audits.write("session.json", plain_audit.run(words)[1])
+
+
+def tried(job):
+    """Of so many files, made from one number: the statuses that came, and what came out otherwise."""
+    program, number, files, kinds = job
+    draws, statuses, wrong = Draws(number), collections.Counter(), []
+    with tempfile.TemporaryDirectory() as folder:
+        os.chdir(folder)
+        for at in range(files):
+            if at % 25 == 0:
+                whole_files(draws)
+                whole = {kind: open(kind, "rb").read() for kind in kinds}
+            kind = list(kinds)[at % len(kinds)]
+            data = damaged(draws, whole[kind], WORDS["json" if kind.endswith("json") else "csv"])
+            with open(kind, "wb") as file:
+                file.write(data)
+            words = one_of(draws, kinds[kind])
+            wanted = plain_audit.run(words)
+            ran = subprocess.run([program, *words], capture_output=True)
+            statuses[words[0], ran.returncode] += 1
+            got = ran.returncode, ran.stdout.decode("latin-1"), ran.stderr.decode("latin-1")
+            if got != wanted:
+                wrong.append(f"{words} on {data}: wanted {wanted}, got {got}")
+        os.chdir("/")
+    return statuses, wrong
+
+
+# What a search says of so many first bytes of examples/row1.raire, worked out by hand: rule and place, or the tied candidates.
+BEGINNINGS = ["B1 at 1"] + ["B2 at 2"] * 11 + ["B3 at 2"] * 6 + ["B4 at 2"] + ["1,2,3"] * 2 + ["B6 at 3", "B4 at 3", "1,2,3"]
+
+
+def beginnings(program, kinds):
+    """Each beginning of a ballot file, searched, and of one file of each kind, given to each command that reads it."""
+    runs, wrong = 0, []
+    with open(os.path.join(TOP, "examples", "row1.raire"), "rb") as file:
+        row = file.read()
+    with tempfile.TemporaryDirectory() as folder:
+        os.chdir(folder)
+        whole_files(Draws(7))
+        files = [(["search", "row1.raire"], "row1.raire", row)]
+        files += [(words, kind, open(kind, "rb").read()) for kind in kinds for words in kinds[kind]]
+        for words, name, data in files:
+            for size in range(len(data) + 1):
+                with open(name, "wb") as file:
+                    file.write(data[:size])
+                wanted = plain_audit.run(words)
+                if name == "row1.raire" and size < len(BEGINNINGS) and BEGINNINGS[size] not in wanted[1] + wanted[2]:
+                    wrong.append(f"{size} bytes: {wanted} by plain_audit.py")
+                ran = subprocess.run([program, *words], capture_output=True, text=True)
+                runs += 1
+                if (ran.returncode, ran.stdout, ran.stderr) != wanted:
+                    wrong.append(f"{words} on {data[:size]}: wanted {wanted}, got {ran}")
+        os.chdir("/")
+    print(f"{runs} beginnings of files, {len(wrong)} answers aren't as they should be")
+    return wrong
+
+
+def main():
+    program, files = os.path.abspath(sys.argv[1]), int(sys.argv[2]) if len(sys.argv) > 2 else 5000
+    commands = audits.Runs(program).commands
+    kinds = {kind: [words for words in lines if words[0] in commands] for kind, lines in COMMANDS.items()}
+    kinds = {kind: lines for kind, lines in kinds.items() if lines}
+    wrong = beginnings(program, kinds)
+    parts = max(1, files // 250)
+    jobs = [(program, 24 + part, files // parts, kinds) for part in range(parts)]
+    statuses, cut = collections.Counter(), len(wrong)
+    with multiprocessing.Pool(min(4, os.cpu_count())) as pool:
+        for each, told in pool.imap(tried, jobs):
+            statuses += each
+            wrong += told
+    for told in wrong[:5]:
+        print(told)
+    told = ", ".join(f"{command} {status}: {count}" for (command, status), count in sorted(statuses.items()))
+    print(f"{sum(statuses.values())} damaged files ({told}), {len(wrong) - cut} answers aren't as they should be")
+    sys.exit(1 if wrong else 0)
+
+
+if __name__ == "__main__":
+    main()

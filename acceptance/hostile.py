@@ -1,0 +1,302 @@
+#!/usr/bin/env python3
+"""The built program among failing outputs, files that are none, malicious files and little memory.
+
+acceptance/hostile.py PROGRAM runs each command that the program has. Whatever happens, it has to end by itself, with a
+status of docs/formats.md and no signal, to write what the status says and nothing else, and to take less than ten seconds
+of processor time. The last line says how many runs did.
+"""
+import os
+import resource
+import signal
+import socket
+import subprocess
+import sys
+import tempfile
+import threading
+import time
+
+import audits
+import plain_audit
+from limits import MOST_FILE_BYTES as LARGEST, MOST_LISTED, MOST_RECORDS
+
+MOST_SECONDS = 10
+MIB = 2**20
+WITH_LINE = {1, 2, 7, 9, 11, 12}
+WITH_TEXT = {0, 3, 4, 5, 6, 10}
+NOBODY = 65534
+
+# Of each command a line of words that has an answer, on the files of `good_files`.
+LINES = {
+    "tabulate": ["tabulate", "ballots.raire"],
+    "search": ["search", "ballots.raire"],
+    "check": ["check", "ballots.raire", "assertions.json"],
+    "sample": ["sample", "manifest.csv", "--seed=2024", "--draws=3"],
+    "plan": ["plan", "manifest.csv", "assertions.json"],
+    "open": ["open", "ballots.raire", "manifest.csv", "assertions.json", "--seed=2024"],
+    "audit": ["audit", "session.json", "ballots.raire", "manifest.csv", "assertions.json", "seen.csv", "--draws=5"],
+    "report": ["report", "session.json"],
+    "trial": ["trial", "--number=0", "--candidates=2", "--ballots=1"],
+}
+FILES = {"ballots.raire", "manifest.csv", "assertions.json", "session.json", "seen.csv"}
+
+
+def good_files():
+    audits.write("ballots.raire", audits.BALLOTS)
+    audits.write("manifest.csv", audits.MANIFEST)
+    audits.write("assertions.json", audits.ASSERTIONS)
+    audits.write("session.json", audits.session_with([audits.FIRST], False))
+    audits.write("seen.csv", audits.SEEN)
+
+
+class Runs:
+    def __init__(self, program):
+        self.program, self.count, self.failed = os.path.abspath(program), 0, 0
+        commands = audits.Runs(program).commands
+        self.lines = {name: line for name, line in LINES.items() if name in commands}
+
+    def wrong(self, shows, told):
+        self.failed += 1
+        print(f"{shows}: {told}")
+
+    def run(self, shows, words, statuses, **how):
+        """A run that has to end with one of these statuses, and to write as it says."""
+        self.count += 1
+        before = resource.getrusage(resource.RUSAGE_CHILDREN)
+        how = {"stdout": subprocess.PIPE, "stderr": subprocess.PIPE, "stdin": subprocess.DEVNULL, "timeout": 120, **how}
+        try:
+            ran = subprocess.run([self.program, *words], **how)
+        except subprocess.TimeoutExpired:
+            return self.wrong(shows, "it doesn't end")
+        after = resource.getrusage(resource.RUSAGE_CHILDREN)
+        seconds = after.ru_utime + after.ru_stime - before.ru_utime - before.ru_stime
+        status, out, err = ran.returncode, ran.stdout or b"", ran.stderr or b""
+        if status not in statuses:
+            self.wrong(shows, f"wanted status {sorted(statuses)}, got {status} {out[:200]} {err[:200]}")
+        elif seconds > MOST_SECONDS:
+            self.wrong(shows, f"took {seconds:.1f} s")
+        elif out and status not in WITH_TEXT | {8}:
+            self.wrong(shows, f"status {status}, and wrote {out[:200]}")
+        elif how["stderr"] == subprocess.PIPE and (status in WITH_LINE) != bool(err):
+            self.wrong(shows, f"status {status}, and told {err[:200]}")
+        elif err and (not err.startswith(b"raire: ") or not err.endswith(b"\n")):
+            self.wrong(shows, f"told {err[:200]}")
+
+
+# ---- outputs that fail
+
+def outputs(runs):
+    for name, line in runs.lines.items():
+        with open("/dev/full", "wb") as full:
+            runs.run(f"{name} on a full disk", line, {8}, stdout=full)
+        runs.run(f"{name} on a closed output", line, {8}, stdout=None, preexec_fn=lambda: os.close(1))
+        for is_ignored in (False, True):
+            read, write = os.pipe()
+            os.close(read)
+            action = signal.SIG_IGN if is_ignored else signal.SIG_DFL
+            runs.run(
+                f"{name} into a pipe that nobody reads, with a signal that is {'ignored' if is_ignored else 'as it comes'}", line, {8},
+                stdout=write, restore_signals=False, preexec_fn=lambda: signal.signal(signal.SIGPIPE, action),
+            )
+            os.close(write)
+        with open("/dev/full", "wb") as full:
+            runs.run(f"{name} refused on a full disk", line + ["one more"], {8}, stderr=full)
+        runs.run(f"{name} refused, with all outputs closed", line + ["one more"], {8}, stdout=None, stderr=None, preexec_fn=close_all)
+    with open("/dev/full", "wb") as full:
+        runs.run("no words on a full disk", [], {8}, stderr=full)
+
+
+def close_all():
+    for number in (0, 1, 2):
+        os.close(number)
+
+
+# ---- files that are none
+
+def names(runs):
+    os.mkdir("folder")
+    os.symlink("nowhere", "dangling")
+    os.symlink("loop", "loop")
+    with socket.socket(socket.AF_UNIX) as bound:
+        bound.bind("socket")
+        for line in runs.lines.values():
+            for place, word in enumerate(line):
+                if word in FILES:
+                    names_of(runs, line, place)
+
+
+def names_of(runs, line, place):
+    def put(name):
+        return line[:place] + [name] + line[place + 1:]
+
+    shown = f"{line[0]}, file {place}"
+    for name, statuses in [
+        ("folder", {7}), ("dangling", {12}), ("loop", {7}), ("socket", {7}), ("ballots.raire/none", {7}), ("none", {12}),
+        ("x" * 300, {7}), ("/dev/null", {2}), ("/dev/zero", {11}), ("/dev/full", {11}), ("none\n\"'\t none", {12}),
+    ]:
+        runs.run(f"{shown}: {name[:20]!r}", put(name), statuses)
+    runs.run(f"{shown}: a name that isn't UTF-8", [word.encode() for word in put("x")][:place] + [b"x\xff"] + line[place + 1:], {13})
+    copy = f"a \"copy\" of it's {line[place]}"
+    with open(line[place], "rb") as file, open(copy, "wb") as other:
+        other.write(file.read())
+    runs.run(f"{shown}: blanks and quotes", put(copy), {0, 10})
+    os.chmod(copy, 0)
+    runs.run(f"{shown}: a forbidden file", put(copy), {7}, **as_nobody())
+    os.remove(copy)
+    growing(runs, shown, put, line[place])
+
+
+def as_nobody():
+    """The system's superuser may read all, so a file is forbidden to another one."""
+    return {"user": NOBODY, "group": NOBODY, "extra_groups": []} if os.getuid() == 0 else {}
+
+
+def growing(runs, shown, put, name):
+    """Someone writes to the end of the file while it is read."""
+    with open(name, "rb") as file:
+        data = file.read()
+    ends = threading.Event()
+    with open("growing", "wb", buffering=0) as file:
+        file.write(data)
+
+        def grow():
+            for _ in range(200):
+                if ends.is_set():
+                    return
+                file.write(b"\n" * 100_000)
+        writer = threading.Thread(target=grow)
+        writer.start()
+        runs.run(f"{shown}: a file that grows", put("growing"), {0, 2, 10, 11})
+        ends.set()
+        writer.join()
+
+
+# ---- malicious files
+
+def repeated(text, size=LARGEST):
+    return (text * (size // len(text) + 1))[:size]
+
+
+def in_json(name, text):
+    """An assertion file in which a member is replaced by this text."""
+    members = {
+        "assertions": b"[]", "candidates": b'["1","2"]', "contest": b'"7"', "margin": b"1", "order": b'["1","2"]', "records": b"1",
+        "version": b"1", "winner": b'"1"', name: text,
+    }
+    return b"{" + b",".join(b'"%s":%s' % (key.encode(), value) for key, value in members.items()) + b"}"
+
+
+HEAD = b"1\nContest,1,2,1,2\n"
+NEB = b'{"kind":"NEB","loser":"2","margin":1,"winner":"1"},'
+
+# what it shows, the bytes, the statuses
+COMMA_SEPARATED = [
+    ("brackets", repeated(b"["), {2}), ("commas", repeated(b","), {2}), ("quotes", repeated(b'"'), {2}), ("one id", repeated(b"x"), {2}),
+    ("line feeds", repeated(b"\n"), {2}), ("blanks", repeated(b" \n"), {2}), ("zeros", repeated(b"\0"), {2}), ("digits", repeated(b"1"), {2}),
+    ("marks", repeated(plain_audit.MARK), {2}), ("one quote", b'"' + repeated(b",\n", LARGEST - 1), {2}),
+    ("a byte too many", repeated(b"x", LARGEST + 1), {11}),
+]
+BALLOTS = COMMA_SEPARATED + [
+    ("a million contests", b"1000000\n" + b"".join(b"Contest,%d,2,1,2\n" % c for c in range(1000000)), {2}),
+    ("a contest of 1,000 candidates", b"1\nContest,1,%d," % MOST_LISTED + b",".join(b"%d" % c for c in range(MOST_LISTED)) + b"\n", {2}),
+    ("64 contests of 1,000 candidates", b"64\n" + b"".join(
+        b"Contest,%d,1000," % k + b",".join(b"%d" % c for c in range(1000)) + b"\n" for k in range(64)), {2}),
+    ("ballots of commas", HEAD + b"1,t_1," + repeated(b",", LARGEST - len(HEAD) - 6), {3}),
+    ("ballots of one candidate", HEAD + b"1,t_1" + repeated(b",1", LARGEST - len(HEAD) - 6), {0, 3, 6}),
+    ("short ballots", HEAD + b"".join(b"1,%d,1\n" % k for k in range(MOST_RECORDS)), {0, 6}),
+    ("a million quotes in one field", HEAD + b'1,"' + repeated(b'""', 2_000_000) + b'",1\n', {2}),
+]
+ASSERTIONS = [
+    ("brackets", repeated(b"["), {2}), ("braces", repeated(b'{"a":'), {2}), ("commas", repeated(b","), {2}), ("quotes", repeated(b'"'), {2}),
+    ("one text", in_json("note", b'"' + repeated(b"x", LARGEST - 500) + b'"'), {6}), ("digits", in_json("note", repeated(b"1", LARGEST - 500)), {2}),
+    ("zeros behind a point", in_json("note", b"0." + repeated(b"0", LARGEST - 500)), {6}), ("blanks", repeated(b" "), {2}),
+    ("escapes", in_json("note", b'"' + repeated(b"\\u0041", (LARGEST - 500) // 6 * 6) + b'"'), {6}),
+    ("half surrogates", in_json("note", b'"' + repeated(b"\\ud800", (LARGEST - 500) // 6 * 6) + b'"'), {2}),
+    ("nulls", in_json("note", b"[" + repeated(b"null,", 50_000_000) + b"0]"), {6, 9}),
+    ("lists", in_json("note", b"[" + repeated(b"[],", 30_000_000) + b"0]"), {6, 9}),
+    ("one member again and again", b"{" + repeated(b'"margin":1,', 50_000_000 // 11 * 11) + in_json("note", b"1")[1:], {6}),
+    ("assertions", in_json("assertions", b"[" + NEB * ((LARGEST - 500) // len(NEB) - 1) + NEB[:-1] + b"]"), {0, 6, 9}),
+    ("candidates", in_json("candidates", b"[" + repeated(b'"1",', 50_000_000) + b'"2"]'), {2, 9}),
+    ("a byte too many", repeated(b" ", LARGEST + 1), {11}),
+]
+
+
+OPENED = audits.session_with([], False).encode()
+SESSIONS = [(shows, data, statuses if 11 in statuses else statuses & {9} | {2}) for shows, data, statuses in ASSERTIONS] + [
+    ("rounds", OPENED.replace(b'"rounds":[]', b'"rounds":[' + b"{}," * 20_000_000 + b"{}]"), {2, 9}),
+    ("margins", OPENED.replace(b'"margins":[1]', b'"margins":[' + b"1," * 10_000_000 + b"1]"), {0, 9}),
+]
+SEEN = COMMA_SEPARATED + [
+    ("one card again and again", repeated(b"b_1,ballot,1\n"), {2}), ("a ballot of one candidate", b"b_1,ballot" + repeated(b",1", LARGEST - 10), {0}),
+    ("cards that aren't there", b"".join(b"b_%d,missing\n" % k for k in range(2, 100_000)), {2}),
+]
+MANIFESTS = COMMA_SEPARATED + [
+    ("batches of one card", b"batch,cards\n" + b"".join(b"%d,1\n" % k for k in range(2_000_000)), {0}),
+    ("one batch again and again", b"batch,cards\n" + repeated(b"b,1\n", LARGEST - 12), {2}),
+    ("more cards than there may be", b"batch,cards\n" + b"".join(b"%d,1000000\n" % k for k in range(100_000)), {2}),
+]
+
+# Of each kind of file the commands that are given malicious ones, with the statuses that may come beside those of the table. All go to the
+# first command; a further one, which reads them likewise, gets few of those that have to be refused.
+MALICIOUS = {
+    "ballots.raire": (BALLOTS, {"tabulate": set(), "open": {2, 6}}), "assertions.json": (ASSERTIONS, {"check": set(), "plan": {0, 2}}),
+    "manifest.csv": (MANIFESTS, {"sample": set(), "open": {2}}), "session.json": (SESSIONS, {"report": set(), "audit": {2}}),
+    "seen.csv": (SEEN, {"audit": set()}),
+}
+
+
+def malicious(runs):
+    for name, (cases, commands) in MALICIOUS.items():
+        for shows, data, statuses in cases:
+            with open("malicious", "wb") as file:
+                file.write(data)
+            for command, more in commands.items():
+                is_first = command == next(iter(commands))
+                if command in runs.lines and (is_first or statuses != {2} or shows == "brackets"):
+                    words = ["malicious" if word == name else word for word in runs.lines[command]]
+                    runs.run(f"{command}: {shows}", words, statuses | (more if 11 not in statuses else set()))
+
+
+# ---- little memory
+
+def memory(runs):
+    with open("large.raire", "wb") as file:
+        file.write(HEAD + b"".join(b"1,batch_%d,%d\n" % (k + 1, 1 + k % 3 // 2) for k in range(MOST_RECORDS)))
+    with open("large.csv", "w") as file:
+        file.write(f"batch,cards\nbatch,{MOST_RECORDS}\n")
+    margin = sum(1 - k % 3 // 2 * 2 for k in range(MOST_RECORDS))
+    with open("large.json", "wb") as file:
+        claim = b'[{"kind":"NEB","loser":"2","margin":%d,"winner":"1"}]' % margin
+        file.write(in_json("assertions", claim).replace(b'"7"', b'"1"').replace(b'"margin":1', b'"margin":%d' % margin).replace(b'"records":1', b'"records":%d' % MOST_RECORDS))
+    large = {
+        "tabulate": ["large.raire"], "search": ["large.raire"], "check": ["large.raire", "large.json"],
+        "open": ["large.raire", "large.csv", "large.json", "--seed=1"],
+    }
+    for size in (16, 24, 32, 64, 128, 256, 1024):
+        for line in runs.lines.values():
+            runs.run(f"{line[0]} in {size} MB", line, {0, 9, 10}, preexec_fn=lambda: limit(size))
+        for command in large.keys() & runs.lines.keys():
+            wanted = {0, 9} if size < 1024 else {0}
+            runs.run(f"{command} of a million ballots in {size} MB", [command, *large[command]], wanted, preexec_fn=lambda: limit(size))
+
+
+def limit(size):
+    resource.setrlimit(resource.RLIMIT_AS, (size * MIB, size * MIB))
+
+
+def main():
+    runs, here = Runs(sys.argv[1]), os.getcwd()
+    for part in (outputs, names, malicious, memory):
+        began = time.monotonic()
+        with tempfile.TemporaryDirectory() as folder:
+            os.chmod(folder, 0o755)
+            os.chdir(folder)
+            good_files()
+            part(runs)
+            os.chdir(here)
+        print(f"{part.__name__}: {time.monotonic() - began:.0f} s")
+    print(f"{runs.count - runs.failed} runs among failing things as they should be, {runs.failed} not; tried: {' '.join(runs.lines)}")
+    sys.exit(1 if runs.failed else 0)
+
+
+if __name__ == "__main__":
+    main()

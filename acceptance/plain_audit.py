@@ -1,0 +1,645 @@
+#!/usr/bin/env python3
+"""The whole suite once more, written plainly and apart from it: every command from its words to its texts.
+
+It follows docs/formats.md and docs/rules.md with hashlib and whole numbers alone, and takes from plain.py how contests
+are searched and assertion files judged. `run` gives the status and the two texts of a line of words, as `raire` does,
+save that it never lacks memory and that no search is ever spent. A check walks all orders, so it is for contests of up
+to seven candidates or so.
+
+    acceptance/plain_audit.py COMMAND FILES.. OPTIONS..
+"""
+import bisect
+import hashlib
+import json
+import re
+import sys
+
+import plain
+from limits import (
+    DEFAULT_NODES, FEWEST_CANDIDATES, GREATEST_GAMMA, GREATEST_LIMIT, MOST_BATCH_BYTES, MOST_BATCH_CARDS, MOST_CANDIDATES, MOST_CARDS,
+    MOST_CONTESTS, MOST_DRAWS, MOST_FILE_BYTES, MOST_FLOOR, MOST_LISTED, MOST_NODES, MOST_NUMBER, MOST_RECORDS, MOST_SEED_BYTES,
+    MOST_WORKERS,
+)
+
+UNIT = 10**18
+MARK = b"\xef\xbb\xbf"
+
+
+class Broken(Exception):
+    """A file breaks a rule at a place."""
+
+    def __init__(self, rule, at):
+        super().__init__(f"{rule} at {at}")
+
+
+class End(Exception):
+    """A call ends here, with its status and what it writes."""
+
+    def __init__(self, status, out="", err=""):
+        super().__init__(status)
+        self.answer = status, out, err
+
+
+def refused(path, text):
+    return End(2, err=f"raire: {path}: {text}\n")
+
+
+# ---- comma-separated files
+
+def rows_of(text):
+    """The records of a text: a quote opens a field, two of them in it stand for one, and what follows the second is plain."""
+    row, field, state = [], "", "row"
+    for c in text:
+        if state == "row":
+            if c in "\r\n":
+                continue
+            row, field, state = [], "", "field"
+        if state == "field":
+            field, state = "", "quoted" if c == '"' else "plain"
+            if c == '"':
+                continue
+        if state == "quoted":
+            field, state = (field, "quote") if c == '"' else (field + c, "quoted")
+            continue
+        if state == "quote" and c == '"':
+            field, state = field + c, "quoted"
+            continue
+        state = "plain"
+        if c == ",":
+            row.append(field)
+            field, state = "", "field"
+        elif c in "\r\n":
+            yield row + [field]
+            state = "row"
+        else:
+            field += c
+    if state != "row":
+        yield row + [field]
+
+
+def numbered(data):
+    """The numbered records of a file, one after the other, with the blanks taken off round their fields."""
+    for _ in range(2):
+        data = data[len(MARK):] if data.startswith(MARK) else data
+    for row in rows_of(data.decode("latin-1")):
+        fields = [field.strip(" \t") for field in row]
+        if fields != [""]:
+            yield fields
+
+
+def records_of(data):
+    return list(numbered(data))
+
+
+def number_in(text, low, high):
+    """The number of 1 to 10 digits, if it is in this range."""
+    if not re.fullmatch("[0-9]{1,10}", text) or not low <= int(text) <= high:
+        return None
+    return int(text)
+
+
+# ---- ballot files
+
+class Ballots(plain.Contest):
+    """A contest, with the id and the record number of each ballot."""
+
+    def __init__(self, name, ids, cast):
+        super().__init__(name, ids, [ranking for _, _, ranking in cast])
+        self.cast = cast
+
+
+def contest_records(records):
+    """Of each contest, in order, its id, its candidates and its record number."""
+    count = number_in(records[0][0], 1, MOST_CONTESTS) if records else None
+    if count is None:
+        raise Broken("B1", 1)
+    contests = {}
+    for at in range(2, count + 2):
+        row = records[at - 1] if at <= len(records) else []
+        if len(row) < 3 or row[0] != "Contest" or row[1] in contests:
+            raise Broken("B2", at)
+        size = number_in(row[2], 1, MOST_LISTED)
+        if size is None or len(row) < 3 + size:
+            raise Broken("B3", at)
+        ids = row[3:3 + size]
+        if not all(map(plain.is_id, [row[1], *ids])) or len(set(ids)) < size:
+            raise Broken("B4", at)
+        contests[row[1]] = ids, at
+    return contests
+
+
+def ranking_of(fields, places):
+    """Each candidate at its first place; None where a preference is no candidate."""
+    ranked = [field for field in fields if field]
+    return tuple(dict.fromkeys(places[field] for field in ranked)) if set(ranked) <= set(places) else None
+
+
+def ballots_of(data, asked):
+    records = records_of(data)
+    contests = contest_records(records)
+    if asked not in contests and (asked is not None or len(contests) > 1):
+        raise Broken("B5", 1)
+    name = next(iter(contests)) if asked is None else asked
+    ids, at = contests[name]
+    if not FEWEST_CANDIDATES <= len(ids) <= MOST_CANDIDATES:
+        raise Broken("B3", at)
+    places = {name: {c: place for place, c in enumerate(ids)} for name, (ids, _) in contests.items()}
+    stood, cast, first = set(), [], len(contests) + 2
+    for at, row in enumerate(records[first - 1:], first):
+        if at - first == MOST_RECORDS:
+            raise Broken("B10", at)
+        if len(row) < 2:
+            raise Broken("B6", at)
+        if not plain.is_id(row[1]):
+            raise Broken("B4", at)
+        if row[0] not in contests:
+            raise Broken("B7", at)
+        if (row[0], row[1]) in stood:
+            raise Broken("B9", at)
+        ranking = ranking_of(row[2:], places[row[0]])
+        if ranking is None:
+            raise Broken("B8", at)
+        stood.add((row[0], row[1]))
+        if row[0] == name:
+            cast.append((row[1], at, ranking))
+    return Ballots(name, ids, cast)
+
+
+# ---- manifests
+
+class Manifest:
+    def __init__(self, batches):
+        self.batches, self.firsts, self.cards = batches, {}, 0
+        for batch, size in batches.items():
+            self.firsts[batch] = self.cards
+            self.cards += size
+        self.ids, self.starts = list(batches), list(self.firsts.values())
+
+    def place(self, card):
+        """The number of the card with this id, or None."""
+        batch, _, number = card.rpartition("_")
+        if not re.fullmatch("[1-9][0-9]*", number) or int(number) > self.batches.get(batch, 0):
+            return None
+        return self.firsts[batch] + int(number)
+
+    def card(self, place):
+        """The id of the card with this number, in the last batch that begins before it."""
+        batch = self.ids[bisect.bisect_left(self.starts, place) - 1]
+        return f"{batch}_{place - self.firsts[batch]}"
+
+
+def manifest_of(data):
+    records = records_of(data)
+    if not records or records[0] != ["batch", "cards"]:
+        raise Broken("M1", 1)
+    batches, total = {}, 0
+    for at, row in enumerate(records[1:], 2):
+        if len(row) != 2:
+            raise Broken("M2", at)
+        batch, text = row
+        if not plain.is_id(batch) or len(batch) > MOST_BATCH_BYTES or batch in batches:
+            raise Broken("M4", at)
+        size = number_in(text, 1, MOST_BATCH_CARDS)
+        if size is None:
+            raise Broken("M3", at)
+        total += size
+        if total > MOST_CARDS:
+            raise Broken("M5", at)
+        batches[batch] = size
+    if not batches:
+        raise Broken("M6", 1)
+    return Manifest(batches)
+
+
+def linked(ballots, manifest):
+    """The recorded ranking of each card that has a ballot."""
+    recorded = {}
+    for card, at, ranking in ballots.cast:
+        place = manifest.place(card)
+        if place is None:
+            raise Broken("M7", at)
+        recorded[place] = ranking
+    return recorded
+
+
+# ---- seen files
+
+MISSING = "missing"
+
+
+def seen_of(data, manifest, ids):
+    """What was seen of each card: its ranking, or that it is missing."""
+    places, seen = {c: place for place, c in enumerate(ids)}, {}
+    for at, row in enumerate(records_of(data), 1):
+        if len(row) < 2 or row[1] not in ("ballot", "missing") or (row[1] == "missing" and any(row[2:])):
+            raise Broken("V1", at)
+        card = manifest.place(row[0])
+        if card is None:
+            raise Broken("V2", at)
+        if card in seen:
+            raise Broken("V3", at)
+        ranking = ranking_of(row[2:], places)
+        if ranking is None:
+            raise Broken("V5", at)
+        seen[card] = ranking if row[1] == "ballot" else MISSING
+    return seen
+
+
+# ---- discrepancies, risk, draws
+
+def value(assertion, ranking):
+    """2 for the winner, 0 for the loser, else 1."""
+    kind, w, l = assertion[:3]
+    if kind == "NEN":
+        top = next((c for c in ranking if c in assertion[3]), None)
+        return {w: 2, l: 0}.get(top, 1)
+    if ranking[:1] == (w,):
+        return 2
+    behind = l in ranking and (w not in ranking or ranking.index(l) < ranking.index(w))
+    return 0 if behind else 1
+
+
+def discrepancy(assertion, recorded, seen):
+    was = 1 if recorded is None else value(assertion, recorded)
+    found = 0 if seen == MISSING else value(assertion, seen)
+    return 2 - was + found
+
+
+def risk(counts, cards, margin, gamma):
+    """The printed risk of so many draws of each discrepancy."""
+    left, units = 2 * cards - margin, UNIT
+    for d in (4, 3, 2, 1, 0):
+        over, under = (500 + gamma) * left, 500 * d * cards + gamma * left
+        for _ in range(counts[d]):
+            units = -(-units * over // under)
+            if d < 2:
+                units = min(units, UNIT)
+    return units
+
+
+def clean_draws(cards, margin, gamma, limit):
+    """The least number of clean draws that is enough, or None."""
+    left, units = 2 * cards - margin, UNIT
+    over, under = (500 + gamma) * left, 1000 * cards + gamma * left
+    for draws in range(1, min(cards, MOST_DRAWS) + 1):
+        units = -(-units * over // under)
+        if units <= limit * 10**12:
+            return draws
+    return None
+
+
+def drawn(seed, k, cards):
+    return int.from_bytes(hashlib.sha256(f"{seed},{k}".encode()).digest(), "big") % cards + 1
+
+
+# ---- sessions
+
+def is_seed(text):
+    return 1 <= len(text) <= MOST_SEED_BYTES and all(" " <= c <= "~" for c in text)
+
+
+def is_from(low, high):
+    return lambda number: type(number) is int and low <= number <= high
+
+
+def is_digest(text):
+    return type(text) is str and re.fullmatch("[0-9a-fA-F]{64}", text)
+
+
+SESSION = {
+    "assertions": is_digest, "ballots": is_digest, "manifest": is_digest, "cards": is_from(1, MOST_CARDS),
+    "contest": lambda text: plain.is_text(text) and plain.is_id(text), "gamma": is_from(1, GREATEST_GAMMA),
+    "limit": is_from(1, GREATEST_LIMIT), "margins": plain.is_list, "rounds": plain.is_list,
+    "seed": lambda text: plain.is_text(text) and is_seed(text), "signed_off": lambda value: type(value) is bool,
+    "version": is_from(1, 1),
+}
+ROUND = {"counts": plain.is_list, "draws": is_from(1, MOST_DRAWS), "risks": plain.is_list}
+
+
+def confirmed(session, claim, rounds):
+    """The claim's risk was within the limit at the end of one of these rounds."""
+    return any(done["risks"][claim] <= session["limit"] * 10**12 for done in rounds)
+
+
+def is_signed_off(session):
+    claims = range(len(session["margins"]))
+    return bool(session["rounds"]) and all(confirmed(session, claim, session["rounds"]) for claim in claims)
+
+
+def is_round(session, done, had):
+    """The round has more draws than before, and of each claim five counts of them with their risk."""
+    if not plain.has(done, ROUND) or done["draws"] <= had:
+        return False
+    margins = session["margins"]
+    if len(done["counts"]) != len(margins) or len(done["risks"]) != len(margins):
+        return False
+    for counts, margin, units in zip(done["counts"], margins, done["risks"]):
+        if not plain.is_list(counts) or len(counts) != 5 or not all(map(is_from(0, MOST_DRAWS), counts)):
+            return False
+        if sum(counts) != done["draws"] or type(units) is not int:
+            return False
+        if units != risk(counts, session["cards"], margin, session["gamma"]):
+            return False
+    return True
+
+
+def session_of(data):
+    """The session, or None where it breaks S1."""
+    try:
+        session = plain.json_value(data)
+    except (ValueError, RecursionError):
+        return None
+    if not plain.has(session, SESSION):
+        return None
+    margins, had = session["margins"], 0
+    if not margins or not all(map(is_from(1, session["cards"]), margins)):
+        return None
+    for done in session["rounds"]:
+        if not is_round(session, done, had):
+            return None
+        had = done["draws"]
+    if session["signed_off"] != is_signed_off(session):
+        return None
+    rounds = [{name: done[name] for name in ROUND} for done in session["rounds"]]
+    kept = {name: session[name] for name in SESSION} | {"rounds": rounds}
+    return kept | {name: kept[name].lower() for name in ("assertions", "ballots", "manifest")}
+
+
+def session_text(session):
+    return json.dumps(session, sort_keys=True, separators=(",", ":")) + "\n"
+
+
+# ---- the commands
+
+def read(path):
+    try:
+        with open(path, "rb") as file:
+            data = file.read(MOST_FILE_BYTES + 1)
+    except FileNotFoundError:
+        raise End(12, err=f"raire: {path}: no such file\n") from None
+    except OSError:
+        raise End(7, err=f"raire: {path}: read fault\n") from None
+    if len(data) > MOST_FILE_BYTES:
+        raise End(11, err=f"raire: {path}: too long\n")
+    return data
+
+
+def judged(path, judge, *given):
+    """What `judge` makes of a file, or the file's refusal."""
+    try:
+        return judge(*given)
+    except (Broken, plain.Refused) as broken:
+        raise refused(path, str(broken)) from None
+
+
+def tabulate(options, ballots):
+    contest = judged(ballots, ballots_of, read(ballots), options.get("contest"))
+    return 0, plain.tabulation(contest)
+
+
+def certified(contest, floor):
+    """The status and the text of a search within its budget."""
+    text = plain.certificate_by_bound(contest)
+    file = json.loads(text)
+    if file["margin"] >= floor:
+        return 0, text
+    return 5, f"full count\norder {','.join(file['order'])}\nmargin {file['margin']}\nfloor {floor}\n"
+
+
+def search(options, ballots):
+    contest = judged(ballots, ballots_of, read(ballots), options.get("contest"))
+    return certified(contest, options.get("floor", 1))
+
+
+def check(options, ballots, assertions):
+    contest = judged(ballots, ballots_of, read(ballots), options.get("contest"))
+    return judged(assertions, plain.judge, contest, read(assertions), options.get("nodes", DEFAULT_NODES))
+
+
+def sample(options, path):
+    manifest = judged(path, manifest_of, read(path))
+    lines = []
+    for k in range(1, options["draws"] + 1):
+        card = drawn(options["seed"], k, manifest.cards)
+        lines.append(f"{k},{card},{manifest.card(card)}\n")
+    return 0, "".join(lines)
+
+
+def plan(options, manifest_path, path):
+    cards = judged(manifest_path, manifest_of, read(manifest_path)).cards
+    file = judged(path, plain.read_assertions, read(path))
+    if file["records"] > cards:
+        raise refused(path, "F7 at 0")
+    names, lines, most = plain.Contest(file["contest"], file["candidates"], []), [], 0
+    for assertion, margin in file["assertions"]:
+        draws = clean_draws(cards, margin, options.get("gamma", 100), options.get("limit", 50_000))
+        lines.append(f"{plain.shown(names, assertion)} margin {margin}: " + ("full count\n" if draws is None else f"{draws} draws\n"))
+        most = None if draws is None or most is None else max(most, draws)
+    return 0, "".join(lines) + ("all: full count\n" if most is None else f"all: {most} draws\n")
+
+
+def accepted(contest, path, data, nodes):
+    """The assertion file, or the end of the call with what a check of it finds first."""
+    status, text = judged(path, plain.judge, contest, data, nodes)
+    if status:
+        raise End(status, out=text)
+    return plain.read_assertions(data)
+
+
+def digest(data):
+    return hashlib.sha256(data).hexdigest()
+
+
+def open_session(options, ballots, manifest, assertions):
+    bytes_of_ballots = read(ballots)
+    contest = judged(ballots, ballots_of, bytes_of_ballots, options.get("contest"))
+    bytes_of_manifest = read(manifest)
+    cards = judged(manifest, manifest_of, bytes_of_manifest)
+    judged(ballots, linked, contest, cards)
+    bytes_of_assertions = read(assertions)
+    file = accepted(contest, assertions, bytes_of_assertions, options.get("nodes", DEFAULT_NODES))
+    session = {
+        "assertions": digest(bytes_of_assertions), "ballots": digest(bytes_of_ballots), "cards": cards.cards,
+        "contest": contest.name, "gamma": options.get("gamma", 100), "limit": options.get("limit", 50_000),
+        "manifest": digest(bytes_of_manifest), "margins": [margin for _, margin in file["assertions"]], "rounds": [],
+        "seed": options["seed"], "signed_off": False, "version": 1,
+    }
+    return 0, session_text(session)
+
+
+def same(path, data, wanted):
+    if digest(data) != wanted:
+        raise refused(path, f"S2 expected {wanted} found {digest(data)}")
+    return data
+
+
+def counts_of(session, recorded, seen, assertion, draws):
+    counts = [0] * 5
+    for k in range(1, draws + 1):
+        card = drawn(session["seed"], k, session["cards"])
+        counts[discrepancy(assertion, recorded.get(card), seen[card])] += 1
+    return counts
+
+
+def advance(session, session_path, seen_path, recorded, claims, seen, draws):
+    """The session with one more round, or V4 or S3."""
+    for k in range(1, draws + 1):
+        card = drawn(session["seed"], k, session["cards"])
+        if card not in seen:
+            raise refused(seen_path, f"V4 card {card} draw {k}")
+    for i, done in enumerate(session["rounds"], 1):
+        for j, (assertion, _) in enumerate(claims, 1):
+            had, found = done["counts"][j - 1], counts_of(session, recorded, seen, assertion, done["draws"])
+            if had != found:
+                numbers = f"expected {' '.join(map(str, had))} found {' '.join(map(str, found))}"
+                raise refused(session_path, f"S3 round {i} claim {j} {numbers}")
+    counts = [counts_of(session, recorded, seen, assertion, draws) for assertion, _ in claims]
+    risks = [
+        risk(counted, session["cards"], margin, session["gamma"])
+        for counted, margin in zip(counts, session["margins"])
+    ]
+    further = {**session, "rounds": session["rounds"] + [{"counts": counts, "draws": draws, "risks": risks}]}
+    return {**further, "signed_off": is_signed_off(further)}
+
+
+def audit(options, session_path, ballots, manifest, assertions, seen):
+    session = session_of(read(session_path))
+    if session is None:
+        raise refused(session_path, "S1")
+    had = session["rounds"][-1]["draws"] if session["rounds"] else 0
+    if options["draws"] <= had:
+        raise refused(session_path, f"S4 had {had}")
+    data = same(ballots, read(ballots), session["ballots"])
+    contest = judged(ballots, ballots_of, data, session["contest"])
+    cards = judged(manifest, manifest_of, same(manifest, read(manifest), session["manifest"]))
+    recorded = judged(ballots, linked, contest, cards)
+    data = same(assertions, read(assertions), session["assertions"])
+    claims = accepted(contest, assertions, data, options.get("nodes", DEFAULT_NODES))["assertions"]
+    if session["cards"] != cards.cards or session["margins"] != [margin for _, margin in claims]:
+        raise refused(session_path, "S5")
+    cards_seen = judged(seen, seen_of, read(seen), cards, contest.ids)
+    further = advance(session, session_path, seen, recorded, claims, cards_seen, options["draws"])
+    return 0 if further["signed_off"] else 10, session_text(further)
+
+
+def risk_text(units):
+    return f"{units // UNIT}.{units % UNIT:018}"
+
+
+def report(options, path):
+    session = session_of(read(path))
+    if session is None:
+        raise refused(path, "S1")
+    lines = [f"{name} {session[name]}" for name in ("contest", "cards", "limit", "gamma", "seed")]
+    for i, done in enumerate(session["rounds"], 1):
+        lines.append(f"round {i} draws {done['draws']}")
+        for j, margin in enumerate(session["margins"]):
+            state = "confirmed" if confirmed(session, j, session["rounds"][:i]) else "unconfirmed"
+            counts, units = " ".join(map(str, done["counts"][j])), risk_text(done["risks"][j])
+            lines.append(f"assertion {j + 1} margin {margin} counts {counts} risk {units} {state}")
+    return 0, "\n".join(lines + [f"signed off {'yes' if session['signed_off'] else 'no'}"]) + "\n"
+
+
+def trial_rankings(number, n, ballots):
+    """A length, and for each place the smaller of two draws; a repeated candidate is dropped."""
+    state, rankings = number, []
+
+    def draw():
+        nonlocal state
+        state = (state * 6364136223846793005 + 1442695040888963407) % 2**64
+        return state // 2**33
+
+    for _ in range(ballots):
+        length = 1 + draw() % n
+        pairs = [(draw() % n, draw() % n) for _ in range(length)]
+        rankings.append(tuple(dict.fromkeys(min(pair) for pair in pairs)))
+    return rankings
+
+
+def trial(options):
+    n, number = options.get("candidates", 6), options["number"]
+    contest = plain.Contest("trial", [str(c + 1) for c in range(n)], trial_rankings(number, n, options.get("ballots", 10_000)))
+    file = json.loads(plain.certificate_by_bound(contest))
+    lines = {
+        "number": number, "candidates": n, "records": file["records"], "winner": file["winner"], "margin": file["margin"],
+        "assertions": len(file["assertions"]), "order": ",".join(file["order"]),
+    }
+    return 0, "".join(f"{name} {value}\n" for name, value in lines.items())
+
+
+# ---- words
+
+def as_number(low, high):
+    return lambda text: number_in(text, low, high)
+
+
+KINDS = {
+    "contest": lambda text: text if plain.is_id(text) else None, "seed": lambda text: text if is_seed(text) else None,
+    "workers": as_number(1, MOST_WORKERS), "nodes": as_number(1, MOST_NODES), "floor": as_number(1, MOST_FLOOR),
+    "limit": as_number(1, GREATEST_LIMIT), "gamma": as_number(1, GREATEST_GAMMA), "draws": as_number(1, MOST_DRAWS),
+    "number": as_number(0, MOST_NUMBER), "candidates": as_number(FEWEST_CANDIDATES, MOST_CANDIDATES), "ballots": as_number(1, MOST_RECORDS),
+}
+
+# the call, the number of its files, the options that must be given, those that may be
+COMMANDS = {
+    "tabulate": (tabulate, 1, "", "contest"),
+    "search": (search, 1, "", "contest workers nodes floor"),
+    "check": (check, 2, "", "contest nodes"),
+    "sample": (sample, 1, "seed draws", ""),
+    "plan": (plan, 2, "", "limit gamma"),
+    "open": (open_session, 3, "seed", "contest limit gamma nodes"),
+    "audit": (audit, 5, "draws", "nodes"),
+    "report": (report, 1, "", ""),
+    "trial": (trial, 0, "number", "candidates ballots workers nodes"),
+}
+
+
+def line_of(words):
+    """The call of a line with its files and the values of its options, or None where the words are no line."""
+    if not words or words[0] not in COMMANDS:
+        return None
+    call, count, must, may = COMMANDS[words[0]]
+    files, options, rest = [], {}, list(words[1:])
+    while rest:
+        word = rest.pop(0)
+        if word == "--":
+            files, rest = files + rest, []
+        elif not word.startswith("-"):
+            files.append(word)
+        else:
+            name, has_value, text = word[2:].partition("=")
+            if not word.startswith("--") or name not in (must + " " + may).split() or name in options:
+                return None
+            if not has_value:
+                text = rest.pop(0) if rest and not rest[0].startswith("-") else ""
+            options[name] = KINDS[name](text) if text else None
+            if options[name] is None:
+                return None
+    is_line = len(files) == count and all(files) and set(must.split()) <= set(options)
+    return (call, options, files) if is_line else None
+
+
+def run(words):
+    """The status, and what standard output and standard error take."""
+    line = line_of(words)
+    if line is None:
+        return 1, "", "raire: bad words\n"
+    call, options, files = line
+    try:
+        status, out = call(options, *files)
+    except End as end:
+        return end.answer
+    except plain.Tie as tie:
+        return 3, str(tie), ""
+    return status, out, ""
+
+
+def main():
+    status, out, err = run(sys.argv[1:])
+    sys.stdout.write(out)
+    sys.stderr.write(err)
+    sys.exit(status)
+
+
+if __name__ == "__main__":
+    main()

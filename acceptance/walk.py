@@ -1,0 +1,95 @@
+#!/usr/bin/env python3
+"""Runs the commands that README and docs/ show together with what they print, and compares.
+
+acceptance/walk.py PROGRAM [PAGES] takes from each page its blocks of lines that begin with `$ `. All commands of a page are run one
+after the other by one bash, in a folder that begins with the repository's examples, and each has to print the lines below it. There
+`...` stands for what the page leaves out: for lines, where it stands alone. The last line says how many did.
+"""
+import os
+import re
+import subprocess
+import sys
+import tempfile
+
+TOP = os.path.dirname(os.path.dirname(os.path.abspath(__file__)))
+OWN = os.path.join(TOP, "crates", "raire", "out", "raire")
+MARK = "that was printed by the line above"
+UNTRIED = ("templates are missing", "bc: command not found")  # what isn't here can't be tried
+
+
+def blocks_of(text):
+    """The blocks of a page: lines between two fences, and paragraphs of lines with four blanks in front."""
+    for part in re.findall(r"^```\w*\n(.*?)^```$", text, re.MULTILINE | re.DOTALL):
+        yield part
+    for part in re.findall(r"(?:^    .*\n|^\n(?=    ))+", text, re.MULTILINE):
+        yield re.sub("^    ", "", part, flags=re.MULTILINE)
+
+
+def shown(text):
+    """Each command of a page, with its further lines behind a backslash, and what it is said to print."""
+    for block in blocks_of(text):
+        for part in re.split(r"^\$ ", block, flags=re.MULTILINE)[1:]:
+            lines = part.rstrip("\n").split("\n")
+            size = next(at for at, line in enumerate(lines, 1) if not line.endswith("\\"))
+            yield "\n".join(lines[:size]), "".join(line + "\n" for line in lines[size:])
+
+
+def is_as_shown(printed, wanted):
+    pattern = "".join(
+        "(?:.*\n)*" if line == "...\n" else ".*".join(map(re.escape, line.split("..."))) for line in wanted.splitlines(keepends=True)
+    )
+    return re.fullmatch(pattern, printed) is not None
+
+
+def printed_by(commands, folder, given):
+    """What each command prints on standard output and error, in one bash, which keeps statuses and variables from one to the next."""
+    lines = ["exec 2>&1"] + [f"{command}\nlast=$?; echo; echo '{MARK}'; (exit $last)" for command in commands]
+    ran = subprocess.run(["bash", "-c", "\n".join(lines)], stdout=subprocess.PIPE, stdin=subprocess.DEVNULL, cwd=folder, env=given)
+    return ran.stdout.decode(errors="replace").split(f"\n{MARK}\n")
+
+
+def put_repository(program, folder):
+    """The names that a page uses. Another program than the clone's own stands in for ./raire, and ./show asks it."""
+    for name in ("show", "examples", "acceptance", "docs"):
+        os.symlink(os.path.join(TOP, name), os.path.join(folder, name))
+    script = os.path.join(folder, "raire")
+    if os.path.exists(OWN) and os.path.samefile(program, OWN):
+        os.symlink(os.path.join(TOP, "raire"), script)
+        return dict(os.environ)
+    with open(script, "w") as file:
+        file.write(f'#!/usr/bin/env bash\nexec "{program}" "$@"\n')
+    os.chmod(script, 0o755)
+    return {**os.environ, "RAIRE": script}
+
+
+def tried(program, page):
+    """How many commands the page shows, and what is otherwise than it says."""
+    with open(os.path.join(TOP, page)) as file:
+        walk = list(shown(file.read()))
+    wrong = []
+    with tempfile.TemporaryDirectory() as folder:
+        given = put_repository(program, folder)
+        printed = printed_by([command for command, _ in walk], folder, given) if walk else []
+    for (command, wanted), got in zip(walk, printed):
+        if not is_as_shown(got, wanted) and not any(told in got for told in UNTRIED):
+            wrong.append(f"{page}: {command}\nwanted {wanted}got {got}")
+    if len(printed) < len(walk):
+        wrong.append(f"{page}: {len(printed)} of {len(walk)} commands were run")
+    return len(walk), wrong
+
+
+def main():
+    program = os.path.abspath(sys.argv[1])
+    pages = sys.argv[2:] or ["README.md"] + [os.path.join("docs", name) for name in sorted(os.listdir(os.path.join(TOP, "docs"))) if name.endswith(".md")]
+    count, wrong = 0, []
+    for page in pages:
+        commands, told = tried(program, page)
+        count += commands
+        wrong += told
+    print(*wrong, sep="\n", end="\n" if wrong else "")
+    print(f"{count - len(wrong)} commands print what the pages show, {len(wrong)} don't")
+    sys.exit(1 if wrong else 0)
+
+
+if __name__ == "__main__":
+    main()

@@ -1,0 +1,4 @@
+pub mod Cards
+pub mod Calls
+pub mod Laws
+pub mod Examples

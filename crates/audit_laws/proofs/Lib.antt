@@ -1,0 +1,9 @@
+pub mod Different
+pub mod Found
+pub mod FalseClaims
+pub mod Published
+pub mod Advanced
+pub mod CleanDraws
+pub mod TwoCards
+pub mod Possible
+pub mod OneCard

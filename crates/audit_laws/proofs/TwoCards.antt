@@ -1,0 +1,125 @@
+-- The worked examples of two cards.
+use Rattle.std.proofs.Common.{◌≡◌, ◌<◌, ◌≤◌, true, Ok, [], ◌∷◌, All, count_by, refl, arith}
+use Rattle.std.specs.Fmt.{digits}
+use Rattle.std.specs.List.{range_with_len}
+use Rattle.std.proofs.lemmas.List.Elements.{All-nil, All-cons}
+use Rattle.irv_base.specs.Candidates.{is_distinct}
+use Rattle.assertions.specs.declared.assertion.Assertion.TheVariants.{Neb}
+use Rattle.ballot_reader.specs.Ballots.{IsSound as AreSound}
+use Rattle.assertion_file.specs.Content.{IsSound, IsSoundClaim}
+use Rattle.cover_checker.specs.Outcomes.{Won, IsWinner}
+use Rattle.cover_checker.specs.Checks.{IsAnswer}
+use Rattle.cover_checker.specs.declared.checked.Checked.TheVariants.{Accepted}
+use Rattle.manifest.specs.Cards.{AreBatches}
+use Rattle.km_risk.specs.Printed.{printed_risk}
+use Rattle.km_risk.specs.Reach.{IsSequence, sequences}
+use Rattle.audit_rounds.specs.Draws.{AreRoundEnds, is_signed_off_on, session_to}
+use Rattle.audit_session.specs.Going.{audited}
+use Rattle.audit_laws.specs.CleanDraws.{IsRival}
+use Rattle.audit_laws.specs.RiskLimit.{ArePublished, AreTerms, MayElectAnother, MayBeSignedOff, AreSignedOff}
+use Rattle.audit_laws.specs.Examples.{lead_of_two, two_records, two_actual, two_seen, two_batches, two_ballots, two_file, other_proof}
+
+-- ---- the files
+won : IsWinner 2 two_ballots.rankings 0
+won = record { order = 1 ∷ 0 ∷ []; permutation = refl; tabulated = refl; elects = (1 ∷ [], refl) }
+
+accepted : IsAnswer 10 two_ballots two_file (Ok Accepted)
+accepted = record { outcome = Won 0; tabulated = won; answer_is = refl }
+
+batches : AreBatches two_batches.ids two_batches.counts
+batches = record { a_count_each = refl; named = refl; differ = refl; counted = refl; most = omega arith }
+
+ballots : AreSound two_ballots
+ballots = record {
+  candidates = record { fewest = omega arith; most = omega arith; differ = refl };
+  ballots = record {
+    most = omega arith;
+    an_id_each = refl;
+    a_place_each = refl;
+    differ = refl;
+    below = All-cons (λ r. All (λ c. c < 2) r) (0 ∷ []) ((0 ∷ []) ∷ []) zero_below (All-cons (λ r. All (λ c. c < 2) r) (0 ∷ []) [] zero_below (All-nil (λ r. All (λ c. c < 2) r)));
+    distinct = All-cons (λ r. is_distinct r ≡ true) (0 ∷ []) ((0 ∷ []) ∷ []) refl (All-cons (λ r. is_distinct r ≡ true) (0 ∷ []) [] refl (All-nil (λ r. is_distinct r ≡ true)));
+  };
+}
+  where
+    zero_below : All (λ c. c < 2) (0 ∷ [])
+    zero_below = All-cons (λ c. c < 2) 0 [] (omega arith) (All-nil (λ c. c < 2))
+
+file : IsSound two_file
+file = record {
+  fewest = omega arith;
+  most = omega arith;
+  differ = refl;
+  some_records = omega arith;
+  most_records = omega arith;
+  winner = omega arith;
+  order = refl;
+  margin = record { some = omega arith; most = omega arith };
+  claims = All-cons (IsSoundClaim 2 2) (record { assertion = Neb 0 1; margin = 2 }) [] (record { proper = refl; margin = record { some = omega arith; most = omega arith } }) (All-nil (IsSoundClaim 2 2));
+}
+
+pub published : ArePublished 10 two_batches two_ballots two_file
+unfolding digits
+published = record { manifest_sound = batches; ballots_sound = ballots; file_sound = file; linked = refl; accepted = accepted }
+
+-- ---- the cards
+pub terms : AreTerms 700000 500
+terms = record { below_one = omega arith; positive = omega arith }
+
+pub wrong : MayElectAnother 2 0 2 two_actual
+wrong = record {
+  one_each = refl;
+  order = 0 ∷ 1 ∷ [];
+  permutation = refl;
+  possible = refl;
+  other = 1;
+  differs = λ e. omega (arith, e);
+  elects = (0 ∷ [], refl);
+}
+
+one_round : AreRoundEnds 1 (1 ∷ [])
+one_round = record {
+  rising = λ i j d before within. absurd (omega arith);
+  some = All-cons (λ e. 1 ≤ e) 1 [] (omega arith) (All-nil (λ e. 1 ≤ e));
+  drawn = All-cons (λ e. e ≤ 1) 1 [] (omega arith) (All-nil (λ e. e ≤ 1));
+}
+
+may_be_signed_off : MayBeSignedOff 700000 500 lead_of_two two_records two_actual (1 ∷ [])
+unfolding printed_risk
+may_be_signed_off = record {
+  seen = two_seen;
+  readings = (refl, (refl, tt));
+  session = session_to 700000 500 (audited lead_of_two) two_records two_seen (1 ∷ []) (1 ∷ []);
+  drawn = record { ends = 1 ∷ []; are = one_round; is = refl };
+  signed_off = refl;
+}
+
+one_drawn : IsSequence 2 1 (1 ∷ [])
+one_drawn = record {
+  long = refl;
+  some = All-cons (λ e. 1 ≤ e) 1 [] (omega arith) (All-nil (λ e. 1 ≤ e));
+  within = All-cons (λ e. e ≤ 2) 1 [] (omega arith) (All-nil (λ e. e ≤ 2));
+}
+
+pub signed_off : AreSignedOff 700000 500 lead_of_two two_records two_actual 1 ((1 ∷ []) ∷ [])
+signed_off = record {
+  drawn = All-cons (IsSequence 2 1) (1 ∷ []) [] one_drawn (All-nil (IsSequence 2 1));
+  differ = λ i j d before within. absurd (omega arith);
+  each =
+      All-cons (MayBeSignedOff 700000 500 lead_of_two two_records two_actual) (1 ∷ []) [] may_be_signed_off
+      (All-nil (MayBeSignedOff 700000 500 lead_of_two two_records two_actual));
+}
+
+pub counted : count_by (is_signed_off_on 700000 500 (audited lead_of_two) two_records two_seen) (sequences (range_with_len 1 2) 1) ≡ 1
+unfolding printed_risk
+counted = refl
+
+-- ---- another set of assertions
+pub rival : IsRival 10 2 500 two_ballots two_file other_proof
+rival = record {
+  file_sound = file;
+  accepted = accepted;
+  enough_cards = omega arith;
+  positive = omega arith;
+  others_prove = record { proper = refl; hold = refl; covering = refl };
+}

@@ -1,0 +1,5 @@
+pub mod RiskLimit
+pub mod Claims
+pub mod CleanDraws
+pub mod Laws
+pub mod Examples

@@ -1,0 +1,54 @@
+//! Worked examples: a wrong winner that meets all that the risk limit asks, a session that goes on and is counted, and a set
+//! of assertions beside that of a file.
+ghost use Rattle.std.specs.Prelude.{◌≡◌, ◌<◌, ◌*◌, [], ◌∷◌, ℕ, List, count_by, None, Some, IsTrue};
+ghost use Rattle.std.specs.List.{range_with_len};
+ghost use Rattle.km_risk.specs.declared.limits.TheConstants.{MILLIONTH};
+ghost use Rattle.km_risk.specs.Clean.{clean_draws};
+ghost use Rattle.km_risk.specs.Counts.{clean};
+ghost use Rattle.km_risk.specs.Printed.{printed_risk};
+ghost use Rattle.km_risk.specs.Reach.{sequences};
+ghost use Rattle.manifest.specs.Linked.{linked_of};
+ghost use Rattle.audit_rounds.specs.Draws.{is_signed_off_on};
+ghost use Rattle.audit_rounds.specs.Sessions.{is_signed_off};
+ghost use Rattle.audit_rounds.specs.declared.digests.Digests.{Digests};
+ghost use Rattle.audit_session.specs.Going.{audited};
+ghost use Rattle.audit_laws.specs.CleanDraws.{AreEnough, IsRival};
+ghost use Rattle.audit_laws.specs.Laws.{AreTrueEntries, GoesOn, next_session};
+ghost use Rattle.audit_laws.specs.RiskLimit.{ArePublished, AreSignedOff, AreTerms, MayElectAnother};
+ghost use Rattle.audit_laws.specs.Examples as examples;
+
+/// Two cards are recorded for candidate 0, and in truth there is a tie. At a limit of 0.7 a draw of the first card is
+/// enough, and a draw of the second isn't: of the two sequences of one card, one is signed off, and 1 of 2 is at most 0.7.
+pub fn wrong_winner()
+    ensures published { ArePublished 10 examples.two_batches examples.two_ballots examples.two_file }
+    ensures terms { AreTerms 700000 500 }
+    ensures wrong { MayElectAnother 2 0 2 examples.two_actual }
+    ensures linked { linked_of examples.two_batches examples.two_ballots ≡ examples.two_records }
+    ensures signed_off { AreSignedOff 700000 500 examples.lead_of_two examples.two_records
+        examples.two_actual 1 ((1 ∷ []) ∷ []) }
+    ensures counted { count_by (is_signed_off_on 700000 500 (audited examples.lead_of_two)
+        examples.two_records examples.two_seen) (sequences (range_with_len 1 2) 1) ≡ 1 }
+{}
+
+/// One card, which is drawn again and again whatever the seed: the session goes on with five draws, and is signed off.
+pub fn one_card()
+    ensures seen { AreTrueEntries examples.one_actual examples.one_entry }
+    ensures goes_on { (contest seed : List ℕ) (digests : Digests) →
+        GoesOn (examples.one_begun contest seed digests) examples.lead_of_one
+        examples.one_record examples.one_entry 5 }
+    ensures signed_off { (contest seed : List ℕ) (digests : Digests) →
+        IsTrue (is_signed_off (next_session (examples.one_begun contest seed digests)
+        examples.lead_of_one examples.one_record examples.one_entry 5)) }
+{}
+
+/// Two assertions of margin 2 that each prove the winner: two clean draws are enough for both at a limit of 0.5. With a
+/// margin of 1 none up to the two cards would be; with more draws than cards, five would.
+pub fn another_proof()
+    ensures rival { IsRival 10 2 500 examples.two_ballots examples.two_file examples.other_proof }
+    ensures two { clean_draws 2 2 500 500000 ≡ Some 2 }
+    ensures enough { AreEnough 2 500 500000 2 2 }
+    ensures one { 500000 * MILLIONTH < printed_risk 2 2 500 (clean 1) }
+    ensures smaller_margin { clean_draws 2 1 500 500000 ≡ None }
+    ensures five { AreEnough 2 500 500000 5 1 }
+    ensures four { 500000 * MILLIONTH < printed_risk 2 1 500 (clean 4) }
+{}

@@ -1,0 +1,62 @@
+//! What an audit promises: each law holds of every value that it names, and has no code.
+ghost use Rattle.audit_laws.specs.CleanDraws.{FewestCleanDraws, NeedsNoMore};
+ghost use Rattle.audit_laws.specs.Laws.{AdvancedIsCounted, ClaimsRiskLimit, CountedRiskLimit};
+ghost use Rattle.audit_laws.specs.Laws.{EachElectsAnother, HeldIsAuditable, HeldRiskLimit};
+ghost use Rattle.audit_laws.specs.Laws.{NextIsCounted, OtherWinnerIsWrong};
+ghost use Rattle.audit_laws.specs.RiskLimit.{RiskLimit};
+
+/// Where the actual rankings of the cards may elect another candidate than the published file says, the audit can be signed
+/// off on at most `limit` millionths of all sequences of `n` cards.
+pub fn risk_limit()
+    ensures { RiskLimit }
+{}
+
+/// The risk limit of a file that holds, by whichever check that is known.
+pub fn held_risk_limit()
+    ensures { HeldRiskLimit }
+{}
+
+/// The claims of a file that holds prove the winner where they are true, and have their margins over the linked records.
+pub fn held_is_auditable()
+    ensures { HeldIsAuditable }
+{}
+
+/// The risk limit of such claims, whoever made them.
+pub fn claims_risk_limit()
+    ensures { ClaimsRiskLimit }
+{}
+
+/// The same as a count of the listed sequences, where the readings of the cards don't depend on the draws.
+pub fn counted_risk_limit()
+    ensures { CountedRiskLimit }
+{}
+
+/// Actual rankings whose tabulation has another winner are among those that may elect another candidate.
+pub fn other_winner_is_wrong()
+    ensures { OtherWinnerIsWrong }
+{}
+
+/// So are actual rankings each of whose possible orders elects another candidate: there is always a possible order.
+pub fn each_elects_another()
+    ensures { EachElectsAnother }
+{}
+
+/// A session that `advance` made, and that is signed off, is one that the risk limit counts.
+pub fn advanced_is_counted()
+    ensures { AdvancedIsCounted }
+{}
+
+/// So is a session that goes on by a round, isn't refused, and is signed off, whatever its earlier rounds say.
+pub fn next_is_counted()
+    ensures { NextIsCounted }
+{}
+
+/// Clean draws that are enough for some true set of assertions which proves the winner are enough for the accepted file.
+pub fn fewest_clean_draws()
+    ensures { FewestCleanDraws }
+{}
+
+/// Some assertion of such a set needs at least as many clean draws as any of the accepted file.
+pub fn needs_no_more()
+    ensures { NeedsNoMore }
+{}

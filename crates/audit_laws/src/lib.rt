@@ -1,0 +1,6 @@
+//! What a ballot-comparison audit promises: on how few sequences of drawn cards the audit of a wrong winner is ever signed
+//! off, and that no other assertions need fewer clean draws than those of an accepted file.
+#![tactic(auto)]
+
+pub mod examples;
+pub mod laws;

@@ -1,0 +1,8 @@
+pub mod Lines
+pub mod Cards
+pub mod Digits
+pub mod Marks
+pub mod Confirmed
+pub mod Rounds
+pub mod Needs
+pub mod OneCard

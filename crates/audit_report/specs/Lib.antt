@@ -1,0 +1,5 @@
+pub mod Sample
+pub mod Plan
+pub mod Session
+pub mod Laws
+pub mod Examples

@@ -1,0 +1,82 @@
+-- What a session tells: its values, and its rounds with the counts and the risk of each claim.
+use Rattle.std.specs.Prelude.{ℕ, ◌+◌, ◌-◌, ◌/◌, ◌%◌, Bool, true, false, List, [], ◌∷◌, ◌++◌, length, flat_map, replicate, slice_index, slice_index_or, codes}
+use Rattle.std.specs.Fmt.{decimal}
+use Rattle.std.specs.List.{range_with_len}
+use Rattle.irv_base.specs.Names.{Id}
+use Rattle.km_risk.specs.declared.limits.TheConstants.{ONE}
+use Rattle.km_risk.specs.declared.draws.Counts.{Counts}
+use Rattle.km_risk.specs.Counts.{clean}
+use Rattle.audit_rounds.specs.Content.{Content}
+use Rattle.audit_rounds.specs.Sessions.{Round, Session, is_confirmed_at, is_signed_off}
+
+-- ---- a claim
+
+abbrev pub zero_digit : ℕ
+zero_digit = 0x30
+
+-- a number in so many digits, with zeros in front
+abbrev pub in_digits : ℕ → ℕ → List ℕ
+in_digits digits n = replicate (digits - length (decimal n)) zero_digit ++ decimal n
+
+-- the units of a risk, divided by those of one: 18 digits stand after the point
+abbrev pub risk_text : ℕ → List ℕ
+risk_text units = decimal (units / ONE) ++ codes "." ++ in_digits 18 (units % ONE)
+
+abbrev pub counts_text : Counts → List ℕ
+counts_text counts =
+    decimal counts.n0 ++ codes " " ++ decimal counts.n1 ++ codes " " ++ decimal counts.n2 ++ codes " "
+    ++ decimal counts.n3 ++ codes " " ++ decimal counts.n4
+
+abbrev pub state_text : Bool → List ℕ
+state_text true = codes "confirmed"
+state_text false = codes "unconfirmed"
+
+-- claim number j, from 1
+abbrev pub claim_line : ℕ → ℕ → Counts → ℕ → Bool → List ℕ
+claim_line j margin counts risk confirmed =
+    codes "assertion " ++ decimal j ++ codes " margin " ++ decimal margin
+    ++ codes " counts " ++ counts_text counts ++ codes " risk " ++ risk_text risk
+    ++ codes " " ++ state_text confirmed ++ codes "\n"
+
+-- the claim with this index, from 0, in a round
+abbrev pub claim_in : List ℕ → Round → (ℕ → Bool) → ℕ → List ℕ
+claim_in margins round is_confirmed claim =
+    claim_line (claim + 1) (slice_index margins claim) (slice_index_or round.counts claim (clean 0))
+    (slice_index round.risks claim) (is_confirmed claim)
+
+-- ---- the rounds
+
+-- round number i, from 1, with all draws so far
+abbrev pub draws_line : ℕ → ℕ → List ℕ
+draws_line i draws = codes "round " ++ decimal i ++ codes " draws " ++ decimal draws ++ codes "\n"
+
+module _ (session : Session) where
+  abbrev pub round_lines : ℕ → Round → List ℕ
+  round_lines i round =
+      draws_line i round.draws
+      ++ flat_map (claim_in session.margins round (is_confirmed_at session i)) (range_with_len 0 (length session.margins))
+
+  -- these rounds, the first of which has number i
+  abbrev pub rounds_from : ℕ → List Round → List ℕ
+  rounds_from i [] = []
+  rounds_from i (round ∷ rounds) = round_lines i round ++ rounds_from (i + 1) rounds
+
+-- ---- the session
+
+abbrev pub head_lines : Id → ℕ → ℕ → ℕ → List ℕ → List ℕ
+head_lines contest cards limit gamma seed =
+    codes "contest " ++ contest ++ codes "\ncards " ++ decimal cards ++ codes "\nlimit " ++ decimal limit
+    ++ codes "\ngamma " ++ decimal gamma ++ codes "\nseed " ++ seed ++ codes "\n"
+
+abbrev pub yes_or_no : Bool → List ℕ
+yes_or_no true = codes "yes"
+yes_or_no false = codes "no"
+
+abbrev pub last_line : Session → List ℕ
+last_line session = codes "signed off " ++ yes_or_no (is_signed_off session) ++ codes "\n"
+
+abbrev pub session_table : Content → List ℕ
+session_table content =
+    let session = content.session in
+    head_lines content.contest session.cards session.limit session.gamma content.seed
+    ++ rounds_from session 1 session.rounds ++ last_line session

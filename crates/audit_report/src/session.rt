@@ -1,0 +1,189 @@
+// What a session tells.
+ghost use Rattle.std.specs.Prelude.{◌≡◌, ◌≤◌, ◌<◌, ◌+◌, ◌++◌, ◌||◌, ℕ, Bool, length, flat_map, IfOk, get_or, false, codes, replicate, string_bytes};
+ghost use Rattle.std.specs.Fmt.{decimal};
+ghost use Rattle.std.specs.List.{range_with_len};
+ghost use Rattle.irv_base.specs.declared.limits.TheConstants.{GREATEST_LIMIT};
+ghost use Rattle.audit_rounds.specs.Sessions.{IsSession, meets};
+ghost use Rattle.audit_report.specs.Session.{claim_in, claim_line, counts_text, draws_line, head_lines, last_line, risk_text, rounds_from, session_table, state_text, yes_or_no};
+
+use audit_rounds::{DoneRound, Session, signed_off};
+use irv_base::Memory;
+use km_risk::{Counts, MILLIONTH, ONE};
+use std::alloc::{AllocError, Global};
+
+// The units of a risk, as a number with 18 digits after its point.
+fn add_risk(text: &mut String, units: u64) -> Result<(), AllocError>
+    ensures { IfOk result (λ _. string_bytes text.new ≡ string_bytes text.old ++ risk_text units) }
+{
+    let ones = units / ONE;
+    let rest = units % ONE;
+    write!(text, "{ones}.{rest:018}")
+}
+
+fn add_counts(text: &mut String, counts: &Counts) -> Result<(), AllocError>
+    ensures { IfOk result (λ _. string_bytes text.new ≡
+        string_bytes text.old ++ counts_text counts.now) }
+{
+    let Counts { n0, n1, n2, n3, n4 } = *counts;
+    write!(text, "{n0} {n1} {n2} {n3} {n4}")
+}
+
+fn state_text(confirmed: bool) -> &'static str
+    ensures { result.now ≡ state_text confirmed }
+{
+    if confirmed {
+        "confirmed"
+    } else {
+        "unconfirmed"
+    }
+}
+
+fn add_margin(text: &mut String, j: usize, margin: u32) -> Result<(), AllocError>
+    ensures { IfOk result (λ _. string_bytes text.new ≡ string_bytes text.old
+        ++ (codes "assertion " ++ decimal j ++ codes " margin " ++ decimal margin ++ codes " counts ")) }
+{
+    write!(text, "assertion {j} margin {margin} counts ")
+}
+
+fn add_state(text: &mut String, confirmed: bool) -> Result<(), AllocError>
+    ensures { IfOk result (λ _. string_bytes text.new ≡ string_bytes text.old
+        ++ (codes " " ++ state_text confirmed ++ codes "\n")) }
+{
+    let state = state_text(confirmed);
+    writeln!(text, " {state}")
+}
+
+// Adds the line of claim number `j`, from 1.
+fn add_claim(
+    text: &mut String,
+    j: usize,
+    margin: u32,
+    counts: &Counts,
+    risk: u64,
+    confirmed: bool,
+) -> Result<(), AllocError>
+    ensures { IfOk result (λ _. string_bytes text.new ≡
+        string_bytes text.old ++ claim_line j margin counts.now risk confirmed) }
+{
+    add_margin(text, j, margin)?;
+    add_counts(text, counts)?;
+    text.push_str(" risk ")?;
+    add_risk(text, risk)?;
+    add_state(text, confirmed)?;
+    Ok(())
+}
+
+// Adds the lines of the claims in a round.
+fn add_claims(
+    text: &mut String,
+    margins: &[u32],
+    round: &DoneRound,
+    confirmed: &[bool],
+) -> Result<(), AllocError>
+    requires counts { length round.now.counts ≡ length margins.now }
+    requires risks { length round.now.risks ≡ length margins.now }
+    requires confirmed { length confirmed.now ≡ length margins.now }
+    ensures { IfOk result (λ _. string_bytes text.new ≡ string_bytes text.old
+        ++ flat_map
+        (claim_in margins.now round.now (λ claim. get_or confirmed.now claim false))
+        (range_with_len 0 (length margins.now))) }
+{
+    let counts = round.counts();
+    let risks = round.risks();
+    for i in 0..margins.len() {
+        add_claim(text, i + 1, margins[i], &counts[i], risks[i], confirmed[i])?;
+    }
+    Ok(())
+}
+
+fn add_draws(text: &mut String, i: usize, draws: u32) -> Result<(), AllocError>
+    ensures { IfOk result (λ _. string_bytes text.new ≡ string_bytes text.old ++ draws_line i draws) }
+{
+    writeln!(text, "round {i} draws {draws}")
+}
+
+// Marks the claims whose risk is within the limit at the end of the round.
+fn confirm(confirmed: &mut [bool], limit: u32, round: &DoneRound)
+    requires limit { limit ≤ GREATEST_LIMIT }
+    requires each { length round.now.risks ≡ length confirmed.old }
+    ensures each { length confirmed.new ≡ length confirmed.old }
+    ensures marked { (j : ℕ) → j < length confirmed.old →
+        get_or confirmed.new j false ≡ (get_or confirmed.old j false || meets limit j round.now) }
+{
+    let allowed = u64::from(limit) * MILLIONTH;
+    let risks = round.risks();
+    for j in 0..risks.len() {
+        if risks[j] <= allowed {
+            confirmed[j] = true;
+        }
+    }
+}
+
+fn add_head(
+    text: &mut String,
+    contest: &str,
+    cards: u32,
+    limit: u32,
+    gamma: u32,
+    seed: &str,
+) -> Result<(), AllocError>
+    ensures { IfOk result (λ _. string_bytes text.new ≡
+        string_bytes text.old ++ head_lines contest.now cards limit gamma seed.now) }
+{
+    writeln!(
+        text,
+        "contest {contest}\ncards {cards}\nlimit {limit}\ngamma {gamma}\nseed {seed}"
+    )
+}
+
+// Adds the rounds, and marks the claims as they are confirmed.
+fn add_rounds(text: &mut String, s: &Session, confirmed: &mut [bool]) -> Result<(), AllocError>
+    requires sound { IsSession s.now.session }
+    requires none { confirmed.old ≡ replicate (length s.now.session.margins) false }
+    ensures { IfOk result (λ _. string_bytes text.new ≡
+        string_bytes text.old ++ rounds_from s.now.session 1 s.now.session.rounds) }
+{
+    let limit = s.limit();
+    let margins = s.margins();
+    let rounds = s.rounds();
+    for i in 0..rounds.len() {
+        let round = &rounds[i];
+        confirm(confirmed, limit, round);
+        add_draws(text, i + 1, round.draws())?;
+        add_claims(text, margins, round, confirmed)?;
+    }
+    Ok(())
+}
+
+fn yes_or_no(yes: bool) -> &'static str
+    ensures { result.now ≡ yes_or_no yes }
+{
+    if yes { "yes" } else { "no" }
+}
+
+fn add_last(text: &mut String, s: &Session) -> Result<(), AllocError>
+    ensures { IfOk result (λ _. string_bytes text.new ≡ string_bytes text.old ++ last_line s.now.session) }
+{
+    let answer = yes_or_no(signed_off(s));
+    writeln!(text, "signed off {answer}")
+}
+
+/// The lines of a session: its contest, cards, limit, gamma and seed, each round with the counts and the risk of each claim and
+/// whether it is confirmed by then, and whether the session is signed off. Every line ends with a line feed.
+pub fn session_table(alloc: Global, s: &Session) -> Result<Vec<u8>, Memory>
+    ensures { IfOk result (λ text. text.items ≡ session_table s.now) }
+{
+    let mut text = String::new(alloc);
+    add_head(
+        &mut text,
+        s.contest().text(),
+        s.cards(),
+        s.limit(),
+        s.gamma(),
+        s.seed().text(),
+    )?;
+    let mut confirmed = vec![in alloc; false; s.margins().len()]?;
+    add_rounds(&mut text, s, &mut confirmed)?;
+    add_last(&mut text, s)?;
+    Ok(text.into_bytes())
+}

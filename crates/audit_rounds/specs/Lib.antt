@@ -1,0 +1,7 @@
+pub mod Sessions
+pub mod Draws
+pub mod Readings
+pub mod Laws
+pub mod Content
+pub mod Inputs
+pub mod Examples

@@ -1,0 +1,22 @@
+//! The laws of sessions: each holds of every value that it names, and has no code.
+ghost use Rattle.audit_rounds.specs.Laws.{SessionLaw, SignedOffLaw, EveryDrawLaw, PartlySeenLaw};
+
+/// A session is that of some draws exactly where it keeps what a session keeps, and its counts are those of the draws.
+pub fn session()
+    ensures { SessionLaw }
+{}
+
+/// Where a session is signed off, each claim had an exact risk within the limit after some of the draws.
+pub fn signed_off()
+    ensures { SignedOffLaw }
+{}
+
+/// Some session of the draws is signed off exactly where the one with a round after each draw is.
+pub fn every_draw()
+    ensures { EveryDrawLaw }
+{}
+
+/// Where only some cards were looked at, each other one counts as missing, and that is a reading of all cards.
+pub fn partly_seen()
+    ensures { PartlySeenLaw }
+{}

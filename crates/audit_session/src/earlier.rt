@@ -1,0 +1,83 @@
+// The counts of earlier rounds, counted again.
+ghost use Rattle.std.specs.Prelude.{◌≡◌, ◌<◌, ◌≤◌, [], None, All, AllPairs, take, length, IfOk, IfErr};
+ghost use Rattle.irv_base.specs.declared.limits.TheConstants.{MOST_DRAWS};
+ghost use Rattle.audit_session.specs.Going.{all_counts};
+ghost use Rattle.audit_session.specs.Refusals.{Refuses, changed_from, changed_in, last_draws};
+
+use crate::compared::Drawn;
+use crate::counting::all_counts;
+use crate::fault::AdvanceFault;
+use assertions::Claim;
+use audit_rounds::DoneRound;
+use irv_base::Memory;
+use km_risk::Counts;
+use std::alloc::Global;
+
+/// How many draws there were at the end of the last round.
+pub fn last_draws(rounds: &[DoneRound]) -> u32
+    ensures { result ≡ last_draws rounds.now }
+{
+    match rounds.last() {
+        Some(round) => round.draws(),
+        None => 0,
+    }
+}
+
+// The first claim whose counts were others in the round.
+fn first_changed(round: u32, expected: &[Counts], found: &[Counts]) -> Option<AdvanceFault>
+    requires { length expected.now ≡ length found.now }
+    ensures { result ≡ changed_in round 1 expected.now found.now }
+{
+    for j in 0..expected.len() {
+        if expected[j] != found[j] {
+            return Some(AdvanceFault::Changed {
+                round,
+                claim: j as u64 + 1,
+                expected: expected[j],
+                found: found[j],
+            });
+        }
+    }
+    None
+}
+
+// The counts of no draws, for each claim.
+fn none_counted(alloc: Global, claims: &[Claim]) -> Result<Vec<Counts>, Memory>
+    ensures { IfOk result (λ counts. counts.items ≡ all_counts claims.now []) }
+{
+    let counts = claims.iter().map(|_| Counts::default()).collect(alloc)?;
+    Ok(counts)
+}
+
+/// The counts of all claims at the end of the last round, or the first round and claim whose
+/// counts were others.
+pub fn counts_before(
+    alloc: Global,
+    rounds: &[DoneRound],
+    claims: &[Claim],
+    drawn: &[Drawn],
+) -> Result<Vec<Counts>, AdvanceFault>
+    requires few { length drawn.now ≤ MOST_DRAWS }
+    requires rising { AllPairs (λ round later. round.draws < later.draws) rounds.now }
+    requires some { All (λ round. 1 ≤ round.draws) rounds.now }
+    requires drawn { All (λ round. round.draws ≤ length drawn.now) rounds.now }
+    requires each { All (λ round. length round.counts ≡ length claims.now) rounds.now }
+    ensures counts { IfOk result (λ counts. counts.items
+        ≡ all_counts claims.now (take (last_draws rounds.now) drawn.now)) }
+    ensures same { IfOk result (λ _. changed_from claims.now drawn.now 1 rounds.now ≡ None) }
+    ensures refused { IfErr result (Refuses (changed_from claims.now drawn.now 1 rounds.now)) }
+{
+    let mut counts = none_counted(alloc, claims)?;
+    let mut from = 0;
+    for i in 0..rounds.len() {
+        let round = &rounds[i];
+        let end = round.draws() as usize;
+        let next = all_counts(alloc, claims, &counts, &drawn[from..end])?;
+        if let Some(fault) = first_changed(i as u32 + 1, round.counts(), &next) {
+            return Err(fault);
+        }
+        counts = next;
+        from = end;
+    }
+    Ok(counts)
+}

@@ -1,0 +1,36 @@
+//! Worked examples, computed by the checker: what is on both sides of each limit of a ballot file.
+ghost use Rattle.std.specs.Prelude.{◌≡◌, ◌+◌, ◌-◌, [], ◌∷◌, Some, None, true, false, codes, replicate};
+ghost use Rattle.irv_base.specs.declared.limits.TheConstants.{FEWEST_CANDIDATES, MOST_CANDIDATES};
+ghost use Rattle.ballot_reader.specs.declared.limits.TheConstants.{MOST_LISTED};
+ghost use Rattle.ballot_reader.specs.Grammar.{contest_count, has_audited_size, number_up_to, ranking_of};
+
+/// A file has 1 to 64 contests.
+pub fn contests()
+    ensures none { contest_count (codes "0" ∷ []) ≡ None }
+    ensures one { contest_count (codes "1" ∷ []) ≡ Some 1 }
+    ensures most { contest_count (codes "64" ∷ []) ≡ Some 64 }
+    ensures over { contest_count (codes "65" ∷ []) ≡ None }
+{}
+
+/// A contest's record lists 1 to 1,000 candidates.
+pub fn listed()
+    ensures none { number_up_to MOST_LISTED (codes "0") ≡ None }
+    ensures most { number_up_to MOST_LISTED (codes "1000") ≡ Some 1000 }
+    ensures over { number_up_to MOST_LISTED (codes "1001") ≡ None }
+{}
+
+/// An audited contest has `FEWEST_CANDIDATES` to `MOST_CANDIDATES`.
+pub fn audited()
+    ensures below { has_audited_size (replicate (FEWEST_CANDIDATES - 1) []) ≡ false }
+    ensures fewest { has_audited_size (replicate FEWEST_CANDIDATES []) ≡ true }
+    ensures most { has_audited_size (replicate MOST_CANDIDATES []) ≡ true }
+    ensures over { has_audited_size (replicate (MOST_CANDIDATES + 1) []) ≡ false }
+{}
+
+/// Blank preferences are passed over, a repeated candidate counts at its first place, and an unknown one is none.
+pub fn rankings()
+    ensures repeated { ranking_of (codes "A" ∷ codes "B" ∷ [])
+        (codes "B" ∷ [] ∷ codes "A" ∷ codes "B" ∷ []) ≡ Some (1 ∷ 0 ∷ []) }
+    ensures empty { ranking_of (codes "A" ∷ codes "B" ∷ []) [] ≡ Some [] }
+    ensures unknown { ranking_of (codes "A" ∷ codes "B" ∷ []) (codes "C" ∷ []) ≡ None }
+{}

@@ -1,0 +1,128 @@
+-- The ends of the workers, put together one by one.
+use Rattle.std.proofs.Common.{◌≡◌, ◌⊎◌, inl, inr, ℕ, ◌+◌, ◌*◌, ◌<◌, ◌≤◌, true, false, List, [], ◌∷◌, ◌++◌, map, flat_map, sum_by, length, get_or, drop, add-one, min, All, Option, None, Some, refl, sym, ap, subst, arith, append-nil, ◌∙◌}
+use Rattle.std.specs.Option.{MatchOption, option_map_or}
+use Rattle.std.proofs.Math.Seq.{drop-cons}
+use Rattle.std.proofs.lemmas.List.{map_push, map-append, length_push}
+use Rattle.std.proofs.lemmas.List.Elements.{All-push, All-append, All-weaker, All-same, All-head, All-nil, All-pop}
+use Rattle.std.proofs.lemmas.Grind.{flat_map-append}
+use Rattle.irv_base.specs.Candidates.{is_in}
+use Rattle.set_tallies.specs.Bags.{Kept}
+use Rattle.shared_witness.specs.declared.view.View.{View}
+use Rattle.shared_witness.specs.View.{highest}
+use Rattle.shared_witness.specs.Moment.{taken_pieces, least_posted}
+use Rattle.shared_witness.specs.Race.{Seated, SharedRace, views_of}
+use Rattle.shared_witness.proofs.Lists.{least-push, least-first}
+use Rattle.suffix_tree.specs.Suffixes.{Suffix}
+use Rattle.bound_search.specs.Race.{IsPaced}
+use Rattle.bound_search.specs.Reached.{IsFoundIn, IsBestFound, IsEntry, IsClosedAt, IsCostly, IsDoneWith, IsWorkerEnd}
+use Rattle.bound_search.specs.Team.{WorkerRan, IsClosedUnder, IsEntryOfOne, IsJoined, first_of}
+use Rattle.bound_search.specs.declared.ends.Best.{Best}
+use Rattle.bound_search.specs.declared.ends.PieceEnd.{PieceEnd}
+use Rattle.bound_search.specs.declared.ends.Report.{Report}
+use Rattle.bound_search.specs.declared.ends.WorkerEnd.{WorkerEnd}
+use Rattle.bound_search.specs.declared.join.Joined.{Joined}
+use Rattle.bound_search.specs.declared.team.Worker.{Worker}
+use Rattle.bound_search.proofs.Racing.{closed_lower}
+
+-- the next of a list that is gone through
+pub drop_next : {A : Type 0} (xs : List A) (i : ℕ) (x : A) → i < length xs → x ≡ get_or xs i x → drop i xs ≡ x ∷ drop (i + 1) xs
+drop_next xs i x inside is = rw add-one (drop-cons xs i x inside) ∙ ap (λ y. y ∷ drop (i + 1) xs) (sym is)
+
+module _ (bag : Kept) (nodes : ℕ) (tails : List Suffix) (race : SharedRace) (start : Best) (w : Worker) (e : WorkerEnd) (j k : Joined) (r : Report)
+    (was : IsJoined bag nodes tails race start j) (ran : WorkerRan bag nodes tails race w) (end : IsWorkerEnd bag race.terms.first nodes ran.number tails w.seat.view e)
+    (seats : k.seats.items ≡ j.seats.items ++ w.seat ∷ []) (ends : k.ends.items ≡ j.ends.items ++ e.ends.items) (reports : k.reports.items ≡ j.reports.items ++ r ∷ [])
+    (expanded : r.expanded ≡ sum_by (λ p. p.expanded) e.ends.items) (looks : r.looks ≡ e.looks)
+    (margin : k.best.margin ≡ option_map_or (λ b. min b.margin j.best.margin) e.best j.best.margin) (one : (k.best ≡ j.best) ⊎ (e.best ≡ Some k.best))
+    (spent : k.spent ≡ first_of j.spent e.spent.items) where
+  abbrev first : ℕ
+  first = race.terms.first
+
+  views_now : views_of k.seats.items ≡ views_of j.seats.items ++ w.seat.view ∷ []
+  views_now = ap views_of seats ∙ map_push (λ (s : Seated). s.view) j.seats.items w.seat
+
+  least_now : start.margin ≤ highest → k.best.margin ≡ least_posted start.margin (views_of k.seats.items)
+  least_now fits =
+      margin ∙ go e.best end.best ∙ sym (ap (least_posted start.margin) views_now ∙ least-push start.margin (views_of j.seats.items) w.seat.view)
+    where
+      go : (best : Option Best) → IsBestFound bag tails w.seat.view.posted best → option_map_or (λ b. min b.margin j.best.margin) best j.best.margin ≡ min w.seat.view.posted (least_posted start.margin (views_of j.seats.items))
+      go None top = let low = least-first start.margin (views_of j.seats.items) in omega (arith, top, was.least fits, low, fits)
+      go (Some b) (found, same, low) = omega (arith, same, was.least fits)
+
+  best_now : (k.best ≡ start) ⊎ IsFoundIn bag tails k.best
+  best_now =
+      elim one [
+        | inl same ↦ elim was.best [
+          | inl is ↦ inl (same ∙ is)
+          | inr found ↦ inr (subst (IsFoundIn bag tails) (sym same) found)
+        ]
+        | inr is ↦ let found : IsBestFound bag tails w.seat.view.posted (Some k.best) = subst (IsBestFound bag tails w.seat.view.posted) is end.best in inr found.0
+      ]
+
+  took_now : map (λ p. p.piece) k.ends.items ≡ taken_pieces (views_of k.seats.items)
+  took_now =
+      ap (map (λ (p : PieceEnd). p.piece)) ends
+      ∙ map-append (λ (p : PieceEnd). p.piece) j.ends.items e.ends.items
+      ∙ ap (λ xs. xs ++ map (λ (p : PieceEnd). p.piece) e.ends.items) was.took
+      ∙ ap (λ xs. taken_pieces (views_of j.seats.items) ++ xs) end.took
+      ∙ sym (ap taken_pieces views_now ∙ flat_map-append (λ (v : View). v.taken) (views_of j.seats.items) (w.seat.view ∷ []) ∙ ap (λ xs. taken_pieces (views_of j.seats.items) ++ xs) (append-nil w.seat.view.taken))
+
+  entries_now : All (IsEntryOfOne bag first nodes race.terms.workers tails) k.ends.items
+  entries_now =
+      subst (All (IsEntryOfOne bag first nodes race.terms.workers tails)) (sym ends)
+      (All-append (IsEntryOfOne bag first nodes race.terms.workers tails) j.ends.items e.ends.items was.entries
+      (All-weaker (IsEntry bag first nodes ran.number tails) (IsEntryOfOne bag first nodes race.terms.workers tails)
+      (λ p h. (let is = h.worker_is in let low = ran.below in omega (arith, is, low), record { tail = h.tail; worker_is = refl; within = h.within; most = h.most })) e.ends.items end.entries))
+
+  -- what no seat of these saw less than, none of the former did, nor this one
+  seats_before : (bound : ℕ) → All (λ s. bound ≤ s.view.seen) k.seats.items → All (λ s. bound ≤ s.view.seen) j.seats.items × (bound ≤ w.seat.view.seen)
+  seats_before bound all = All-pop (λ (s : Seated). bound ≤ s.view.seen) k.seats.items j.seats.items (Some w.seat) seats all
+
+  still_closed : (p : PieceEnd) → IsClosedUnder bag j.seats.items p → IsClosedUnder bag k.seats.items p
+  still_closed p h bound all = h bound (seats_before bound all).0
+
+  now_closed : e.spent.items ≡ [] → (p : PieceEnd) → IsDoneWith bag w.seat.view e.spent.items p → IsClosedUnder bag k.seats.items p
+  now_closed none p (inl (closed, at)) bound all = closed_lower bag w.seat.view.seen bound p.tail.list p.expanded (seats_before bound all).1 at
+  now_closed none p (inr left) bound all = let no : false ≡ true = ap (λ xs. is_in xs p.piece) (sym none) ∙ left in cc
+
+  spent_now : MatchOption k.spent (All (IsClosedUnder bag k.seats.items) k.ends.items) (IsCostly bag first nodes tails)
+  spent_now = subst (λ o. MatchOption o closed (IsCostly bag first nodes tails)) (sym spent) (go j.spent was.spent e.spent.items refl) where
+    closed : Type 0
+    closed = All (IsClosedUnder bag k.seats.items) k.ends.items
+
+    go : (o : Option ℕ) → MatchOption o (All (IsClosedUnder bag j.seats.items) j.ends.items) (IsCostly bag first nodes tails) → (xs : List ℕ) → e.spent.items ≡ xs → MatchOption (first_of o xs) closed (IsCostly bag first nodes tails)
+    go (Some number) costly xs is = costly
+    go None all (x ∷ xs) is = All-head (IsCostly bag first nodes tails) x xs (subst (All (IsCostly bag first nodes tails)) is end.costly)
+    go None all [] is =
+        subst (All (IsClosedUnder bag k.seats.items)) (sym ends)
+        (All-append (IsClosedUnder bag k.seats.items) j.ends.items e.ends.items
+        (All-weaker (IsClosedUnder bag j.seats.items) (IsClosedUnder bag k.seats.items) still_closed j.ends.items all)
+        (All-weaker (IsDoneWith bag w.seat.view e.spent.items) (IsClosedUnder bag k.seats.items) (now_closed is) e.ends.items end.done_with))
+
+  pub join_more : IsJoined bag nodes tails race start k
+  join_more = record {
+    of_race = All-same (λ (s : Seated). s.race ≡ race.id) k.seats.items (j.seats.items ++ w.seat ∷ []) seats (All-push (λ (s : Seated). s.race ≡ race.id) j.seats.items w.seat was.of_race ran.of_race);
+    done = All-same (λ (s : Seated). 1 ≤ s.view.ends) k.seats.items (j.seats.items ++ w.seat ∷ []) seats (All-push (λ (s : Seated). 1 ≤ s.view.ends) j.seats.items w.seat was.done (let d = end.done in omega (arith, d)));
+    count = ap length reports ∙ length_push j.reports.items r ∙ ap (λ n. n + 1) was.count ∙ sym (ap length seats ∙ length_push j.seats.items w.seat);
+    paced = All-same IsPaced k.reports.items (j.reports.items ++ r ∷ []) reports (All-push IsPaced j.reports.items r was.paced (let le = end.paced in omega (arith, expanded, looks, le)));
+    least = least_now;
+    best = best_now;
+    took = took_now;
+    entries = entries_now;
+    spent = spent_now;
+  }
+
+-- nobody yet
+pub join_none : (bag : Kept) (nodes : ℕ) (tails : List Suffix) (race : SharedRace) (start : Best) (j : Joined) → j.seats.items ≡ [] → j.ends.items ≡ [] → j.reports.items ≡ [] → j.best ≡ start → j.spent ≡ None →
+    IsJoined bag nodes tails race start j
+join_none bag nodes tails race start j seats ends reports best spent = record {
+  of_race = All-same (λ (s : Seated). s.race ≡ race.id) j.seats.items [] seats (All-nil (λ (s : Seated). s.race ≡ race.id));
+  done = All-same (λ (s : Seated). 1 ≤ s.view.ends) j.seats.items [] seats (All-nil (λ (s : Seated). 1 ≤ s.view.ends));
+  count = ap length reports ∙ sym (ap length seats);
+  paced = All-same IsPaced j.reports.items [] reports (All-nil IsPaced);
+  least = λ fits. ap (λ (b : Best). b.margin) best ∙ sym (ap (λ (xs : List Seated). least_posted start.margin (views_of xs)) seats);
+  best = inl best;
+  took = ap (map (λ (p : PieceEnd). p.piece)) ends ∙ sym (ap (λ (xs : List Seated). taken_pieces (views_of xs)) seats);
+  entries = All-same (IsEntryOfOne bag race.terms.first nodes race.terms.workers tails) j.ends.items [] ends (All-nil (IsEntryOfOne bag race.terms.first nodes race.terms.workers tails));
+  spent = subst (λ o. MatchOption o (All (IsClosedUnder bag j.seats.items) j.ends.items) (IsCostly bag race.terms.first nodes tails)) (sym spent)
+      (All-same (IsClosedUnder bag j.seats.items) j.ends.items [] ends (All-nil (IsClosedUnder bag j.seats.items)));
+}

@@ -1,0 +1,88 @@
+// The share of one worker.
+ghost use Rattle.std.specs.Prelude.{◌≡◌, ◌≤◌, ◌++◌, ◌∷◌, [], All, IfOk, OnOk, length, if◌then◌else◌};
+ghost use Rattle.shared_witness.specs.Race.{new_seat};
+ghost use Rattle.bound_search.specs.Reached.{IsWorkerEnd};
+ghost use Rattle.bound_search.specs.declared.limits.TheConstants.{MOST_PIECES};
+
+use crate::ends::{PieceEnd, WorkerEnd};
+use crate::piece::search;
+use desk::Gate;
+use irv_base::Memory;
+use set_tallies::Tallies;
+use shared_witness::{Race, RaceSeat};
+use std::alloc::Global;
+use std::marker::Brand;
+use std::sync::ledger::Blank;
+use suffix_tree::Tail;
+
+// Notes the piece where it was left open.
+fn note(spent: &mut Vec<u32>, piece: u32, closed: bool) -> Result<(), Memory>
+    ensures { OnOk result (spent.new.items ≡ (if closed then spent.old.items else spent.old.items ++ piece ∷ [])) }
+{
+    if !closed {
+        spent.push(piece)?;
+    }
+    Ok(())
+}
+
+/// The share of one worker of a race: it takes a piece, searches it, and takes the next, until none is left. Before it
+/// searches a piece the gate is called.
+///
+/// `tails` are the pieces of the race in the order of their numbers, each by the suffix that its orders end in. The seat is one
+/// of the race that did nothing yet. Each piece has the whole budget of `nodes` suffixes. The one error is want of memory.
+pub fn work<G: Gate + Sync>(
+    alloc: Global,
+    race: &Race,
+    seat: &mut RaceSeat,
+    worker: u32,
+    tails: &[Tail],
+    nodes: u32,
+    tallies: &mut Tallies,
+    gate: &G,
+) -> Result<WorkerEnd, Memory>
+    requires seat { seat.old ≡ new_seat race.now }
+    requires pieces { race.now.terms.pieces ≡ length tails.now }
+    requires few { length tails.now ≤ MOST_PIECES }
+    requires contest { All (λ tail. tail.n ≡ tallies.old.bag.n) tails.now }
+    ensures race { seat.new.race ≡ race.now.id }
+    ensures end { IfOk result (IsWorkerEnd tallies.old.bag race.now.terms.first nodes worker tails.now seat.new.view) }
+    ensures same { tallies.new ≡ tallies.old }
+{
+    let mut best = None;
+    let mut ends = Vec::new(alloc);
+    let mut spent = Vec::new(alloc);
+    let mut looks = 0u64;
+    for _turn in 0..=tails.len() {
+        let piece = race.take(seat);
+        if piece as usize == tails.len() {
+            return Ok(WorkerEnd {
+                best,
+                ends,
+                spent,
+                looks,
+            });
+        }
+        let tail = tails[piece as usize];
+        gate.at(worker, piece);
+        let searched = search::<Brand>(
+            alloc,
+            Blank::new(1),
+            race,
+            seat,
+            piece,
+            &tail,
+            nodes,
+            tallies,
+        )?;
+        looks += searched.looks;
+        best = searched.found.or(best);
+        note(&mut spent, piece, searched.closed)?;
+        ends.push(PieceEnd {
+            piece,
+            tail,
+            worker,
+            expanded: searched.expanded,
+        })?;
+    }
+    unreachable!()
+}

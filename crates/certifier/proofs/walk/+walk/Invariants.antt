@@ -1,0 +1,12 @@
+use Rattle.std.proofs.Common.{◌≡◌, ◌-◌, length}
+use Rattle.certifier.proofs.Walking.{IsGoing}
+use Rattle.certifier.proofs.walk.+walk.Given as goal
+
+abbrev pub decreases-walk : goal.decreases-walk
+decreases-walk l = l.s.now.tail.n - length l.s.now.tail.list
+
+abbrev pub invariant-loop-c : goal.invariant-loop-c
+invariant-loop-c l = record {
+  same : l.tallies ≡ l.fn.tallies;
+  going : IsGoing l.fn.tallies.bag l.reach l.s l.count l.fn.claims.entries l.c l.seen l.claims.entries;
+}

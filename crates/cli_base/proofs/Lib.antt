@@ -1,0 +1,6 @@
+pub mod Scripts
+pub mod Statuses
+pub mod Steps
+pub mod Ended
+pub mod Clauses
+mod ReadFiles

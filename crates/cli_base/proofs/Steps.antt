@@ -1,0 +1,49 @@
+-- A command goes on from one file to the next.
+use Rattle.std.proofs.Common.{◌≡◌, ◌∙◌, inl, inr, ℕ, ◌≤◌, max, List, Option, refl, ap, subst, arith}
+use Rattle.desk.specs.Count.{Rose, one_more}
+use Rattle.desk.specs.declared.served.Served.{Served}
+use Rattle.desk.specs.Desk.{File}
+use Rattle.cli_base.specs.Accounts.{IsBroken, IsAccountedFor}
+use Rattle.cli_base.specs.Outcome.{Outcome}
+use Rattle.cli_base.specs.Script.{Reading, Bytes, Script, Read, Ends, AsTold, ByDesk, May, MayOrMemory, limit}
+
+-- the desk over a longer time
+longer : (held h : Option (List File)) (a b c d : ℕ) (name : List ℕ) (reading : Reading) → h ≡ held → a ≤ b → c ≤ d → ByDesk h (Rose b c) name reading → ByDesk held (Rose a d) name reading
+longer held h a b c d name reading same before after (inl told) = inl (subst (λ x. AsTold x name reading) same told)
+longer held h a b c d name reading same before after (inr (fault, rose)) = inr (fault, omega (arith, rose))
+
+longer_may : (held h : Option (List File)) (a b c d : ℕ) (script : Script) (due : Outcome) → h ≡ held → a ≤ b → c ≤ d → May (ByDesk h (Rose b c)) script due → May (ByDesk held (Rose a d)) script due
+longer_may held h a b c d (Ends verdicts) due same before after may = may
+longer_may held h a b c d (Read name next) due same before after (inl (reading, there, stop)) = inl (reading, longer held h a b c d name reading same before after there, stop)
+longer_may held h a b c d (Read name next) due same before after (inr (bytes, there, rest)) =
+    inr (bytes, longer held h a b c d name (Bytes bytes) same before after there, longer_may held h a b c d (next bytes) due same before after rest)
+
+-- after a file was read, what comes of the rest
+pub gone_on : (held h : Option (List File)) (a b c : ℕ) (name bytes : List ℕ) (next : List ℕ → Script) (due : Outcome) → h ≡ held → a ≤ b → b ≤ c
+    → ByDesk held (Rose a b) name (Bytes bytes) → MayOrMemory (ByDesk h (Rose b c)) (next bytes) due → MayOrMemory (ByDesk held (Rose a c)) (Read name next) due
+gone_on held h a b c name bytes next due same before after there (inl may) =
+    inl (inr (bytes, longer held held a a b c name (Bytes bytes) refl (omega arith) after there, longer_may held h a b c c (next bytes) due same before (omega arith) may))
+gone_on held h a b c name bytes next due same before after there (inr memory) = inr memory
+
+-- what the desk served of both
+pub accounted_on : (a b c : Served) (status : ℕ) → IsAccountedFor a b 0 → IsAccountedFor b c status → IsAccountedFor a c status
+accounted_on a b c status first rest = record {
+  missing = λ is. rest.missing is ∙ ap one_more same;
+  found = λ no whole. rest.found no whole ∙ same;
+  too_long = rest.too_long;
+  over = λ is. rest.over is ∙ ap one_more same_over;
+  within = λ no whole. rest.within no whole ∙ same_over;
+  short = λ no whole. let after = rest.short no whole in omega (arith, short, after);
+}
+  where
+    unbroken : IsBroken 0 → ⊥
+    unbroken broken = omega (arith, broken)
+
+    same : b.misses ≡ a.misses
+    same = first.found (λ e. omega (arith, e)) unbroken
+
+    same_over : b.too_long ≡ a.too_long
+    same_over = first.within (λ e. omega (arith, e)) unbroken
+
+    short : b.longest ≤ max a.longest limit
+    short = first.short (λ e. omega (arith, e)) unbroken

@@ -1,0 +1,142 @@
+-- A command as the files that it reads, one after the other, and what it comes to.
+use Rattle.std.specs.Prelude.{◌≡◌, ◌⊎◌, ℕ, List, length, Option, None, Some, MatchOption, ◌≢◌, nat_le, if◌then◌else◌, ⊤}
+use Rattle.irv_base.specs.declared.limits.TheConstants.{MOST_FILE_BYTES}
+use Rattle.desk.specs.Desk.{File, held_bytes}
+use Rattle.cli_base.specs.Outcome.{Outcome, Verdict, Answered, Refused, outcome, bad_words, read_fault, out_of_memory, too_long, no_such_file}
+use Rattle.cli_base.specs.declared.outcome.AnswerKind.{AnswerKind}
+
+-- how the reading of a file ends
+pub data Reading : Type 0 where
+  Bytes : List ℕ → Reading
+  Missing : Reading
+  TooLong : Reading
+  Fault : Reading
+
+-- Reads a file whole and goes on with its bytes, or ends with one of these verdicts.
+pub data Script : Type 1 where
+  Read : List ℕ → (List ℕ → Script) → Script
+  Ends : (Verdict → Type 0) → Script
+
+-- ends with this verdict
+abbrev pub ends : Verdict → Script
+ends verdict = Ends (λ v. v ≡ verdict)
+
+-- the greatest length of a file
+abbrev pub limit : ℕ
+limit = MOST_FILE_BYTES
+
+-- how the reading of what is held ends
+abbrev pub reading_of : Option (List ℕ) → Reading
+reading_of None = Missing
+reading_of (Some bytes) = if nat_le (length bytes) limit then Bytes bytes else TooLong
+
+-- the readings that there may be of a name
+abbrev pub Readings : Type 1
+Readings = List ℕ → Reading → Type 0
+
+-- just those of the files that are held
+abbrev pub AsHeld : List File → Readings
+AsHeld files name reading = reading ≡ reading_of (held_bytes name files)
+
+-- those where that is told, and any but a fault where it isn't
+abbrev pub AsTold : Option (List File) → Readings
+AsTold held name reading = MatchOption held (reading ≢ Fault) (λ files. AsHeld files name reading)
+
+-- those of a desk, which may have failed
+abbrev pub ByDesk : Option (List File) → Type 0 → Readings
+ByDesk held failed name reading = AsTold held name reading ⊎ ((reading ≡ Fault) × failed)
+
+-- what a reading that isn't of bytes comes to
+abbrev pub stop_of : List ℕ → Reading → Option Outcome
+stop_of name (Bytes bytes) = None
+stop_of name Missing = Some (no_such_file name)
+stop_of name TooLong = Some (too_long name)
+stop_of name Fault = Some (read_fault name)
+
+-- a file may be read, and may stop the call with this
+abbrev pub MayStop : Readings → List ℕ → Outcome → Type 0
+MayStop readings name due = (reading : Reading) × readings name reading × (stop_of name reading ≡ Some due)
+
+-- A script may come to this, by the readings that there may be.
+abbrev pub May : Readings → Script → Outcome → Type 0
+May readings (Ends verdicts) due = (verdict : Verdict) × verdicts verdict × (due ≡ outcome verdict)
+May readings (Read name next) due =
+    MayStop readings name due ⊎ ((bytes : List ℕ) × readings name (Bytes bytes) × May readings (next bytes) due)
+
+-- the same, where memory may run out
+abbrev pub MayOrMemory : Readings → Script → Outcome → Type 0
+MayOrMemory readings script due = May readings script due ⊎ (due ≡ out_of_memory)
+
+-- A script comes to read this file, all before it being read.
+abbrev pub Reaches : Readings → Script → List ℕ → Type 0
+Reaches readings (Ends verdicts) name = ⊥
+Reaches readings (Read first next) name =
+    (first ≡ name) ⊎ ((bytes : List ℕ) × readings first (Bytes bytes) × Reaches readings (next bytes) name)
+
+-- A script reads all its files, and may end with this verdict.
+abbrev pub Concludes : Readings → Script → Verdict → Type 0
+Concludes readings (Ends verdicts) verdict = verdicts verdict
+Concludes readings (Read name next) verdict =
+    (bytes : List ℕ) × readings name (Bytes bytes) × Concludes readings (next bytes) verdict
+
+-- ---- what the words of a call ask for
+
+-- they are no line, or a command is run
+pub data Asked : Type 1 where
+  Nothing : Asked
+  Runs : Script → Asked
+
+-- What is asked for may come to this, by the readings that there may be.
+abbrev pub MayCome : Readings → Asked → Outcome → Type 0
+MayCome readings Nothing due = due ≡ bad_words
+MayCome readings (Runs script) due = May readings script due
+
+-- the same, where memory may run out
+abbrev pub IsDue : Readings → Asked → Outcome → Type 0
+IsDue readings asked due = MayCome readings asked due ⊎ (due ≡ out_of_memory)
+
+-- a command is run that comes to read this file, all before it being read
+abbrev pub ComesToRead : Readings → Asked → List ℕ → Type 0
+ComesToRead readings Nothing name = ⊥
+ComesToRead readings (Runs script) name = Reaches readings script name
+
+-- a command is run that reads all its files, and comes to this verdict
+abbrev pub ComesTo : Readings → Asked → Verdict → Type 0
+ComesTo readings Nothing verdict = ⊥
+ComesTo readings (Runs script) verdict = Concludes readings script verdict
+
+-- ---- one end
+
+-- what a script may conclude with agrees by R, each two of it
+abbrev pub Agree : (Outcome → Outcome → Type 0) → Script → Type 0
+Agree R (Ends verdicts) = (v w : Verdict) → verdicts v → verdicts w → R (outcome v) (outcome w)
+Agree R (Read name next) = (bytes : List ℕ) → Agree R (next bytes)
+
+abbrev pub AgreeOn : (Outcome → Outcome → Type 0) → Asked → Type 0
+AgreeOn R Nothing = ⊤
+AgreeOn R (Runs script) = Agree R script
+
+abbrev pub Same : Outcome → Outcome → Type 0
+Same due other = due ≡ other
+
+-- an answer, a full count, or a budget that was spent before it could be had
+abbrev pub IsBudgeted : ℕ → Type 0
+IsBudgeted status = (status ≡ 0) ⊎ (status ≡ 4) ⊎ (status ≡ 5)
+
+-- a budget made the one end otherwise than the other
+abbrev pub OneIsSpent : Outcome → Outcome → Type 0
+OneIsSpent due other = IsBudgeted due.status × IsBudgeted other.status × ((due.status ≡ 4) ⊎ (other.status ≡ 4))
+
+-- but for a budget
+abbrev pub SameButBudget : Outcome → Outcome → Type 0
+SameButBudget due other = Same due other ⊎ OneIsSpent due other
+
+-- ---- the kinds of answer that a script may conclude with
+
+abbrev pub IsOfKind : (AnswerKind → Type 0) → Verdict → Type 0
+IsOfKind kinds (Answered kind text) = kinds kind
+IsOfKind kinds (Refused name text) = ⊤
+
+abbrev pub AreOfKind : (AnswerKind → Type 0) → Script → Type 0
+AreOfKind kinds (Ends verdicts) = (v : Verdict) → verdicts v → IsOfKind kinds v
+AreOfKind kinds (Read name next) = (bytes : List ℕ) → AreOfKind kinds (next bytes)

@@ -1,0 +1,61 @@
+// Files are read whole, or refused.
+ghost use Rattle.std.specs.Prelude.{◌≡◌, ◌≤◌, ◌++◌, IfOk, string_bytes, codes};
+ghost use Rattle.desk.specs.Count.{Rose};
+ghost use Rattle.cli_base.specs.Script.{ByDesk};
+ghost use Rattle.cli_base.specs.Outcome.{line, said_of, broken_at};
+ghost use Rattle.cli_base.specs.Accounts.{IsAccountedFor};
+ghost use Rattle.cli_base.specs.declared.outcome.RefusalKind.TheVariants.{Input};
+ghost use Rattle.cli_base.specs.Due.{due_refusal, IsRead, IsOrMemory, status_so_far};
+
+use crate::outcome::{Refusal, RefusalKind};
+use desk::{Desk, DeskFault, read_all};
+use irv_base::MOST_FILE_BYTES;
+use std::alloc::{AllocError, Global};
+
+/// All bytes of a file, or why the call stops there.
+pub fn read_file<D: Desk>(alloc: Global, desk: &mut D, file: &str) -> Result<Vec<u8>, Refusal>
+    ensures held { D.held desk.new ≡ D.held desk.old }
+    ensures later { D.faults desk.old ≤ D.faults desk.new }
+    ensures read { IsRead (ByDesk (D.held desk.old) (Rose (D.faults desk.old) (D.faults desk.new))) file.now result }
+    ensures served { IsAccountedFor (D.served desk.old) (D.served desk.new) (status_so_far result) }
+{
+    match read_all(alloc, desk, file, MOST_FILE_BYTES) {
+        Ok(bytes) => Ok(bytes),
+        Err(DeskFault::Missing) => Err(refuse(alloc, RefusalKind::Missing, file, "no such file")),
+        Err(DeskFault::TooLong) => Err(refuse(alloc, RefusalKind::TooLong, file, "too long")),
+        Err(DeskFault::ReadFault) => Err(refuse(alloc, RefusalKind::ReadFault, file, "read fault")),
+        Err(DeskFault::Memory) => Err(Refusal::Memory),
+    }
+}
+
+/// A refusal that names a file.
+pub fn refuse(alloc: Global, kind: RefusalKind, file: &str, text: &str) -> Refusal
+    ensures { IsOrMemory (said_of kind file.now text.now) (due_refusal result) }
+{
+    match line_of_file(alloc, file, text) {
+        Ok(line) => Refusal::Line(kind, line),
+        Err(_) => Refusal::Memory,
+    }
+}
+
+/// A refusal by a rule, at the place of a file that breaks it.
+pub fn refuse_at(alloc: Global, file: &str, rule: &str, at: u64) -> Refusal
+    ensures { IsOrMemory (said_of Input file.now (broken_at rule.now at)) (due_refusal result) }
+{
+    match broken_at(alloc, rule, at) {
+        Ok(text) => refuse(alloc, RefusalKind::Input, file, text.as_str()),
+        Err(_) => Refusal::Memory,
+    }
+}
+
+fn broken_at(alloc: Global, rule: &str, at: u64) -> Result<String, AllocError>
+    ensures { IfOk result (λ text. string_bytes text ≡ broken_at rule.now at) }
+{
+    format!(in alloc; "{rule} at {at}")
+}
+
+fn line_of_file(alloc: Global, file: &str, text: &str) -> Result<String, AllocError>
+    ensures { IfOk result (λ said. string_bytes said ≡ line (codes "raire: " ++ (file.now ++ codes ": " ++ text.now))) }
+{
+    format!(in alloc; "raire: {file}: {text}\n")
+}

@@ -1,0 +1,10 @@
+//! What the commands of the suite share: files that are read whole, what a command may come to, and how that is written.
+#![tactic(auto)]
+
+mod delivery;
+mod files;
+mod outcome;
+
+pub use delivery::deliver;
+pub use files::{read_file, refuse, refuse_at};
+pub use outcome::{Answer, AnswerKind, Refusal, RefusalKind};

@@ -1,0 +1,5 @@
+use Rattle.std.proofs.Common.{refl}
+use Rattle.command_line.proofs.laws.limits.Goals as goal
+
+pub returns : goal.returns
+returns c = record { nodes = refl; default_nodes = refl; floor = refl; default_floor = refl; default_limit = refl; default_gamma = refl }

@@ -1,0 +1,11 @@
+use Rattle.std.proofs.Common.{inr, refl}
+use Rattle.cli_base.specs.Due.{due}
+use Rattle.cli_base.proofs.Ended.{told_as}
+use Rattle.contest_commands.specs.Tabulate.{Tabulates}
+use Rattle.contest_commands.proofs.Contests.{tie_told}
+use Rattle.contest_commands.proofs.tabulate.tied_answer.Goals as goal
+
+pub returns : goal.returns
+returns c =
+    let told = tie_told c.args.ballots.now c.candidates.result.now c.args.round c.args.tied c.args.votes c.candidates.ensures.same c.requires in
+    told_as (Tabulates c.args.ballots.now) _ (due c.first_tie.result) (inr (_, told, refl)) c.first_tie.ensures

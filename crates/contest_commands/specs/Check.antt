@@ -1,0 +1,99 @@
+-- `check BALLOTS ASSERTIONS`: whether an assertion file holds of a ballot file's contest, or the first difference.
+use Rattle.std.specs.Prelude.{◌≡◌, ◌⊎◌, ℕ, ℤ, List, ◌++◌, length, Option, None, Some, Result, Ok, Err, codes}
+use Rattle.std.specs.Fmt.{decimal, signed_decimal}
+use Rattle.irv_base.specs.Names.{Id}
+use Rattle.ballot_reader.specs.Ballots.{BallotFile}
+use Rattle.ballot_reader.specs.Grammar.{Refusal, ballots_of}
+use Rattle.assertion_file.specs.Content.{Content}
+use Rattle.assertion_file.specs.Ids.{id_of}
+use Rattle.assertion_file.specs.Reading.{Refusal as FileRefusal, assertion_file_of}
+use Rattle.cover_checker.specs.Checks.{IsAnswer}
+use Rattle.cover_checker.specs.Findings.{Answer}
+use Rattle.cover_checker.specs.declared.checked.Checked.{Checked}
+use Rattle.cover_checker.specs.declared.checked.Checked.TheVariants.{OtherContest, OtherWinner, OtherMargin, Stands, NotLeast, NotAlternative, Harder, Accepted}
+use Rattle.cover_checker.specs.declared.checked.CheckFault.TheVariants.{Tie as TieFound, Spent as SpentAt, Memory}
+use Rattle.report.specs.Texts.{order_text, assertion_text}
+use Rattle.contest_commands.specs.Contest.{tie_text, refused, refused_file}
+use Rattle.cli_base.specs.Outcome.{Verdict, Answered}
+use Rattle.cli_base.specs.declared.outcome.AnswerKind.{AnswerKind}
+use Rattle.cli_base.specs.declared.outcome.AnswerKind.TheVariants.{Done, Tie, Spent, Differs}
+use Rattle.cli_base.specs.Script.{Script, Read, Ends, ends}
+
+-- ---- the texts
+
+abbrev pub yes_lines : ℕ → ℕ → List ℕ
+yes_lines assertions margin = codes "yes\nassertions " ++ decimal assertions ++ codes "\nmargin " ++ decimal margin ++ codes "\n"
+
+abbrev pub yes_text : Content → List ℕ
+yes_text file = yes_lines (length file.claims) file.margin
+
+abbrev pub no_line : List ℕ → List ℕ
+no_line difference = codes "no: " ++ difference ++ codes "\n"
+
+abbrev pub spent_at : List ℕ → List ℕ
+spent_at last = codes "spent\ncandidate " ++ last ++ codes "\n"
+
+-- a difference in words
+
+abbrev pub winner_is : List ℕ → List ℕ
+winner_is winner = codes "winner is " ++ winner
+
+abbrev pub has_margin : ℕ → ℤ → List ℕ
+has_margin index found = codes "assertion " ++ decimal index ++ codes " has margin " ++ signed_decimal found
+
+abbrev pub stands : List ℕ → List ℕ
+stands order = codes "order " ++ order ++ codes " stands"
+
+abbrev pub smallest_is : ℕ → List ℕ
+smallest_is found = codes "smallest margin is " ++ decimal found
+
+abbrev pub is_refuted_by : List ℕ → ℕ → List ℕ
+is_refuted_by assertion margin = codes "order is refuted by " ++ assertion ++ codes " margin " ++ decimal margin
+
+-- ---- how a check ends
+
+abbrev pub differs : List ℕ → Verdict
+differs difference = Answered Differs (no_line difference)
+
+-- by what the checker found, told by the ids of the file
+abbrev pub found_verdict : Content → Checked → Verdict
+found_verdict file OtherContest = differs (codes "contest differs")
+found_verdict file (OtherWinner winner) = differs (winner_is (id_of file.candidates winner))
+found_verdict file (OtherMargin index found) = differs (has_margin index found)
+found_verdict file (Stands order) = differs (stands (order_text file.candidates order))
+found_verdict file (NotLeast found) = differs (smallest_is found)
+found_verdict file NotAlternative = differs (codes "order elects the winner")
+found_verdict file (Harder assertion margin) = differs (is_refuted_by (assertion_text file.candidates assertion) margin)
+found_verdict file Accepted = Answered Done (yes_text file)
+
+abbrev pub verdict_on : Content → Answer → Option Verdict
+verdict_on file (Ok found) = Some (found_verdict file found)
+verdict_on file (Err (TieFound round tied votes)) = Some (Answered Tie (tie_text file.candidates round tied votes))
+verdict_on file (Err (SpentAt last)) = Some (Answered Spent (spent_at (id_of file.candidates last)))
+verdict_on file (Err Memory) = None
+
+-- by the checker's answer
+abbrev pub Checks : ℕ → BallotFile → Content → Verdict → Type 0
+Checks nodes ballots file verdict = (answer : Answer) × IsAnswer nodes ballots file answer × (verdict_on file answer ≡ Some verdict)
+
+-- ---- the command
+
+abbrev pub ChecksIn : ℕ → BallotFile → List ℕ → Result Content FileRefusal → Verdict → Type 0
+ChecksIn nodes ballots name (Err refusal) verdict = verdict ≡ refused_file name refusal
+ChecksIn nodes ballots name (Ok file) verdict = Checks nodes ballots file verdict
+
+-- a check of these ballots
+abbrev pub check_of : ℕ → BallotFile → List ℕ → Script
+check_of nodes ballots assertions = Read assertions (λ bytes. Ends (ChecksIn nodes ballots assertions (assertion_file_of bytes)))
+
+-- the ballots are judged before the assertion file is read
+abbrev pub check_after : ℕ → List ℕ → List ℕ → Result BallotFile Refusal → Script
+check_after nodes name assertions (Err refusal) = ends (refused name refusal)
+check_after nodes name assertions (Ok ballots) = check_of nodes ballots assertions
+
+abbrev pub script : List ℕ → List ℕ → Option Id → ℕ → Script
+script name assertions contest nodes = Read name (λ bytes. check_after nodes name assertions (ballots_of bytes contest))
+
+-- the kinds of its answers
+abbrev pub Kinds : AnswerKind → Type 0
+Kinds kind = (kind ≡ Done) ⊎ (kind ≡ Tie) ⊎ (kind ≡ Spent) ⊎ (kind ≡ Differs)

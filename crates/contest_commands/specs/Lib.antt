@@ -1,0 +1,7 @@
+pub mod Contest
+pub mod Tabulate
+pub mod Search
+pub mod Check
+pub mod Found
+pub mod Named
+pub mod Laws

@@ -1,0 +1,157 @@
+// What a search finds: tabulation, the race for the best margin, and the certificate of that margin.
+ghost use Rattle.std.specs.Prelude.{◌≡◌, ◌≤◌, IfOk};
+ghost use Rattle.bound_search.specs.declared.limits.TheConstants.{MOST_WORKERS};
+ghost use Rattle.contest_commands.specs.Found.{FoundIn, IsCounted, IsBestOf, IsPrintable, content_of};
+
+use assertion_file::AssertionFile;
+use assertions::Claim;
+use ballot_reader::Ballots;
+use bound_search::{RaceEnd, RaceFault, race};
+use certifier::{CertFault, Certificate, certify};
+use desk::Gate;
+use irv_base::{CandSet, Candidate, Memory, Order};
+use irv_tabulator::{TabFault, Tabulated, tabulate};
+use set_tallies::{Counted, Tallies};
+use std::alloc::Global;
+use std::thread::Threads;
+
+/// What a search finds.
+#[derive(Drop)]
+pub(crate) enum Found {
+    Certificate(AssertionFile),
+    Tie {
+        round: u32,
+        tied: CandSet,
+        votes: u32,
+    },
+    /// More nodes than the budget has are needed for the orders that elect `last`. Beside it the closest order so far that elects
+    /// another candidate than the winner, and its hardness.
+    Spent {
+        last: Candidate,
+        order: Order,
+        margin: u32,
+    },
+}
+
+/// What a search of the ballots finds, by so many workers, with so many nodes for each of their pieces.
+pub(crate) fn find<R: AllocGlobal + Threads + Sync, G: Gate + Sync>(
+    rt: &R,
+    ballots: &Ballots,
+    nodes: u32,
+    workers: u32,
+    gate: &G,
+) -> Result<Found, Memory>
+    requires { (1 ≤ workers) × (workers ≤ MOST_WORKERS) }
+    ensures { IfOk result (FoundIn nodes ballots.now) }
+{
+    let alloc = rt.alloc();
+    let counted = Counted::of(alloc, ballots.candidates().len() as u32, ballots.rankings())?;
+    let mut tallies = counted.tallies()?;
+    match tabulate(alloc, &mut tallies) {
+        Ok(tabulated) => race_of(
+            rt,
+            ballots,
+            &counted,
+            &mut tallies,
+            &tabulated,
+            nodes,
+            workers,
+            gate,
+        ),
+        Err(fault) => match fault {
+            TabFault::Tie { round, tied, tally } => Ok(Found::Tie {
+                round,
+                tied,
+                votes: tally,
+            }),
+            TabFault::Memory => Err(Memory),
+        },
+    }
+}
+
+// What a search of a contest without a tie finds.
+fn race_of<R: AllocGlobal + Threads + Sync, G: Gate + Sync>(
+    rt: &R,
+    ballots: &Ballots,
+    counted: &Counted,
+    tallies: &mut Tallies<'_>,
+    tabulated: &Tabulated,
+    nodes: u32,
+    workers: u32,
+    gate: &G,
+) -> Result<Found, Memory>
+    requires workers { (1 ≤ workers) × (workers ≤ MOST_WORKERS) }
+    requires bag { tallies.old.bag ≡ counted.now.bag }
+    requires counted { IsCounted ballots.now tallies.old.bag tabulated.now }
+    ensures { IfOk result (FoundIn nodes ballots.now) }
+{
+    match race(rt, counted, tabulated, workers, nodes, gate) {
+        Ok(end) => certificate_of(rt.alloc(), ballots, tallies, tabulated, end, nodes),
+        Err(fault) => match fault {
+            RaceFault::Spent { last, upper, order } => Ok(Found::Spent {
+                last,
+                order,
+                margin: upper,
+            }),
+            RaceFault::Memory => Err(Memory),
+        },
+    }
+}
+
+// The certificate of the best margin.
+fn certificate_of(
+    alloc: Global,
+    ballots: &Ballots,
+    tallies: &mut Tallies<'_>,
+    tabulated: &Tabulated,
+    end: RaceEnd,
+    nodes: u32,
+) -> Result<Found, Memory>
+    requires counted { IsCounted ballots.now tallies.old.bag tabulated.now }
+    requires best { IsBestOf tallies.old.bag tabulated.now end }
+    ensures { IfOk result (FoundIn nodes ballots.now) }
+{
+    let RaceEnd { margin, order, .. } = end;
+    match certify(alloc, tallies, tabulated, margin, nodes) {
+        Ok(certificate) => {
+            let file = file_of(alloc, ballots, tabulated.winner, certificate)?;
+            Ok(Found::Certificate(file))
+        }
+        Err(fault) => match fault {
+            CertFault::Spent { last } => Ok(Found::Spent {
+                last,
+                order,
+                margin,
+            }),
+            CertFault::Memory => Err(Memory),
+        },
+    }
+}
+
+// The assertion file that says what the certificate does.
+fn file_of(
+    alloc: Global,
+    ballots: &Ballots,
+    winner: Candidate,
+    certificate: Certificate,
+) -> Result<AssertionFile, Memory>
+    requires { IsPrintable ballots.now winner certificate }
+    ensures { IfOk result (λ file. file ≡ content_of ballots.now winner certificate) }
+{
+    let Certificate {
+        claims,
+        margin,
+        order,
+    } = certificate;
+    let names = ballots.candidates().to_vec(alloc)?;
+    let records = ballots.rankings().len() as u32;
+    Ok(AssertionFile::new(
+        *ballots.contest(),
+        names,
+        records,
+        winner,
+        margin,
+        order,
+        claims,
+    ))
+}

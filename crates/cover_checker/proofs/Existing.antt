@@ -1,0 +1,146 @@
+-- Every file has an answer, and one that no budget spoils where there are nodes enough.
+use Rattle.std.proofs.Common.{◌≡◌, ℕ, ◌+◌, ◌-◌, ◌*◌, ◌<◌, ◌≤◌, Bool, true, false, if◌then◌else◌, nat_lt, ◌==◌, List, [], ◌∷◌, length, Option, Some, None, Ok, Err, MatchBool, inl, inr, refl, sym, ap, subst, arith, ◌∙◌}
+use Rattle.std.proofs.lemmas.Bool.{cases_Bool}
+use Rattle.irv_base.specs.Laws.{HasTie}
+use Rattle.irv_base.specs.Orders.{is_order}
+use Rattle.irv_base.specs.Tabulation.{is_tabulated}
+use Rattle.irv_base.proofs.Exists.{order_or_tie}
+use Rattle.irv_base.proofs.Orders.{last_split, order_facts}
+use Rattle.assertions.specs.declared.assertion.Assertion.{Assertion}
+use Rattle.assertions.specs.declared.assertion.Claim.{Claim}
+use Rattle.assertions.specs.Assertions.{margin}
+use Rattle.assertions.specs.Hardness.{low, refuter}
+use Rattle.assertions.specs.Suffixes.{factorial}
+use Rattle.ballot_reader.specs.Ballots.{BallotFile}
+use Rattle.assertion_file.specs.Content.{Content, IsSound, candidate_count}
+use Rattle.cover_checker.specs.Covers.{IsEnough, verdict_on, standing_order}
+use Rattle.cover_checker.specs.Outcomes.{Outcome, Won, Tied}
+use Rattle.cover_checker.specs.Findings.{Answer, is_about, assertions_of, has_other_margin, other_margin_from, unless_covered, uncovered, smallest_margin, elects, other_winner, other_margin, other_smallest, elected, harder, refuted_by}
+use Rattle.cover_checker.specs.Checks.{Judges, IsAnswer, checked_is, first_found}
+use Rattle.cover_checker.specs.declared.cover.Verdict.{Verdict}
+use Rattle.cover_checker.specs.declared.cover.Verdict.TheVariants.{Covered, Stands}
+use Rattle.cover_checker.specs.declared.checked.Checked.{Checked}
+use Rattle.cover_checker.specs.declared.checked.Checked.TheVariants.{OtherContest, OtherWinner, OtherMargin, NotLeast, NotAlternative, Accepted}
+use Rattle.cover_checker.specs.declared.checked.CheckFault.{CheckFault}
+use Rattle.cover_checker.specs.declared.checked.CheckFault.TheVariants.{Spent as SpentAt}
+use Rattle.cover_checker.proofs.Answered.{from_answer, judged}
+use Rattle.cover_checker.proofs.Same.{from_about}
+use Rattle.cover_checker.proofs.Enough.{enough-verdict, never_over}
+
+-- ---- there is an answer
+module _ (nodes : ℕ) (ballots : BallotFile) (file : Content) where
+  abbrev HasAnswer : Type 0
+  HasAnswer = (answer : Answer) × IsAnswer nodes ballots file answer
+
+  by_order : is_about ballots file ≡ true → (order : List ℕ) → 0 < length ballots.candidates → is_order (length ballots.candidates) order ≡ true → is_tabulated ballots.rankings order ≡ true → HasAnswer
+  by_order about [] some whole tab = absurd (omega (arith, some, (order_facts (length ballots.candidates) [] whole).long))
+  by_order about (x ∷ xs) some whole tab =
+      let (before, winner, e) = last_split x xs in
+      let answer = checked_is nodes ballots.rankings file (Won winner) in (
+        answer,
+        judged nodes ballots file about answer (record {
+          outcome = Won winner;
+          tabulated = record { order = x ∷ xs; permutation = whole; tabulated = tab; elects = (before, e) };
+          answer_is = refl;
+        }),
+      )
+
+  by_tie : is_about ballots file ≡ true → HasTie (length ballots.candidates) ballots.rankings → HasAnswer
+  by_tie about (round, tied, votes, le, tie) =
+      let answer = checked_is nodes ballots.rankings file (Tied round tied votes) in
+      (answer, judged nodes ballots file about answer (record { outcome = Tied round tied votes; tabulated = (le, tie); answer_is = refl }))
+
+  abbrev elsewhere : Answer
+  elsewhere = Ok OtherContest
+
+  by_contest : is_about ballots file ≡ false → HasAnswer
+  by_contest f =
+      let same : elsewhere ≡ elsewhere = refl in
+      (elsewhere, subst (λ b. MatchBool b (Judges nodes ballots file elsewhere) (elsewhere ≡ elsewhere)) (sym f) same)
+
+  pub answer_exists : IsSound file → HasAnswer
+  answer_exists sound =
+      elim (cases_Bool (is_about ballots file)) [
+        | inr f ↦ by_contest f
+        | inl t ↦
+            let same : length file.candidates ≡ length ballots.candidates = ap length (from_about ballots file t).candidates in
+            elim (order_or_tie (length ballots.candidates) ballots.rankings) [
+              | inl o ↦ by_order t o.0 (omega (arith, sound.fewest)) o.1 o.2
+              | inr tie ↦ by_tie t tie
+            ]
+      ]
+
+-- ---- no other finding is a fault
+abbrev NeverFails : Option Answer → Type 0
+NeverFails found = (fault : CheckFault) → found ≡ Some (Err fault) → ⊥
+
+from_failed : (found : Option Answer) (more : List (Option Answer)) (fault : CheckFault) → NeverFails found → first_found (found ∷ more) (Ok Accepted) ≡ Err fault → first_found more (Ok Accepted) ≡ Err fault
+from_failed None more fault never h = h
+from_failed (Some (Ok checked)) more fault never h = cc
+from_failed (Some (Err other)) more fault never h = absurd (never other refl)
+
+unless-never : (b : Bool) (checked : Checked) → NeverFails (if b then None else Some (Ok checked))
+unless-never true checked fault h = cc
+unless-never false checked fault h = cc
+
+when-never : (b : Bool) (checked : Checked) → NeverFails (if b then Some (Ok checked) else None)
+when-never true checked fault h = cc
+when-never false checked fault h = cc
+
+found-at : List (List ℕ) → ℕ → Claim → Option Answer
+found-at records at claim = Some (Ok (OtherMargin at (margin records claim.assertion)))
+
+margins-never : (records : List (List ℕ)) (at : ℕ) (claims : List Claim) → NeverFails (other_margin_from records at claims)
+unfolding found-at
+margins-never records at [] fault h = cc
+margins-never records at (claim ∷ claims) fault h = go (has_other_margin records claim) (margins-never records (at + 1) claims fault) h where
+  go : (b : Bool) → (other_margin_from records (at + 1) claims ≡ Some (Err fault) → ⊥) → (if b then found-at records at claim else other_margin_from records (at + 1) claims) ≡ Some (Err fault) → ⊥
+  go true rest k = cc
+  go false rest k = rest k
+
+harder-never : (records : List (List ℕ)) (file : Content) → NeverFails (harder records file)
+harder-never records file fault h = go (nat_lt file.margin (low (candidate_count file) records file.order)) (refuter (candidate_count file) records file.order) h where
+  go : (b : Bool) (o : Option Assertion) → (if b then refuted_by (low (candidate_count file) records file.order) o else None) ≡ Some (Err fault) → ⊥
+  go true None k = cc
+  go true (Some a) k = cc
+  go false o k = cc
+
+uncovered-never : (nodes : ℕ) (file : Content) → IsEnough nodes (candidate_count file) file.winner (assertions_of file) → NeverFails (uncovered nodes file)
+uncovered-never nodes file enough fault h =
+    go (verdict_on (standing_order (candidate_count file) file.winner (assertions_of file))) (ap unless_covered (sym (enough-verdict (candidate_count file) file.winner nodes (assertions_of file) enough)) ∙ h)
+  where
+    go : (v : Verdict) → unless_covered (Ok v) ≡ Some (Err fault) → ⊥
+    go Covered k = cc
+    go (Stands order) k = cc
+
+-- ---- a budget of that many is never spent
+module _ (nodes : ℕ) (ballots : BallotFile) (file : Content) (last : ℕ) (le : 2 * factorial (candidate_count file - 1) ≤ nodes) where
+  by_outcome : (outcome : Outcome) → checked_is nodes ballots.rankings file outcome ≡ Err (SpentAt last) → ⊥
+  by_outcome (Tied round tied votes) h = cc
+  by_outcome (Won winner) h =
+      let records = ballots.rankings in
+      let rest-winner : List (Option Answer) = other_margin records file ∷ uncovered nodes file ∷ other_smallest file ∷ elected file ∷ harder records file ∷ [] in
+      let rest-margin : List (Option Answer) = uncovered nodes file ∷ other_smallest file ∷ elected file ∷ harder records file ∷ [] in
+      let rest-cover : List (Option Answer) = other_smallest file ∷ elected file ∷ harder records file ∷ [] in
+      let rest-smallest : List (Option Answer) = elected file ∷ harder records file ∷ [] in
+      let rest-elected : List (Option Answer) = harder records file ∷ [] in
+      let a = from_failed (other_winner winner file) rest-winner (SpentAt last) (unless-never (file.winner == winner) (OtherWinner winner)) h in
+      let b = from_failed (other_margin records file) rest-margin (SpentAt last) (margins-never records 1 file.claims) a in
+      let enough = never_over (candidate_count file) file.winner nodes (assertions_of file) le in
+      let c = from_failed (uncovered nodes file) rest-cover (SpentAt last) (uncovered-never nodes file enough) b in
+      let d = from_failed (other_smallest file) rest-smallest (SpentAt last) (unless-never (smallest_margin file == file.margin) (NotLeast (smallest_margin file))) c in
+      let e = from_failed (elected file) rest-elected (SpentAt last) (when-never (elects file.order file.winner) NotAlternative) d in
+      let f : Ok Accepted ≡ Err (SpentAt last) = from_failed (harder records file) [] (SpentAt last) (harder-never records file) e in
+      cc
+
+  abbrev failed : Answer
+  failed = Err (SpentAt last)
+
+  pub answer_never_spent : IsAnswer nodes ballots file (Err (SpentAt last)) → ⊥
+  answer_never_spent h =
+      elim (cases_Bool (is_about ballots file)) [
+        | inr f ↦
+            let other : failed ≡ Ok OtherContest = subst (λ b. MatchBool b (Judges nodes ballots file failed) (failed ≡ Ok OtherContest)) f h in
+            cc
+        | inl t ↦ let j = from_answer nodes ballots file t (Err (SpentAt last)) h in by_outcome j.outcome j.answer_is
+      ]

@@ -1,0 +1,12 @@
+-- Suffixes of elimination orders: the last candidates, first eliminated first, so that the winner stands last.
+use Rattle.std.specs.Prelude.{ℕ, Bool, ◌&&◌, ◌==◌, nat_lt, if◌then◌else◌, List, length, Option, Some, None}
+use Rattle.std.specs.List.{list_all}
+use Rattle.irv_base.specs.Candidates.{is_distinct}
+
+-- distinct candidates below n
+abbrev pub is_suffix : ℕ → List ℕ → Bool
+is_suffix n suffix = is_distinct suffix && list_all (λ c. nat_lt c n) suffix
+
+-- the order that it is, if it has all of n candidates
+abbrev pub whole : ℕ → List ℕ → Option (List ℕ)
+whole n suffix = if length suffix == n then Some suffix else None

@@ -1,0 +1,110 @@
+-- What is known of every command: a row each.
+use Rattle.std.proofs.Common.{◌≡◌, inl, inr, ℕ, List, Option, Some, None, false}
+use Rattle.cli_base.specs.Outcome.{Answered}
+use Rattle.cli_base.specs.Script.{Script, Readings, Agree, AgreeOn, AreOfKind, ComesTo, Concludes, Same, SameButBudget}
+use Rattle.cli_base.specs.declared.outcome.AnswerKind.{AnswerKind}
+use Rattle.cli_base.specs.declared.outcome.AnswerKind.TheVariants.{FullCount}
+use Rattle.cli_base.proofs.Scripts.{agree-weaker, of_kind}
+use Rattle.command_line.specs.Line.{command_of}
+use Rattle.command_line.specs.declared.command.Command.{Command}
+use Rattle.command_line.specs.declared.command.Command.TheVariants.{Search, Tabulate, Check, Sample, Plan, Open, Audit, Report}
+use Rattle.contest_commands.specs.Tabulate as tabulate
+use Rattle.contest_commands.specs.Check as check
+use Rattle.audit_commands.specs.Sample as sample
+use Rattle.audit_commands.specs.Plan as plan
+use Rattle.audit_commands.specs.declared.plan.Setting.{Setting}
+use Rattle.session_commands.specs.Open as opening
+use Rattle.session_commands.specs.declared.open.Terms.{Terms}
+use Rattle.session_commands.specs.Audit as audit
+use Rattle.session_commands.specs.Report as report
+use Rattle.contest_commands.proofs.Searches as searches
+use Rattle.contest_commands.proofs.Tabulations as tabulations
+use Rattle.contest_commands.proofs.Checks as checks
+use Rattle.audit_commands.proofs.Samples as samples
+use Rattle.audit_commands.proofs.Plans as plans
+use Rattle.session_commands.proofs.Opens as opens
+use Rattle.session_commands.proofs.Audits as audits
+use Rattle.session_commands.proofs.Reports as reports
+use Rattle.raire_cli.specs.Answers.{script_of, asked_by, is_open}
+use Rattle.raire_cli.specs.Confirmation.{AsksForSearch}
+
+weaker : (script : Script) → Agree Same script → Agree SameButBudget script
+weaker script same = agree-weaker Same SameButBudget (λ d e same. inl same) script same
+
+-- A budget alone leaves a command open.
+agrees : (command : Command) → Agree SameButBudget (script_of command)
+agrees (Search ballots contest nodes floor) = searches.agrees ballots contest (record { nodes = nodes; floor = floor })
+agrees (Tabulate ballots contest) = weaker (tabulate.script ballots contest) (tabulations.agrees ballots contest)
+agrees (Check ballots assertions contest nodes) = weaker (check.script ballots assertions contest nodes) (checks.agrees ballots assertions contest nodes)
+agrees (Sample manifest seed draws) = weaker (sample.script manifest seed draws) (samples.agrees manifest seed draws)
+agrees (Plan manifest assertions limit gamma) =
+    let setting : Setting = record { limit = limit; gamma = gamma } in weaker (plan.script manifest assertions setting) (plans.agrees manifest assertions setting)
+agrees (Open ballots manifest assertions seed contest limit gamma nodes) =
+    let terms : Terms = record { seed = seed; limit = limit; gamma = gamma; nodes = nodes } in
+    weaker (opening.script ballots manifest assertions contest terms) (opens.agrees ballots manifest assertions contest terms)
+agrees (Audit session ballots manifest assertions seen draws nodes) =
+    weaker (audit.script session ballots manifest assertions seen draws nodes) (audits.agrees session ballots manifest assertions seen draws nodes)
+agrees (Report session) = weaker (report.script session) (reports.agrees session)
+
+pub agrees_by : (command : Option Command) → AgreeOn SameButBudget (asked_by command)
+agrees_by None = tt
+agrees_by (Some command) = agrees command
+
+-- Those that don't search come to one end.
+pub agrees_exactly : (command : Command) → is_open command ≡ false → Agree Same (script_of command)
+agrees_exactly (Search ballots contest nodes floor) closed = absurd (cc closed)
+agrees_exactly (Tabulate ballots contest) closed = tabulations.agrees ballots contest
+agrees_exactly (Check ballots assertions contest nodes) closed = checks.agrees ballots assertions contest nodes
+agrees_exactly (Sample manifest seed draws) closed = samples.agrees manifest seed draws
+agrees_exactly (Plan manifest assertions limit gamma) closed = plans.agrees manifest assertions (record { limit = limit; gamma = gamma })
+agrees_exactly (Open ballots manifest assertions seed contest limit gamma nodes) closed =
+    opens.agrees ballots manifest assertions contest (record { seed = seed; limit = limit; gamma = gamma; nodes = nodes })
+agrees_exactly (Audit session ballots manifest assertions seen draws nodes) closed = audits.agrees session ballots manifest assertions seen draws nodes
+agrees_exactly (Report session) closed = reports.agrees session
+
+never_full : (kinds : AnswerKind → Type 0) → (kinds FullCount → ⊥) → (readings : Readings) (script : Script) (text : List ℕ) → AreOfKind kinds script → Concludes readings script (Answered FullCount text) → ⊥
+never_full kinds other readings script text are concludes = other (of_kind kinds readings script (Answered FullCount text) are concludes)
+
+not_tabulated : tabulate.Kinds FullCount → ⊥
+not_tabulated (inl e) = cc e
+not_tabulated (inr e) = cc e
+
+not_checked : check.Kinds FullCount → ⊥
+not_checked (inl e) = cc e
+not_checked (inr (inl e)) = cc e
+not_checked (inr (inr (inl e))) = cc e
+not_checked (inr (inr (inr e))) = cc e
+
+not_opened : opening.Kinds FullCount → ⊥
+not_opened (inl e) = cc e
+not_opened (inr (inl e)) = cc e
+not_opened (inr (inr (inl e))) = cc e
+not_opened (inr (inr (inr e))) = cc e
+
+not_audited : audit.Kinds FullCount → ⊥
+not_audited (inl e) = cc e
+not_audited (inr (inl e)) = cc e
+not_audited (inr (inr (inl e))) = cc e
+not_audited (inr (inr (inr (inl e)))) = cc e
+not_audited (inr (inr (inr (inr e)))) = cc e
+
+-- A full count is called for by a search alone.
+pub counts_in_full : (words : List (List ℕ)) (readings : Readings) (text : List ℕ) (command : Option Command) → command_of words ≡ command → ComesTo readings (asked_by command) (Answered FullCount text) → AsksForSearch words
+counts_in_full words readings text None is comes = absurd comes
+counts_in_full words readings text (Some (Search ballots contest nodes floor)) is comes = record { name = ballots; contest = contest; nodes = nodes; floor = floor; asked = is }
+counts_in_full words readings text (Some (Tabulate ballots contest)) is comes =
+    absurd (never_full tabulate.Kinds not_tabulated readings (tabulate.script ballots contest) text (tabulations.kinds ballots contest) comes)
+counts_in_full words readings text (Some (Check ballots assertions contest nodes)) is comes =
+    absurd (never_full check.Kinds not_checked readings (check.script ballots assertions contest nodes) text (checks.kinds ballots assertions contest nodes) comes)
+counts_in_full words readings text (Some (Sample manifest seed draws)) is comes =
+    absurd (never_full sample.Kinds (λ e. cc e) readings (sample.script manifest seed draws) text (samples.kinds manifest seed draws) comes)
+counts_in_full words readings text (Some (Plan manifest assertions limit gamma)) is comes =
+    let setting : Setting = record { limit = limit; gamma = gamma } in
+    absurd (never_full plan.Kinds (λ e. cc e) readings (plan.script manifest assertions setting) text (plans.kinds manifest assertions setting) comes)
+counts_in_full words readings text (Some (Open ballots manifest assertions seed contest limit gamma nodes)) is comes =
+    let terms : Terms = record { seed = seed; limit = limit; gamma = gamma; nodes = nodes } in
+    absurd (never_full opening.Kinds not_opened readings (opening.script ballots manifest assertions contest terms) text (opens.kinds ballots manifest assertions contest terms) comes)
+counts_in_full words readings text (Some (Audit session ballots manifest assertions seen draws nodes)) is comes =
+    absurd (never_full audit.Kinds not_audited readings (audit.script session ballots manifest assertions seen draws nodes) text (audits.kinds session ballots manifest assertions seen draws nodes) comes)
+counts_in_full words readings text (Some (Report session)) is comes =
+    absurd (never_full report.Kinds (λ e. cc e) readings (report.script session) text (reports.kinds session) comes)

@@ -1,5 +1,0 @@
-use Rattle.std.proofs.Common.{rules, append_assoc}
-use Rattle.raire_cli.proofs.files.line_of_file.Goals as goal
-
-pub returns : goal.returns
-returns c = search (rules, append_assoc)

@@ -1,0 +1,14 @@
+//! Seen files: what is seen of the cards that an audit looks at.
+#![tactic(auto)]
+
+mod fault;
+mod preferences;
+mod read;
+mod record;
+mod seen_cards;
+#[cfg(test)]
+mod tests;
+
+pub use fault::{SeenFault, VRule};
+pub use read::read_seen;
+pub use seen_cards::SeenCards;

@@ -1,0 +1,99 @@
+-- What a check answers tells whether it accepts.
+use Rattle.std.proofs.Common.{◌≡◌, ◌≢◌, inl, inr, ℕ, true, false, List, Some, Ok, Err, refl, sym, ap, subst, ◌∙◌}
+use Rattle.std.proofs.lemmas.Bool.{cases_Bool}
+use Rattle.ballot_reader.specs.Ballots.{BallotFile}
+use Rattle.assertion_file.specs.Content.{Content}
+use Rattle.cover_checker.specs.Checks.{IsAnswer}
+use Rattle.cover_checker.specs.Findings.{Answer}
+use Rattle.cover_checker.specs.declared.checked.Checked.TheVariants.{OtherContest, OtherWinner, OtherMargin, Stands, NotLeast, NotAlternative, Harder, Accepted}
+use Rattle.cover_checker.specs.declared.checked.CheckFault.TheVariants.{Tie as TieFound, Spent as SpentAt, Memory}
+use Rattle.cover_checker.proofs.OneAnswer.{answer_is_one}
+use Rattle.cli_base.specs.Outcome.{Verdict, Answered, outcome, status_of, out_of_memory}
+use Rattle.cli_base.specs.Due.{due, due_refusal, IsOneOrMemory}
+use Rattle.cli_base.specs.declared.outcome.Answer.{Answer as Said}
+use Rattle.cli_base.specs.declared.outcome.AnswerKind.{AnswerKind}
+use Rattle.cli_base.specs.declared.outcome.AnswerKind.TheVariants.{Done, Tie, Spent, Differs}
+use Rattle.cli_base.specs.declared.outcome.Refusal.{Refusal}
+use Rattle.cli_base.specs.declared.outcome.Refusal.TheVariants.{Words, Memory as OutOfMemory, Line}
+use Rattle.cli_base.specs.declared.outcome.RefusalKind.TheVariants.{Input, ReadFault, TooLong, Missing}
+use Rattle.cli_base.proofs.Scripts.{some_is}
+use Rattle.cli_base.proofs.Statuses.{status_in, same_kind, of_no_kind}
+use Rattle.contest_commands.specs.Check.{Checks, verdict_on}
+use Rattle.session_commands.specs.Accepted.{is_accepted}
+use Rattle.session_commands.proofs.Acceptance.{decided}
+
+-- the kind of an answer
+abbrev kind_on : Answer → AnswerKind
+kind_on (Ok Accepted) = Done
+kind_on (Ok OtherContest) = Differs
+kind_on (Ok (OtherWinner winner)) = Differs
+kind_on (Ok (OtherMargin index found)) = Differs
+kind_on (Ok (Stands order)) = Differs
+kind_on (Ok (NotLeast found)) = Differs
+kind_on (Ok NotAlternative) = Differs
+kind_on (Ok (Harder assertion margin)) = Differs
+kind_on (Err (TieFound round tied votes)) = Tie
+kind_on (Err (SpentAt last)) = Spent
+kind_on (Err Memory) = Spent
+
+told_kind : (file : Content) (answer : Answer) (v : Verdict) → verdict_on file answer ≡ Some v → (text : List ℕ) × (v ≡ Answered (kind_on answer) text)
+told_kind file (Ok Accepted) v told = (_, sym (some_is told))
+told_kind file (Ok OtherContest) v told = (_, sym (some_is told))
+told_kind file (Ok (OtherWinner winner)) v told = (_, sym (some_is told))
+told_kind file (Ok (OtherMargin index found)) v told = (_, sym (some_is told))
+told_kind file (Ok (Stands order)) v told = (_, sym (some_is told))
+told_kind file (Ok (NotLeast found)) v told = (_, sym (some_is told))
+told_kind file (Ok NotAlternative) v told = (_, sym (some_is told))
+told_kind file (Ok (Harder assertion margin)) v told = (_, sym (some_is told))
+told_kind file (Err (TieFound round tied votes)) v told = (_, sym (some_is told))
+told_kind file (Err (SpentAt last)) v told = (_, sym (some_is told))
+told_kind file (Err Memory) v told = absurd (cc told)
+
+done_is : (answer : Answer) → kind_on answer ≡ Done → answer ≡ Ok Accepted
+done_is (Ok Accepted) is = refl
+done_is (Ok OtherContest) is = absurd (cc is)
+done_is (Ok (OtherWinner winner)) is = absurd (cc is)
+done_is (Ok (OtherMargin index found)) is = absurd (cc is)
+done_is (Ok (Stands order)) is = absurd (cc is)
+done_is (Ok (NotLeast found)) is = absurd (cc is)
+done_is (Ok NotAlternative) is = absurd (cc is)
+done_is (Ok (Harder assertion margin)) is = absurd (cc is)
+done_is (Err (TieFound round tied votes)) is = absurd (cc is)
+done_is (Err (SpentAt last)) is = absurd (cc is)
+done_is (Err Memory) is = absurd (cc is)
+
+module _ (nodes : ℕ) (ballots : BallotFile) (file : Content) where
+  -- the kind of what was said is that of the checker's answer
+  said_kind : (said : Said) (answer : Answer) (v : Verdict) → verdict_on file answer ≡ Some v → due (Ok said) ≡ outcome v → said.kind ≡ kind_on answer
+  said_kind said answer v told is =
+      let (text, e) = told_kind file answer v told in
+      same_kind said.kind (kind_on answer) (ap status_in is ∙ ap (λ v. status_in (outcome v)) e)
+
+  pub yes : (said : Said) → IsOneOrMemory (Checks nodes ballots file) (due (Ok said)) → said.kind ≡ Done → is_accepted nodes ballots file ≡ true
+  yes said (inl (v, (answer, is, told), ends)) done =
+      (decided nodes ballots file).1 (subst (IsAnswer nodes ballots file) (done_is answer (sym (said_kind said answer v told ends) ∙ done)) is)
+  yes said (inr memory) done = absurd (of_no_kind 9 refl said.kind (ap status_in memory))
+
+  pub no : (said : Said) → IsOneOrMemory (Checks nodes ballots file) (due (Ok said)) → said.kind ≢ Done → is_accepted nodes ballots file ≡ false
+  no said (inl (v, (answer, is, told), ends)) other = elim (cases_Bool (is_accepted nodes ballots file)) [
+    | inl t ↦
+        let same : answer ≡ Ok Accepted = answer_is_one nodes ballots file answer (Ok Accepted) is ((decided nodes ballots file).0 t) in
+        absurd (other (said_kind said answer v told ends ∙ ap kind_on same))
+    | inr f ↦ f
+  ]
+  no said (inr memory) other = absurd (of_no_kind 9 refl said.kind (ap status_in memory))
+
+  -- a refusal isn't an answer
+  never_refused : (refusal : Refusal) (kind : AnswerKind) → (due_refusal refusal).status ≡ status_of kind → (due_refusal refusal) ≡ out_of_memory
+  never_refused Words kind is = absurd (of_no_kind 1 refl kind (sym is))
+  never_refused OutOfMemory kind is = refl
+  never_refused (Line Input text) kind is = absurd (of_no_kind 2 refl kind (sym is))
+  never_refused (Line ReadFault text) kind is = absurd (of_no_kind 7 refl kind (sym is))
+  never_refused (Line TooLong text) kind is = absurd (of_no_kind 11 refl kind (sym is))
+  never_refused (Line Missing text) kind is = absurd (of_no_kind 12 refl kind (sym is))
+
+  pub memory_alone : (refusal : Refusal) → IsOneOrMemory (Checks nodes ballots file) (due_refusal refusal) → due_refusal refusal ≡ out_of_memory
+  memory_alone refusal (inl (v, (answer, is, told), ends)) =
+      let (text, e) = told_kind file answer v told in
+      never_refused refusal (kind_on answer) (ap status_in ends ∙ ap (λ v. status_in (outcome v)) e)
+  memory_alone refusal (inr memory) = memory

@@ -1,0 +1,105 @@
+-- A command goes on with what a file says, or stops.
+use Rattle.std.proofs.Common.{◌≡◌, inl, inr, ℕ, ◌≤◌, List, Option, None, Some, IfSome, Result, Ok, Err, refl, sym, ap, subst, ◌∙◌, arith}
+use Rattle.std.specs.Prelude.{⊤}
+use Rattle.desk.specs.Count.{Rose}
+use Rattle.desk.specs.Desk.{File}
+use Rattle.desk.specs.declared.served.Served.{Served}
+use Rattle.cli_base.specs.Outcome.{Outcome, Verdict, Answered, Refused, outcome}
+use Rattle.cli_base.specs.Accounts.{IsAccountedFor, IsBroken}
+use Rattle.cli_base.specs.Due.{due_refusal, IsOneOrMemory}
+use Rattle.cli_base.specs.declared.outcome.AnswerKind.{AnswerKind}
+use Rattle.cli_base.specs.declared.outcome.Refusal.{Refusal as Stop}
+use Rattle.cli_base.specs.Script.{Bytes, Readings, Script, Read, ByDesk, May, MayOrMemory, Agree, AreOfKind, IsOfKind, Same}
+use Rattle.cli_base.proofs.Statuses.{differ, of_no_kind, status_in}
+use Rattle.cli_base.proofs.Steps.{gone_on}
+use Rattle.session_commands.specs.Judged.{told, unless, then_judged, go_on, IsStopped}
+
+-- ---- a file is read and judged
+
+module _ {A : Type 0} (held : Option (List File)) (a b : ℕ) (name bytes : List ℕ) (judged : List ℕ → Result A Verdict) (next : List ℕ → A → Script) (there : ByDesk held (Rose a b) name (Bytes bytes)) where
+  abbrev whole : Script
+  whole = Read name (λ bytes. go_on (judged bytes) (next bytes))
+
+  -- the rest reads on
+  pub read_on : (h : Option (List File)) (c : ℕ) (value : A) (due : Outcome) → h ≡ held → a ≤ b → b ≤ c → judged bytes ≡ Ok value → MayOrMemory (ByDesk h (Rose b c)) (next bytes value) due → MayOrMemory (ByDesk held (Rose a c)) whole due
+  read_on h c value due same before after is may =
+      gone_on held h a b c name bytes (λ bytes. go_on (judged bytes) (next bytes)) due same before after there
+      (subst (λ j. MayOrMemory (ByDesk h (Rose b c)) (go_on j (next bytes)) due) (sym is) may)
+
+  -- the rest reads nothing more
+  pub read_last : (value : A) (due : Outcome) → judged bytes ≡ Ok value → MayOrMemory (ByDesk held (Rose a b)) (next bytes value) due → MayOrMemory (ByDesk held (Rose a b)) whole due
+  read_last value due is (inl may) = inl (inr (bytes, there, subst (λ j. May (ByDesk held (Rose a b)) (go_on j (next bytes)) due) (sym is) may))
+  read_last value due is (inr memory) = inr memory
+
+  pub read_stopped : (refusal : Stop) → IsStopped (judged bytes) refusal → MayOrMemory (ByDesk held (Rose a b)) whole (due_refusal refusal)
+  read_stopped refusal (inl (verdict, is, due)) =
+      inl (inr (bytes, there, subst (λ j. May (ByDesk held (Rose a b)) (go_on j (next bytes)) (due_refusal refusal)) (sym is) (verdict, refl, due)))
+  read_stopped refusal (inr memory) = inr memory
+
+pub judged_on : {A : Type 0} (readings : Readings) (judged : Result A Verdict) (next : A → Script) (value : A) (due : Outcome) → judged ≡ Ok value → MayOrMemory readings (next value) due → MayOrMemory readings (go_on judged next) due
+judged_on readings judged next value due is may = subst (λ j. MayOrMemory readings (go_on j next) due) (sym is) may
+
+pub judged_stopped : {A : Type 0} (readings : Readings) (judged : Result A Verdict) (next : A → Script) (refusal : Stop) → IsStopped judged refusal → MayOrMemory readings (go_on judged next) (due_refusal refusal)
+judged_stopped readings judged next refusal (inl (verdict, is, due)) = inl (subst (λ j. May readings (go_on j next) (due_refusal refusal)) (sym is) (verdict, refl, due))
+judged_stopped readings judged next refusal (inr memory) = inr memory
+
+-- ---- what the desk served
+
+accounted_as : (a b : Served) (status : ℕ) → (status ≡ 12 → ⊥) → (status ≡ 11 → ⊥) → IsAccountedFor a b 0 → IsAccountedFor a b status
+accounted_as a b status no_miss no_length first = record {
+  missing = λ is. absurd (no_miss is);
+  found = λ no whole. first.found (λ e. omega (arith, e)) unbroken;
+  too_long = λ is. absurd (no_length is);
+  over = λ is. absurd (no_length is);
+  within = λ no whole. first.within (λ e. omega (arith, e)) unbroken;
+  short = λ no whole. first.short (λ e. omega (arith, e)) unbroken;
+}
+  where
+    unbroken : IsBroken 0 → ⊥
+    unbroken broken = omega (arith, broken)
+
+-- a command that ends with a verdict reads nothing more
+pub ended_accounted : (a b : Served) (verdicts : Verdict → Type 0) (due : Outcome) → IsOneOrMemory verdicts due → IsAccountedFor a b 0 → IsAccountedFor a b due.status
+ended_accounted a b verdicts due (inl (Answered kind text, h, is)) first =
+    accounted_as a b due.status (λ e. of_no_kind 12 refl kind (sym (ap status_in is) ∙ e)) (λ e. of_no_kind 11 refl kind (sym (ap status_in is) ∙ e)) first
+ended_accounted a b verdicts due (inl (Refused name text, h, is)) first =
+    accounted_as a b due.status (λ e. differ 2 12 (sym (ap status_in is) ∙ e) refl) (λ e. differ 2 11 (sym (ap status_in is) ∙ e) refl) first
+ended_accounted a b verdicts due (inr memory) first =
+    accounted_as a b due.status (λ e. differ 9 12 (sym (ap status_in memory) ∙ e) refl) (λ e. differ 9 11 (sym (ap status_in memory) ∙ e) refl) first
+
+-- ---- one end
+
+pub go_on-agrees : {A : Type 0} (judged : Result A Verdict) (next : A → Script) → ((value : A) → Agree Same (next value)) → Agree Same (go_on judged next)
+go_on-agrees (Ok value) next each = each value
+go_on-agrees (Err verdict) next each = λ v w p q. ap outcome (p ∙ sym q)
+
+-- ---- the kinds of answers
+
+-- a file is refused, and nothing is answered
+abbrev pub IsRefusal : Verdict → Type 0
+IsRefusal (Answered kind text) = ⊥
+IsRefusal (Refused name text) = ⊤
+
+abbrev pub OnlyRefuses : {A : Type 0} → Result A Verdict → Type 0
+OnlyRefuses (Ok value) = ⊤
+OnlyRefuses (Err verdict) = IsRefusal verdict
+
+refusal-kind : (kinds : AnswerKind → Type 0) (w v : Verdict) → IsRefusal w → v ≡ w → IsOfKind kinds v
+refusal-kind kinds (Answered kind text) v is e = absurd is
+refusal-kind kinds (Refused name text) v is e = subst (IsOfKind kinds) (sym e) tt
+
+pub go_on-kinds : {A : Type 0} (kinds : AnswerKind → Type 0) (judged : Result A Verdict) (next : A → Script) → OnlyRefuses judged → ((value : A) → AreOfKind kinds (next value)) → AreOfKind kinds (go_on judged next)
+go_on-kinds kinds (Ok value) next only each = each value
+go_on-kinds kinds (Err verdict) next only each = λ v is. refusal-kind kinds verdict v only is
+
+pub told-only : {A Why : Type 0} (words : Why → Verdict) (read : Result A Why) → ((why : Why) → IsRefusal (words why)) → OnlyRefuses (told words read)
+told-only words (Ok value) each = tt
+told-only words (Err why) each = each why
+
+pub unless-only : {A : Type 0} (wrong : Option Verdict) (judged : Result A Verdict) → IfSome wrong IsRefusal → OnlyRefuses judged → OnlyRefuses (unless wrong judged)
+unless-only None judged refusal only = only
+unless-only (Some verdict) judged refusal only = refusal
+
+pub then-only : {A B : Type 0} (first : Result A Verdict) (next : A → Result B Verdict) → OnlyRefuses first → ((value : A) → OnlyRefuses (next value)) → OnlyRefuses (then_judged first next)
+then-only (Ok value) next only each = each value
+then-only (Err verdict) next only each = only

@@ -1,0 +1,10 @@
+pub mod Reports
+pub mod Opens
+pub mod Audits
+pub mod Acceptance
+pub mod Judging
+pub mod Going
+pub mod Facts
+pub mod Rounds
+pub mod Checked
+pub mod Held

@@ -1,0 +1,33 @@
+-- Whether a check accepts an assertion file, as a test: a command goes on with the files that it accepts.
+use Rattle.std.specs.Prelude.{ℕ, ◌-◌, Bool, true, false, ◌&&◌, [], ◌∷◌, is_none}
+use Rattle.std.specs.List.{list_all, list_any}
+use Rattle.irv_base.specs.Orders.{is_order}
+use Rattle.irv_base.specs.Tabulation.{is_tabulated}
+use Rattle.assertions.specs.Suffixes.{orders_ending}
+use Rattle.ballot_reader.specs.Ballots.{BallotFile}
+use Rattle.assertion_file.specs.Content.{Content}
+use Rattle.cover_checker.specs.Findings.{is_about}
+use Rattle.cover_checker.specs.Checks.{findings}
+use Rattle.contest_commands.specs.Contest.{candidate_count}
+use Rattle.contest_commands.specs.Check.{Checks}
+use Rattle.cli_base.specs.Script.{Script, Ends}
+
+-- the contest has no tie, and this winner
+abbrev pub is_won : BallotFile → ℕ → Bool
+is_won ballots winner =
+    list_any (λ order. is_order (candidate_count ballots) order && is_tabulated ballots.rankings order)
+    (orders_ending (candidate_count ballots) (candidate_count ballots - 1) (winner ∷ []))
+
+-- the file is about the contest, names its winner, and nothing is found in it
+abbrev pub is_accepted : ℕ → BallotFile → Content → Bool
+is_accepted nodes ballots file =
+    is_about ballots file && is_won ballots file.winner
+    && list_all is_none (findings nodes ballots.rankings file file.winner)
+
+abbrev pub on_if : Bool → Script → Script → Script
+on_if true next other = next
+on_if false next other = other
+
+-- goes on where a check accepts the file, and ends as the check does where it doesn't
+abbrev pub if_accepted : ℕ → BallotFile → Content → Script → Script
+if_accepted nodes ballots file next = on_if (is_accepted nodes ballots file) next (Ends (Checks nodes ballots file))

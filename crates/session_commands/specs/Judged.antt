@@ -1,0 +1,43 @@
+-- A file is judged: it says something, or the call ends for its sake.
+use Rattle.std.specs.Prelude.{◌≡◌, ◌⊎◌, Option, None, Some, Result, Ok, Err}
+use Rattle.cli_base.specs.Outcome.{Outcome, Verdict, outcome, out_of_memory}
+use Rattle.cli_base.specs.Due.{due_refusal, IsOrMemory}
+use Rattle.cli_base.specs.Script.{Script, ends}
+use Rattle.cli_base.specs.declared.outcome.Refusal.{Refusal as Stop}
+
+-- what is read, with what is wrong in words
+abbrev pub told : {A Why : Type 0} → (Why → Verdict) → Result A Why → Result A Verdict
+told words (Ok value) = Ok value
+told words (Err why) = Err (words why)
+
+-- what is wrong comes first
+abbrev pub unless : {A : Type 0} → Option Verdict → Result A Verdict → Result A Verdict
+unless None judged = judged
+unless (Some verdict) judged = Err verdict
+
+-- what is judged next, if nothing was wrong so far
+abbrev pub then_judged : {A B : Type 0} → Result A Verdict → (A → Result B Verdict) → Result B Verdict
+then_judged (Ok value) next = next value
+then_judged (Err verdict) next = Err verdict
+
+-- the script that goes on with what is judged
+abbrev pub go_on : {A : Type 0} → Result A Verdict → (A → Script) → Script
+go_on (Ok value) next = next value
+go_on (Err verdict) next = ends verdict
+
+-- ---- what the code does of it
+
+-- it is told so, or memory is wanting
+abbrev pub IsTold : Option Verdict → Outcome → Type 0
+IsTold None due = due ≡ out_of_memory
+IsTold (Some verdict) due = IsOrMemory (outcome verdict) due
+
+-- what is wrong stops the call, or memory is wanting
+abbrev pub IsStopped : {A : Type 0} → Result A Verdict → Stop → Type 0
+IsStopped judged refusal =
+    ((verdict : Verdict) × (judged ≡ Err verdict) × (due_refusal refusal ≡ outcome verdict)) ⊎ (due_refusal refusal ≡ out_of_memory)
+
+-- it is found so
+abbrev pub IsJudged : {A : Type 0} → Result A Verdict → Result A Stop → Type 0
+IsJudged judged (Ok value) = judged ≡ Ok value
+IsJudged judged (Err refusal) = IsStopped judged refusal

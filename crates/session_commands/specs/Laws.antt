@@ -1,0 +1,12 @@
+-- The laws of the commands on sessions.
+use Rattle.std.specs.Prelude.{◌↔◌, ℕ, Ok, IsTrue}
+use Rattle.ballot_reader.specs.Ballots.{BallotFile}
+use Rattle.assertion_file.specs.Content.{Content}
+use Rattle.cover_checker.specs.Checks.{IsAnswer}
+use Rattle.cover_checker.specs.declared.checked.Checked.TheVariants.{Accepted}
+use Rattle.session_commands.specs.Accepted.{is_accepted}
+
+-- the test of acceptance is that of the checker
+abbrev pub AcceptanceIsDecided : Type 0
+AcceptanceIsDecided =
+    (nodes : ℕ) (ballots : BallotFile) (file : Content) → (IsTrue (is_accepted nodes ballots file) ↔ IsAnswer nodes ballots file (Ok Accepted))

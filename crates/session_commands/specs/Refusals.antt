@@ -1,0 +1,81 @@
+-- What is wrong with a file of an audit, in words.
+use Rattle.std.specs.Prelude.{ℕ, List, ◌++◌, Option, None, Some, option_and_then, if◌then◌else◌, codes}
+use Rattle.std.specs.Fmt.{decimal}
+use Rattle.hex.specs.Hex.{encode_lower}
+use Rattle.sha2.specs.Sha256.{sha256}
+use Rattle.irv_base.specs.Names.{is_same}
+use Rattle.km_risk.specs.declared.draws.Counts.{Counts}
+use Rattle.seen_file.specs.Reading.{Refusal}
+use Rattle.seen_file.specs.declared.fault.VRule.{VRule}
+use Rattle.seen_file.specs.declared.fault.VRule.TheVariants.{V1, V2, V3, V5}
+use Rattle.audit_session.specs.declared.fault.AdvanceFault.{AdvanceFault}
+use Rattle.audit_session.specs.declared.fault.AdvanceFault.TheVariants.{Smaller, NoRecord, Changed, Memory}
+use Rattle.cli_base.specs.Outcome.{Verdict, Refused, broken_at}
+
+-- no session stands in the file
+abbrev pub refused_session : List ℕ → Verdict
+refused_session name = Refused name (codes "S1")
+
+-- ---- a file that isn't the one of the session
+
+abbrev pub digests_text : List ℕ → List ℕ → List ℕ
+digests_text expected found = codes "S2 expected " ++ expected ++ codes " found " ++ found
+
+abbrev pub differs_text : List ℕ → List ℕ → List ℕ
+differs_text expected found = digests_text (encode_lower expected) (encode_lower found)
+
+-- where the digest of its bytes isn't the one that the session has
+abbrev pub other_digest : List ℕ → List ℕ → List ℕ → Option Verdict
+other_digest name expected bytes =
+    if is_same expected (sha256 bytes) then None else Some (Refused name (differs_text expected (sha256 bytes)))
+
+-- the cards, the contest or the margins are others
+abbrev pub other_facts : List ℕ → Verdict
+other_facts name = Refused name (codes "S5")
+
+-- ---- a ballot without a card, in a record of the ballot file
+
+abbrev pub no_card : List ℕ → ℕ → Verdict
+no_card ballots at = Refused ballots (broken_at (codes "M7") at)
+
+-- ---- a seen file
+
+abbrev pub rule_name : VRule → List ℕ
+rule_name V1 = codes "V1"
+rule_name V2 = codes "V2"
+rule_name V3 = codes "V3"
+rule_name V5 = codes "V5"
+
+abbrev pub refused_seen : List ℕ → Refusal → Verdict
+refused_seen name refusal = Refused name (broken_at (rule_name refusal.rule) refusal.at)
+
+-- ---- a session that doesn't go on
+
+abbrev pub had_text : ℕ → List ℕ
+had_text had = codes "S4 had " ++ decimal had
+
+abbrev pub no_record_text : ℕ → ℕ → List ℕ
+no_record_text card k = codes "V4 card " ++ decimal card ++ codes " draw " ++ decimal k
+
+-- for d from 0 to 4
+abbrev pub counts_text : Counts → List ℕ
+counts_text counts =
+    decimal counts.n0 ++ codes " " ++ decimal counts.n1 ++ codes " " ++ decimal counts.n2 ++ codes " "
+    ++ decimal counts.n3 ++ codes " " ++ decimal counts.n4
+
+abbrev pub counted_text : ℕ → ℕ → List ℕ → List ℕ → List ℕ
+counted_text round claim expected found =
+    codes "S3 round " ++ decimal round ++ codes " claim " ++ decimal claim ++ codes " expected " ++ expected ++ codes " found " ++ found
+
+abbrev pub changed_text : ℕ → ℕ → Counts → Counts → List ℕ
+changed_text round claim expected found = counted_text round claim (counts_text expected) (counts_text found)
+
+-- the seen file lacks a card; all else is wrong with the session file
+abbrev pub refused_round : List ℕ → List ℕ → AdvanceFault → Option Verdict
+refused_round session seen (Smaller had) = Some (Refused session (had_text had))
+refused_round session seen (NoRecord card k) = Some (Refused seen (no_record_text card k))
+refused_round session seen (Changed round claim expected found) = Some (Refused session (changed_text round claim expected found))
+refused_round session seen Memory = None
+
+abbrev pub refused_by : List ℕ → List ℕ → Option AdvanceFault → Option Verdict
+refused_by session seen fault = option_and_then (refused_round session seen) fault

@@ -1,0 +1,32 @@
+// Whether a check accepts an assertion file.
+ghost use Rattle.std.specs.Prelude.{◌≡◌, Ok, is_none, IfOk, IfErr, IfSome};
+ghost use Rattle.cli_base.specs.Due.{due, due_refusal, IsOneOrMemory};
+ghost use Rattle.cli_base.specs.Outcome.{out_of_memory};
+ghost use Rattle.contest_commands.specs.Check.{Checks};
+ghost use Rattle.session_commands.specs.Accepted.{is_accepted};
+
+use assertion_file::AssertionFile;
+use ballot_reader::Ballots;
+use cli_base::{Answer, AnswerKind, Refusal};
+use contest_commands::check::check;
+use std::alloc::Global;
+
+/// What a check of the file answers, unless it accepts the file.
+pub(crate) fn unless_accepted(
+    alloc: Global,
+    ballots: &Ballots,
+    file: &AssertionFile,
+    nodes: u32,
+) -> Result<Option<Answer>, Refusal>
+    ensures accepted { IfOk result (λ found.
+        is_accepted nodes ballots.now file.now ≡ is_none found) }
+    ensures other { IfOk result (λ found. IfSome found (λ answer.
+        IsOneOrMemory (Checks nodes ballots.now file.now) (due (Ok answer)))) }
+    ensures memory { IfErr result (λ refusal. due_refusal refusal ≡ out_of_memory) }
+{
+    let answer = check(alloc, ballots, file, nodes)?;
+    match answer.kind {
+        AnswerKind::Done => Ok(None),
+        _ => Ok(Some(answer)),
+    }
+}

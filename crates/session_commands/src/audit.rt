@@ -1,0 +1,230 @@
+// `audit SESSION BALLOTS MANIFEST ASSERTIONS SEEN`: the session goes on by a round.
+ghost use Rattle.std.specs.Prelude.{◌≡◌, ◌≤◌, length, IsTrue};
+ghost use Rattle.desk.specs.Count.{Rose};
+ghost use Rattle.irv_base.specs.declared.limits.TheConstants.{MOST_DRAWS};
+ghost use Rattle.manifest.specs.Cards.{cards_of};
+ghost use Rattle.manifest.specs.Linked.{linked_of};
+ghost use Rattle.cli_base.specs.Accounts.{IsAccountedFor};
+ghost use Rattle.cli_base.specs.Due.{due, IsOneOrMemory};
+ghost use Rattle.cli_base.specs.Script.{ByDesk, MayOrMemory};
+ghost use Rattle.session_commands.specs.Inputs.{has_facts};
+ghost use Rattle.session_commands.specs.Audit.{GoesOn, MayGoOn, after_assertions, after_ballots, after_check, after_facts, after_manifest, after_session, asked_by, script};
+
+use crate::accepted::unless_accepted;
+use crate::inputs::{Cards, same_facts};
+use crate::round::{answered, next_session};
+use crate::same::{same_assertions, same_ballots, same_manifest};
+use crate::seen::seen_in;
+use crate::sessions::session_to_go_on;
+use crate::task::Task;
+use assertion_file::AssertionFile;
+use audit_rounds::Session;
+use ballot_reader::Ballots;
+use cli_base::{Answer, Refusal, read_file};
+use desk::Desk;
+use seen_file::SeenCards;
+use std::alloc::Global;
+
+/// The files of an audit, by their names.
+#[derive(Clone, Copy)]
+pub struct Files<'a> {
+    pub session: &'a str,
+    pub ballots: &'a str,
+    pub manifest: &'a str,
+    pub assertions: &'a str,
+    pub seen: &'a str,
+}
+
+/// The session with one round more, up to so many draws in all.
+pub fn answer<D: Desk>(
+    alloc: Global,
+    desk: &mut D,
+    files: Files<'_>,
+    draws: u32,
+    nodes: u32,
+) -> Result<Answer, Refusal>
+    requires some { 1 ≤ draws }
+    requires most { draws ≤ MOST_DRAWS }
+    ensures held { D.held desk.new ≡ D.held desk.old }
+    ensures later { D.faults desk.old ≤ D.faults desk.new }
+    ensures due { MayOrMemory (ByDesk (D.held desk.old) (Rose (D.faults desk.old) (D.faults desk.new)))
+        (script files.entry.session.now files.entry.ballots.now files.entry.manifest.now
+        files.entry.assertions.now files.entry.seen.now draws nodes) (due result) }
+    ensures served { IsAccountedFor (D.served desk.old) (D.served desk.new) (due result).status }
+{
+    let task = Task {
+        files,
+        draws,
+        nodes,
+    };
+    let bytes = read_file(alloc, desk, task.files.session)?;
+    match session_to_go_on(alloc, &task, &bytes) {
+        Ok(session) => after_session(alloc, desk, &task, session),
+        Err(refusal) => Err(refusal),
+    }
+}
+
+// The ballots of the session's contest are read.
+fn after_session<D: Desk>(
+    alloc: Global,
+    desk: &mut D,
+    task: &Task<'_>,
+    session: Session,
+) -> Result<Answer, Refusal>
+    requires { MayGoOn (asked_by task.now) session }
+    ensures held { D.held desk.new ≡ D.held desk.old }
+    ensures later { D.faults desk.old ≤ D.faults desk.new }
+    ensures due { MayOrMemory (ByDesk (D.held desk.old) (Rose (D.faults desk.old) (D.faults desk.new)))
+        (after_session (asked_by task.now) session) (due result) }
+    ensures served { IsAccountedFor (D.served desk.old) (D.served desk.new) (due result).status }
+{
+    let bytes = read_file(alloc, desk, task.files.ballots)?;
+    match same_ballots(alloc, task, &session, &bytes) {
+        Ok(ballots) => after_ballots(alloc, desk, task, session, &ballots),
+        Err(refusal) => Err(refusal),
+    }
+}
+
+// The manifest is read, in which each ballot has a card.
+fn after_ballots<D: Desk>(
+    alloc: Global,
+    desk: &mut D,
+    task: &Task<'_>,
+    session: Session,
+    ballots: &Ballots,
+) -> Result<Answer, Refusal>
+    requires { MayGoOn (asked_by task.now) session }
+    ensures held { D.held desk.new ≡ D.held desk.old }
+    ensures later { D.faults desk.old ≤ D.faults desk.new }
+    ensures due { MayOrMemory (ByDesk (D.held desk.old) (Rose (D.faults desk.old) (D.faults desk.new)))
+        (after_ballots (asked_by task.now) session ballots.now) (due result) }
+    ensures served { IsAccountedFor (D.served desk.old) (D.served desk.new) (due result).status }
+{
+    let bytes = read_file(alloc, desk, task.files.manifest)?;
+    match same_manifest(alloc, task, &session, ballots, &bytes) {
+        Ok(cards) => after_manifest(alloc, desk, task, session, ballots, &cards),
+        Err(refusal) => Err(refusal),
+    }
+}
+
+// The assertions are read.
+fn after_manifest<D: Desk>(
+    alloc: Global,
+    desk: &mut D,
+    task: &Task<'_>,
+    session: Session,
+    ballots: &Ballots,
+    cards: &Cards,
+) -> Result<Answer, Refusal>
+    requires may { MayGoOn (asked_by task.now) session }
+    requires linked { cards.now.linked ≡ linked_of cards.now.manifest ballots.now }
+    ensures held { D.held desk.new ≡ D.held desk.old }
+    ensures later { D.faults desk.old ≤ D.faults desk.new }
+    ensures due { MayOrMemory (ByDesk (D.held desk.old) (Rose (D.faults desk.old) (D.faults desk.new)))
+        (after_manifest (asked_by task.now) session ballots.now cards.now.manifest) (due result) }
+    ensures served { IsAccountedFor (D.served desk.old) (D.served desk.new) (due result).status }
+{
+    let bytes = read_file(alloc, desk, task.files.assertions)?;
+    match same_assertions(alloc, task, &session, &bytes) {
+        Ok(file) => after_assertions(alloc, desk, task, session, ballots, cards, &file),
+        Err(refusal) => Err(refusal),
+    }
+}
+
+// The assertions are checked.
+fn after_assertions<D: Desk>(
+    alloc: Global,
+    desk: &mut D,
+    task: &Task<'_>,
+    session: Session,
+    ballots: &Ballots,
+    cards: &Cards,
+    file: &AssertionFile,
+) -> Result<Answer, Refusal>
+    requires may { MayGoOn (asked_by task.now) session }
+    requires linked { cards.now.linked ≡ linked_of cards.now.manifest ballots.now }
+    ensures held { D.held desk.new ≡ D.held desk.old }
+    ensures later { D.faults desk.old ≤ D.faults desk.new }
+    ensures due { MayOrMemory (ByDesk (D.held desk.old) (Rose (D.faults desk.old) (D.faults desk.new)))
+        (after_assertions (asked_by task.now) session ballots.now cards.now.manifest file.now) (due result) }
+    ensures served { IsAccountedFor (D.served desk.old) (D.served desk.new) (due result).status }
+{
+    match unless_accepted(alloc, ballots, file, task.nodes)? {
+        Some(answer) => Ok(answer),
+        None => after_check(alloc, desk, task, session, ballots, cards, file),
+    }
+}
+
+// The session has to be one of the inputs.
+fn after_check<D: Desk>(
+    alloc: Global,
+    desk: &mut D,
+    task: &Task<'_>,
+    session: Session,
+    ballots: &Ballots,
+    cards: &Cards,
+    file: &AssertionFile,
+) -> Result<Answer, Refusal>
+    requires may { MayGoOn (asked_by task.now) session }
+    requires linked { cards.now.linked ≡ linked_of cards.now.manifest ballots.now }
+    ensures held { D.held desk.new ≡ D.held desk.old }
+    ensures later { D.faults desk.old ≤ D.faults desk.new }
+    ensures due { MayOrMemory (ByDesk (D.held desk.old) (Rose (D.faults desk.old) (D.faults desk.new)))
+        (after_check (asked_by task.now) session ballots.now cards.now.manifest file.now) (due result) }
+    ensures served { IsAccountedFor (D.served desk.old) (D.served desk.new) (due result).status }
+{
+    let all = cards.manifest.cards();
+    match same_facts(alloc, task.files.session, &session, all, file) {
+        Ok(()) => after_facts(alloc, desk, task, session, ballots, cards, file),
+        Err(refusal) => Err(refusal),
+    }
+}
+
+// What is seen of the cards is read, and the session goes on.
+fn after_facts<D: Desk>(
+    alloc: Global,
+    desk: &mut D,
+    task: &Task<'_>,
+    session: Session,
+    ballots: &Ballots,
+    cards: &Cards,
+    file: &AssertionFile,
+) -> Result<Answer, Refusal>
+    requires may { MayGoOn (asked_by task.now) session }
+    requires linked { cards.now.linked ≡ linked_of cards.now.manifest ballots.now }
+    requires facts { IsTrue (has_facts session (length (cards_of cards.now.manifest)) file.now) }
+    ensures held { D.held desk.new ≡ D.held desk.old }
+    ensures later { D.faults desk.old ≤ D.faults desk.new }
+    ensures due { MayOrMemory (ByDesk (D.held desk.old) (Rose (D.faults desk.old) (D.faults desk.new)))
+        (after_facts (asked_by task.now) session ballots.now cards.now.manifest file.now) (due result) }
+    ensures served { IsAccountedFor (D.served desk.old) (D.served desk.new) (due result).status }
+{
+    let name = task.files.seen;
+    let bytes = read_file(alloc, desk, name)?;
+    match seen_in(alloc, name, &cards.manifest, file.candidates(), &bytes) {
+        Ok(seen) => go_on(alloc, task, session, ballots, cards, file, &seen),
+        Err(refusal) => Err(refusal),
+    }
+}
+
+// By what is seen of the cards.
+fn go_on(
+    alloc: Global,
+    task: &Task<'_>,
+    session: Session,
+    ballots: &Ballots,
+    cards: &Cards,
+    file: &AssertionFile,
+    seen: &SeenCards,
+) -> Result<Answer, Refusal>
+    requires may { MayGoOn (asked_by task.now) session }
+    requires linked { cards.now.linked ≡ linked_of cards.now.manifest ballots.now }
+    requires facts { IsTrue (has_facts session (length (cards_of cards.now.manifest)) file.now) }
+    ensures { IsOneOrMemory (GoesOn (asked_by task.now) session file.now
+        (record { recorded = linked_of cards.now.manifest ballots.now; entries = seen.now })) (due result) }
+{
+    match next_session(alloc, task, session, &cards.linked, file, seen) {
+        Ok(session) => answered(alloc, &session),
+        Err(refusal) => Err(refusal),
+    }
+}

@@ -1,0 +1,210 @@
+// `open BALLOTS MANIFEST ASSERTIONS`: the session of an audit before its first round.
+ghost use Rattle.std.specs.Prelude.{◌≡◌, ◌≤◌, None, option_copied, IsTrue};
+ghost use Rattle.desk.specs.Count.{Rose};
+ghost use Rattle.manifest.specs.Linked.{first_without_card};
+ghost use Rattle.cli_base.specs.Accounts.{IsAccountedFor};
+ghost use Rattle.cli_base.specs.Due.{due, IsOneOrMemory};
+ghost use Rattle.cli_base.specs.Script.{ByDesk, MayOrMemory};
+ghost use Rattle.session_commands.specs.Accepted.{is_accepted};
+ghost use Rattle.session_commands.specs.Open.{IsWithinLimits, Opens, after_ballots, after_manifest, all_digests, opened, script};
+
+use crate::accepted::unless_accepted;
+use crate::digests::digest_of;
+use crate::inputs::cards_for;
+use assertion_file::AssertionFile;
+use audit_rounds::{Digests, begin_session};
+use ballot_reader::Ballots;
+use cli_base::{Answer, AnswerKind, Refusal, read_file};
+use contest_commands::contest::{assertions_in, ballots_in};
+use desk::Desk;
+use irv_base::Name;
+use manifest::Manifest;
+use sampler::Seed;
+use session_text::print_session;
+use std::alloc::Global;
+
+/// What an audit is opened with: the seed of the draws, the risk limit in millionths, gamma in thousandths, and how many nodes a
+/// check may take.
+#[derive(Clone, Copy)]
+pub struct Terms {
+    pub seed: Seed,
+    pub limit: u32,
+    pub gamma: u32,
+    pub nodes: u32,
+}
+
+/// The digests of the files that are read before the assertions.
+#[derive(Clone, Copy)]
+struct Earlier {
+    ballots: [u8; 32],
+    manifest: [u8; 32],
+}
+
+// With that of the assertion file.
+fn all_digests(earlier: &Earlier, assertions: &[u8]) -> Digests
+    ensures { result ≡ all_digests earlier.now assertions.now }
+{
+    Digests {
+        ballots: earlier.ballots,
+        manifest: earlier.manifest,
+        assertions: digest_of(assertions),
+    }
+}
+
+/// The session of an audit of the contest, before its first round.
+pub fn answer<D: Desk>(
+    alloc: Global,
+    desk: &mut D,
+    ballots: &str,
+    manifest: &str,
+    assertions: &str,
+    contest: Option<&Name>,
+    terms: &Terms,
+) -> Result<Answer, Refusal>
+    requires { IsWithinLimits terms.now }
+    ensures held { D.held desk.new ≡ D.held desk.old }
+    ensures later { D.faults desk.old ≤ D.faults desk.new }
+    ensures due { MayOrMemory (ByDesk (D.held desk.old) (Rose (D.faults desk.old) (D.faults desk.new)))
+        (script ballots.now manifest.now assertions.now (option_copied contest.entry) terms.now) (due result) }
+    ensures served { IsAccountedFor (D.served desk.old) (D.served desk.new) (due result).status }
+{
+    let bytes = read_file(alloc, desk, ballots)?;
+    match ballots_in(alloc, ballots, &bytes, contest) {
+        Ok(file) => after_ballots(
+            alloc,
+            desk,
+            ballots,
+            manifest,
+            assertions,
+            terms,
+            &file,
+            digest_of(&bytes),
+        ),
+        Err(refusal) => Err(refusal),
+    }
+}
+
+// Once the ballots are read, of a file with this name and digest.
+fn after_ballots<D: Desk>(
+    alloc: Global,
+    desk: &mut D,
+    ballots: &str,
+    manifest: &str,
+    assertions: &str,
+    terms: &Terms,
+    file: &Ballots,
+    digest: [u8; 32],
+) -> Result<Answer, Refusal>
+    requires { IsWithinLimits terms.now }
+    ensures held { D.held desk.new ≡ D.held desk.old }
+    ensures later { D.faults desk.old ≤ D.faults desk.new }
+    ensures due { MayOrMemory (ByDesk (D.held desk.old) (Rose (D.faults desk.old) (D.faults desk.new)))
+        (after_ballots ballots.now manifest.now assertions.now terms.now file.now digest) (due result) }
+    ensures served { IsAccountedFor (D.served desk.old) (D.served desk.new) (due result).status }
+{
+    let bytes = read_file(alloc, desk, manifest)?;
+    match cards_for(alloc, ballots, file, manifest, &bytes) {
+        Ok(cards) => {
+            let earlier = Earlier {
+                ballots: digest,
+                manifest: digest_of(&bytes),
+            };
+            after_manifest(
+                alloc,
+                desk,
+                assertions,
+                terms,
+                file,
+                &cards.manifest,
+                &earlier,
+            )
+        }
+        Err(refusal) => Err(refusal),
+    }
+}
+
+// Once the ballots have their cards.
+fn after_manifest<D: Desk>(
+    alloc: Global,
+    desk: &mut D,
+    assertions: &str,
+    terms: &Terms,
+    ballots: &Ballots,
+    manifest: &Manifest,
+    earlier: &Earlier,
+) -> Result<Answer, Refusal>
+    requires limits { IsWithinLimits terms.now }
+    requires linked { first_without_card manifest.now ballots.now ≡ None }
+    ensures held { D.held desk.new ≡ D.held desk.old }
+    ensures later { D.faults desk.old ≤ D.faults desk.new }
+    ensures due { MayOrMemory (ByDesk (D.held desk.old) (Rose (D.faults desk.old) (D.faults desk.new)))
+        (after_manifest assertions.now terms.now ballots.now manifest.now earlier.now) (due result) }
+    ensures served { IsAccountedFor (D.served desk.old) (D.served desk.new) (due result).status }
+{
+    let bytes = read_file(alloc, desk, assertions)?;
+    match assertions_in(alloc, assertions, &bytes) {
+        Ok(file) => open(
+            alloc,
+            terms,
+            ballots,
+            manifest,
+            &file,
+            all_digests(earlier, &bytes),
+        ),
+        Err(refusal) => Err(refusal),
+    }
+}
+
+// The session, where a check accepts the file.
+fn open(
+    alloc: Global,
+    terms: &Terms,
+    ballots: &Ballots,
+    manifest: &Manifest,
+    file: &AssertionFile,
+    digests: Digests,
+) -> Result<Answer, Refusal>
+    requires limits { IsWithinLimits terms.now }
+    requires linked { first_without_card manifest.now ballots.now ≡ None }
+    ensures { IsOneOrMemory (Opens terms.now ballots.now manifest.now file.now digests)
+        (due result) }
+{
+    match unless_accepted(alloc, ballots, file, terms.nodes)? {
+        Some(answer) => Ok(answer),
+        None => begin(alloc, terms, ballots, manifest, file, digests),
+    }
+}
+
+// The session of a file that is accepted.
+fn begin(
+    alloc: Global,
+    terms: &Terms,
+    ballots: &Ballots,
+    manifest: &Manifest,
+    file: &AssertionFile,
+    digests: Digests,
+) -> Result<Answer, Refusal>
+    requires limits { IsWithinLimits terms.now }
+    requires linked { first_without_card manifest.now ballots.now ≡ None }
+    requires accepted { IsTrue (is_accepted terms.now.nodes ballots.now file.now) }
+    ensures { IsOneOrMemory (λ verdict. verdict ≡ opened terms.now manifest.now file.now digests)
+        (due result) }
+{
+    let _ids = ballots.ids();
+    let _margin = file.margin();
+    let _claims = file.claims();
+    let session = begin_session(
+        alloc,
+        *file.contest(),
+        manifest.cards(),
+        file,
+        terms.seed,
+        terms.limit,
+        terms.gamma,
+        digests,
+    )?;
+    Ok(Answer {
+        kind: AnswerKind::Done,
+        text: print_session(alloc, &session)?,
+    })
+}

@@ -1,0 +1,9 @@
+pub mod Each
+pub mod SoundSessions
+pub mod Refused
+pub mod Rounds
+pub mod Printed
+pub mod Kept
+pub mod Contents
+pub mod SoundFiles
+pub mod ReadsBack

@@ -1,0 +1,18 @@
+use Rattle.std.proofs.Common.{Some, ap, sym, ◌∙◌, arith}
+use Rattle.std.proofs.lemmas.Result.{err_from_is_err_and}
+use Rattle.session_file.specs.Stated.{round}
+use Rattle.session_file.proofs.Each.{each_all, each_more, each_refused}
+use Rattle.session_file.proofs.lists.rounds.Goals as goal
+
+pub returns-in_err-round-clause-refused : goal.returns-in_err-round-clause-refused
+returns-in_err-round-clause-refused c =
+    let p = err_from_is_err_and c.from_residual.result c.from_residual.ensures.1 in
+    rw (p.1, p.2) (each_refused round c.args.values.now c.loop-value.value-index c.value-item.result _ c.loop-value-test.true c.value-item.is c.in_err-round.ensures.refused)
+
+pub loop-value-preserved : goal.loop-value-preserved
+loop-value-preserved c =
+    each_more round c.args.values.now c.loop-value.value-index c.value-item.result c.in_ok-round.round c.loop-value.read.items c.loop-value-test.true c.value-item.is c.loop-value.invariant c.in_ok-round.ensures.read
+    ∙ ap Some (sym c.in_ok-push.ensures.items)
+
+pub returns-clause-read : goal.returns-clause-read
+returns-clause-read c = each_all round c.args.values.now c.loop-value.value-index c.loop-value.read.items (omega arith) c.loop-value.invariant

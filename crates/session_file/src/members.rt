@@ -1,0 +1,145 @@
+// The members of a JSON value that a session and its rounds need.
+ghost use Rattle.std.specs.Prelude.{◌≡◌, map, option_map};
+ghost use Rattle.serde_json.specs.Find.{as_bool};
+ghost use Rattle.serde_json.specs.View.{view};
+ghost use Rattle.assertion_file.specs.Stated.{list_in, member_as, number, number_in, text_in};
+ghost use Rattle.session_file.specs.Stated.{counts, counts_from, digest, digests_in, entry_in, heading_in, risk};
+ghost use Rattle.session_file.specs.Views.{stated_entry, stated_heading};
+
+use audit_rounds::Digests;
+use hex::FromHex;
+use km_risk::Counts;
+use serde_json::Value;
+
+/// The members of a session's object.
+#[derive(Clone, Copy)]
+pub struct Heading<'a> {
+    pub contest: &'a str,
+    pub cards: u32,
+    pub margins: &'a [Value],
+    pub seed: &'a str,
+    pub limit: u32,
+    pub gamma: u32,
+    pub digests: Digests,
+    pub rounds: &'a [Value],
+    pub signed_off: bool,
+    pub version: u32,
+}
+
+/// The members of a round.
+#[derive(Clone, Copy)]
+pub struct Entry<'a> {
+    pub counts: &'a [Value],
+    pub draws: u32,
+    pub risks: &'a [Value],
+}
+
+/// The whole number that the value is, if it is one of 32 bits.
+pub fn number(value: &Value) -> Option<u32>
+    ensures { result ≡ number (view value.now) }
+{
+    u32::try_from(value.as_u64()?).ok()
+}
+
+/// The risk that the value is, in units of 10^-18.
+pub fn risk(value: &Value) -> Option<u64>
+    ensures { result ≡ risk (view value.now) }
+{
+    value.as_u64()
+}
+
+// The counts that these elements of a list are.
+fn counts_from(values: &[Value]) -> Option<Counts>
+    ensures { result ≡ counts_from (map view values.now) }
+{
+    let [n0, n1, n2, n3, n4] = values else {
+        return None;
+    };
+    Some(Counts {
+        n0: number(n0)?,
+        n1: number(n1)?,
+        n2: number(n2)?,
+        n3: number(n3)?,
+        n4: number(n4)?,
+    })
+}
+
+/// The counts that the value is: a list of five numbers.
+pub fn counts(value: &Value) -> Option<Counts>
+    ensures { result ≡ counts (view value.now) }
+{
+    counts_from(value.as_array()?.as_slice())
+}
+
+fn text_in<'a>(value: &'a Value, name: &str) -> Option<&'a str>
+    ensures { option_map (λ text. text.now) result ≡ text_in name.now (view value.now) }
+{
+    value.get(name)?.as_str()
+}
+
+fn number_in(value: &Value, name: &str) -> Option<u32>
+    ensures { result ≡ number_in name.now (view value.now) }
+{
+    number(value.get(name)?)
+}
+
+fn bool_in(value: &Value, name: &str) -> Option<bool>
+    ensures { result ≡ member_as as_bool name.now (view value.now) }
+{
+    value.get(name)?.as_bool()
+}
+
+fn list_in<'a>(value: &'a Value, name: &str) -> Option<&'a [Value]>
+    ensures { option_map (λ values. map view values.now) result ≡
+        list_in name.now (view value.now) }
+{
+    Some(value.get(name)?.as_array()?.as_slice())
+}
+
+fn digest_in(value: &Value, name: &str) -> Option<[u8; 32]>
+    ensures { result ≡ member_as digest name.now (view value.now) }
+{
+    <[u8; 32] as FromHex>::from_hex(text_in(value, name)?).ok()
+}
+
+#[tactic(auto, unfolding(crate::specs::Stated::digests_in))]
+fn digests_in(value: &Value) -> Option<Digests>
+    ensures { result ≡ digests_in (view value.now) }
+{
+    Some(Digests {
+        assertions: digest_in(value, "assertions")?,
+        ballots: digest_in(value, "ballots")?,
+        manifest: digest_in(value, "manifest")?,
+    })
+}
+
+/// The members of a round, if all are there and of their kind.
+#[tactic(auto, unfolding(crate::specs::Stated::entry_in))]
+pub fn entry_in(value: &Value) -> Option<Entry<'_>>
+    ensures { option_map stated_entry result ≡ entry_in (view value.now) }
+{
+    Some(Entry {
+        counts: list_in(value, "counts")?,
+        draws: number_in(value, "draws")?,
+        risks: list_in(value, "risks")?,
+    })
+}
+
+/// The members of a session, if all are there and of their kind.
+#[tactic(auto, unfolding(crate::specs::Stated::heading_in))]
+pub fn heading_in(value: &Value) -> Option<Heading<'_>>
+    ensures { option_map stated_heading result ≡ heading_in (view value.now) }
+{
+    Some(Heading {
+        contest: text_in(value, "contest")?,
+        cards: number_in(value, "cards")?,
+        margins: list_in(value, "margins")?,
+        seed: text_in(value, "seed")?,
+        limit: number_in(value, "limit")?,
+        gamma: number_in(value, "gamma")?,
+        digests: digests_in(value)?,
+        rounds: list_in(value, "rounds")?,
+        signed_off: bool_in(value, "signed_off")?,
+        version: number_in(value, "version")?,
+    })
+}

@@ -1,0 +1,97 @@
+// Reading a session file.
+ghost use Rattle.std.specs.Prelude.{◌≡◌, Some, IfOk, IfErr};
+ghost use Rattle.serde_json.specs.View.{view};
+ghost use Rattle.session_file.specs.Faults.{Refuses};
+ghost use Rattle.session_file.specs.Reading.{content_of, content_with, kept, session_of};
+ghost use Rattle.session_file.specs.Views.{stated_heading};
+
+use crate::SessionFault;
+use crate::lists::{numbers, rounds};
+use crate::members::{Heading, heading_in};
+use crate::sound::{are_limits, are_margins, are_rounds};
+use audit_rounds::{DoneRound, Session, signed_off};
+use irv_base::Name;
+use sampler::Seed;
+use serde_json::Value;
+use session_text::VERSION;
+use std::alloc::Global;
+
+// The session with these members, margins and rounds, if it is sound and the file says rightly whether it is signed off.
+fn kept(heading: &Heading<'_>, margins: Vec<u32>, rounds: Vec<DoneRound>) -> Option<Session>
+    ensures { let stated = stated_heading heading.now in
+        result ≡ kept stated (content_with stated margins.items rounds.items) }
+{
+    if heading.version != VERSION {
+        return None;
+    }
+    let contest = Name::read(heading.contest.as_bytes())?;
+    let seed = Seed::read(heading.seed).ok()?;
+    let cards = heading.cards;
+    let gamma = heading.gamma;
+    if !are_limits(cards, heading.limit, gamma) {
+        return None;
+    }
+    if !are_margins(cards, margins.as_slice()) {
+        return None;
+    }
+    if !are_rounds(cards, gamma, margins.as_slice(), rounds.as_slice()) {
+        return None;
+    }
+    let session = Session::new(
+        contest,
+        cards,
+        margins,
+        seed,
+        heading.limit,
+        gamma,
+        heading.digests,
+        rounds,
+    );
+    if signed_off(&session) != heading.signed_off {
+        return None;
+    }
+    Some(session)
+}
+
+fn content_of(alloc: Global, value: &Value) -> Result<Session, SessionFault>
+    ensures read { IfOk result (λ session. content_of (view value.now) ≡ Some session) }
+    ensures refused { IfErr result (Refuses (content_of (view value.now))) }
+{
+    let Some(heading) = heading_in(value) else {
+        return Err(SessionFault::Refused);
+    };
+    let margins = numbers(alloc, heading.margins)?;
+    let rounds = rounds(alloc, heading.rounds)?;
+    let Some(session) = kept(&heading, margins, rounds) else {
+        return Err(SessionFault::Refused);
+    };
+    Ok(session)
+}
+
+/// Reads a session file of version 1.
+///
+/// The bytes are one JSON object, with its members in any order. Further members are passed over, and of a repeated
+/// name the last counts. Numbers are whole ones, without a point or an exponent, and the hexadecimal digits of a digest
+/// may be of either case.
+///
+/// It is refused exactly where the bytes aren't JSON; a member is missing or of another kind, or a digest hasn't 64
+/// hexadecimal digits; the version isn't `VERSION`; the contest's id or the seed is none; the cards are above
+/// `MOST_CARDS`, the limit isn't 1 to `GREATEST_LIMIT`, gamma isn't 1 to `GREATEST_GAMMA`, or a round's draws aren't 1 to
+/// `MOST_DRAWS`; there is no margin, or one isn't 1 to the number of cards; the draws of the rounds don't rise; a round
+/// has another number of counts or of risks than there are margins, counts that aren't five numbers with the round's
+/// draws as their sum, or a risk that isn't the printed risk of its counts; or `signed_off` isn't whether each claim is
+/// confirmed at the last round.
+pub fn read_session(alloc: Global, bytes: &[u8]) -> Result<Session, SessionFault>
+    ensures read { IfOk result (λ session. session_of bytes.now ≡ Some session) }
+    ensures refused { IfErr result (Refuses (session_of bytes.now)) }
+{
+    match Value::from_slice(alloc, bytes) {
+        Ok(value) => content_of(alloc, &value),
+        Err(e) => {
+            if e.is_memory() {
+                return Err(SessionFault::Memory);
+            }
+            Err(SessionFault::Refused)
+        }
+    }
+}

@@ -1,0 +1,32 @@
+-- The worked examples: sessions of one card.
+use Rattle.std.specs.Prelude.{ℕ, List, [], ◌∷◌, codes, replicate}
+use Rattle.km_risk.specs.Counts.{clean}
+use Rattle.audit_rounds.specs.declared.digests.Digests.{Digests}
+use Rattle.audit_rounds.specs.Sessions.{Round}
+use Rattle.audit_rounds.specs.Content.{Content}
+
+-- a digest for each file
+abbrev pub some_digests : Digests
+some_digests = record {
+  ballots = 0xAB ∷ replicate 31 0;
+  manifest = 0x0A ∷ replicate 31 1;
+  assertions = replicate 32 0x2C;
+}
+
+-- that many draws of one claim, all as recorded, and their risk
+abbrev pub clean_round : ℕ → ℕ → Round
+clean_round draws risk = record { draws = draws; counts = clean draws ∷ []; risks = risk ∷ [] }
+
+abbrev pub four_draws : Round
+four_draws = clean_round 4 88518543815313162
+
+abbrev pub five_draws : Round
+five_draws = clean_round 5 48282842081079907
+
+abbrev pub one_card : List ℕ → List Round → Content
+one_card seed rounds = record {
+  contest = codes "7";
+  seed = seed;
+  digests = some_digests;
+  session = record { cards = 1; margins = 1 ∷ []; limit = 50000; gamma = 100; rounds = rounds };
+}

@@ -1,0 +1,4 @@
+pub mod Text
+pub mod Forms
+pub mod Laws
+pub mod Examples

@@ -1,0 +1,55 @@
+// The records of a contest, counted.
+ghost use Rattle.std.specs.Prelude.{◌≡◌, ◌<◌, ◌≤◌, length, All, IfOk};
+ghost use Rattle.irv_base.specs.declared.limits.TheConstants.{FEWEST_CANDIDATES, ROOM, MOST_RECORDS};
+ghost use Rattle.set_tallies.specs.Bags.{IsOf};
+
+use crate::ahead::Ahead;
+use crate::bag::Bag;
+use crate::tallies::Tallies;
+use irv_base::{Memory, Ranking};
+use std::alloc::Global;
+use std::marker::Model;
+
+/// The records of a contest, counted: their bag, and the two numbers of NEB's margin over them.
+///
+/// To a contract it is these two.
+#[derive(Drop)]
+pub struct Counted {
+    alloc: Global,
+    bag: Bag,
+    ahead: Ahead,
+}
+
+impl Model for Counted {
+    ghost use Rattle.set_tallies.specs.Bags.{Source, AreFilledFrom};
+
+    ghost Value = { Source };
+
+    ghost view = { λ c. record { bag = c.bag; counts = c.ahead } };
+
+    ghost invariant = { λ c. AreFilledFrom c.bag c.ahead };
+}
+
+impl Counted {
+    /// The records, of a contest with `n` candidates, counted.
+    pub fn of(alloc: Global, n: u32, rankings: &[Ranking]) -> Result<Counted, Memory>
+        requires fewest { FEWEST_CANDIDATES ≤ n }
+        requires room { n ≤ ROOM }
+        requires most { length rankings.now ≤ MOST_RECORDS }
+        requires below { All (λ ranking. All (λ c. c < n) ranking) rankings.now }
+        ensures candidates { IfOk result (λ counted. counted.bag.n ≡ n) }
+        ensures records { IfOk result (λ counted. IsOf counted.bag rankings.now) }
+    {
+        let bag = Bag::of(alloc, n, rankings)?;
+        let ahead = Ahead::fill(alloc, &bag)?;
+        Ok(Counted { alloc, bag, ahead })
+    }
+
+    /// The tallies of sets of candidates over the records.
+    pub fn tallies(&self) -> Result<Tallies<'_>, Memory>
+        ensures bag { IfOk result (λ tallies. tallies.bag ≡ self.now.bag) }
+        ensures counts { IfOk result (λ tallies. tallies.counts ≡ self.now.counts) }
+    {
+        Tallies::new(self.alloc, &self.bag, &self.ahead)
+    }
+}

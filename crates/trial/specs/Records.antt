@@ -1,0 +1,50 @@
+-- The records of a trial, by a linear congruential generator (D. E. Knuth's multiplier for 64 bits). Its state is a number below 2 ^ 64.
+use Rattle.std.specs.Prelude.{ℕ, zero, suc, ◌+◌, ◌*◌, ◌/◌, ◌%◌, ◌^◌, min, List, [], ◌∷◌, ◌++◌, if◌then◌else◌, fold}
+use Rattle.irv_base.specs.Candidates.{is_in}
+use Rattle.trial.specs.declared.draws.TheConstants.{MULTIPLIER, INCREMENT, DROPPED_BITS}
+
+-- ---- draws
+
+abbrev pub next : ℕ → ℕ
+next state = (state * MULTIPLIER + INCREMENT) % 2 ^ 64
+
+-- what the first draw from this state answers
+abbrev pub drawn : ℕ → ℕ
+drawn state = next state / 2 ^ DROPPED_BITS
+
+-- the state after so many draws
+abbrev pub after : ℕ → ℕ → ℕ
+after zero state = state
+after (suc draws) state = after draws (next state)
+
+-- ---- a ballot
+
+-- how many places it has: the first draw decides
+abbrev pub places_of : ℕ → ℕ → ℕ
+places_of n state = 1 + drawn state % n
+
+-- the candidates of so many places, each the smaller of two that are drawn
+abbrev pub chosen : ℕ → ℕ → ℕ → List ℕ
+chosen n zero state = []
+chosen n (suc places) state = min (drawn state % n) (drawn (next state) % n) ∷ chosen n places (after 2 state)
+
+-- with a candidate at the end, unless it is there already
+abbrev pub with_choice : List ℕ → ℕ → List ℕ
+with_choice ranking c = if is_in ranking c then ranking else ranking ++ c ∷ []
+
+-- a repeated candidate is dropped
+abbrev pub ranking_of : List ℕ → List ℕ
+ranking_of choices = fold with_choice [] choices
+
+abbrev pub ballot : ℕ → ℕ → List ℕ
+ballot n state = ranking_of (chosen n (places_of n state) (next state))
+
+-- ---- the records: so many ballots, one after the other
+
+abbrev pub ballots_from : ℕ → ℕ → ℕ → List (List ℕ)
+ballots_from n zero state = []
+ballots_from n (suc ballots) state = ballot n state ∷ ballots_from n ballots (after (1 + 2 * places_of n state) state)
+
+-- the first state is the number of the trial
+abbrev pub trial_records : ℕ → ℕ → ℕ → List (List ℕ)
+trial_records number n ballots = ballots_from n ballots number

@@ -1,0 +1,139 @@
+"""The files that a page is made of: what each is, its bytes and its digest."""
+import hashlib
+import itertools
+import json
+import os
+import re
+import tempfile
+
+import plain
+import plain_audit
+from limits import MOST_BATCH_BYTES, MOST_BATCH_CARDS, MOST_CONTESTS
+
+KINDS = {
+    "ballots": "ballot file", "manifest": "manifest", "assertions": "assertion file", "session": "session", "seen": "seen file",
+}
+
+
+class Refusal(Exception):
+    """No page is made: the status, and what is told."""
+
+    def __init__(self, status, text):
+        super().__init__(text)
+        self.status, self.text = status, text
+
+
+def told(text):
+    return Refusal(1, f"show: {text}\n")
+
+
+def broken_to_page(path, broken):
+    """A rule is broken, as this page judges it: no command has."""
+    return Refusal(2, f"show: {path}: {broken} (judged by this page, and not by the program)\n")
+
+
+class File:
+    def __init__(self, path):
+        self.path, self.name = path, os.path.basename(path)
+        self.data = plain_audit.read(path)
+        self.digest = hashlib.sha256(self.data).hexdigest()
+        self.kind = kind_of(path, self.data)
+        self.what = KINDS[self.kind]
+
+
+def kind_of(path, data):
+    """What a file seems to be; whether it is that, is judged later."""
+    if data.lstrip()[:1] in (b"{", b"[") or path.endswith(".json"):
+        return "session" if is_like_session(path, data) else "assertions"
+    if path.endswith(".raire"):
+        return "ballots"
+    return kind_of_rows(list(itertools.islice(plain_audit.numbered(data[:65_536]), 20))) or kind_of_name(path)
+
+
+def is_like_session(path, data):
+    try:
+        members = set(json.loads(data))
+    except (ValueError, TypeError, RecursionError):
+        return "session" in os.path.basename(path)
+    return bool(members & {"rounds", "seed", "signed_off"})
+
+
+def kind_of_rows(rows):
+    """The kind that the first records tell. A ballot file begins with a number, and a contest follows."""
+    if not rows:
+        return None
+    seconds = [row[1] if len(row) > 1 else "" for row in rows]
+    if rows[0][0] == "batch":
+        return "manifest"
+    if any(row[0] == "Contest" for row in rows[:2]):
+        return "ballots"
+    if {"ballot", "missing"} & set(seconds):
+        return "seen"
+    if rows[0][0].lower().startswith("batch") or {"batch", "cards"} & {field.lower() for field in rows[0]}:
+        return "manifest"
+    return "manifest" if all(len(row) == 2 for row in rows) and all(map(str.isdigit, seconds[1:] or seconds)) else None
+
+
+def kind_of_name(path):
+    name = os.path.basename(path)
+    return "manifest" if "manifest" in name else "seen" if "seen" in name else "ballots"
+
+
+def given(paths):
+    """The files by their kinds, each kind once."""
+    files = {}
+    for path in paths:
+        try:
+            file = File(path)
+        except plain_audit.End as end:
+            raise Refusal(end.answer[0], end.answer[2]) from None
+        if file.kind in files:
+            raise told(f"{files[file.kind].path} and {path} are both of one kind ({file.what}); give one of them")
+        files[file.kind] = file
+    return {kind: files[kind] for kind in KINDS if kind in files}
+
+
+def contests_of(data):
+    """Of each contest its candidates, by the head of a ballot file that the program has read."""
+    head = itertools.islice(plain_audit.numbered(data), MOST_CONTESTS + 1)
+    return {name: ids for name, (ids, _) in plain_audit.contest_records(list(head)).items()}
+
+
+class Cards:
+    """The cards of a manifest; where none is given, whatever can be the id of a card."""
+
+    def __init__(self, manifest):
+        self.manifest = manifest
+
+    def place(self, card):
+        batch, _, number = card.rpartition("_")
+        if not re.fullmatch("[1-9][0-9]{0,9}", number) or int(number) > MOST_BATCH_CARDS:
+            return None
+        if self.manifest:
+            return self.manifest.place(card)
+        return card if plain.is_id(batch) and len(batch) <= MOST_BATCH_BYTES else None
+
+
+def seen_of(data, manifest, ids):
+    """What was seen of each card, by as much of the rules as can be judged: without candidates each id may be one."""
+    if ids is None:
+        ids = {field for row in plain_audit.numbered(data) for field in row[2:] if plain.is_id(field)}
+    return plain_audit.seen_of(data, Cards(manifest), sorted(ids) if isinstance(ids, set) else ids)
+
+
+class Scratch:
+    """A file of the page's own, that is gone behind a `with`."""
+
+    def __init__(self, name):
+        self.folder = tempfile.TemporaryDirectory()
+        self.path = os.path.join(self.folder.name, name)
+
+    def __enter__(self):
+        return self
+
+    def write(self, text):
+        with open(self.path, "w") as file:
+            file.write(text)
+
+    def __exit__(self, *_):
+        self.folder.cleanup()

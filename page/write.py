@@ -1,0 +1,380 @@
+"""Makes the page: asks the program about each file, and fills page.html."""
+import os
+import sys
+
+import jinja2
+
+import audit
+import files
+import orders
+import plain
+import plain_audit
+import rounds
+from files import broken_to_page, Refusal, told
+from limits import MOST_NODES
+from program import TOP, Program
+
+HELP = os.path.join(TOP, "docs", "help", "show.txt")
+OPTIONS = ("--contest", "--nodes")
+MOST_LISTED = 100
+UNCOUNTED = ("no: contest differs", "no: winner is", "no: assertion", "tie")
+
+
+def words_of(words):
+    """The paths and the options of a call, as ./raire takes them: what begins with - is an option before a word --."""
+    paths, options, rest = [], {}, list(words)
+    while rest:
+        word = rest.pop(0)
+        if word == "--":
+            paths, rest = paths + rest, []
+        elif not word.startswith("-"):
+            paths.append(word)
+        else:
+            name, has_value, value = word.partition("=")
+            if name not in OPTIONS:
+                raise told(f"no such option: {name}; see ./raire help show")
+            if name in options:
+                raise told(f"{name} stands twice")
+            if not has_value and rest and not rest[0].startswith("-"):
+                value = rest.pop(0)
+            options[name] = value
+    if not paths:
+        raise told("no files; ./raire help show tells what they may be")
+    if not all(paths):
+        raise told("a file has no name")
+    see_values(options)
+    return paths, options
+
+
+def see_values(options):
+    for name, value in options.items():
+        if not value:
+            raise told(f"{name} wants a value")
+    if not plain.is_id(options.get("--contest", "1")):
+        raise told("--contest wants the id of a contest")
+    if plain_audit.number_in(options.get("--nodes", "1"), 1, MOST_NODES) is None:
+        raise told(f"--nodes wants a number from 1 to {MOST_NODES}")
+
+
+def see_output(paths):
+    """No page is written over a file that it is made of, or into a terminal."""
+    if sys.stdout.isatty():
+        raise told("the page goes to standard output: ./show FILES.. > page.html")
+    for path in paths:
+        if os.path.exists(path) and os.path.samestat(os.stat(path), os.fstat(1)):
+            raise told(f"the page would be written over {path}")
+
+
+def plural(number, one, more=None):
+    return f"{number:,} {one if number == 1 else more or one + 's'}"
+
+
+def ordinal(place):
+    ending = "th" if place % 100 in (11, 12, 13) else {1: "st", 2: "nd", 3: "rd"}.get(place % 10, "th")
+    return f"{place}{ending}"
+
+
+class Page:
+    """What is known of the files, part by part."""
+
+    def __init__(self, given, options, program):
+        self.files, self.options, self.program, self.notes = given, options, program, []
+        self.parts = dict.fromkeys(("session", "tabulation", "tie", "assertions", "verdict", "tree", "plan", "manifest", "claims", "seen_file"))
+        self.judged = set(files.KINDS) - {"seen"}  # the kinds that the program judges; seen cards once it has run the audit again
+        self.manifest = self.ballots = None  # as this page reads them
+
+    def path(self, kind):
+        return self.files[kind].path
+
+    def has(self, *kinds):
+        return all(kind in self.files for kind in kinds)
+
+    def read_session(self):
+        if not self.has("session"):
+            return
+        file = self.files["session"]
+        try:
+            self.program.must_run("report", [file.path])
+        except Refusal as refusal:
+            why = f"show: {file.path}: {audit.why_no_session(file.data)}\n" if refusal.text.endswith(": S1\n") else ""
+            raise Refusal(refusal.status, refusal.text + why) from None
+        session = audit.session_of(file)
+        for kind in ("ballots", "manifest", "assertions"):
+            if self.has(kind) and self.files[kind].digest != session[kind]:
+                raise told(f"{self.path(kind)} isn't the {files.KINDS[kind]} of {file.path}: its digest is another one")
+        if self.options.get("--contest", session["contest"]) != session["contest"]:
+            raise told(f"{file.path} is about contest {session['contest']}, and not {self.options['--contest']}")
+        self.options["--contest"] = session["contest"]
+        self.parts["session"] = session
+
+    def read_assertions(self):
+        """The members of the assertion file; the contest is its own where none is named."""
+        if not self.has("assertions"):
+            return
+        self.program.judge_assertions(self.path("assertions"))
+        file = audit.members(self.files["assertions"])
+        session = self.parts["session"]
+        if session and session["contest"] != file["contest"]:
+            raise told(f"{self.path('assertions')} is about contest {file['contest']}, and {self.path('session')} about {session['contest']}")
+        if self.options.get("--contest", file["contest"]) != file["contest"]:
+            raise told(f"{self.path('assertions')} is about contest {file['contest']}, and not {self.options['--contest']}")
+        if session and session["margins"] != [claim["margin"] for claim in file["assertions"]]:
+            raise told(f"{self.path('assertions')} doesn't have the margins of {self.path('session')}")
+        if self.has("ballots") and file["contest"] in self.contests():
+            self.options.setdefault("--contest", file["contest"])
+        self.parts["assertions"] = file
+
+    def contests(self):
+        try:
+            return files.contests_of(self.files["ballots"].data)
+        except plain_audit.Broken:
+            return {}
+
+    def contest_words(self):
+        contest = self.options.get("--contest")
+        return [f"--contest={contest}"] if contest else []
+
+    def read_ballots(self):
+        if not self.has("ballots"):
+            return
+        status, text = self.program.must_run("tabulate", [self.path("ballots")], *self.contest_words())
+        contests = self.contests()
+        name = self.options.get("--contest") or next(iter(contests))
+        if status == 3:
+            self.parts["tie"] = text.splitlines()
+        else:
+            self.parts["tabulation"] = rounds.rounds_of(text, contests[name])
+        self.parts["contest"], self.parts["ids"] = name, contests[name]
+
+    def check(self):
+        """Whether the assertion file holds of the ballots, in the program's words."""
+        if not self.has("ballots", "assertions"):
+            return
+        words = [*self.contest_words(), *self.nodes_words()]
+        status, text = self.program.must_run("check", [self.path("ballots"), self.path("assertions")], *words)
+        if text.startswith("no: contest differs"):
+            raise told(f"{self.path('assertions')} isn't about the contest of {self.path('ballots')}: {text.strip()}")
+        self.parts["verdict"] = {"status": status, "lines": text.splitlines()}
+
+    def read_manifest(self):
+        if not self.has("manifest"):
+            return
+        path = self.path("manifest")
+        self.program.must_run("sample", [path], "--seed=1", "--draws=1", is_shown=False)
+        try:
+            self.manifest = plain_audit.manifest_of(self.files["manifest"].data)
+        except plain_audit.Broken as broken:
+            raise told(f"{path} is a manifest to the program, and this page can't read it: {broken}") from None
+        self.see_cards(self.manifest.cards)
+        self.parts["manifest"] = {"cards": self.manifest.cards, "batches": audit.sizes(self.manifest)}
+        if self.has("ballots"):
+            self.link()
+        if self.has("assertions"):
+            self.read_plan(path)
+
+    def see_cards(self, cards):
+        """The other files count on the cards of the manifest."""
+        session, file, path = self.parts["session"], self.parts["assertions"], self.path("manifest")
+        if session and session["cards"] != cards:
+            raise told(f"{self.path('session')} is about {plural(session['cards'], 'card')}, and {path} has {cards:,}")
+        if file and not self.has("ballots") and file["records"] > cards:
+            raise told(f"{self.path('assertions')} is about {plural(file['records'], 'ballot')}, and {path} has {plural(cards, 'card')}")
+
+    def read_contest(self):
+        """The ballots of the contest, as this page reads them."""
+        if not self.ballots:
+            try:
+                self.ballots = plain_audit.ballots_of(self.files["ballots"].data, self.parts["contest"])
+            except plain_audit.Broken as broken:
+                raise told(f"{self.path('ballots')} is a ballot file to the program, and this page can't read it: {broken}") from None
+        return self.ballots
+
+    def link(self):
+        """The record of each card that has a ballot; each ballot has to name a card."""
+        try:
+            recorded = plain_audit.linked(self.read_contest(), self.manifest)
+        except plain_audit.Broken as broken:
+            at = int(str(broken).rpartition(" ")[2])
+            ballot = next(ballot for ballot, place, _ in self.ballots.cast if place == at)
+            ballots, manifest = self.path("ballots"), self.path("manifest")
+            raise told(f"{ballots} doesn't belong to {manifest}: {broken} of {ballots}: the ballot {ballot} names no card of {manifest}") from None
+        self.parts["manifest"]["linked"] = len(recorded)
+        self.recorded = recorded
+
+    def read_plan(self, path):
+        session = self.parts["session"]
+        limits = [f"--limit={session['limit']}", f"--gamma={session['gamma']}"] if session else []
+        _, text = self.program.must_run("plan", [path, self.path("assertions")], *limits)
+        self.parts["plan"] = [line.rpartition(": ")[2] for line in text.splitlines()]
+
+    def nodes_words(self):
+        return [f"--nodes={self.options['--nodes']}"] if "--nodes" in self.options else []
+
+    def replay(self):
+        """The whole audit once more, by the program: it has to end with the bytes of the session."""
+        session, kinds = self.parts["session"], ("ballots", "manifest", "assertions")
+        if not session or not self.has(*kinds):
+            return
+        if self.parts["verdict"]["status"]:
+            raise told(f"{self.path('session')} is no audit of {self.path('assertions')}: a check says {', '.join(self.parts['verdict']['lines'])}")
+        paths = [self.path(kind) for kind in kinds]
+        terms = [f"--{name}={session[name]}" for name in ("limit", "gamma", "seed")]
+        _, text = self.program.must_run("open", paths, *terms, *self.contest_words(), *self.nodes_words())
+        if text != plain_audit.session_text({**session, "rounds": [], "signed_off": False}):
+            raise told(f"{self.path('session')} isn't the session that these files open")
+        if self.has("seen"):
+            self.replay_rounds(text, paths)
+
+    def replay_rounds(self, text, paths):
+        session = self.parts["session"]
+        with files.Scratch("session.json") as scratch:
+            for done in session["rounds"]:
+                scratch.write(text)
+                words = [scratch.path, *paths, self.path("seen")]
+                _, text = self.program.must_run("audit", words, f"--draws={done['draws']}", *self.nodes_words(), is_shown=False)
+        if text != plain_audit.session_text(session):
+            raise told(f"{self.path('seen')} doesn't give the rounds of {self.path('session')}")
+        if session["rounds"]:
+            self.judged.add("seen")
+            self.parts["is_replayed"] = True
+
+    def candidates(self):
+        """The candidates that a seen file may name, where another file tells them."""
+        return self.parts.get("ids") or (self.parts["assertions"] and self.parts["assertions"]["candidates"])
+
+    def read_seen(self):
+        """What the seen file says, by as many of its rules as the other files allow to judge."""
+        if not self.has("seen"):
+            return
+        ids = self.candidates()
+        try:
+            seen = files.seen_of(self.files["seen"].data, self.manifest, ids)
+        except plain_audit.Broken as broken:
+            raise broken_to_page(self.path("seen"), broken) from None
+        missing = sum(found == plain_audit.MISSING for found in seen.values())
+        self.parts["seen_file"] = {"cards": len(seen), "missing": missing, "has_manifest": self.manifest is not None, "has_candidates": bool(ids)}
+        if self.parts["session"] and self.has("ballots", "manifest", "assertions"):
+            self.compare_seen(seen)
+
+    def compare_seen(self, seen):
+        """The cards that were drawn and seen otherwise than recorded."""
+        session = self.parts["session"]
+        claims = plain.read_assertions(self.files["assertions"].data)["assertions"]
+        last = session["rounds"][-1] if session["rounds"] else {"draws": 0, "counts": [[0] * 5] * len(claims)}
+        draws_of = audit.draws_by_card(session, last["draws"])
+        unseen = [card for card in draws_of if card not in seen]
+        if unseen or audit.counted(draws_of, self.recorded, claims, seen) != last["counts"]:
+            raise told(f"{self.path('seen')} doesn't give the counts of {self.path('session')}")
+        self.parts["seen"] = {
+            "cards": len(draws_of), "draws": last["draws"],
+            "differing": audit.differing(session, self.ballots.ids, self.manifest, self.recorded, claims, seen, draws_of),
+        }
+
+    def note_unjudged(self):
+        """What this page has made of seen cards that the program has not judged."""
+        if self.has("seen") and "seen" not in self.judged:
+            seen = self.parts["seen_file"]
+            judged = ["V1", *["V2"] * seen["has_manifest"], "V3", *["V5"] * seen["has_candidates"]]
+            self.notes.append(
+                f"The program didn’t judge the seen file {self.path('seen')}: it does that in an audit, of a session and all its files. By this page’s own "
+                f"reading {', '.join(judged[:-1])} and {judged[-1]} of docs/formats.md are kept."
+            )
+
+    def make_claims(self):
+        """A row an assertion: words, margin, what it cuts, its draws and its risk."""
+        file, tabulation, verdict = self.parts["assertions"], self.parts["tabulation"], self.parts["verdict"]
+        states = audit.state(self.parts["session"]) if self.parts["session"] else None
+        if not file:
+            self.list_claims([{"margin": state["margin"], "state": state, "words": None} for state in states or []])
+            return
+        tree = orders.Tree(file["candidates"], file["winner"], file["assertions"])
+        counted = tabulation and verdict and not verdict["lines"][0].startswith(UNCOUNTED)
+        first = tabulation["rounds"][0]["votes"] if counted else None
+        plan = self.parts["plan"] or []
+        self.parts["tree"] = tree
+        self.list_claims([
+            {
+                "claim": claim, "words": in_words(claim, first), "margin": claim["margin"], "cuts": tree.cuts_of[j],
+                "orders": tree.orders_of[j], "plan": plan[j] if plan else None, "state": states[j] if states else None,
+            }
+            for j, claim in enumerate(file["assertions"])
+        ])
+
+    def list_claims(self, claims):
+        """All of them, and those that the page has room for: the highest risks, or else the smallest margins."""
+        for j, row in enumerate(claims):
+            row["number"] = j + 1
+        first = sorted(claims, key=lambda row: (-(row["state"] and row["state"]["risk"] or 0), row["margin"]))
+        self.parts["claims"] = claims
+        self.parts["listed"] = sorted(first[:MOST_LISTED], key=lambda row: row["number"])
+
+    def see_options(self):
+        """Each option has to have a meaning for the files that are given."""
+        if "--nodes" in self.options and not self.has("ballots", "assertions"):
+            raise told("--nodes is the budget of a check: give a ballot file and an assertion file")
+        if "--contest" in self.options and not {"ballots", "assertions", "session"} & set(self.files):
+            raise told("--contest wants a file that is about a contest")
+
+    def read(self):
+        self.see_options()
+        self.read_session()
+        self.read_assertions()
+        self.read_ballots()
+        self.check()
+        self.read_manifest()
+        self.replay()
+        self.read_seen()
+        self.note_unjudged()
+        self.make_claims()
+
+
+def in_words(claim, first):
+    """What an assertion says, in two parts: the claim, and the votes it rests on."""
+    w, l, margin = claim["winner"], claim["loser"], claim["margin"]
+    if claim["kind"] == "NEN":
+        left = [c for c in claim["rest"] if c not in (w, l)]
+        standing = f"only {w} and {l} are" if not left else f"just {', '.join(sorted(claim['rest'], key=claim['rest'].index))} are"
+        return f"{w} can't be eliminated while {standing} left", f"{w} then has {plural(margin, 'vote')} more than {l}"
+    if first is None:
+        return f"{w} can't be eliminated before {l}", f"it has {plural(margin, 'vote')} more than {l} can get while {w} stands"
+    votes = f"{w} has {plural(first[w], 'first vote')}, {l} at most {first[w] - margin:,} while {w} stands"
+    return f"{w} can't be eliminated before {l}", votes
+
+
+def filled(page):
+    loader = jinja2.FileSystemLoader(os.path.join(TOP, "page"))
+    made = jinja2.Environment(
+        loader=loader, autoescape=True, trim_blocks=True, lstrip_blocks=True, undefined=jinja2.ChainableUndefined,
+    )
+    made.filters.update(plural=plural, ordinal=ordinal, risk=audit.risk_text, short=audit.short, millionths=audit.millionths, number="{:,}".format)
+    session = page.parts["session"]
+    return made.get_template("page.html").render(
+        page.parts, files=page.files, judged=page.judged, notes=page.notes, asked=page.program.asked, program=page.program.told(),
+        chart=audit.chart(session, [row["number"] for row in page.parts["listed"]]) if session else None, title=title(page), most_counted=orders.MOST_COUNTED,
+    )
+
+
+def title(page):
+    parts = page.parts
+    file, session = parts["assertions"], parts["session"]
+    name = parts.get("contest") or (file and file["contest"]) or (session and session["contest"])
+    return f"Contest {name}" if name else " and ".join(f"a {file.what}" for file in page.files.values()).capitalize()
+
+
+def main(words):
+    if words[:1] in (["--help"], ["-h"], ["help"]):
+        with open(HELP) as file:
+            sys.stdout.write(file.read())
+        return 0
+    try:
+        paths, options = words_of(words)
+        see_output(paths)
+        page = Page(files.given(paths), options, Program())
+        page.read()
+        text = filled(page)
+    except Refusal as refusal:
+        sys.stderr.write(refusal.text)
+        return refusal.status
+    sys.stdout.buffer.write(text.encode())
+    sys.stdout.flush()
+    return 0

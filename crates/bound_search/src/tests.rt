@@ -16,6 +16,9 @@ use std::sync::ledger::{Blank, Ledger};
 use std::thread::Threads;
 use suffix_tree::{Tail, score};
 
+// Turns for which a worker is held: enough for another to begin on a machine that is busy.
+const PATIENCE: u32 = 4_000_000_000;
+
 /// Counts how often it is called, and holds piece 0 up until another was taken, for so many turns.
 #[derive(Drop)]
 struct Held {
@@ -23,6 +26,7 @@ struct Held {
     turns: u32,
     calls: AtomicU64,
     taken: AtomicU64,
+    late: AtomicU64,
 }
 
 impl Held {
@@ -32,11 +36,16 @@ impl Held {
             turns,
             calls: AtomicU64::new(0),
             taken: AtomicU64::new(0),
+            late: AtomicU64::new(0),
         }
     }
 
     fn was_taken(&self) -> bool {
         self.taken.load(Ordering::SeqCst) == 1
+    }
+
+    fn was_in_time(&self) -> bool {
+        self.was_taken() && self.late.load(Ordering::SeqCst) == 0
     }
 }
 
@@ -52,6 +61,7 @@ impl Gate for Held {
                     return;
                 }
             }
+            self.late.store(1, Ordering::SeqCst);
         }
     }
 }
@@ -108,7 +118,8 @@ fn race_of<R: AllocGlobal + Threads + Sync, G: Gate + Sync>(
     }
 }
 
-// The order 1, 0, 2 has 1 against it, and only the piece 0, 2 is expanded.
+// The order 1, 0, 2 has 1 against it. The piece 0, 2 is expanded; the last is where a worker takes it
+// before the order is found.
 fn is_found<R: AllocGlobal + Threads + Sync, G: Gate + Sync>(
     rt: &R,
     workers: u32,
@@ -129,7 +140,7 @@ fn is_found<R: AllocGlobal + Threads + Sync, G: Gate + Sync>(
                 && end.pieces[0].expanded == 0
                 && end.pieces[1].expanded == 0
                 && end.pieces[2].expanded == 1
-                && end.pieces[3].expanded == 0
+                && end.pieces[3].expanded <= 1
                 && end.workers.len() == workers as usize
         }
         Err(_) => false,
@@ -176,14 +187,14 @@ fn keeps_the_start_of_two(rt: HostRuntime) {
 
 #[test]
 fn workers_stand_side_by_side(rt: HostRuntime) {
-    let gate = Held::new(1, 100_000_000);
+    let gate = Held::new(1, PATIENCE);
     assert!(rt; is_found(&rt, 2, 100_000, &gate));
-    assert!(rt; gate.was_taken());
+    assert!(rt; gate.was_in_time());
 }
 
 #[test]
 fn workers_share_the_bound(rt: HostRuntime) {
-    let gate = Held::new(2, 100_000_000);
+    let gate = Held::new(2, PATIENCE);
     match race_of(&rt, 3, bound_shared().as_slice(), 2, 100_000, &gate) {
         Ok(end) => {
             assert!(rt; end.margin == 1);
@@ -192,7 +203,7 @@ fn workers_share_the_bound(rt: HostRuntime) {
         }
         Err(_) => assert!(rt; false),
     }
-    assert!(rt; gate.was_taken());
+    assert!(rt; gate.was_in_time());
 }
 
 // It found the order 1, 0, 2, and only the third piece was expanded.

@@ -1,0 +1,16 @@
+pub mod Walk
+pub mod Heads
+pub mod Ballots
+pub mod Places
+pub mod Differ
+pub mod Outcome
+pub mod Refused
+pub mod Ranked
+pub mod Judged
+pub mod Spelled
+pub mod Written
+pub mod Plain
+pub mod Bytes
+pub mod Sound
+pub mod Deciding
+pub mod Manifests

@@ -1,11 +1,12 @@
 -- The ends of the workers, put together one by one.
-use Rattle.std.proofs.Common.{◌≡◌, ◌⊎◌, inl, inr, ℕ, ◌+◌, ◌*◌, ◌<◌, ◌≤◌, true, false, List, [], ◌∷◌, ◌++◌, map, flat_map, sum_by, length, get_or, drop, add-one, min, All, Option, None, Some, refl, sym, ap, subst, arith, append-nil, ◌∙◌}
+use Rattle.std.proofs.Common.{◌≡◌, ◌⊎◌, inl, inr, ℕ, ◌+◌, ◌<◌, ◌≤◌, true, false, List, [], ◌∷◌, ◌++◌, map, sum_by, length, get_or, drop, add-one, min, All, Option, None, Some, refl, sym, ap, subst, arith, append-nil, ◌∙◌}
 use Rattle.std.specs.Option.{MatchOption, option_map_or}
 use Rattle.std.proofs.Math.Seq.{drop-cons}
 use Rattle.std.proofs.lemmas.List.{map_push, map-append, length_push}
-use Rattle.std.proofs.lemmas.List.Elements.{All-push, All-append, All-weaker, All-same, All-head, All-nil, All-pop}
+use Rattle.std.proofs.lemmas.List.Elements.{All-push, All-append, All-weaker, All-same, All-head, All-nil, All-pop, All-contains}
 use Rattle.std.proofs.lemmas.Grind.{flat_map-append}
 use Rattle.irv_base.specs.Candidates.{is_in}
+use Rattle.irv_base.proofs.Members.{contains-from_member}
 use Rattle.set_tallies.specs.Bags.{Kept}
 use Rattle.shared_witness.specs.declared.view.View.{View}
 use Rattle.shared_witness.specs.View.{highest}
@@ -13,9 +14,9 @@ use Rattle.shared_witness.specs.Moment.{taken_pieces, least_posted}
 use Rattle.shared_witness.specs.Race.{Seated, SharedRace, views_of}
 use Rattle.shared_witness.proofs.Lists.{least-push, least-first}
 use Rattle.suffix_tree.specs.Suffixes.{Suffix}
-use Rattle.bound_search.specs.Race.{IsPaced}
-use Rattle.bound_search.specs.Reached.{IsFoundIn, IsBestFound, IsEntry, IsClosedAt, IsCostly, IsDoneWith, IsWorkerEnd}
-use Rattle.bound_search.specs.Team.{WorkerRan, IsClosedUnder, IsEntryOfOne, IsJoined, first_of}
+use Rattle.bound_search.specs.Race.{IsPaced, AreReportsOf}
+use Rattle.bound_search.specs.Reached.{IsFoundIn, IsBestFound, IsEntry, IsCostly, IsDoneWith, IsWorkerEnd}
+use Rattle.bound_search.specs.Team.{WorkerRan, TeamRan, IsClosedUnder, IsEntryOfOne, IsJoined, first_of}
 use Rattle.bound_search.specs.declared.ends.Best.{Best}
 use Rattle.bound_search.specs.declared.ends.PieceEnd.{PieceEnd}
 use Rattle.bound_search.specs.declared.ends.Report.{Report}
@@ -23,15 +24,16 @@ use Rattle.bound_search.specs.declared.ends.WorkerEnd.{WorkerEnd}
 use Rattle.bound_search.specs.declared.join.Joined.{Joined}
 use Rattle.bound_search.specs.declared.team.Worker.{Worker}
 use Rattle.bound_search.proofs.Racing.{closed_lower}
+use Rattle.bound_search.proofs.Reporting.{reports-more}
 
 -- the next of a list that is gone through
 pub drop_next : {A : Type 0} (xs : List A) (i : ℕ) (x : A) → i < length xs → x ≡ get_or xs i x → drop i xs ≡ x ∷ drop (i + 1) xs
 drop_next xs i x inside is = rw add-one (drop-cons xs i x inside) ∙ ap (λ y. y ∷ drop (i + 1) xs) (sym is)
 
 module _ (bag : Kept) (nodes : ℕ) (tails : List Suffix) (race : SharedRace) (start : Best) (w : Worker) (e : WorkerEnd) (j k : Joined) (r : Report)
-    (was : IsJoined bag nodes tails race start j) (ran : WorkerRan bag nodes tails race w) (end : IsWorkerEnd bag race.terms.first nodes ran.number tails w.seat.view e)
+    (was : IsJoined bag nodes tails race start j) (ran : WorkerRan bag nodes tails race (length j.reports.items) w) (end : IsWorkerEnd bag race.terms.first nodes (length j.reports.items) tails w.seat.view e)
     (seats : k.seats.items ≡ j.seats.items ++ w.seat ∷ []) (ends : k.ends.items ≡ j.ends.items ++ e.ends.items) (reports : k.reports.items ≡ j.reports.items ++ r ∷ [])
-    (expanded : r.expanded ≡ sum_by (λ p. p.expanded) e.ends.items) (looks : r.looks ≡ e.looks)
+    (told : r.pieces ≡ length e.ends.items) (expanded : r.expanded ≡ sum_by (λ p. p.expanded) e.ends.items) (looks : r.looks ≡ e.looks)
     (margin : k.best.margin ≡ option_map_or (λ b. min b.margin j.best.margin) e.best j.best.margin) (one : (k.best ≡ j.best) ⊎ (e.best ≡ Some k.best))
     (spent : k.spent ≡ first_of j.spent e.spent.items) where
   abbrev first : ℕ
@@ -66,12 +68,23 @@ module _ (bag : Kept) (nodes : ℕ) (tails : List Suffix) (race : SharedRace) (s
       ∙ ap (λ xs. taken_pieces (views_of j.seats.items) ++ xs) end.took
       ∙ sym (ap taken_pieces views_now ∙ flat_map-append (λ (v : View). v.taken) (views_of j.seats.items) (w.seat.view ∷ []) ∙ ap (λ xs. taken_pieces (views_of j.seats.items) ++ xs) (append-nil w.seat.view.taken))
 
-  entries_now : All (IsEntryOfOne bag first nodes race.terms.workers tails) k.ends.items
+  longer : length k.reports.items ≡ length j.reports.items + 1
+  longer = ap length reports ∙ length_push j.reports.items r
+
+  entries_now : All (IsEntryOfOne bag first nodes (length k.reports.items) tails) k.ends.items
   entries_now =
-      subst (All (IsEntryOfOne bag first nodes race.terms.workers tails)) (sym ends)
-      (All-append (IsEntryOfOne bag first nodes race.terms.workers tails) j.ends.items e.ends.items was.entries
-      (All-weaker (IsEntry bag first nodes ran.number tails) (IsEntryOfOne bag first nodes race.terms.workers tails)
-      (λ p h. (let is = h.worker_is in let low = ran.below in omega (arith, is, low), record { tail = h.tail; worker_is = refl; within = h.within; most = h.most })) e.ends.items end.entries))
+      subst (All (IsEntryOfOne bag first nodes (length k.reports.items) tails)) (sym ends)
+      (All-append (IsEntryOfOne bag first nodes (length k.reports.items) tails) j.ends.items e.ends.items
+      (All-weaker (IsEntryOfOne bag first nodes (length j.reports.items) tails) (IsEntryOfOne bag first nodes (length k.reports.items) tails)
+      (λ p h. (let low = h.0 in omega (arith, longer, low), h.1)) j.ends.items was.entries)
+      (All-weaker (IsEntry bag first nodes (length j.reports.items) tails) (IsEntryOfOne bag first nodes (length k.reports.items) tails)
+      (λ p h. (let is = h.worker_is in omega (arith, is, longer), record { tail = h.tail; worker_is = refl; within = h.within; most = h.most })) e.ends.items end.entries))
+
+  reports_now : AreReportsOf k.ends.items k.reports.items
+  reports_now =
+      reports-more j.ends.items e.ends.items k.ends.items j.reports.items k.reports.items r ends reports
+      (λ p m. (All-contains (IsEntryOfOne bag first nodes (length j.reports.items) tails) j.ends.items p was.entries (contains-from_member m)).0)
+      (λ p m. (All-contains (IsEntry bag first nodes (length j.reports.items) tails) e.ends.items p end.entries (contains-from_member m)).worker_is) was.reports told expanded
 
   -- what no seat of these saw less than, none of the former did, nor this one
   seats_before : (bound : ℕ) → All (λ s. bound ≤ s.view.seen) k.seats.items → All (λ s. bound ≤ s.view.seen) j.seats.items × (bound ≤ w.seat.view.seen)
@@ -108,6 +121,7 @@ module _ (bag : Kept) (nodes : ℕ) (tails : List Suffix) (race : SharedRace) (s
     best = best_now;
     took = took_now;
     entries = entries_now;
+    reports = reports_now;
     spent = spent_now;
   }
 
@@ -122,7 +136,23 @@ join_none bag nodes tails race start j seats ends reports best spent = record {
   least = λ fits. ap (λ (b : Best). b.margin) best ∙ sym (ap (λ (xs : List Seated). least_posted start.margin (views_of xs)) seats);
   best = inl best;
   took = ap (map (λ (p : PieceEnd). p.piece)) ends ∙ sym (ap (λ (xs : List Seated). taken_pieces (views_of xs)) seats);
-  entries = All-same (IsEntryOfOne bag race.terms.first nodes race.terms.workers tails) j.ends.items [] ends (All-nil (IsEntryOfOne bag race.terms.first nodes race.terms.workers tails));
+  entries = All-same (IsEntryOfOne bag race.terms.first nodes (length j.reports.items) tails) j.ends.items [] ends (All-nil (IsEntryOfOne bag race.terms.first nodes (length j.reports.items) tails));
+  reports = λ w d low. absurd (let none = ap length reports in omega arith);
   spent = subst (λ o. MatchOption o (All (IsClosedUnder bag j.seats.items) j.ends.items) (IsCostly bag race.terms.first nodes tails)) (sym spent)
       (All-same (IsClosedUnder bag j.seats.items) j.ends.items [] ends (All-nil (IsClosedUnder bag j.seats.items)));
 }
+
+-- ---- the next of the team
+middle : {X : Type 0} (before rest : List X) (x d : X) → get_or (before ++ x ∷ rest) (length before) d ≡ x
+middle [] rest x d = refl
+middle (y ∷ before) rest x d = middle before rest x d
+
+inside : {X : Type 0} (before rest : List X) (x : X) → length before < length (before ++ x ∷ rest)
+inside [] rest x = omega arith
+inside (y ∷ before) rest x = let l = inside before rest x in omega arith
+
+pub worker_at : (bag : Kept) (nodes : ℕ) (tails : List Suffix) (race : SharedRace) (team before rest : List Worker) (w : Worker) → team ≡ before ++ w ∷ rest → TeamRan bag nodes tails race team →
+    WorkerRan bag nodes tails race (length before) w
+worker_at bag nodes tails race team before rest w whole h =
+    let all : TeamRan bag nodes tails race (before ++ w ∷ rest) = subst (TeamRan bag nodes tails race) whole h in
+    subst (WorkerRan bag nodes tails race (length before)) (middle before rest w w) (all (length before) w (inside before rest w))

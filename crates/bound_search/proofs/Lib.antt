@@ -8,6 +8,7 @@ pub mod Views
 pub mod Racing
 pub mod Sharing
 pub mod Cutting
+pub mod Reporting
 pub mod Joining
 pub mod Raced
 pub mod Fewness

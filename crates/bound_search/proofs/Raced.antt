@@ -1,5 +1,5 @@
 -- From the ends of all workers to the best margin.
-use Rattle.std.proofs.Common.{◌≡◌, ◌≢◌, ◌⊎◌, inl, inr, ℕ, zero, suc, ◌+◌, ◌<◌, ◌≤◌, ◌==◌, nat_lt, true, false, cond, List, [], ◌∷◌, ◌++◌, map, length, min, All, Contains, Option, None, Some, take, slice_get, refl, sym, ap, subst, arith, le_trans, le_antisymm, append_assoc, length-append, ◌∙◌}
+use Rattle.std.proofs.Common.{◌≡◌, ◌≢◌, ◌⊎◌, inl, inr, ℕ, ◌+◌, ◌<◌, ◌≤◌, ◌==◌, nat_lt, true, cond, List, [], ◌∷◌, ◌++◌, map, length, All, Contains, Option, None, Some, take, get_or, slice_get, refl, sym, ap, subst, arith, le_antisymm, append_assoc, length-append, ◌∙◌}
 use Rattle.std.proofs.lemmas.List.{length-map}
 use Rattle.std.specs.Option.{MatchOption}
 use Rattle.std.specs.List.{range_with_len}
@@ -10,7 +10,7 @@ use Rattle.std.proofs.lemmas.List.Elements.{All-contains, All-weaker, All-head, 
 use Rattle.std.proofs.lemmas.List.Sums.{sum_by-cons}
 use Rattle.irv_base.specs.Candidates.{candidates}
 use Rattle.irv_base.specs.Orders.{is_order, EndsIn, Elects}
-use Rattle.irv_base.proofs.Members.{Member, here, there, member-append_right, member-map, contains-from_member}
+use Rattle.irv_base.proofs.Members.{Member, here, there, member-append_right, member-map, contains-from_member, member-from_contains}
 use Rattle.irv_base.proofs.Orders.{order_facts}
 use Rattle.assertions.specs.Suffixes.{IsAlternative}
 use Rattle.assertions.specs.Hardness.{low, best_margin, first_bound}
@@ -18,18 +18,21 @@ use Rattle.assertions.proofs.Alternatives.{best-le, best_is}
 use Rattle.assertions.proofs.Endings.{from_alternative, alternative-member}
 use Rattle.assertions.proofs.Greatest.{greatest-member}
 use Rattle.irv_tabulator.specs.declared.tabulated.Tabulated.{Tabulated}
-use Rattle.set_tallies.specs.Bags.{Kept, IsOf}
-use Rattle.shared_witness.specs.declared.view.View.{View}
+use Rattle.set_tallies.specs.Bags.{Kept, Source, IsOf}
+use Rattle.irv_base.specs.declared.limits.TheConstants.{FEWEST_CANDIDATES}
 use Rattle.shared_witness.specs.Moment.{EachOnce, times, taken_pieces, least_posted}
-use Rattle.shared_witness.specs.Race.{Seated, SharedRace, views_of}
+use Rattle.shared_witness.specs.Race.{SharedRace, views_of}
 use Rattle.shared_witness.proofs.Lists.{least-first}
 use Rattle.suffix_tree.specs.Suffixes.{Suffix}
-use Rattle.bound_search.specs.Race.{IsBest, IsBestOver, IsPieceEnd, ArePieces, ArePiecesOver, IsSpentOver, pieces, pieces_electing, piece_of, parts_below, work, work_for}
-use Rattle.bound_search.specs.Reached.{IsReached, IsFoundIn, IsEntry, IsClosedAt, IsCostly}
+use Rattle.bound_search.specs.Race.{AreReportsOf, IsBest, IsBestOver, IsPieceEnd, ArePiecesOver, IsSpentOver, pieces, piece_of, parts_below, work, work_for}
+use Rattle.bound_search.specs.Reached.{IsReached, IsFoundIn, IsClosedAt, IsCostly}
 use Rattle.std.proofs.Math.Seq.{take-append_seam}
 use Rattle.bound_search.proofs.Turns.{if_ok}
 use Rattle.bound_search.specs.Reached.{IsWorkerEnd}
-use Rattle.bound_search.specs.Team.{HasFewEnds, WorkerRan, IsClosedUnder, IsEntryOfOne, IsJoined}
+use Rattle.bound_search.specs.Team.{HasFewEnds, WorkerRan, TeamRan, IsClosedUnder, IsEntryOfOne, IsJoined}
+use Rattle.bound_search.specs.Raced.{IsClosedEntry, IsRaced}
+use Rattle.bound_search.specs.declared.run.Raced.{Raced}
+use Rattle.shared_witness.specs.View.{highest}
 use Rattle.bound_search.specs.declared.team.Worker.{Worker}
 use Rattle.bound_search.specs.declared.limits.TheConstants.{MOST_PIECES}
 use Rattle.bound_search.specs.declared.ends.Best.{Best}
@@ -38,6 +41,7 @@ use Rattle.bound_search.specs.declared.ends.RaceEnd.{RaceEnd}
 use Rattle.bound_search.specs.declared.ends.RaceFault.{RaceFault}
 use Rattle.bound_search.specs.declared.ends.RaceFault.TheVariants.{Spent}
 use Rattle.bound_search.specs.declared.join.Joined.{Joined}
+use Rattle.bound_search.proofs.Reporting.{times-at, at, candidates-once, same_sum, reports-same}
 use Rattle.bound_search.proofs.Cutting.{IsPiece, tail_facts, ends_in_piece}
 
 -- ---- the entry of a piece
@@ -82,7 +86,7 @@ tails_in_order pre (t ∷ tails) (p ∷ ps) same all =
 
 -- ---- the best order
 
-abbrev tails_are : ℕ → ℕ → List Suffix
+abbrev pub tails_are : ℕ → ℕ → List Suffix
 tails_are n winner = map (piece_of n) (pieces n winner)
 
 pub electing_last : (n winner : ℕ) (piece order : List ℕ) → IsPiece n winner piece → EndsIn order piece → (c : ℕ) × (c ≢ winner) × Elects order c
@@ -125,6 +129,22 @@ some_pieces bag winner first tails two reached tails_is =
 pub of_contest : (bag : Kept) (winner : ℕ) (tails : List Suffix) → tails ≡ tails_are bag.n winner → All (λ t. t.n ≡ bag.n) tails
 of_contest bag winner tails is = All-same (λ (t : Suffix). t.n ≡ bag.n) tails (tails_are bag.n winner) is (All-map (λ (t : Suffix). t.n ≡ bag.n) (piece_of bag.n) (pieces bag.n winner) (λ k d inside. refl))
 
+-- the race is over the pieces of this winner, and begins with an order that elects another candidate
+pub record IsCutFor (bag : Kept) (winner : ℕ) (first : Best) (tails : List Suffix) : Type 0 where
+  pub two : 1 < bag.n
+  pub tails_is : tails ≡ tails_are bag.n winner
+  pub reached : IsReached bag winner first
+
+pub cut_for : (bag : Kept) (tallies moved : Source) (winner n : ℕ) (first : Best) (tails : List Suffix) → tallies.bag ≡ bag → moved ≡ tallies → n ≡ moved.bag.n → FEWEST_CANDIDATES ≤ n → IsReached tallies.bag winner first →
+    tails ≡ tails_are n winner → IsCutFor bag winner first tails
+cut_for bag tallies moved winner n first tails same kept n_is fewest reached tails_is =
+    let all : n ≡ bag.n = n_is ∙ ap (λ (s : Source). s.bag.n) kept ∙ ap (λ (b : Kept). b.n) same in
+    record {
+      two = omega (arith, all, fewest);
+      tails_is = tails_is ∙ ap (λ m. tails_are m winner) all;
+      reached = subst (λ b. IsReached b winner first) same reached;
+    }
+
 -- the start order, or one that was found
 pub joined_reached : (bag : Kept) (winner : ℕ) (start best : Best) (tails : List Suffix) → tails ≡ tails_are bag.n winner → IsReached bag winner start → (best ≡ start) ⊎ IsFoundIn bag tails best → IsReached bag winner best
 joined_reached bag winner start best tails is reached (inl same) = subst (IsReached bag winner) (sym same) reached
@@ -134,32 +154,59 @@ joined_reached bag winner start best tails is reached (inr found) = found_reache
 pub whole_team : {A : Type 0} (n : ℕ) (xs ys : List A) → length xs ≡ n → take n (xs ++ ys) ≡ xs
 whole_team n xs ys len = ap (λ k. take k (xs ++ ys)) (sym len) ∙ take-append_seam xs ys
 
-pub few_ends : (bag : Kept) (nodes : ℕ) (tails : List Suffix) (race : SharedRace) (w : Worker) → length tails ≤ MOST_PIECES → WorkerRan bag nodes tails race w → HasFewEnds w
-few_ends bag nodes tails race w few ran =
-    if_ok (IsWorkerEnd bag race.terms.first nodes ran.number tails w.seat.view) (λ e. length e.ends.items ≤ MOST_PIECES) w.end
+few_ends : (bag : Kept) (nodes : ℕ) (tails : List Suffix) (race : SharedRace) (number : ℕ) (w : Worker) → length tails ≤ MOST_PIECES → WorkerRan bag nodes tails race number w → HasFewEnds w
+few_ends bag nodes tails race number w few ran =
+    if_ok (IsWorkerEnd bag race.terms.first nodes number tails w.seat.view) (λ e. length e.ends.items ≤ MOST_PIECES) w.end
     (λ e h. let took = ap length h.took in let mapped = length-map e.ends.items (λ (p : PieceEnd). p.piece) in let le = h.few in omega (arith, few, le, took, mapped)) ran.end
+
+-- the team that ran, and that nobody has more ends than there are pieces
+pub few_of_all : (bag : Kept) (nodes : ℕ) (tails : List Suffix) (race : SharedRace) (team : List Worker) → length tails ≤ MOST_PIECES → TeamRan bag nodes tails race team → All HasFewEnds team
+few_of_all bag nodes tails race team few ran i d low = few_ends bag nodes tails race i (get_or team i d) few (ran i d low)
+
+-- ---- what the seats and the bound at the end make of the joined ends
+
+module _ (bag : Kept) (nodes workers bound : ℕ) (tails : List Suffix) (race : SharedRace) (start : Best) (j : Joined) (r : Raced) (joined : IsJoined bag nodes tails race start j)
+    (first : race.terms.first ≡ start.margin) (pieces_are : race.terms.pieces ≡ length tails) (fits : start.margin ≤ highest) (count : length j.seats.items ≡ workers)
+    (bound_is : bound ≡ least_posted race.terms.first (views_of j.seats.items)) (seen : All (λ s. bound ≤ s.view.seen) j.seats.items)
+    (once : EachOnce race.terms.pieces (taken_pieces (views_of j.seats.items))) (r_is : r ≡ record { ends = j.ends; reports = j.reports; best = j.best; spent = j.spent }) where
+  margin_is : j.best.margin ≡ bound
+  margin_is = joined.least fits ∙ ap (λ f. least_posted f (views_of j.seats.items)) (sym first) ∙ sym bound_is
+
+  closed_of : (o : Option ℕ) → MatchOption o (All (IsClosedUnder bag j.seats.items) j.ends.items) (IsCostly bag race.terms.first nodes tails) → MatchOption o (All (IsClosedEntry bag j.best.margin) j.ends.items) (IsCostly bag start.margin nodes tails)
+  closed_of None all =
+      All-weaker (IsClosedUnder bag j.seats.items) (IsClosedEntry bag j.best.margin) (λ p h. subst (λ b. IsClosedEntry bag b p) (sym margin_is) (h bound seen)) j.ends.items all
+  closed_of (Some piece) costly = subst (λ f. IsCostly bag f nodes tails piece) first costly
+
+  pub is_raced : IsRaced bag nodes tails workers start r
+  is_raced = subst (IsRaced bag nodes tails workers start) (sym r_is) (record {
+    took = subst (EachOnce (length tails)) (sym joined.took) (subst (λ n. EachOnce n (taken_pieces (views_of j.seats.items))) pieces_are once);
+    entries = subst (λ f. All (IsEntryOfOne bag f nodes workers tails) j.ends.items) first (subst (λ k. All (IsEntryOfOne bag race.terms.first nodes k tails) j.ends.items) (joined.count ∙ count) joined.entries);
+    count = joined.count ∙ count;
+    reports = joined.reports;
+    paced = joined.paced;
+    best = joined.best;
+    upper = let low = least-first start.margin (views_of j.seats.items) in omega (arith, joined.least fits, low);
+    spent = closed_of j.spent joined.spent;
+  })
 
 -- ---- all that the race says
 
-module _ (bag : Kept) (nodes winner bound : ℕ) (tails : List Suffix) (race : SharedRace) (start : Best) (j : Joined) (tails_is : tails ≡ tails_are bag.n winner) (two : 1 < bag.n)
-    (joined : IsJoined bag nodes tails race start j) (margin : j.best.margin ≡ bound) (seen : All (λ s. bound ≤ s.view.seen) j.seats.items)
-    (once : EachOnce (length tails) (taken_pieces (views_of j.seats.items))) where
+module _ (bag : Kept) (nodes winner workers : ℕ) (tails : List Suffix) (start : Best) (r : Raced) (tails_is : tails ≡ tails_are bag.n winner) (two : 1 < bag.n) (raced : IsRaced bag nodes tails workers start r) where
   -- each piece has an entry
-  pub taken_entry : (k : ℕ) → k < length tails → (p : PieceEnd) × Member p j.ends.items × (p.piece ≡ k)
+  pub taken_entry : (k : ℕ) → k < length tails → (p : PieceEnd) × Member p r.ends.items × (p.piece ≡ k)
   taken_entry k low =
-      let all : times (numbers j.ends.items) k ≡ times (taken_pieces (views_of j.seats.items)) k = ap (λ xs. times xs k) joined.took in
       let one : ◌≡◌ {A = ℕ} (cond (nat_lt k (length tails)) 1 0) 1 = ap (λ b. cond b 1 0) (lt-ltb k (length tails) low) in
-      entry_at j.ends.items k (omega (arith, all, once k, one))
+      entry_at r.ends.items k (omega (arith, raced.took k, one))
 
-  entry_facts : (p : PieceEnd) → Contains j.ends.items p → IsEntryOfOne bag race.terms.first nodes race.terms.workers tails p
-  entry_facts p m = All-contains (IsEntryOfOne bag race.terms.first nodes race.terms.workers tails) j.ends.items p joined.entries m
+  entry_facts : (p : PieceEnd) → Contains r.ends.items p → IsEntryOfOne bag start.margin nodes workers tails p
+  entry_facts p m = All-contains (IsEntryOfOne bag start.margin nodes workers tails) r.ends.items p raced.entries m
 
-  module _ (closed : All (IsClosedUnder bag j.seats.items) j.ends.items) where
-    pub closed_facts : (p : PieceEnd) → Contains j.ends.items p → IsClosedAt bag bound p.tail.list p.expanded
-    closed_facts p m = All-contains (IsClosedUnder bag j.seats.items) j.ends.items p closed m bound seen
+  module _ (closed : All (IsClosedEntry bag r.best.margin) r.ends.items) where
+    closed_facts : (p : PieceEnd) → Contains r.ends.items p → IsClosedAt bag r.best.margin p.tail.list p.expanded
+    closed_facts p m = All-contains (IsClosedEntry bag r.best.margin) r.ends.items p closed m
 
     -- no alternative order is less hard than the bound
-    none_below : (records : List (List ℕ)) → IsOf bag records → (c : ℕ) (order : List ℕ) → c ≢ winner → is_order bag.n order ≡ true → Elects order c → bound ≤ low bag.n records order
+    none_below : (records : List (List ℕ)) → IsOf bag records → (c : ℕ) (order : List ℕ) → c ≢ winner → is_order bag.n order ≡ true → Elects order c → r.best.margin ≤ low bag.n records order
     none_below records of c order apart whole elects =
         let (piece, ends, k, low, at) = ends_in_piece bag.n winner c order whole two apart elects in
         let count : length tails ≡ length (pieces bag.n winner) = ap length tails_is ∙ length-map (pieces bag.n winner) (piece_of bag.n) in
@@ -170,31 +217,47 @@ module _ (bag : Kept) (nodes winner bound : ℕ) (tails : List Suffix) (race : S
         let inside : EndsIn order p.tail.list = subst (EndsIn order) (sym (ap (λ (s : Suffix). s.list) is)) ends in
         (closed_facts p (contains-from_member m)).above records of order whole inside
 
-    pub best_race : (end : RaceEnd) → end.margin ≡ j.best.margin → end.order ≡ j.best.order → winner < bag.n → IsReached bag winner j.best → IsBestOver bag winner end
-    best_race end same_margin same_order below reached records of =
-        all_searched bag records winner j.best end same_margin same_order of below two reached
-        (λ c order apart whole elects. let up = none_below records of c order apart whole elects in omega (arith, up, margin))
+    pub best_race : (end : RaceEnd) → end.margin ≡ r.best.margin → end.order ≡ r.best.order → winner < bag.n → IsReached bag winner r.best → IsBestOver bag winner end
+    best_race end same_margin same_order below reached records of = all_searched bag records winner r.best end same_margin same_order of below two reached (none_below records of)
 
-    pub pieces_race : (tab : Tabulated) (end : RaceEnd) → tab.winner ≡ winner → end.margin ≡ j.best.margin → numbers end.pieces.items ≡ candidates (length tails) → All (Contains j.ends.items) end.pieces.items →
-        ((records : List (List ℕ)) → IsOf bag records → race.terms.first ≡ first_bound bag.n records tab.order) → ArePiecesOver bag tab end
+    pub pieces_race : (tab : Tabulated) (end : RaceEnd) → tab.winner ≡ winner → end.margin ≡ r.best.margin → numbers end.pieces.items ≡ candidates (length tails) → All (Contains r.ends.items) end.pieces.items →
+        ((records : List (List ℕ)) → IsOf bag records → start.margin ≡ first_bound bag.n records tab.order) → ArePiecesOver bag tab end
     pieces_race tab end won same_margin in_order each first records of =
         let count : length tails ≡ length (pieces bag.n winner) = ap length tails_is ∙ length-map (pieces bag.n winner) (piece_of bag.n) in
-        let own = All-weaker (Contains j.ends.items) (λ (p : PieceEnd). slice_get tails p.piece ≡ Some p.tail) (λ p m. (entry_facts p m).1.tail) end.pieces.items each in
+        let own = All-weaker (Contains r.ends.items) (λ (p : PieceEnd). slice_get tails p.piece ≡ Some p.tail) (λ p m. (entry_facts p m).1.tail) end.pieces.items each in
         record {
           all = tails_in_order [] tails end.pieces.items in_order own ∙ tails_is ∙ ap (λ v. map (piece_of bag.n) (pieces bag.n v)) (sym won);
           numbers = in_order ∙ ap candidates count ∙ ap (λ v. candidates (length (pieces bag.n v))) (sym won);
-          each = All-weaker (Contains j.ends.items) (IsPieceEnd bag.n records tab.order end.margin)
+          each = All-weaker (Contains r.ends.items) (IsPieceEnd bag.n records tab.order end.margin)
               (λ p m. record {
                 most = subst (λ f. p.expanded ≤ work bag.n records f p.tail.list) (first records of) ((entry_facts p m).1.most records of);
-                least = subst (λ b. parts_below bag.n records b p.tail.list ≤ p.expanded) (sym (same_margin ∙ margin)) ((closed_facts p m).least records of);
+                least = subst (λ b. parts_below bag.n records b p.tail.list ≤ p.expanded) (sym same_margin) ((closed_facts p m).least records of);
               }) end.pieces.items each;
         }
 
-  pub within_race : (ps : List PieceEnd) → All (Contains j.ends.items) ps → All (λ p. p.expanded ≤ nodes) ps
-  within_race ps each = All-weaker (Contains j.ends.items) (λ (p : PieceEnd). p.expanded ≤ nodes) (λ p m. (entry_facts p m).1.within) ps each
+  pub within_race : (ps : List PieceEnd) → All (Contains r.ends.items) ps → All (λ p. p.expanded ≤ nodes) ps
+  within_race ps each = All-weaker (Contains r.ends.items) (λ (p : PieceEnd). p.expanded ≤ nodes) (λ p m. (entry_facts p m).1.within) ps each
 
-  pub named_race : (ps : List PieceEnd) → All (Contains j.ends.items) ps → All (λ p. p.worker < race.terms.workers) ps
-  named_race ps each = All-weaker (Contains j.ends.items) (λ (p : PieceEnd). p.worker < race.terms.workers) (λ p m. (entry_facts p m).0) ps each
+  pub named_race : (ps : List PieceEnd) → All (Contains r.ends.items) ps → All (λ p. p.worker < workers) ps
+  named_race ps each = All-weaker (Contains r.ends.items) (λ (p : PieceEnd). p.worker < workers) (λ p m. (entry_facts p m).0) ps each
+
+  -- the same entries in the order of the pieces
+  pub told_race : (ps : List PieceEnd) → numbers ps ≡ candidates (length tails) → All (Contains r.ends.items) ps → AreReportsOf ps r.reports.items
+  told_race ps in_order each = reports-same ps r.ends.items r.reports.items (λ f. same_sum f ps r.ends.items same once inside) raced.reports where
+    own : (k : ℕ) → times (numbers ps) k ≡ cond (nat_lt k (length tails)) 1 0
+    own k = ap (λ xs. times xs k) in_order ∙ candidates-once (length tails) k
+
+    same : (k : ℕ) → at k r.ends.items ≡ at k ps
+    same k = sym (times-at k r.ends.items) ∙ raced.took k ∙ sym (own k) ∙ times-at k ps
+
+    once : (k : ℕ) → at k ps ≤ 1
+    once k = elim (cases_Bool (nat_lt k (length tails))) [
+      | inl t ↦ let e : at k ps ≡ 1 = sym (times-at k ps) ∙ own k ∙ ap (λ b. cond b 1 0) t in omega arith
+      | inr f ↦ let e : at k ps ≡ 0 = sym (times-at k ps) ∙ own k ∙ ap (λ b. cond b 1 0) f in omega arith
+    ]
+
+    inside : (p : PieceEnd) → Member p ps → Member p r.ends.items
+    inside p m = member-from_contains p r.ends.items (All-contains (Contains r.ends.items) ps p each (contains-from_member m))
 
 -- ---- a piece that is spent
 

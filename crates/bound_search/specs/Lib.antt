@@ -5,3 +5,4 @@ pub mod Laws
 pub mod Race
 pub mod Reached
 pub mod Team
+pub mod Raced

@@ -1,6 +1,6 @@
 -- The pieces of a race, and what it answers: the best margin with an order of it, and how many suffixes of each piece were expanded; or
 -- an alternative winner with too much work.
-use Rattle.std.specs.Prelude.{◌≡◌, ◌≢◌, ℕ, ◌+◌, ◌-◌, ◌*◌, ◌<◌, ◌≤◌, min, Bool, ◌&&◌, nat_lt, List, [], ◌∷◌, length, map, flat_map, count_by, All, ⊤}
+use Rattle.std.specs.Prelude.{◌≡◌, ◌≢◌, ℕ, ◌+◌, ◌-◌, ◌*◌, ◌<◌, ◌≤◌, min, Bool, ◌&&◌, ◌==◌, if◌then◌else◌, nat_lt, List, [], ◌∷◌, length, map, flat_map, count_by, sum_by, slice_index_or, All, ⊤}
 use Rattle.irv_base.specs.Candidates.{candidates, all_but}
 use Rattle.irv_base.specs.Tabulation.{least}
 use Rattle.assertions.specs.Suffixes.{IsAlternative, orders_ending, suffixes_ending}
@@ -77,6 +77,15 @@ ArePiecesOver bag tab end = (records : List (List ℕ)) → IsOf bag records →
 -- a worker expands no more in a turn than one may, and looks at the bound before each
 abbrev pub IsPaced : Report → Type 0
 IsPaced report = report.expanded ≤ MOST_EXPANDED * report.looks
+
+-- how many entries name the worker, and how many suffixes these expanded together
+pub record IsReportOf (entries : List PieceEnd) (worker : ℕ) (report : Report) : Type 0 where
+  pub pieces : report.pieces ≡ count_by (λ p. p.worker == worker) entries
+  pub expanded : report.expanded ≡ sum_by (λ p. if p.worker == worker then p.expanded else 0) entries
+
+-- a report for each worker, in the order of their numbers
+abbrev pub AreReportsOf : List PieceEnd → List Report → Type 0
+AreReportsOf entries reports = (worker : ℕ) (d : Report) → worker < length reports → IsReportOf entries worker (slice_index_or reports worker d)
 
 -- ---- too much work
 

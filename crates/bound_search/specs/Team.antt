@@ -1,5 +1,5 @@
 -- What a worker has before and after its share: what the closure that runs in its thread requires and ensures.
-use Rattle.std.specs.Prelude.{◌≡◌, ◌⊎◌, ℕ, ◌<◌, ◌≤◌, List, [], ◌∷◌, Option, None, Some, All, Err, IfOk, length, map}
+use Rattle.std.specs.Prelude.{◌≡◌, ◌⊎◌, ℕ, ◌<◌, ◌≤◌, List, [], ◌∷◌, Option, None, Some, All, Err, IfOk, length, map, slice_index_or}
 use Rattle.std.specs.Option.{MatchOption}
 use Rattle.set_tallies.specs.Bags.{Kept}
 use Rattle.shared_witness.specs.declared.race.RaceSeat.{RaceSeat}
@@ -8,7 +8,7 @@ use Rattle.suffix_tree.specs.Suffixes.{Suffix}
 use Rattle.shared_witness.specs.View.{highest}
 use Rattle.shared_witness.specs.Moment.{least_posted, taken_pieces}
 use Rattle.bound_search.specs.Reached.{IsFoundIn, IsEntry, IsClosedAt, IsCostly, IsWorkerEnd}
-use Rattle.bound_search.specs.Race.{IsPaced}
+use Rattle.bound_search.specs.Race.{IsPaced, AreReportsOf}
 use Rattle.bound_search.specs.declared.ends.Best.{Best}
 use Rattle.bound_search.specs.declared.ends.PieceEnd.{PieceEnd}
 use Rattle.bound_search.specs.declared.join.Joined.{Joined}
@@ -34,11 +34,13 @@ abbrev pub HasEnd : Kept → ℕ → ℕ → List Suffix → ℕ → Worker → 
 HasEnd bag first nodes tails worker w = IfOk w.end (IsWorkerEnd bag first nodes worker tails w.seat.view)
 
 -- the seat is of the race, whatever the end
-pub record WorkerRan (bag : Kept) (nodes : ℕ) (tails : List Suffix) (race : SharedRace) (w : Worker) : Type 0 where
+pub record WorkerRan (bag : Kept) (nodes : ℕ) (tails : List Suffix) (race : SharedRace) (number : ℕ) (w : Worker) : Type 0 where
   pub of_race : w.seat.race ≡ race.id
-  pub number : ℕ
-  pub below : number < race.terms.workers
   pub end : HasEnd bag race.terms.first nodes tails number w
+
+-- the workers in the order of their numbers
+abbrev pub TeamRan : Kept → ℕ → List Suffix → SharedRace → List Worker → Type 0
+TeamRan bag nodes tails race team = (i : ℕ) (d : Worker) → i < length team → WorkerRan bag nodes tails race i (slice_index_or team i d)
 
 -- ---- what all workers came to together
 
@@ -67,5 +69,6 @@ pub record IsJoined (bag : Kept) (nodes : ℕ) (tails : List Suffix) (race : Sha
   pub least : start.margin ≤ highest → j.best.margin ≡ least_posted start.margin (views_of j.seats.items)
   pub best : (j.best ≡ start) ⊎ IsFoundIn bag tails j.best
   pub took : map (λ p. p.piece) j.ends.items ≡ taken_pieces (views_of j.seats.items)
-  pub entries : All (IsEntryOfOne bag race.terms.first nodes race.terms.workers tails) j.ends.items
+  pub entries : All (IsEntryOfOne bag race.terms.first nodes (length j.reports.items) tails) j.ends.items
+  pub reports : AreReportsOf j.ends.items j.reports.items
   pub spent : MatchOption j.spent (All (IsClosedUnder bag j.seats.items) j.ends.items) (IsCostly bag race.terms.first nodes tails)

@@ -5,7 +5,7 @@ ghost use Rattle.irv_base.specs.Candidates.{is_in, candidates};
 ghost use Rattle.shared_witness.specs.Race.{SharedRace};
 ghost use Rattle.set_tallies.specs.Bags.{Kept};
 ghost use Rattle.suffix_tree.specs.Suffixes.{Suffix};
-ghost use Rattle.bound_search.specs.Team.{WorkerRan, IsJoined, HasFewEnds, first_of};
+ghost use Rattle.bound_search.specs.Team.{TeamRan, IsJoined, HasFewEnds, first_of};
 ghost use Rattle.bound_search.specs.declared.limits.TheConstants.{MOST_PIECES};
 
 use crate::ends::{Best, PieceEnd, Report, WorkerEnd};
@@ -69,7 +69,7 @@ pub(crate) fn join(alloc: Global, team: Vec<Worker>, start: Best) -> Result<Join
     requires few { All HasFewEnds team.items }
     ensures seats { IfOk result (λ j. j.seats.items ≡ map (λ w. w.seat) team.items) }
     ensures joined { IfOk result (λ j. (bag : Kept) (nodes : ℕ) (tails : List Suffix) (race : SharedRace)
-        → All (WorkerRan bag nodes tails race) team.items → IsJoined bag nodes tails race start j) }
+        → TeamRan bag nodes tails race team.items → IsJoined bag nodes tails race start j) }
 {
     let mut seats = Vec::with_capacity(alloc, team.len())?;
     let mut ends = Vec::new(alloc);

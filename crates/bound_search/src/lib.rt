@@ -10,6 +10,7 @@ pub mod laws;
 mod limits;
 mod piece;
 mod pieces;
+mod run;
 mod search;
 mod share;
 mod sift;

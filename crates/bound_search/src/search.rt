@@ -1,20 +1,18 @@
 // The race for the best margin.
 ghost use Rattle.std.specs.Prelude.{◌≡◌, ◌≤◌, ◌<◌, ◌∷◌, [], ℕ, All, IfOk, IfErr, IsTrue, length};
 ghost use Rattle.irv_base.specs.Orders.{is_order, Elects};
-ghost use Rattle.bound_search.specs.Race.{IsBestOver, ArePiecesOver, IsSpentOver, IsPaced};
+ghost use Rattle.bound_search.specs.Race.{IsBestOver, ArePiecesOver, AreReportsOf, IsSpentOver, IsPaced};
 ghost use Rattle.bound_search.specs.declared.ends.RaceFault.TheVariants.{Spent};
 ghost use Rattle.bound_search.specs.declared.limits.TheConstants.{MOST_WORKERS};
 
 use crate::ends::{Best, RaceEnd, RaceFault};
-use crate::join::{Joined, in_order, join};
+use crate::join::in_order;
 use crate::pieces::tails_of;
+use crate::run::{Raced, run_race};
 use crate::start::start;
-use crate::team::{run_team, team_of};
 use desk::Gate;
 use irv_tabulator::Tabulated;
 use set_tallies::Counted;
-use shared_witness::{Race, Seats};
-use std::alloc::Global;
 use std::thread::Threads;
 use suffix_tree::Tail;
 
@@ -52,6 +50,7 @@ pub fn race<R: AllocGlobal + Threads + Sync, G: Gate + Sync>(
     ensures pieces { IfOk result (ArePiecesOver counted.now.bag tab.now) }
     ensures named { IfOk result (λ end. All (λ p. p.worker < workers) end.pieces.items) }
     ensures reports { IfOk result (λ end. length end.workers.items ≡ workers) }
+    ensures told { IfOk result (λ end. AreReportsOf end.pieces.items end.workers.items) }
     ensures paced { IfOk result (λ end. All IsPaced end.workers.items) }
     ensures spent { IfErr result (IsSpentOver counted.now.bag tab.now nodes) }
 {
@@ -59,26 +58,12 @@ pub fn race<R: AllocGlobal + Threads + Sync, G: Gate + Sync>(
     let mut tallies = counted.tallies()?;
     let first = start(tab, &mut tallies)?;
     let tails = tails_of(alloc, tallies.candidates(), tab.winner)?;
-    let Seats { race, seats } = Race::new(alloc, tails.len() as u32, first.margin, workers)?;
-    let mut team = team_of(alloc, seats)?;
-    run_team(
-        rt,
-        alloc,
-        &race,
-        team.as_mut_slice(),
-        counted,
-        &tails,
-        nodes,
-        gate,
-    );
-    let Joined {
-        seats,
+    let Raced {
         ends,
         reports,
         best,
         spent,
-    } = join(alloc, team, first)?;
-    race.finish(seats);
+    } = run_race(rt, counted, &tails, first, workers, nodes, gate)?;
     if let Some(piece) = spent {
         return Err(spent_on(&tails[piece as usize], best));
     }

@@ -2,7 +2,7 @@
 ghost use Rattle.std.specs.Prelude.{◌≡◌, ◌≤◌, ◌<◌, All, IfOk, length, map};
 ghost use Rattle.shared_witness.specs.Race.{new_seat};
 ghost use Rattle.bound_search.specs.Reached.{IsWorkerEnd};
-ghost use Rattle.bound_search.specs.Team.{waiting, IsCut, WorkerWaits, WorkerRan};
+ghost use Rattle.bound_search.specs.Team.{waiting, IsCut, WorkerWaits, WorkerRan, TeamRan};
 ghost use Rattle.bound_search.specs.declared.limits.TheConstants.{MOST_WORKERS};
 
 use crate::ends::WorkerEnd;
@@ -73,7 +73,7 @@ pub(crate) fn run_team<R: Threads + Sync, G: Gate + Sync>(
     requires cut { IsCut counted.now.bag tails.now race.now }
     requires waits { All (WorkerWaits race.now) team.old }
     ensures len { length team.new ≡ length team.old }
-    ensures ran { All (WorkerRan counted.now.bag nodes tails.now race.now) team.new }
+    ensures ran { TeamRan counted.now.bag nodes tails.now race.now team.new }
 {
     thread::for_each_mut(
         rt,
@@ -81,7 +81,7 @@ pub(crate) fn run_team<R: Threads + Sync, G: Gate + Sync>(
         team.len(),
         &|i, worker: &mut Worker|
             requires { (i < race.now.terms.workers) × (race.now.terms.workers ≤ MOST_WORKERS) × WorkerWaits race.now worker.now × IsCut counted.now.bag tails.now race.now }
-            ensures { WorkerRan counted.entry.now.bag nodes tails.entry.now race.entry.now worker.exit.now }
+            ensures { WorkerRan counted.entry.now.bag nodes tails.entry.now race.entry.now i worker.exit.now }
         {
             worker.end = share(
                 alloc,

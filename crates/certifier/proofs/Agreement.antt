@@ -1,4 +1,4 @@
--- What is gathered of all ends is the certificate's list of claims.
+-- What is gathered of ends: their refuters, each once, in the fixed order, with their margins.
 use Rattle.std.proofs.Common.{◌≡◌, ℕ, ◌⊎◌, inl, inr, List, [], ◌∷◌, map, fold, Option, Some, None, refl, sym, ap, subst, ◌∙◌}
 use Rattle.std.proofs.lemmas.Bool.{cases_Bool}
 use Rattle.std.specs.declared.cmp.Ordering.{Ordering}
@@ -11,17 +11,16 @@ use Rattle.assertions.specs.declared.assertion.Assertion.{Assertion}
 use Rattle.assertions.specs.contracts.assertion.AssertionOrd.TheImpl.{ghosts}
 use Rattle.assertions.specs.FixedOrder.{is_before}
 use Rattle.assertions.specs.Assertions.{true_margin}
-use Rattle.assertions.specs.Hardness.{low, refuter, best_margin}
+use Rattle.assertions.specs.Hardness.{low, refuter}
 use Rattle.assertions.specs.Scores.{score_of}
-use Rattle.assertions.specs.Certificate.{certificate_ends, certificate_assertions, certificate_claims, claim_of}
-use Rattle.assertions.proofs.Sorted.{Sorted, none, more, sorted-filter, sorted-same}
-use Rattle.assertions.proofs.FixedOrders.{Before, before-either, before-not_both, sorted-assertions}
+use Rattle.assertions.specs.Certificate.{claim_of}
+use Rattle.assertions.proofs.Sorted.{Sorted, none, more}
+use Rattle.assertions.proofs.FixedOrders.{Before, before-either}
 use Rattle.assertions.proofs.Ords.{cmp-Less, cmp-Equal, fixed_order_is_total}
 use Rattle.assertions.proofs.Lows.{from_refuter}
-use Rattle.assertions.proofs.Certificates.{from_certificate, certificate-member}
-use Rattle.certifier.specs.Gathered.{with_margin, gathered, claim_at}
+use Rattle.certifier.specs.Gathered.{with_margin, gathered, with_all, claim_at}
 
-abbrev order : Assertion → Assertion → Ordering
+abbrev pub order : Assertion → Assertion → Ordering
 order = ghosts.cmp
 
 order-after : (k x : Assertion) → order k x ≡ Greater → Before x k
@@ -73,56 +72,47 @@ abbrev with_key : List Assertion → Option Assertion → List Assertion
 with_key ks None = ks
 with_key ks (Some a) = insert_key order ks a
 
-module _ (by : List ℕ → Option Assertion) where
-  abbrev keys_of : List Assertion → List (List ℕ) → List Assertion
-  keys_of ks suffixes = fold (λ so_far suffix. with_key so_far (by suffix)) ks suffixes
+module _ {X : Type 0} (by : X → Option Assertion) where
+  abbrev pub keys_of : List Assertion → List X → List Assertion
+  keys_of ks xs = fold (λ so_far x. with_key so_far (by x)) ks xs
 
-  keys-sorted : (ks : List Assertion) (suffixes : List (List ℕ)) → Sorted Before ks → Sorted Before (keys_of ks suffixes)
+  pub keys-sorted : (ks : List Assertion) (xs : List X) → Sorted Before ks → Sorted Before (keys_of ks xs)
   keys-sorted ks [] r = r
-  keys-sorted ks (s ∷ suffixes) r = keys-sorted (with_key ks (by s)) suffixes (go (by s)) where
+  keys-sorted ks (x ∷ xs) r = keys-sorted (with_key ks (by x)) xs (go (by x)) where
     go : (o : Option Assertion) → Sorted Before (with_key ks o)
     go None = r
     go (Some a) = insert-sorted ks a r
 
-  from_keys : (ks : List Assertion) (suffixes : List (List ℕ)) (a : Assertion) → Member a (keys_of ks suffixes) → Member a ks ⊎ ((s : List ℕ) × Member s suffixes × (by s ≡ Some a))
+  pub from_keys : (ks : List Assertion) (xs : List X) (a : Assertion) → Member a (keys_of ks xs) → Member a ks ⊎ ((x : X) × Member x xs × (by x ≡ Some a))
   from_keys ks [] a m = inl m
-  from_keys ks (s ∷ suffixes) a m =
-      elim (from_keys (with_key ks (by s)) suffixes a m) [
-        | inl k ↦ go (by s) refl k
+  from_keys ks (x ∷ xs) a m =
+      elim (from_keys (with_key ks (by x)) xs a m) [
+        | inl k ↦ go (by x) refl k
         | inr r ↦ inr (r.0, there r.1, r.2)
       ]
     where
-      go : (o : Option Assertion) → by s ≡ o → Member a (with_key ks o) → Member a ks ⊎ ((t : List ℕ) × Member t (s ∷ suffixes) × (by t ≡ Some a))
+      go : (o : Option Assertion) → by x ≡ o → Member a (with_key ks o) → Member a ks ⊎ ((y : X) × Member y (x ∷ xs) × (by y ≡ Some a))
       go None e k = inl k
-      go (Some b) e k = elim (from_insert ks b a k) [ inl same ↦ inr (s, here, e ∙ ap Some same) | inr r ↦ inl r ]
+      go (Some b) e k = elim (from_insert ks b a k) [ inl same ↦ inr (x, here, e ∙ ap Some same) | inr r ↦ inl r ]
 
-  keys-keep : (ks : List Assertion) (suffixes : List (List ℕ)) (a : Assertion) → Member a ks → Member a (keys_of ks suffixes)
+  pub keys-keep : (ks : List Assertion) (xs : List X) (a : Assertion) → Member a ks → Member a (keys_of ks xs)
   keys-keep ks [] a m = m
-  keys-keep ks (s ∷ suffixes) a m = keys-keep (with_key ks (by s)) suffixes a (go (by s)) where
+  keys-keep ks (x ∷ xs) a m = keys-keep (with_key ks (by x)) xs a (go (by x)) where
     go : (o : Option Assertion) → Member a (with_key ks o)
     go None = m
     go (Some b) = insert-keeps ks b a m
 
-  keys-member : (ks : List Assertion) (suffixes : List (List ℕ)) (s : List ℕ) (a : Assertion) → Member s suffixes → by s ≡ Some a → Member a (keys_of ks suffixes)
+  pub keys-member : (ks : List Assertion) (xs : List X) (s : X) (a : Assertion) → Member s xs → by s ≡ Some a → Member a (keys_of ks xs)
   keys-member ks [] s a m e = absurd (member_nil m)
-  keys-member ks (t ∷ suffixes) s a m e =
+  keys-member ks (t ∷ xs) s a m e =
       elim (member_cases m) [
-        | inl same ↦ keys-keep (with_key ks (by t)) suffixes a (subst (λ o. Member a (with_key ks o)) (sym (ap by same ∙ e)) (insert-here ks a))
-        | inr r ↦ keys-member (with_key ks (by t)) suffixes s a r e
+        | inl same ↦ keys-keep (with_key ks (by t)) xs a (subst (λ o. Member a (with_key ks o)) (sym (ap by same ∙ e)) (insert-here ks a))
+        | inr r ↦ keys-member (with_key ks (by t)) xs s a r e
       ]
 
-module _ (n winner : ℕ) (records : List (List ℕ)) where
-  abbrev ends : List (List ℕ)
-  ends = certificate_ends n winner (low n records) (best_margin n winner (low n records))
-
-  keys-certificate : keys_of (refuter n records) [] ends ≡ certificate_assertions n records winner
-  keys-certificate =
-      sorted-same Before before-not_both (keys_of (refuter n records) [] ends) (certificate_assertions n records winner) (keys-sorted (refuter n records) [] ends none) (sorted-filter Before _ (sorted-assertions n))
-      (λ a m. elim (from_keys (refuter n records) [] ends a m) [ inl k ↦ absurd (member_nil k) | inr r ↦ certificate-member n winner records a r.0 r.1 r.2 ])
-      (λ a m. let (s, q, e) = from_certificate n winner records a m in keys-member (refuter n records) [] ends s a q e)
-
+module _ (n : ℕ) (records : List (List ℕ)) where
   -- ---- with their margins
-  abbrev marked : Assertion → Assertion × ℕ
+  abbrev pub marked : Assertion → Assertion × ℕ
   marked a = (a, true_margin records a)
 
   insert-marked : (ks : List Assertion) (a : Assertion) → insert_entry order (map marked ks) a (true_margin records a) ≡ map marked (insert_key order ks a)
@@ -141,15 +131,16 @@ module _ (n winner : ℕ) (records : List (List ℕ)) where
     go None e = refl
     go (Some a) e = ap (insert_entry order (map marked ks) a) (sym (from_refuter n records s a e).reached) ∙ insert-marked ks a
 
-  gathered-marked : (ks : List Assertion) (suffixes : List (List ℕ)) → gathered order (score_of n records) (map marked ks) suffixes ≡ map marked (keys_of (refuter n records) ks suffixes)
+  pub gathered-marked : (ks : List Assertion) (suffixes : List (List ℕ)) → gathered order (score_of n records) (map marked ks) suffixes ≡ map marked (keys_of (refuter n records) ks suffixes)
   gathered-marked ks [] = refl
   gathered-marked ks (s ∷ suffixes) =
       ap (λ es. gathered order (score_of n records) es suffixes) (margin-marked ks s) ∙ gathered-marked (with_key ks (refuter n records s)) suffixes
 
-  map-marked : (ks : List Assertion) → map claim_at (map marked ks) ≡ map (claim_of records) ks
+  pub map-marked : (ks : List Assertion) → map claim_at (map marked ks) ≡ map (claim_of records) ks
   map-marked [] = refl
   map-marked (k ∷ ks) = ap (λ r. claim_of records k ∷ r) (map-marked ks)
 
-  pub claims_agree : (entries : List (Assertion × ℕ)) → entries ≡ gathered order (score_of n records) [] ends → map claim_at entries ≡ certificate_claims n records winner
-  claims_agree entries e =
-      ap (map claim_at) (e ∙ gathered-marked [] ends ∙ ap (map marked) keys-certificate) ∙ map-marked (certificate_assertions n records winner)
+  -- the entries of one map put into another
+  pub all-marked : (ks fs : List Assertion) → with_all order (map marked ks) (map marked fs) ≡ map marked (keys_of Some ks fs)
+  all-marked ks [] = refl
+  all-marked ks (f ∷ fs) = ap (λ es. with_all order es (map marked fs)) (insert-marked ks f) ∙ all-marked (insert_key order ks f) fs

@@ -1,11 +1,11 @@
 -- What the two searches, for the assertions and for the order, say of the counts.
-use Rattle.std.proofs.Common.{◌≡◌, ◌≢◌, ℕ, ◌+◌, ◌-◌, ◌<◌, ◌≤◌, Bool, true, false, cond, not, ◌&&◌, ◌==◌, nat_lt, nat_le, inl, inr, List, [], ◌∷◌, filter, find, length, Option, Some, None, Result, Ok, Err, refl, sym, ap, arith, ltb-true, lt-ltb, le-ltb, le-leb, eq-eqb, ne_eqb, ◌∙◌}
+use Rattle.std.proofs.Common.{◌≡◌, ◌≢◌, ℕ, ◌+◌, ◌-◌, ◌<◌, ◌≤◌, Bool, true, false, cond, not, ◌&&◌, ◌==◌, nat_lt, nat_le, inl, inr, List, [], ◌∷◌, filter, find, Option, Some, None, Result, Ok, Err, refl, sym, ap, arith, ltb-true, lt-ltb, le-ltb, le-leb, eq-eqb, ne_eqb, ◌∙◌}
 use Rattle.std.proofs.Math.Path.{fun_ext}
 use Rattle.std.specs.List.{range_with_len}
-use Rattle.std.proofs.lemmas.Bool.{cases_lt, cases_eq, lt-leb, and_right, not-true, not_from_false, eqb-false}
+use Rattle.std.proofs.lemmas.Bool.{cases_lt, cases_eq, lt-leb, not-true, not_from_false, eqb-false}
 use Rattle.irv_base.specs.Candidates.{candidates, all_but}
 use Rattle.irv_base.proofs.Members.{Member, here, there, member_at, candidate-member, from_candidates, from_filter, member-filter, from_find, find-member, from_range}
-use Rattle.assertions.specs.Suffixes.{alternative_orders, parts_ending, suffixes_ending}
+use Rattle.assertions.specs.Suffixes.{alternative_orders, parts_ending}
 use Rattle.assertions.specs.Hardness.{low, best_margin}
 use Rattle.assertions.specs.Certificate.{certificate_order, cover_count, order_count}
 use Rattle.assertions.proofs.Alternatives.{best-le}
@@ -24,7 +24,7 @@ module _ (n winner nodes : ℕ) (count : ℕ → ℕ) where
   abbrev is_over : ℕ → Bool
   is_over c = nat_lt nodes (count c)
 
-  other-member : (c : ℕ) → c < n → c ≢ winner → Member c (all_but n winner)
+  pub other-member : (c : ℕ) → c < n → c ≢ winner → Member c (all_but n winner)
   other-member c l ne = member-filter (λ d. not (d == winner)) (candidates n) (candidate-member c n l) (not_from_false (c == winner) (ne_eqb c winner ne))
 
   pub none-over : first_over n winner nodes count ≡ None → (c : ℕ) → c < n → c ≢ winner → count c ≤ nodes
@@ -108,7 +108,7 @@ under-suc a b =
     ]
 
 module _ (n winner nodes : ℕ) (records : List (List ℕ)) (best : ℕ) (is : best ≡ best_margin n winner (low n records)) where
-  reached : (order : List ℕ) → Member order (alternative_orders n winner) → best ≤ low n records order
+  pub reached : (order : List ℕ) → Member order (alternative_orders n winner) → best ≤ low n records order
   reached order m = let le : best_margin n winner (low n records) ≤ low n records order = best-le n winner (low n records) order m in omega arith
 
   -- the search for the assertions

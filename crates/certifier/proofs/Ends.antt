@@ -1,5 +1,5 @@
 -- The ends of a walk among the suffixes that end in one, from those of its children.
-use Rattle.std.proofs.Common.{◌≡◌, ℕ, zero, suc, ◌+◌, ◌-◌, ◌<◌, ◌≤◌, Bool, true, false, nat_lt, nat_le, inl, inr, List, [], ◌∷◌, ◌++◌, length, filter, flat_map, if◌then◌else◌, refl, sym, ap, arith, le-leb, le-ltb, lt-ltb, le_trans, ◌∙◌}
+use Rattle.std.proofs.Common.{◌≡◌, ℕ, zero, suc, ◌-◌, ◌<◌, ◌≤◌, Bool, true, false, nat_lt, nat_le, inl, inr, List, [], ◌∷◌, ◌++◌, length, filter, flat_map, if◌then◌else◌, refl, sym, ap, arith, le-leb, le-ltb, le_trans, ◌∙◌}
 use Rattle.std.specs.declared.cmp.Ordering.{Ordering}
 use Rattle.std.proofs.lemmas.List.Elements.{filter-append}
 use Rattle.std.proofs.lemmas.List.Sums.{fold-append}

@@ -2,7 +2,10 @@ pub mod Walking
 pub mod Ends
 pub mod Agreement
 pub mod Budgets
+pub mod Claiming
 pub mod Searching
+pub mod Parting
+pub mod Dealing
 pub mod Tabulations
 pub mod Together
 pub mod Bags

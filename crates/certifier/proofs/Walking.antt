@@ -1,6 +1,5 @@
 -- A walk at a suffix, and as it goes on from one child to the next.
-use Rattle.std.proofs.Common.{◌≡◌, ℕ, ◌+◌, ◌-◌, ◌<◌, ◌≤◌, true, false, ◌==◌, nat_lt, List, [], ◌∷◌, length, filter, Option, Some, None, Result, Ok, Err, inl, inr, eq-eqb, refl, sym, ap, subst, arith, le-ltb, lt-ltb, ltb-true, ◌∙◌}
-use Rattle.std.proofs.lemmas.Bool.{cases_eq}
+use Rattle.std.proofs.Common.{◌≡◌, ℕ, ◌+◌, ◌-◌, ◌<◌, ◌≤◌, true, false, List, [], ◌∷◌, length, Some, None, Ok, Err, refl, sym, ap, subst, arith, le-ltb, lt-ltb, ltb-true, ◌∙◌}
 use Rattle.irv_base.specs.Candidates.{is_in}
 use Rattle.assertions.specs.declared.assertion.Assertion.{Assertion}
 use Rattle.assertions.specs.contracts.assertion.AssertionOrd.TheImpl.{ghosts}
@@ -9,7 +8,7 @@ use Rattle.assertions.specs.Hardness.{low}
 use Rattle.assertions.specs.Scores.{score_of}
 use Rattle.set_tallies.specs.Bags.{Kept, IsOf}
 use Rattle.suffix_tree.specs.declared.scored.Scored.{Scored}
-use Rattle.suffix_tree.specs.Suffixes.{Suffix, with_front, whole}
+use Rattle.suffix_tree.specs.Suffixes.{with_front, whole}
 use Rattle.suffix_tree.specs.Scores.{IsScoredOver}
 use Rattle.irv_base.proofs.Suffixes.{suffix_more, suffix-short}
 use Rattle.suffix_tree.proofs.Children.{score-from}
@@ -20,7 +19,6 @@ use Rattle.suffix_walk.proofs.Runs.{from_whole, short-from_none, below_from, bel
 use Rattle.certifier.specs.Gathered.{with_score, gathered}
 use Rattle.certifier.specs.Walks.{is_under, CanWalk, walk_of, IsWalk, ends_in, HasGathered}
 use Rattle.certifier.specs.declared.walk.Reach.{Reach}
-use Rattle.certifier.specs.declared.walk.WalkEnd.{WalkEnd}
 use Rattle.certifier.specs.declared.walk.WalkEnd.TheVariants.{Counted, Found}
 use Rattle.certifier.specs.declared.fault.CertFault.{CertFault}
 use Rattle.certifier.specs.declared.fault.CertFault.TheVariants.{Spent, Memory}

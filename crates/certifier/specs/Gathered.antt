@@ -18,5 +18,9 @@ with_score cmp entries score = with_margin cmp entries score.by score.low
 abbrev pub gathered : (Assertion → Assertion → Ordering) → (List ℕ → Score) → List (Assertion × ℕ) → List (List ℕ) → List (Assertion × ℕ)
 gathered cmp score entries suffixes = fold (λ so_far suffix. with_score cmp so_far (score suffix)) entries suffixes
 
+-- more entries put in
+abbrev pub with_all : (Assertion → Assertion → Ordering) → List (Assertion × ℕ) → List (Assertion × ℕ) → List (Assertion × ℕ)
+with_all cmp entries more = fold (λ so_far entry. insert_entry cmp so_far entry.0 entry.1) entries more
+
 abbrev pub claim_at : Assertion × ℕ → Claim
 claim_at entry = record { assertion = entry.0; margin = entry.1 }

@@ -1,17 +1,22 @@
 // The canonical certificate.
-ghost use Rattle.std.specs.Prelude.{◌≡◌, ℕ, List, IfOk, IfErr};
+ghost use Rattle.std.specs.Prelude.{◌≡◌, ◌≤◌, ℕ, List, map, IfOk, IfErr};
 ghost use Rattle.assertions.specs.Hardness.{low, best_margin};
 ghost use Rattle.set_tallies.specs.Bags.{IsOf};
 ghost use Rattle.irv_tabulator.specs.Results.{IsTabulation};
 ghost use Rattle.certifier.specs.Certified.{IsCertified, IsFault};
+ghost use Rattle.certifier.specs.Gathered.{claim_at};
+ghost use Rattle.certifier.specs.declared.limits.TheConstants.{MOST_WORKERS};
 
 use crate::fault::CertFault;
-use crate::gather::{Task, gather, listed};
-use assertions::Claim;
-use irv_base::Order;
+use crate::gather::Task;
+use crate::team::gather_all;
+use assertions::{Assertion, Claim};
+use irv_base::{Memory, Order};
 use irv_tabulator::Tabulated;
-use set_tallies::Tallies;
+use set_tallies::Counted;
 use std::alloc::Global;
+use std::collections::BTreeMap;
+use std::thread::Threads;
 
 /// What is published of a contest to prove its winner.
 #[derive(Drop)]
@@ -26,41 +31,61 @@ pub struct Certificate {
     pub order: Order,
 }
 
-/// The canonical certificate of the contest with the records of the tallies, whose tabulated order is that of `tab` and
-/// whose best margin, in votes, is `best`. The records alone determine it, whichever search found the best margin.
+// The claims as a list, in the fixed order.
+fn listed(alloc: Global, claims: &BTreeMap<Assertion, u32>) -> Result<Vec<Claim>, Memory>
+    ensures { IfOk result (λ list. list.items ≡ map claim_at claims.now.entries) }
+{
+    let mut list = Vec::new(alloc);
+    for (assertion, margin) in claims {
+        list.push(Claim {
+            assertion: *assertion,
+            margin: *margin,
+        })?;
+    }
+    Ok(list)
+}
+
+/// The canonical certificate of the contest with these records, whose tabulated order is that of `tab` and whose best
+/// margin, in votes, is `best`. The records alone determine it, whichever search found the best margin, and at any number
+/// of workers.
 ///
 /// For each alternative winner two counts are taken, of suffixes that end in that candidate and aren't whole orders:
 /// those whose low is below the best margin; and those whose low is at most the best margin and that come before the
 /// certificate's order, both read backwards. The answer is `Spent`, with the least alternative winner for whom a count
 /// is above `nodes`, exactly where there is one. The other error is want of memory.
 ///
-/// Besides the claims it holds, at one time, one suffix of each length.
-pub fn certify(
-    alloc: Global,
-    tallies: &mut Tallies,
+/// The alternative winners are divided among the workers, each with tallies of its own. Besides its claims a worker holds,
+/// at one time, one suffix of each length.
+pub fn certify<R: AllocGlobal + Threads + Sync>(
+    rt: &R,
+    counted: &Counted,
     tab: &Tabulated,
     best: u32,
     nodes: u32,
+    workers: u32,
 ) -> Result<Certificate, CertFault>
-    requires tabulated { (records : List (List ℕ)) → IsOf tallies.old.bag records
-        → IsTabulation tallies.old.bag.n records tab.now }
-    requires best { (records : List (List ℕ)) → IsOf tallies.old.bag records
-        → best ≡ best_margin tallies.old.bag.n tab.now.winner (low tallies.old.bag.n records) }
-    ensures certificate { (records : List (List ℕ)) → IsOf tallies.old.bag records
-        → IfOk result (IsCertified tallies.old.bag.n records tab.now.winner best nodes) }
-    ensures fault { (records : List (List ℕ)) → IsOf tallies.old.bag records
-        → IfErr result (IsFault tallies.old.bag.n records tab.now.winner best nodes) }
-    ensures same { tallies.new ≡ tallies.old }
+    requires tabulated { (records : List (List ℕ)) → IsOf counted.now.bag records
+        → IsTabulation counted.now.bag.n records tab.now }
+    requires best { (records : List (List ℕ)) → IsOf counted.now.bag records
+        → best ≡ best_margin counted.now.bag.n tab.now.winner (low counted.now.bag.n records) }
+    requires workers { (1 ≤ workers) × (workers ≤ MOST_WORKERS) }
+    ensures certificate { (records : List (List ℕ)) → IsOf counted.now.bag records
+        → IfOk result (IsCertified counted.now.bag.n records tab.now.winner best nodes) }
+    ensures fault { (records : List (List ℕ)) → IsOf counted.now.bag records
+        → IfErr result (IsFault counted.now.bag.n records tab.now.winner best nodes) }
 {
     let task = Task {
         winner: tab.winner,
         best,
         nodes,
     };
-    let found = gather(alloc, &task, tallies)?;
-    let claims = listed(alloc, &found.claims)?;
+    let found = gather_all(rt, &task, counted, workers)?;
+    if let Some(last) = found.spent() {
+        return Err(CertFault::Spent { last });
+    }
+    let claims = listed(rt.alloc(), &found.claims)?;
     // Some alternative order has the best margin, so one was found.
-    let order = found.order.unwrap_or(tab.order);
+    let order = found.order().unwrap_or(tab.order);
     Ok(Certificate {
         claims,
         margin: best,

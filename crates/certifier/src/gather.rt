@@ -1,26 +1,19 @@
-// What is found among the suffixes of all orders that elect another candidate.
-ghost use Rattle.std.specs.Prelude.{◌≡◌, ◌<◌, ◌+◌, ◌∷◌, [], ℕ, List, map, IfOk};
+// What one worker finds among the suffixes that end in its candidates.
+ghost use Rattle.std.specs.Prelude.{◌≡◌, ◌<◌, ◌≤◌, ◌+◌, ◌∷◌, [], ℕ, List, IfOk};
 ghost use Rattle.set_tallies.specs.Bags.{IsOf};
 ghost use Rattle.certifier.specs.Walks.{CanWalk};
-ghost use Rattle.certifier.specs.Gathered.{claim_at};
-ghost use Rattle.certifier.specs.Pieces.{IsTask, IsNextOrder, order_walk, IsPiece, IsGathered};
+ghost use Rattle.certifier.specs.Pieces.{IsTask, IsCovered, IsNextEnd, order_walk, IsNext};
+ghost use Rattle.certifier.specs.Parts.{IsPartOfSeveral, is_dealt};
 
 use crate::fault::CertFault;
+use crate::part::{OrderEnd, Part};
 use crate::walk::{Reach, WalkEnd, walk};
-use assertions::{Assertion, Claim};
-use irv_base::{Candidate, Memory, Order};
+use assertions::Assertion;
+use irv_base::{Candidate, Memory};
 use set_tallies::Tallies;
 use std::alloc::Global;
 use std::collections::BTreeMap;
 use suffix_tree::{Scored, Tail, score};
-
-/// What was found among the suffixes that end in the candidates so far.
-#[derive(Drop)]
-pub struct Found {
-    pub order: Option<Order>,
-    /// The assertions with their margins.
-    pub claims: BTreeMap<Assertion, u32>,
-}
 
 /// Among whom, and how far, it is looked for the certificate.
 #[derive(Clone, Copy)]
@@ -32,19 +25,55 @@ pub struct Task {
     pub nodes: u32,
 }
 
-// The order, where it was found earlier or a walk finds it now: the first whose low is at most the best margin.
-fn next_order(
+/// Which candidates are a worker's: those that its number is left of, when they are divided by the number of workers.
+#[derive(Clone, Copy)]
+pub struct Share {
+    pub number: u32,
+    pub workers: u32,
+}
+
+// The walk for the assertions of the certificate; whether it is over the budget.
+fn cover(
+    alone: &Scored,
+    last: Candidate,
+    task: &Task,
+    claims: &mut BTreeMap<Assertion, u32>,
+    tallies: &mut Tallies,
+) -> Result<bool, Memory>
+    requires ready { CanWalk tallies.old.bag task.now.best alone.now }
+    requires alone { alone.now.tail.list ≡ last ∷ [] }
+    ensures covered { (records : List (List ℕ)) → IsOf tallies.old.bag records
+        → IfOk result (IsCovered tallies.old.bag.n records task.now last claims.old.entries claims.new.entries) }
+    ensures same { tallies.new ≡ tallies.old }
+{
+    let reach = Reach {
+        last,
+        limit: u64::from(task.best),
+        nodes: task.nodes,
+    };
+    match walk(alone, &reach, 0, claims, tallies) {
+        Ok(_end) => Ok(false),
+        Err(fault) => match fault {
+            CertFault::Spent { .. } => Ok(true),
+            CertFault::Memory => Err(Memory),
+        },
+    }
+}
+
+// The end of the walks for the order, where one had it earlier or this one has: it goes to the first order whose low is
+// at most the best margin.
+fn next_end(
     alloc: Global,
     alone: &Scored,
     last: Candidate,
     task: &Task,
-    earlier: Option<Order>,
+    earlier: Option<OrderEnd>,
     tallies: &mut Tallies,
-) -> Result<Option<Order>, CertFault>
+) -> Result<Option<OrderEnd>, Memory>
     requires ready { CanWalk tallies.old.bag (task.now.best + 1) alone.now }
     requires alone { alone.now.tail.list ≡ last ∷ [] }
-    ensures order { (records : List (List ℕ)) → IsOf tallies.old.bag records
-        → IsNextOrder last earlier result (order_walk tallies.old.bag.n records task.now last) }
+    ensures end { (records : List (List ℕ)) → IsOf tallies.old.bag records
+        → IfOk result (λ end. IsNextEnd last earlier end (order_walk tallies.old.bag.n records task.now last)) }
     ensures same { tallies.new ≡ tallies.old }
 {
     if earlier.is_some() {
@@ -57,9 +86,18 @@ fn next_order(
     };
     // The refuters of its ends are none of the certificate's.
     let mut refuters = BTreeMap::new(alloc);
-    match walk(alone, &reach, 0, &mut refuters, tallies)? {
-        WalkEnd::Counted(_count) => Ok(None),
-        WalkEnd::Found(order) => Ok(Some(order)),
+    match walk(alone, &reach, 0, &mut refuters, tallies) {
+        Ok(end) => match end {
+            WalkEnd::Counted(_count) => Ok(None),
+            WalkEnd::Found(order) => Ok(Some(OrderEnd {
+                last,
+                order: Some(order),
+            })),
+        },
+        Err(fault) => match fault {
+            CertFault::Spent { .. } => Ok(Some(OrderEnd { last, order: None })),
+            CertFault::Memory => Err(Memory),
+        },
     }
 }
 
@@ -68,57 +106,67 @@ fn gather_piece(
     alloc: Global,
     last: Candidate,
     task: &Task,
-    found: Found,
+    part: Part,
     tallies: &mut Tallies,
-) -> Result<Found, CertFault>
+) -> Result<Part, Memory>
     requires { last < tallies.old.bag.n }
-    ensures piece { (records : List (List ℕ)) → IsOf tallies.old.bag records
-        → IsPiece tallies.old.bag.n records task.now last found result }
+    ensures next { (records : List (List ℕ)) → IsOf tallies.old.bag records
+        → IfOk result (IsNext tallies.old.bag.n records task.now last part) }
     ensures same { tallies.new ≡ tallies.old }
 {
-    let Found { order, mut claims } = found;
+    let Part {
+        mut claims,
+        end,
+        ..
+    } = part;
     let alone = score(&Tail::last(tallies.candidates(), last), tallies)?;
-    let reach = Reach {
-        last,
-        limit: u64::from(task.best),
-        nodes: task.nodes,
-    };
-    walk(&alone, &reach, 0, &mut claims, tallies)?;
-    let order = next_order(alloc, &alone, last, task, order, tallies)?;
-    Ok(Found { order, claims })
+    if cover(&alone, last, task, &mut claims, tallies)? {
+        return Ok(Part {
+            claims,
+            over: Some(last),
+            end,
+        });
+    }
+    let end = next_end(alloc, &alone, last, task, end, tallies)?;
+    Ok(Part {
+        claims,
+        over: None,
+        end,
+    })
 }
 
-/// The order and the assertions of the certificate, or the least candidate for whom more suffixes count than the budget
-/// has.
-pub fn gather(alloc: Global, task: &Task, tallies: &mut Tallies) -> Result<Found, CertFault>
-    ensures gathered { (records : List (List ℕ)) → IsOf tallies.old.bag records
+impl Share {
+    fn has(&self, c: u32) -> bool
+        requires { 1 ≤ self.now.workers }
+        ensures { result ≡ is_dealt self.now.workers self.now.number c }
+    {
+        c % self.workers == self.number
+    }
+}
+
+/// What is found among the suffixes that end in the candidates of the share, up to the first whose walk for the assertions
+/// is over the budget.
+pub fn gather(
+    alloc: Global,
+    task: &Task,
+    share: &Share,
+    tallies: &mut Tallies,
+) -> Result<Part, Memory>
+    requires { 1 ≤ share.now.workers }
+    ensures part { (records : List (List ℕ)) → IsOf tallies.old.bag records
         → IsTask tallies.old.bag.n records task.now
-        → IsGathered tallies.old.bag.n records task.now result }
+        → IfOk result (IsPartOfSeveral tallies.old.bag.n records task.now (is_dealt share.now.workers share.now.number)) }
     ensures same { tallies.new ≡ tallies.old }
 {
-    let mut found = Found {
-        order: None,
-        claims: BTreeMap::new(alloc),
-    };
+    let mut part = Part::new(alloc);
     for c in 0..tallies.candidates() {
+        if part.over.is_some() {
+            return Ok(part);
+        }
         let last = Candidate(c as u8);
-        if last != task.winner {
-            found = gather_piece(alloc, last, task, found, tallies)?;
+        if share.has(c) && last != task.winner {
+            part = gather_piece(alloc, last, task, part, tallies)?;
         }
     }
-    Ok(found)
-}
-
-/// The claims as a list, in the fixed order.
-pub fn listed(alloc: Global, claims: &BTreeMap<Assertion, u32>) -> Result<Vec<Claim>, Memory>
-    ensures { IfOk result (λ list. list.items ≡ map claim_at claims.now.entries) }
-{
-    let mut list = Vec::new(alloc);
-    for (assertion, margin) in claims {
-        list.push(Claim {
-            assertion: *assertion,
-            margin: *margin,
-        })?;
-    }
-    Ok(list)
+    Ok(part)
 }

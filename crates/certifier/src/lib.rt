@@ -1,14 +1,18 @@
 //! The canonical certificate of a contest: the one set of assertions that the records determine, with its margin, and an
-//! order that no true assertion of larger margin refutes. It is found within a budget of suffixes.
+//! order that no true assertion of larger margin refutes. It is found within a budget of suffixes, by several workers.
 #![tactic(auto)]
 
 mod certificate;
 mod fault;
 mod gather;
 pub mod laws;
+mod limits;
+mod part;
+mod team;
 #[cfg(test)]
 mod tests;
 mod walk;
 
 pub use certificate::{Certificate, certify};
 pub use fault::CertFault;
+pub use limits::MOST_WORKERS;

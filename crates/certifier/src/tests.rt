@@ -10,7 +10,7 @@ use assertions::{Assertion, Claim};
 use irv_base::{CandSet, Candidate, Ranking};
 use irv_tabulator::tabulate;
 use set_tallies::Counted;
-use std::alloc::Global;
+use std::thread::Threads;
 
 const ZERO: Candidate = Candidate(0);
 
@@ -34,29 +34,37 @@ fn both(first: Candidate, second: Candidate) -> Ranking
 }
 
 // The certificate, where the best margin is that of whoever is elected.
-fn answer(
-    alloc: Global,
+fn answer<R: AllocGlobal + Threads + Sync>(
+    rt: &R,
     n: u32,
     rankings: &[Ranking],
     best: u32,
     nodes: u32,
+    workers: u32,
 ) -> Result<Certificate, CertFault>
     requires fewest { FEWEST_CANDIDATES ≤ n }
     requires room { n ≤ ROOM }
     requires most { length rankings.now ≤ MOST_RECORDS }
     requires below { All (λ ranking. All (λ c. c < n) ranking) rankings.now }
     requires best { (order : List ℕ) (winner : ℕ) → IsTrue (is_order n order) → IsTrue (is_tabulated rankings.now order) → Elects order winner → best ≡ best_margin n winner (low n rankings.now) }
+    requires workers { (1 ≤ workers) × (workers ≤ MOST_WORKERS) }
 {
-    let counted = Counted::of(alloc, n, rankings)?;
+    let counted = Counted::of(rt.alloc(), n, rankings)?;
     let mut tallies = counted.tallies()?;
-    match tabulate(alloc, &mut tallies) {
-        Ok(tab) => certify(alloc, &mut tallies, &tab, best, nodes),
+    match tabulate(rt.alloc(), &mut tallies) {
+        Ok(tab) => certify(rt, &counted, &tab, best, nodes, workers),
         Err(_) => Err(CertFault::Memory),
     }
 }
 
 // Five ballots 0, four 1,2 and three 2,1.
-fn three(alloc: Global, nodes: u32) -> Result<Certificate, CertFault> {
+fn three<R: AllocGlobal + Threads + Sync>(
+    rt: &R,
+    nodes: u32,
+    workers: u32,
+) -> Result<Certificate, CertFault>
+    requires { (1 ≤ workers) × (workers ≤ MOST_WORKERS) }
+{
     let rankings = [
         only(ZERO),
         only(ZERO),
@@ -71,82 +79,102 @@ fn three(alloc: Global, nodes: u32) -> Result<Certificate, CertFault> {
         both(TWO, ONE),
         both(TWO, ONE),
     ];
-    answer(alloc, 3, rankings.as_slice(), 1, nodes)
+    answer(rt, 3, rankings.as_slice(), 1, nodes, workers)
 }
 
 #[test]
 fn three_candidates_canonical_certificate(rt: HostRuntime) {
     let zero_one = CandSet::empty().with(ZERO).with(ONE);
     let zero_two = CandSet::empty().with(ZERO).with(TWO);
-    match three(rt.alloc(), 2) {
-        Ok(certificate) => {
-            let claims = [
-                Claim {
-                    assertion: Assertion::Neb { w: ONE, l: TWO },
-                    margin: 1,
-                },
-                Claim {
-                    assertion: Assertion::Nen {
-                        w: ONE,
-                        l: ZERO,
-                        rest: zero_one,
+    for workers in 1..=MOST_WORKERS {
+        match three(&rt, 2, workers) {
+            Ok(certificate) => {
+                let claims = [
+                    Claim {
+                        assertion: Assertion::Neb { w: ONE, l: TWO },
+                        margin: 1,
                     },
-                    margin: 2,
-                },
-                Claim {
-                    assertion: Assertion::Nen {
-                        w: TWO,
-                        l: ZERO,
-                        rest: zero_two,
+                    Claim {
+                        assertion: Assertion::Nen {
+                            w: ONE,
+                            l: ZERO,
+                            rest: zero_one,
+                        },
+                        margin: 2,
                     },
-                    margin: 2,
-                },
-            ];
-            assert!(rt; certificate.claims.as_slice() == claims.as_slice());
-            assert!(rt; certificate.margin == 1);
-            assert!(rt; certificate.order.candidates() == [ONE, ZERO, TWO].as_slice());
+                    Claim {
+                        assertion: Assertion::Nen {
+                            w: TWO,
+                            l: ZERO,
+                            rest: zero_two,
+                        },
+                        margin: 2,
+                    },
+                ];
+                assert!(rt; certificate.claims.as_slice() == claims.as_slice());
+                assert!(rt; certificate.margin == 1);
+                assert!(rt; certificate.order.candidates() == [ONE, ZERO, TWO].as_slice());
+            }
+            Err(_) => assert!(rt; false),
         }
-        Err(_) => assert!(rt; false),
     }
 }
 
 // Before the order 1,0,2 stand the suffixes 2 and 0,2.
 #[test]
 fn three_candidates_order_over_budget(rt: HostRuntime) {
-    let answer = three(rt.alloc(), 1);
-    assert!(rt; matches!(&answer, Err(CertFault::Spent { last: TWO })));
+    for workers in 1..=MOST_WORKERS {
+        let answer = three(&rt, 1, workers);
+        assert!(rt; matches!(&answer, Err(CertFault::Spent { last: TWO })));
+    }
 }
 
 // The suffix 0 has a low of 0.
 #[test]
 fn three_candidates_cover_over_budget(rt: HostRuntime) {
-    let answer = three(rt.alloc(), 0);
-    assert!(rt; matches!(&answer, Err(CertFault::Spent { last: ZERO })));
+    for workers in 1..=MOST_WORKERS {
+        let answer = three(&rt, 0, workers);
+        assert!(rt; matches!(&answer, Err(CertFault::Spent { last: ZERO })));
+    }
 }
 
 // Three ballots 0 and two 1.
-fn two(alloc: Global, nodes: u32) -> Result<Certificate, CertFault> {
+fn two<R: AllocGlobal + Threads + Sync>(
+    rt: &R,
+    nodes: u32,
+    workers: u32,
+) -> Result<Certificate, CertFault>
+    requires { (1 ≤ workers) × (workers ≤ MOST_WORKERS) }
+{
     let rankings = [only(ZERO), only(ZERO), only(ZERO), only(ONE), only(ONE)];
-    answer(alloc, 2, rankings.as_slice(), 1, nodes)
+    answer(rt, 2, rankings.as_slice(), 1, nodes, workers)
 }
 
 #[test]
 fn two_candidates(rt: HostRuntime) {
-    match two(rt.alloc(), 1) {
-        Ok(certificate) => {
-            let claims = [Claim {
-                assertion: Assertion::Neb { w: ZERO, l: ONE },
-                margin: 1,
-            }];
-            assert!(rt; certificate.claims.as_slice() == claims.as_slice());
-            assert!(rt; certificate.order.candidates() == [ZERO, ONE].as_slice());
+    for workers in 1..=MOST_WORKERS {
+        match two(&rt, 1, workers) {
+            Ok(certificate) => {
+                let claims = [Claim {
+                    assertion: Assertion::Neb { w: ZERO, l: ONE },
+                    margin: 1,
+                }];
+                assert!(rt; certificate.claims.as_slice() == claims.as_slice());
+                assert!(rt; certificate.order.candidates() == [ZERO, ONE].as_slice());
+            }
+            Err(_) => assert!(rt; false),
         }
-        Err(_) => assert!(rt; false),
     }
 }
 
 // Four ballots 1, three 2, and one each of 3,2, of 3 and of 0,1.
-fn county(alloc: Global, nodes: u32) -> Result<Certificate, CertFault> {
+fn county<R: AllocGlobal + Threads + Sync>(
+    rt: &R,
+    nodes: u32,
+    workers: u32,
+) -> Result<Certificate, CertFault>
+    requires { (1 ≤ workers) × (workers ≤ MOST_WORKERS) }
+{
     let rankings = [
         only(ONE),
         only(ONE),
@@ -159,35 +187,37 @@ fn county(alloc: Global, nodes: u32) -> Result<Certificate, CertFault> {
         only(THREE),
         both(ZERO, ONE),
     ];
-    answer(alloc, 4, rankings.as_slice(), 1, nodes)
+    answer(rt, 4, rankings.as_slice(), 1, nodes, workers)
 }
 
 #[test]
 fn county_contest(rt: HostRuntime) {
     let one_two = CandSet::empty().with(ONE).with(TWO);
-    match county(rt.alloc(), 12) {
-        Ok(certificate) => {
-            let claims = [
-                Claim {
-                    assertion: Assertion::Neb { w: ONE, l: ZERO },
-                    margin: 3,
-                },
-                Claim {
-                    assertion: Assertion::Neb { w: ONE, l: THREE },
-                    margin: 2,
-                },
-                Claim {
-                    assertion: Assertion::Nen {
-                        w: ONE,
-                        l: TWO,
-                        rest: one_two,
+    for workers in 1..=MOST_WORKERS {
+        match county(&rt, 12, workers) {
+            Ok(certificate) => {
+                let claims = [
+                    Claim {
+                        assertion: Assertion::Neb { w: ONE, l: ZERO },
+                        margin: 3,
                     },
-                    margin: 1,
-                },
-            ];
-            assert!(rt; certificate.claims.as_slice() == claims.as_slice());
-            assert!(rt; certificate.order.candidates() == [THREE, ZERO, ONE, TWO].as_slice());
+                    Claim {
+                        assertion: Assertion::Neb { w: ONE, l: THREE },
+                        margin: 2,
+                    },
+                    Claim {
+                        assertion: Assertion::Nen {
+                            w: ONE,
+                            l: TWO,
+                            rest: one_two,
+                        },
+                        margin: 1,
+                    },
+                ];
+                assert!(rt; certificate.claims.as_slice() == claims.as_slice());
+                assert!(rt; certificate.order.candidates() == [THREE, ZERO, ONE, TWO].as_slice());
+            }
+            Err(_) => assert!(rt; false),
         }
-        Err(_) => assert!(rt; false),
     }
 }

@@ -1,54 +1,56 @@
-use Rattle.std.proofs.Common.{◌≡◌, ◌<◌, ◌+◌, Ok, Err, refl, sym, ap, subst, arith, rules, ◌∙◌}
+use Rattle.std.proofs.Common.{◌<◌, ◌+◌, inl, inr, refl, sym, subst, arith, ◌∙◌}
 use Rattle.set_tallies.specs.Bags.{IsOf}
 use Rattle.suffix_walk.proofs.Scans.{differs, agrees}
-use Rattle.certifier.specs.Pieces.{IsPiece, IsGathered}
-use Rattle.certifier.proofs.Searching.{IsSoFar, so-far-start, so-far-passes, so-far-goes, fault-here, found-all}
+use Rattle.certifier.specs.Pieces.{IsNext}
+use Rattle.certifier.specs.Parts.{IsPart}
+use Rattle.certifier.proofs.Dealing.{dealt_before, deal-none, deal-next, deal-passes, deal-ends, deal-stops}
 use Rattle.certifier.proofs.gather.gather.Goals as goal
-use Rattle.certifier.proofs.gather.gather.Goals.{then-ne+in_ok-found, else-ne}
+use Rattle.certifier.proofs.gather.gather.Goals.{then-has+then-ne+in_ok-part, else-has, else-has-via-then-has+else-ne, else-has-via-else-has}
 
 pub loop-c-init : goal.loop-c-init
 loop-c-init c = record {
   same = refl;
-  so_far = λ records h is. so-far-start c.args.tallies.now.bag.n records c.args.task.now _ (omega (arith, is.winner)) refl c.new.ensures.empty;
+  part = λ records h is. deal-none c.args.tallies.now.bag.n records c.args.task.now c.args.share.now.workers c.args.share.now.number c.new-part.result c.new-part.ensures.claims c.new-part.ensures.over c.new-part.ensures.end;
 }
-
-pub returns-in_err-found-clause-gathered : goal.returns-in_err-found-clause-gathered
-returns-in_err-found-clause-gathered c = λ records h is.
-    let n = c.args.tallies.now.bag.n in
-    let task = c.args.task.now in
-    let given : c.from_residual.result ≡ Err c.in_err-found.field-0.0 = search rules in
-    let piece : IsPiece c.args.tallies.now.bag.n records c.args.task.now c.loop-c.c c.loop-c.found (Err c.in_err-found.field-0.0) =
-    subst (λ t. IsPiece t.bag.n records task c.loop-c.c c.loop-c.found (Err c.in_err-found.field-0.0)) c.loop-c.invariant.same
-    (c.in_err-found.ensures.piece records (subst (λ t. IsOf t.bag records) (sym c.loop-c.invariant.same) h)) in
-    subst (IsGathered n records task) (sym given)
-    (fault-here n records task is.best is.winner (omega (arith, c.candidates-c-end.ensures.fewest, c.candidates-c-end.ensures.same)) c.loop-c.c c.in_err-found.field-0.0 c.loop-c.found
-    (omega (arith, c.loop-c-test.true, c.candidates-c-end.ensures.same)) (differs c.loop-c.c task.winner c.ne.result c.ne.ensures c.if-ne.true) (c.loop-c.invariant.so_far records h is) piece)
 
 pub loop-c-preserved : goal.loop-c-preserved
 loop-c-preserved c =
     let n = c.args.tallies.now.bag.n in
     let task = c.args.task.now in
+    let share = c.args.share.now in
     let below : c.loop-c.c < n = omega (arith, c.loop-c-test.true, c.candidates-c-end.ensures.same) in
-    elim c.if-ne.branch [
-      | then-ne+in_ok-found w ↦ record {
+    elim c.if-has.branch [
+      | then-has+then-ne+in_ok-part w ↦ record {
         same = w.tallies-is ∙ w.gather_piece.ensures.same ∙ c.loop-c.invariant.same;
-        so_far = λ records h is.
-            let piece : IsPiece c.args.tallies.now.bag.n records c.args.task.now c.loop-c.c c.loop-c.found (Ok c.if-ne.found) =
-            subst (λ t. IsPiece t.bag.n records task c.loop-c.c c.loop-c.found (Ok c.if-ne.found)) c.loop-c.invariant.same
-            (subst (IsPiece c.loop-c.tallies.bag.n records task c.loop-c.c c.loop-c.found) (ap Ok (sym w.found-is))
-            (w.in_ok-found.ensures.piece records (subst (λ t. IsOf t.bag records) (sym c.loop-c.invariant.same) h))) in
-            so-far-goes n records task is.best is.winner (omega (arith, c.candidates-c-end.ensures.fewest, c.candidates-c-end.ensures.same)) c.loop-c.c c.loop-c.found c.if-ne.found
-            below (differs c.loop-c.c task.winner c.ne.result c.ne.ensures w.if-ne.true) (c.loop-c.invariant.so_far records h is) piece;
+        part = λ records h is.
+            let next : IsNext c.args.tallies.now.bag.n records c.args.task.now c.loop-c.c c.loop-c.part c.if-has.part =
+            subst (λ t. IsNext t.bag.n records task c.loop-c.c c.loop-c.part c.if-has.part) c.loop-c.invariant.same
+            (subst (IsNext c.loop-c.tallies.bag.n records task c.loop-c.c c.loop-c.part) (sym w.part-is)
+            (w.in_ok-part.ensures.next records (subst (λ t. IsOf t.bag records) (sym c.loop-c.invariant.same) h))) in
+            deal-next n records task share.workers share.number is (omega (arith, c.candidates-c-end.ensures.fewest, c.candidates-c-end.ensures.same)) c.loop-c.c c.loop-c.part c.if-has.part
+            below (differs c.loop-c.c task.winner w.ne.result w.ne.ensures w.if-ne.true) (sym c.has.ensures ∙ w.if-has.true) (sym c.is_some.ensures ∙ c.if-is_some.false) (c.loop-c.invariant.part records h is) next;
       }
-      | else-ne w ↦ record {
+      | else-has w ↦ record {
         same = w.tallies-is ∙ c.loop-c.invariant.same;
-        so_far = λ records h is.
-            subst (IsSoFar n records task (c.loop-c.c + 1)) (sym w.found-is)
-            (so-far-passes n records task c.loop-c.c c.loop-c.found below (agrees c.loop-c.c task.winner c.ne.result c.ne.ensures w.if-ne.false) (c.loop-c.invariant.so_far records h is));
+        part = λ records h is.
+            subst (IsPart n records task (dealt_before share.workers share.number (c.loop-c.c + 1))) (sym w.part-is)
+            (deal-passes n records task share.workers share.number c.loop-c.c c.loop-c.part (elim w.else-has.branch [
+              | else-has-via-then-has+else-ne v ↦ inr (agrees c.loop-c.c task.winner v.ne.result v.ne.ensures v.if-ne.false)
+              | else-has-via-else-has v ↦ inl (sym c.has.ensures ∙ v.if-has.false)
+            ]) (c.loop-c.invariant.part records h is));
       }
     ]
 
-pub returns-clause-gathered : goal.returns-clause-gathered
-returns-clause-gathered c = λ records h is.
-    found-all c.args.tallies.now.bag.n records c.args.task.now is.best is.winner (omega (arith, c.candidates-c-end.ensures.fewest, c.candidates-c-end.ensures.same)) c.loop-c.c c.loop-c.found
-    (omega (arith, c.loop-c-test.false, c.candidates-c-end.ensures.same)) (c.loop-c.invariant.so_far records h is)
+pub returns-clause-part : goal.returns-clause-part
+returns-clause-part c = λ records h is. (
+  omega (arith, c.candidates-c-end.ensures.fewest, c.candidates-c-end.ensures.same),
+  deal-ends c.args.tallies.now.bag.n records c.args.task.now c.args.share.now.workers c.args.share.now.number c.loop-c.c c.loop-c.part
+      (omega (arith, c.loop-c-test.false, c.candidates-c-end.ensures.same)) (c.loop-c.invariant.part records h is),
+)
+
+pub returns-then-is_some-clause-part : goal.returns-then-is_some-clause-part
+returns-then-is_some-clause-part c = λ records h is. (
+  omega (arith, c.candidates-c-end.ensures.fewest, c.candidates-c-end.ensures.same),
+  deal-stops c.args.tallies.now.bag.n records c.args.task.now c.args.share.now.workers c.args.share.now.number c.loop-c.c c.loop-c.part
+      (sym c.is_some.ensures ∙ c.if-is_some.true) (c.loop-c.invariant.part records h is),
+)

@@ -1,12 +1,8 @@
 use Rattle.std.proofs.Common.{◌≡◌, ℕ, ◌+◌, ◌<◌, ◌≤◌, List, None, Ok, Err, false, true, sym, ap, subst, subst₂, arith, rules, ◌∙◌}
 use Rattle.irv_base.specs.Candidates.{is_in}
-use Rattle.assertions.specs.contracts.assertion.AssertionOrd.TheImpl.{ghosts}
 use Rattle.set_tallies.specs.Bags.{IsOf}
-use Rattle.suffix_tree.specs.Suffixes.{whole}
 use Rattle.suffix_tree.specs.Scores.{IsScoredOver}
-use Rattle.certifier.specs.Gathered.{with_score}
 use Rattle.certifier.specs.Walks.{CanWalk, IsWalk, walk_of, OnCounted, HasGathered}
-use Rattle.certifier.specs.declared.walk.WalkEnd.TheVariants.{Counted, Found}
 use Rattle.certifier.proofs.Walking.{IsGoing, dropped, gathered-dropped, spent, child-ready, fewer-left, going-starts, going-passes, going-goes, going-finds, going-fails, going-ends, gathered-ends}
 use Rattle.certifier.proofs.walk.+walk.Goals as goal
 use Rattle.certifier.proofs.walk.+walk.Goals.{then-not-has+in_ok-longer+in_ok-more+in-Counted, else-not-has}

@@ -1,0 +1,72 @@
+// A race over given pieces, run to its end.
+ghost use Rattle.std.specs.Prelude.{◌≡◌, ◌≤◌, All, IfOk, length};
+ghost use Rattle.bound_search.specs.Raced.{IsRaced};
+ghost use Rattle.bound_search.specs.declared.limits.TheConstants.{MOST_PIECES, MOST_WORKERS};
+
+use crate::ends::{Best, PieceEnd, Report};
+use crate::join::{Joined, join};
+use crate::team::{run_team, team_of};
+use desk::Gate;
+use irv_base::Memory;
+use set_tallies::Counted;
+use shared_witness::{Race, Seats};
+use std::thread::Threads;
+use suffix_tree::Tail;
+
+/// What a race over given pieces came to.
+#[derive(Drop)]
+pub(crate) struct Raced {
+    /// The entries of the pieces, worker by worker.
+    pub ends: Vec<PieceEnd>,
+    /// What each worker did.
+    pub reports: Vec<Report>,
+    /// The least hard of the orders that were found, or the start order.
+    pub best: Best,
+    /// The number of a piece whose work is above the budget.
+    pub spent: Option<u32>,
+}
+
+/// Runs a race over these pieces, from the order `first` on.
+pub(crate) fn run_race<R: AllocGlobal + Threads + Sync, G: Gate + Sync>(
+    rt: &R,
+    counted: &Counted,
+    tails: &[Tail],
+    first: Best,
+    workers: u32,
+    nodes: u32,
+    gate: &G,
+) -> Result<Raced, Memory>
+    requires workers { (1 ≤ workers) × (workers ≤ MOST_WORKERS) }
+    requires some { 1 ≤ length tails.now }
+    requires few { length tails.now ≤ MOST_PIECES }
+    requires contest { All (λ tail. tail.n ≡ counted.now.bag.n) tails.now }
+    ensures { IfOk result (IsRaced counted.now.bag nodes tails.now workers first) }
+{
+    let alloc = rt.alloc();
+    let Seats { race, seats } = Race::new(alloc, tails.len() as u32, first.margin, workers)?;
+    let mut team = team_of(alloc, seats)?;
+    run_team(
+        rt,
+        alloc,
+        &race,
+        team.as_mut_slice(),
+        counted,
+        tails,
+        nodes,
+        gate,
+    );
+    let Joined {
+        seats,
+        ends,
+        reports,
+        best,
+        spent,
+    } = join(alloc, team, first)?;
+    race.finish(seats);
+    Ok(Raced {
+        ends,
+        reports,
+        best,
+        spent,
+    })
+}

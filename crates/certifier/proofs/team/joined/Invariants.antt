@@ -1,0 +1,15 @@
+use Rattle.std.proofs.Common.{◌≡◌, ◌++◌, ◌<◌, ℕ, List, length}
+use Rattle.std.specs.Vec.Iter.{into_iter_items}
+use Rattle.set_tallies.specs.Bags.{Kept, IsOf}
+use Rattle.certifier.specs.declared.gather.Task.{Task}
+use Rattle.certifier.specs.Pieces.{IsTask}
+use Rattle.certifier.specs.Parts.{IsPart, AreParts}
+use Rattle.certifier.proofs.Dealing.{dealt_below}
+use Rattle.certifier.proofs.team.joined.Given as goal
+
+abbrev pub invariant-loop-part : goal.invariant-loop-part
+invariant-loop-part l = record {
+  whole : l.fn.parts.items ≡ l.yielded ++ into_iter_items l.part-iterator;
+  all : (bag : Kept) (task : Task) (workers : ℕ) (records : List (List ℕ)) → AreParts bag task workers l.fn.parts.items → IsOf bag records → IsTask bag.n records task →
+      (0 < length l.yielded → 1 < bag.n) × IsPart bag.n records task (dealt_below workers (length l.yielded)) l.all;
+}

@@ -1,0 +1,97 @@
+// The workers, each in a thread.
+ghost use Rattle.std.specs.Prelude.{◌≡◌, ◌<◌, ◌≤◌, ℕ, List, IfOk, length};
+ghost use Rattle.set_tallies.specs.Bags.{Kept, IsOf};
+ghost use Rattle.certifier.specs.Pieces.{IsTask};
+ghost use Rattle.certifier.specs.Parts.{IsPartOfSeveral, HasPart, AreParts, is_any};
+ghost use Rattle.certifier.specs.declared.limits.TheConstants.{MOST_WORKERS};
+ghost use Rattle.certifier.specs.declared.gather.Task.{Task as TheTask};
+
+use crate::gather::{Share, Task, gather};
+use crate::part::Part;
+use irv_base::Memory;
+use set_tallies::Counted;
+use std::alloc::Global;
+use std::thread;
+use std::thread::Threads;
+
+/// A place for the part of each worker. Before it is done it holds an `Err`.
+fn places(alloc: Global, workers: u32) -> Result<Vec<Result<Part, Memory>>, Memory>
+    ensures { IfOk result (λ places. length places.items ≡ workers) }
+{
+    let mut places = Vec::with_capacity(alloc, workers as usize)?;
+    for _worker in 0..workers {
+        places.push(Err(Memory))?;
+    }
+    Ok(places)
+}
+
+// The part of one worker, over tallies of its own.
+fn part_of(
+    alloc: Global,
+    task: &Task,
+    counted: &Counted,
+    number: u32,
+    workers: u32,
+) -> Result<Part, Memory>
+    requires { 1 ≤ workers }
+    ensures { HasPart counted.now.bag task.now workers number result }
+{
+    let mut tallies = counted.tallies()?;
+    gather(alloc, task, &Share { number, workers }, &mut tallies)
+}
+
+// Lets each worker find its part.
+fn run<R: Threads + Sync>(
+    rt: &R,
+    alloc: Global,
+    task: &Task,
+    counted: &Counted,
+    parts: &mut [Result<Part, Memory>],
+    workers: u32,
+)
+    requires each { length parts.old ≡ workers }
+    requires workers { (1 ≤ workers) × (workers ≤ MOST_WORKERS) }
+    ensures len { length parts.new ≡ length parts.old }
+    ensures parts { AreParts counted.now.bag task.now workers parts.new }
+{
+    thread::for_each_mut(
+        rt,
+        parts,
+        parts.len(),
+        &|i, part: &mut Result<Part, Memory>|
+            requires { (i < workers) × (1 ≤ workers) × (workers ≤ MOST_WORKERS) }
+            ensures { HasPart counted.entry.now.bag task.entry.now workers i part.exit.now }
+        { *part = part_of(alloc, task, counted, i as u32, workers) },
+    );
+}
+
+// The parts of all workers, put together.
+fn joined(alloc: Global, parts: Vec<Result<Part, Memory>>) -> Result<Part, Memory>
+    ensures { IfOk result (λ all. (bag : Kept) (task : TheTask) (workers : ℕ) (records : List (List ℕ))
+        → length parts.items ≡ workers → AreParts bag task workers parts.items → IsOf bag records
+        → IsTask bag.n records task → 1 ≤ workers → IsPartOfSeveral bag.n records task is_any all) }
+{
+    let mut all = Part::new(alloc);
+    for part in parts {
+        all = all.join(part?)?;
+    }
+    Ok(all)
+}
+
+/// What the workers find among the suffixes of all orders that elect another candidate.
+pub fn gather_all<R: AllocGlobal + Threads + Sync>(
+    rt: &R,
+    task: &Task,
+    counted: &Counted,
+    workers: u32,
+) -> Result<Part, Memory>
+    requires { (1 ≤ workers) × (workers ≤ MOST_WORKERS) }
+    ensures { (records : List (List ℕ)) → IsOf counted.now.bag records
+        → IsTask counted.now.bag.n records task.now
+        → IfOk result (IsPartOfSeveral counted.now.bag.n records task.now is_any) }
+{
+    let alloc = rt.alloc();
+    let mut parts = places(alloc, workers)?;
+    run(rt, alloc, task, counted, parts.as_mut_slice(), workers);
+    joined(alloc, parts)
+}

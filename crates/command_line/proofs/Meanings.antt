@@ -12,7 +12,7 @@ use Rattle.command_line.specs.Table.{text_of, kind_of, is_number_kind, is_number
 use Rattle.command_line.specs.Values.{is_number, number, is_value}
 use Rattle.irv_base.specs.declared.limits.TheConstants.{MOST_NUMBER_DIGITS}
 use Rattle.command_line.specs.declared.table.OptionName.{OptionName}
-use Rattle.command_line.specs.declared.table.OptionName.TheVariants.{Contest, Nodes, Floor, Draws, Limit, Gamma}
+use Rattle.command_line.specs.declared.table.OptionName.TheVariants.{Contest, Workers, Nodes, Floor, Draws, Limit, Gamma, Candidates, Ballots}
 use Rattle.command_line.specs.declared.table.OptionName.TheVariants as option
 use Rattle.command_line.specs.declared.table.ValueKind.{ValueKind}
 use Rattle.command_line.specs.declared.table.ValueKind.TheVariants.{Id, Seed, Number}
@@ -22,12 +22,16 @@ use Rattle.command_line.specs.declared.table.ValueKind.TheVariants.{Id, Seed, Nu
 -- no two options have one name
 same_option : (a b : OptionName) → bytes_eq (text_of a) (text_of b) ≡ true → a ≡ b
 same_option Contest Contest h = refl
+same_option Workers Workers h = refl
 same_option Nodes Nodes h = refl
 same_option Floor Floor h = refl
 same_option option.Seed option.Seed h = refl
 same_option Draws Draws h = refl
 same_option Limit Limit h = refl
 same_option Gamma Gamma h = refl
+same_option option.Number option.Number h = refl
+same_option Candidates Candidates h = refl
+same_option Ballots Ballots h = refl
 same_option _ _ h = absurd (false≢true h)
 
 abbrev most_of : ValueKind → ℕ
@@ -38,12 +42,16 @@ most_of (Number least most default) = most
 -- numbers have room
 small : (option : OptionName) → most_of (kind_of option) < 2 ^ 32
 small Contest = omega arith
+small Workers = omega arith
 small Nodes = omega arith
 small Floor = omega arith
 small option.Seed = omega arith
 small Draws = omega arith
 small Limit = omega arith
 small Gamma = omega arith
+small option.Number = omega arith
+small Candidates = omega arith
+small Ballots = omega arith
 
 -- ---- the text of an option
 

@@ -6,7 +6,7 @@ use Rattle.clap.proofs.OnLiterals.{clap_on_literals}
 use Rattle.command_line.specs.OneForm.{app_of_command, one_form, Shows}
 use Rattle.command_line.specs.Pieces.{Piece}
 use Rattle.command_line.specs.declared.table.CommandName.{CommandName}
-use Rattle.command_line.specs.declared.table.CommandName.TheVariants.{Search, Tabulate, Check, Sample, Plan, Open, Audit, Report}
+use Rattle.command_line.specs.declared.table.CommandName.TheVariants.{Search, Tabulate, Check, Sample, Plan, Open, Audit, Report, Trial}
 
 pub record IsTaken (command : CommandName) (pieces : List Piece) : Type 0 where
   pub simple : is_simple (app_of_command command) ≡ true
@@ -15,7 +15,7 @@ pub record IsTaken (command : CommandName) (pieces : List Piece) : Type 0 where
 
 pub is_taken : (command : CommandName) (pieces : List Piece) → IsTaken command pieces
 unfolding clap_on_literals
-is_taken Search pieces = record { simple = refl; taken = refl; shown = record { options = (refl, (refl, (refl, tt))); files = (refl, tt) } }
+is_taken Search pieces = record { simple = refl; taken = refl; shown = record { options = (refl, (refl, (refl, (refl, tt)))); files = (refl, tt) } }
 is_taken Tabulate pieces = record { simple = refl; taken = refl; shown = record { options = (refl, tt); files = (refl, tt) } }
 is_taken Check pieces = record { simple = refl; taken = refl; shown = record { options = (refl, (refl, tt)); files = (refl, (refl, tt)) } }
 is_taken Sample pieces = record { simple = refl; taken = refl; shown = record { options = (refl, (refl, tt)); files = (refl, tt) } }
@@ -31,3 +31,4 @@ is_taken Audit pieces = record {
   shown = record { options = (refl, (refl, tt)); files = (refl, (refl, (refl, (refl, (refl, tt))))) };
 }
 is_taken Report pieces = record { simple = refl; taken = refl; shown = record { options = tt; files = (refl, tt) } }
+is_taken Trial pieces = record { simple = refl; taken = refl; shown = record { options = (refl, (refl, (refl, (refl, (refl, tt))))); files = tt } }

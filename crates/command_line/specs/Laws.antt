@@ -1,15 +1,15 @@
 -- The laws of lines.
 use Rattle.std.specs.Prelude.{◌≡◌, ◌≤◌, ℕ, Bool, true, false, List, [], ◌∷◌, length, replicate, Some, is_some, codes}
-use Rattle.irv_base.specs.declared.limits.TheConstants.{GREATEST_GAMMA, GREATEST_LIMIT, MOST_DRAWS}
+use Rattle.irv_base.specs.declared.limits.TheConstants.{FEWEST_CANDIDATES, GREATEST_GAMMA, GREATEST_LIMIT, MOST_CANDIDATES, MOST_DRAWS, MOST_RECORDS}
 use Rattle.sampler.specs.Seeds.{is_seed}
 use Rattle.command_line.specs.Line.{is_line, command_of}
 use Rattle.command_line.specs.Table.{kind_of}
 use Rattle.command_line.specs.Values.{is_number, is_value}
 use Rattle.command_line.specs.declared.command.Command.{Command}
-use Rattle.command_line.specs.declared.command.Command.TheVariants.{Search, Tabulate, Check, Sample, Plan, Open, Audit, Report}
-use Rattle.command_line.specs.declared.limits.TheConstants.{MOST_NODES, MOST_FLOOR, DEFAULT_NODES, DEFAULT_FLOOR, DEFAULT_LIMIT, DEFAULT_GAMMA}
+use Rattle.command_line.specs.declared.command.Command.TheVariants.{Search, Tabulate, Check, Sample, Plan, Open, Audit, Report, Trial}
+use Rattle.command_line.specs.declared.limits.TheConstants.{MOST_WORKERS, MOST_NODES, MOST_FLOOR, MOST_TRIAL_NUMBER, DEFAULT_WORKERS, DEFAULT_NODES, DEFAULT_FLOOR, DEFAULT_LIMIT, DEFAULT_GAMMA, DEFAULT_CANDIDATES, DEFAULT_BALLOTS}
 use Rattle.command_line.specs.declared.table.OptionName.{OptionName}
-use Rattle.command_line.specs.declared.table.OptionName.TheVariants.{Nodes, Floor, Seed, Draws, Limit, Gamma}
+use Rattle.command_line.specs.declared.table.OptionName.TheVariants.{Workers, Nodes, Floor, Seed, Draws, Limit, Gamma, Number, Candidates, Ballots}
 
 -- Words are a line exactly where they have a meaning.
 abbrev pub LinesHaveMeanings : Type 0
@@ -20,13 +20,18 @@ LinesHaveMeanings = (words : List (List ℕ)) → is_line words ≡ is_some (com
 abbrev pub IsNamed : List ℕ → Type 0
 IsNamed file = 1 ≤ length file
 
+-- a number from the one to the other
+abbrev pub IsFromTo : ℕ → ℕ → ℕ → Type 0
+IsFromTo least most n = (least ≤ n) × (n ≤ most)
+
 -- a number from 1 to so many
 abbrev pub IsUpTo : ℕ → ℕ → Type 0
-IsUpTo most n = (1 ≤ n) × (n ≤ most)
+IsUpTo most n = IsFromTo 1 most n
 
 -- the files have names, the numbers are within their limits, and a seed is one
 abbrev pub IsChecked : Command → Type 0
-IsChecked (Search ballots contest nodes floor) = IsNamed ballots × IsUpTo MOST_NODES nodes × IsUpTo MOST_FLOOR floor
+IsChecked (Search ballots contest workers nodes floor) =
+    IsNamed ballots × IsUpTo MOST_WORKERS workers × IsUpTo MOST_NODES nodes × IsUpTo MOST_FLOOR floor
 IsChecked (Tabulate ballots contest) = IsNamed ballots
 IsChecked (Check ballots assertions contest nodes) = IsNamed ballots × IsNamed assertions × IsUpTo MOST_NODES nodes
 IsChecked (Sample manifest seed draws) = IsNamed manifest × (is_seed seed ≡ true) × IsUpTo MOST_DRAWS draws
@@ -38,6 +43,9 @@ IsChecked (Open ballots manifest assertions seed contest limit gamma nodes) =
 IsChecked (Audit session ballots manifest assertions seen draws nodes) =
     IsNamed session × IsNamed ballots × IsNamed manifest × IsNamed assertions × IsNamed seen × IsUpTo MOST_DRAWS draws × IsUpTo MOST_NODES nodes
 IsChecked (Report session) = IsNamed session
+IsChecked (Trial number candidates ballots workers nodes) =
+    (number ≤ MOST_TRIAL_NUMBER) × IsFromTo FEWEST_CANDIDATES MOST_CANDIDATES candidates × IsUpTo MOST_RECORDS ballots
+    × IsUpTo MOST_WORKERS workers × IsUpTo MOST_NODES nodes
 
 abbrev pub LinesAreChecked : Type 0
 LinesAreChecked = (words : List (List ℕ)) (command : Command) → command_of words ≡ Some command → IsChecked command
@@ -45,18 +53,27 @@ LinesAreChecked = (words : List (List ℕ)) (command : Command) → command_of w
 -- ---- the limits
 
 pub record Limits : Type 0 where
+  pub workers : MOST_WORKERS ≡ 8
+  pub default_workers : DEFAULT_WORKERS ≡ 4
   pub nodes : MOST_NODES ≡ 200000
   pub default_nodes : DEFAULT_NODES ≡ 100000
   pub floor : MOST_FLOOR ≡ 1000000
   pub default_floor : DEFAULT_FLOOR ≡ 1
   pub default_limit : DEFAULT_LIMIT ≡ 50000
   pub default_gamma : DEFAULT_GAMMA ≡ 100
+  pub trial_number : MOST_TRIAL_NUMBER ≡ 4294967295
+  pub default_candidates : DEFAULT_CANDIDATES ≡ 6
+  pub default_ballots : DEFAULT_BALLOTS ≡ 10000
 
 abbrev is_taken : OptionName → List ℕ → Bool
 is_taken option text = is_value (kind_of option) text
 
 -- texts on both sides of each limit
 pub record Examples : Type 0 where
+  pub least_workers : is_taken Workers (codes "1") ≡ true
+  pub no_workers : is_taken Workers (codes "0") ≡ false
+  pub most_workers : is_taken Workers (codes "8") ≡ true
+  pub more_workers : is_taken Workers (codes "9") ≡ false
   pub least_nodes : is_taken Nodes (codes "1") ≡ true
   pub no_nodes : is_taken Nodes (codes "0") ≡ false
   pub most_nodes : is_taken Nodes (codes "200000") ≡ true
@@ -77,6 +94,17 @@ pub record Examples : Type 0 where
   pub no_gamma : is_taken Gamma (codes "0") ≡ false
   pub most_gamma : is_taken Gamma (codes "500") ≡ true
   pub more_gamma : is_taken Gamma (codes "501") ≡ false
+  pub least_number : is_taken Number (codes "0") ≡ true
+  pub most_number : is_taken Number (codes "4294967295") ≡ true
+  pub more_number : is_taken Number (codes "4294967296") ≡ false
+  pub fewest_candidates : is_taken Candidates (codes "2") ≡ true
+  pub one_candidate : is_taken Candidates (codes "1") ≡ false
+  pub most_candidates : is_taken Candidates (codes "20") ≡ true
+  pub more_candidates : is_taken Candidates (codes "21") ≡ false
+  pub one_ballot : is_taken Ballots (codes "1") ≡ true
+  pub no_ballots : is_taken Ballots (codes "0") ≡ false
+  pub most_ballots : is_taken Ballots (codes "1000000") ≡ true
+  pub more_ballots : is_taken Ballots (codes "1000001") ≡ false
   pub ten_digits : is_number (codes "0000000001") ≡ true
   pub eleven_digits : is_number (codes "00000000001") ≡ false
   pub no_digits : is_number (codes "") ≡ false
@@ -91,6 +119,19 @@ pub record Examples : Type 0 where
 
 -- ---- lines
 
+abbrev search_line : List (List ℕ) → List (List ℕ)
+search_line options = codes "search" ∷ codes "a.raire" ∷ options
+
+-- a search may have a number of workers, once
+pub record Searches : Type 0 where
+  pub none : is_line (search_line []) ≡ true
+  pub two_words : is_line (search_line (codes "--workers" ∷ codes "8" ∷ [])) ≡ true
+  pub one_word : is_line (search_line (codes "--workers=8" ∷ [])) ≡ true
+  pub before_the_file : is_line (codes "search" ∷ codes "--workers" ∷ codes "1" ∷ codes "a.raire" ∷ []) ≡ true
+  pub nine : is_line (search_line (codes "--workers=9" ∷ [])) ≡ false
+  pub twice : is_line (search_line (codes "--workers=8" ∷ codes "--workers=8" ∷ [])) ≡ false
+  pub no_value : is_line (search_line (codes "--workers" ∷ [])) ≡ false
+
 abbrev sample_line : List (List ℕ) → List (List ℕ)
 sample_line options = codes "sample" ∷ codes "m.csv" ∷ options
 
@@ -101,3 +142,15 @@ pub record Samples : Type 0 where
   pub no_seed : is_line (sample_line (codes "--draws" ∷ codes "3" ∷ [])) ≡ false
   pub no_draws : is_line (sample_line (codes "--seed" ∷ codes "2024" ∷ [])) ≡ false
   pub two_seeds : is_line (sample_line (codes "--seed" ∷ codes "1" ∷ codes "--seed" ∷ codes "2" ∷ codes "--draws=3" ∷ [])) ≡ false
+
+abbrev trial_line : List (List ℕ) → List (List ℕ)
+trial_line options = codes "trial" ∷ options
+
+-- a trial needs a number, and has no file
+pub record Trials : Type 0 where
+  pub number : is_line (trial_line (codes "--number" ∷ codes "7" ∷ [])) ≡ true
+  pub no_number : is_line (trial_line []) ≡ false
+  pub without_number : is_line (trial_line (codes "--candidates=6" ∷ codes "--ballots=100" ∷ [])) ≡ false
+  pub two_numbers : is_line (trial_line (codes "--number=7" ∷ codes "--number=7" ∷ [])) ≡ false
+  pub with_file : is_line (trial_line (codes "--number=7" ∷ codes "a.raire" ∷ [])) ≡ false
+  pub all : is_line (trial_line (codes "--nodes=9" ∷ codes "--workers=8" ∷ codes "--ballots=1" ∷ codes "--candidates=20" ∷ codes "--number=0" ∷ [])) ≡ true

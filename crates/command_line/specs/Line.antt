@@ -7,11 +7,11 @@ use Rattle.command_line.specs.Table.{form_of, commands, kind_of, is_needed, defa
 use Rattle.command_line.specs.Pieces.{Piece, pieces, files_in, values_in, fits}
 use Rattle.command_line.specs.Values.{number}
 use Rattle.command_line.specs.declared.command.Command.{Command}
-use Rattle.command_line.specs.declared.command.Command.TheVariants.{Search, Tabulate, Check, Sample, Plan, Open, Audit, Report}
+use Rattle.command_line.specs.declared.command.Command.TheVariants.{Search, Tabulate, Check, Sample, Plan, Open, Audit, Report, Trial}
 use Rattle.command_line.specs.declared.table.CommandName.{CommandName}
 use Rattle.command_line.specs.declared.table.CommandName.TheVariants as name
 use Rattle.command_line.specs.declared.table.OptionName.{OptionName}
-use Rattle.command_line.specs.declared.table.OptionName.TheVariants.{Contest, Nodes, Floor, Seed, Draws, Limit, Gamma}
+use Rattle.command_line.specs.declared.table.OptionName.TheVariants.{Contest, Workers, Nodes, Floor, Seed, Draws, Limit, Gamma, Number, Candidates, Ballots}
 
 -- ---- the rules
 
@@ -64,7 +64,8 @@ number_of option pieces = unwrap_or (option_map number (value option pieces)) (d
 
 -- the command with its files and the values of its options
 abbrev pub meaning : CommandName → List Piece → Command
-meaning name.Search pieces = Search (file 0 pieces) (contest pieces) (number_of Nodes pieces) (number_of Floor pieces)
+meaning name.Search pieces =
+    Search (file 0 pieces) (contest pieces) (number_of Workers pieces) (number_of Nodes pieces) (number_of Floor pieces)
 meaning name.Tabulate pieces = Tabulate (file 0 pieces) (contest pieces)
 meaning name.Check pieces = Check (file 0 pieces) (file 1 pieces) (contest pieces) (number_of Nodes pieces)
 meaning name.Sample pieces = Sample (file 0 pieces) (seed pieces) (number_of Draws pieces)
@@ -75,6 +76,9 @@ meaning name.Open pieces =
 meaning name.Audit pieces =
     Audit (file 0 pieces) (file 1 pieces) (file 2 pieces) (file 3 pieces) (file 4 pieces) (number_of Draws pieces) (number_of Nodes pieces)
 meaning name.Report pieces = Report (file 0 pieces)
+meaning name.Trial pieces =
+    Trial (number_of Number pieces) (number_of Candidates pieces) (number_of Ballots pieces) (number_of Workers pieces)
+    (number_of Nodes pieces)
 
 abbrev pub command_by : Option CommandName → List (List ℕ) → Option Command
 command_by None words = None

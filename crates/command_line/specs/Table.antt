@@ -1,9 +1,9 @@
 -- The commands and the options: a line for each.
 use Rattle.std.specs.Prelude.{ℕ, Bool, true, false, List, [], ◌∷◌, None, Some, is_none, unwrap_or, codes}
-use Rattle.irv_base.specs.declared.limits.TheConstants.{GREATEST_GAMMA, GREATEST_LIMIT, MOST_DRAWS}
-use Rattle.command_line.specs.declared.limits.TheConstants.{MOST_NODES, MOST_FLOOR, DEFAULT_NODES, DEFAULT_FLOOR, DEFAULT_LIMIT, DEFAULT_GAMMA}
+use Rattle.irv_base.specs.declared.limits.TheConstants.{FEWEST_CANDIDATES, GREATEST_GAMMA, GREATEST_LIMIT, MOST_CANDIDATES, MOST_DRAWS, MOST_RECORDS}
+use Rattle.command_line.specs.declared.limits.TheConstants.{MOST_WORKERS, MOST_NODES, MOST_FLOOR, MOST_TRIAL_NUMBER, DEFAULT_WORKERS, DEFAULT_NODES, DEFAULT_FLOOR, DEFAULT_LIMIT, DEFAULT_GAMMA, DEFAULT_CANDIDATES, DEFAULT_BALLOTS}
 use Rattle.command_line.specs.declared.table.CommandName.{CommandName}
-use Rattle.command_line.specs.declared.table.CommandName.TheVariants.{Search, Tabulate, Check, Sample, Plan, Open, Audit, Report}
+use Rattle.command_line.specs.declared.table.CommandName.TheVariants.{Search, Tabulate, Check, Sample, Plan, Open, Audit, Report, Trial}
 use Rattle.command_line.specs.declared.table.OptionName.{OptionName}
 use Rattle.command_line.specs.declared.table.OptionName.TheVariants as option
 use Rattle.command_line.specs.declared.table.ValueKind.{ValueKind}
@@ -16,7 +16,11 @@ pub record Form : Type 0 where
   pub options : List OptionName
 
 abbrev pub form_of : CommandName → Form
-form_of Search = record { word = codes "search"; files = codes "ballots" ∷ []; options = option.Contest ∷ option.Nodes ∷ option.Floor ∷ [] }
+form_of Search = record {
+  word = codes "search";
+  files = codes "ballots" ∷ [];
+  options = option.Contest ∷ option.Workers ∷ option.Nodes ∷ option.Floor ∷ [];
+}
 form_of Tabulate = record { word = codes "tabulate"; files = codes "ballots" ∷ []; options = option.Contest ∷ [] }
 form_of Check = record { word = codes "check"; files = codes "ballots" ∷ codes "assertions" ∷ []; options = option.Contest ∷ option.Nodes ∷ [] }
 form_of Sample = record { word = codes "sample"; files = codes "manifest" ∷ []; options = option.Seed ∷ option.Draws ∷ [] }
@@ -32,29 +36,42 @@ form_of Audit = record {
   options = option.Draws ∷ option.Nodes ∷ [];
 }
 form_of Report = record { word = codes "report"; files = codes "session" ∷ []; options = [] }
+form_of Trial = record {
+  word = codes "trial";
+  files = [];
+  options = option.Number ∷ option.Candidates ∷ option.Ballots ∷ option.Workers ∷ option.Nodes ∷ [];
+}
 
 abbrev pub commands : List CommandName
-commands = Search ∷ Tabulate ∷ Check ∷ Sample ∷ Plan ∷ Open ∷ Audit ∷ Report ∷ []
+commands = Search ∷ Tabulate ∷ Check ∷ Sample ∷ Plan ∷ Open ∷ Audit ∷ Report ∷ Trial ∷ []
 
 -- an option's name, without the hyphens
 abbrev pub text_of : OptionName → List ℕ
 text_of option.Contest = codes "contest"
+text_of option.Workers = codes "workers"
 text_of option.Nodes = codes "nodes"
 text_of option.Floor = codes "floor"
 text_of option.Seed = codes "seed"
 text_of option.Draws = codes "draws"
 text_of option.Limit = codes "limit"
 text_of option.Gamma = codes "gamma"
+text_of option.Number = codes "number"
+text_of option.Candidates = codes "candidates"
+text_of option.Ballots = codes "ballots"
 
 -- what its value may be
 abbrev pub kind_of : OptionName → ValueKind
 kind_of option.Contest = Id
+kind_of option.Workers = Number 1 MOST_WORKERS (Some DEFAULT_WORKERS)
 kind_of option.Nodes = Number 1 MOST_NODES (Some DEFAULT_NODES)
 kind_of option.Floor = Number 1 MOST_FLOOR (Some DEFAULT_FLOOR)
 kind_of option.Seed = Seed
 kind_of option.Draws = Number 1 MOST_DRAWS None
 kind_of option.Limit = Number 1 GREATEST_LIMIT (Some DEFAULT_LIMIT)
 kind_of option.Gamma = Number 1 GREATEST_GAMMA (Some DEFAULT_GAMMA)
+kind_of option.Number = Number 0 MOST_TRIAL_NUMBER None
+kind_of option.Candidates = Number FEWEST_CANDIDATES MOST_CANDIDATES (Some DEFAULT_CANDIDATES)
+kind_of option.Ballots = Number 1 MOST_RECORDS (Some DEFAULT_BALLOTS)
 
 abbrev pub is_number_kind : ValueKind → Bool
 is_number_kind Id = false

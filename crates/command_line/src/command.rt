@@ -24,6 +24,7 @@ pub enum Command {
     Search {
         ballots: FileName,
         contest: Option<Name>,
+        workers: u32,
         nodes: u32,
         floor: u32,
     },
@@ -77,6 +78,14 @@ pub enum Command {
     Report {
         session: FileName,
     },
+    /// What a search comes to of so many ballots of a contest that is drawn from a number.
+    Trial {
+        number: u32,
+        candidates: u32,
+        ballots: u32,
+        workers: u32,
+        nodes: u32,
+    },
 }
 
 fn search(alloc: Global, matches: &ArgMatches<'_>) -> Result<Command, AllocError>
@@ -85,6 +94,7 @@ fn search(alloc: Global, matches: &ArgMatches<'_>) -> Result<Command, AllocError
     Ok(Command::Search {
         ballots: file(alloc, BALLOTS, matches)?,
         contest: contest(matches),
+        workers: number(OptionName::Workers, matches),
         nodes: number(OptionName::Nodes, matches),
         floor: number(OptionName::Floor, matches),
     })
@@ -170,6 +180,18 @@ fn report(alloc: Global, matches: &ArgMatches<'_>) -> Result<Command, AllocError
     })
 }
 
+fn trial(matches: &ArgMatches<'_>) -> Command
+    ensures { IsMeant CommandName.Trial (rows_of (found_of matches.now)) (Ok result) }
+{
+    Command::Trial {
+        number: number(OptionName::Number, matches),
+        candidates: number(OptionName::Candidates, matches),
+        ballots: number(OptionName::Ballots, matches),
+        workers: number(OptionName::Workers, matches),
+        nodes: number(OptionName::Nodes, matches),
+    }
+}
+
 // The command of the matches of its line.
 fn read_command(
     alloc: Global,
@@ -188,6 +210,7 @@ fn read_command(
         CommandName::Open => open_session(alloc, matches),
         CommandName::Audit => audit(alloc, matches),
         CommandName::Report => report(alloc, matches),
+        CommandName::Trial => Ok(trial(matches)),
     }
 }
 

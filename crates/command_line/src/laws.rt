@@ -1,5 +1,5 @@
 //! The laws of lines: each holds of all words, and has no code.
-ghost use Rattle.command_line.specs.Laws.{LinesHaveMeanings, LinesAreChecked, Limits, Examples, Samples};
+ghost use Rattle.command_line.specs.Laws.{LinesHaveMeanings, LinesAreChecked, Limits, Examples, Searches, Samples, Trials};
 
 /// Words are a line exactly where they have a meaning.
 pub fn lines_have_meanings()
@@ -21,7 +21,17 @@ pub fn examples()
     ensures { Examples }
 {}
 
+/// Lines of `search`, with and without workers.
+pub fn search_lines()
+    ensures { Searches }
+{}
+
 /// Lines of `sample`, with and without what they need.
 pub fn sample_lines()
     ensures { Samples }
+{}
+
+/// Lines of `trial`, with and without the number that they need.
+pub fn trial_lines()
+    ensures { Trials }
 {}

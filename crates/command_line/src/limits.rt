@@ -1,10 +1,25 @@
 // The limits and the defaults of options, each stated here once.
 
+/// The greatest number that a trial is drawn from.
+pub const MOST_TRIAL_NUMBER: u32 = 4_294_967_295;
+
+/// The candidates of a trial where a line doesn't say.
+pub const DEFAULT_CANDIDATES: u32 = 6;
+
+/// The ballots of a trial where a line doesn't say.
+pub const DEFAULT_BALLOTS: u32 = 10_000;
+
 /// The most suffixes that a search or a check may take for one candidate.
 pub const MOST_NODES: u32 = 200_000;
 
 /// So many where a line doesn't say.
 pub const DEFAULT_NODES: u32 = 100_000;
+
+/// The most workers that a search may have side by side.
+pub const MOST_WORKERS: u32 = 8;
+
+/// So many where a line doesn't say.
+pub const DEFAULT_WORKERS: u32 = 4;
 
 /// The greatest floor of a search's margin, in votes.
 pub const MOST_FLOOR: u32 = 1_000_000;

@@ -3,9 +3,12 @@ ghost use Rattle.std.specs.Prelude.{◌≡◌, map};
 ghost use Rattle.command_line.specs.Table.{form_of, text_of, kind_of, is_needed, default_of};
 
 use crate::limits::{
-    DEFAULT_FLOOR, DEFAULT_GAMMA, DEFAULT_LIMIT, DEFAULT_NODES, MOST_FLOOR, MOST_NODES,
+    DEFAULT_BALLOTS, DEFAULT_CANDIDATES, DEFAULT_FLOOR, DEFAULT_GAMMA, DEFAULT_LIMIT,
+    DEFAULT_NODES, DEFAULT_WORKERS, MOST_FLOOR, MOST_NODES, MOST_TRIAL_NUMBER, MOST_WORKERS,
 };
-use irv_base::{GREATEST_GAMMA, GREATEST_LIMIT, MOST_DRAWS};
+use irv_base::{
+    FEWEST_CANDIDATES, GREATEST_GAMMA, GREATEST_LIMIT, MOST_CANDIDATES, MOST_DRAWS, MOST_RECORDS,
+};
 
 /// The commands that there are.
 #[derive(Clone, Copy, Debug, PartialEq, Eq)]
@@ -18,18 +21,23 @@ pub enum CommandName {
     Open,
     Audit,
     Report,
+    Trial,
 }
 
 /// The options that there are.
 #[derive(Clone, Copy, Debug, PartialEq, Eq)]
 pub enum OptionName {
     Contest,
+    Workers,
     Nodes,
     Floor,
     Seed,
     Draws,
     Limit,
     Gamma,
+    Number,
+    Candidates,
+    Ballots,
 }
 
 /// What the value of an option may be.
@@ -55,7 +63,7 @@ pub struct Form<'f> {
     pub options: &'f [OptionName],
 }
 
-pub const COMMANDS: [CommandName; 8] = [
+pub const COMMANDS: [CommandName; 9] = [
     CommandName::Search,
     CommandName::Tabulate,
     CommandName::Check,
@@ -64,6 +72,7 @@ pub const COMMANDS: [CommandName; 8] = [
     CommandName::Open,
     CommandName::Audit,
     CommandName::Report,
+    CommandName::Trial,
 ];
 
 pub const BALLOTS: &str = "ballots";
@@ -86,7 +95,12 @@ impl CommandName {
             CommandName::Search => Form {
                 word: "search",
                 files: &[BALLOTS],
-                options: &[OptionName::Contest, OptionName::Nodes, OptionName::Floor],
+                options: &[
+                    OptionName::Contest,
+                    OptionName::Workers,
+                    OptionName::Nodes,
+                    OptionName::Floor,
+                ],
             },
             CommandName::Tabulate => Form {
                 word: "tabulate",
@@ -129,6 +143,17 @@ impl CommandName {
                 files: &[SESSION],
                 options: &[],
             },
+            CommandName::Trial => Form {
+                word: "trial",
+                files: &[],
+                options: &[
+                    OptionName::Number,
+                    OptionName::Candidates,
+                    OptionName::Ballots,
+                    OptionName::Workers,
+                    OptionName::Nodes,
+                ],
+            },
         }
     }
 }
@@ -139,12 +164,16 @@ impl OptionName {
     {
         match self {
             OptionName::Contest => "contest",
+            OptionName::Workers => "workers",
             OptionName::Nodes => "nodes",
             OptionName::Floor => "floor",
             OptionName::Seed => "seed",
             OptionName::Draws => "draws",
             OptionName::Limit => "limit",
             OptionName::Gamma => "gamma",
+            OptionName::Number => "number",
+            OptionName::Candidates => "candidates",
+            OptionName::Ballots => "ballots",
         }
     }
 
@@ -153,6 +182,11 @@ impl OptionName {
     {
         match self {
             OptionName::Contest => ValueKind::Id,
+            OptionName::Workers => ValueKind::Number {
+                least: 1,
+                most: MOST_WORKERS,
+                default: Some(DEFAULT_WORKERS),
+            },
             OptionName::Nodes => ValueKind::Number {
                 least: 1,
                 most: MOST_NODES,
@@ -178,6 +212,21 @@ impl OptionName {
                 least: 1,
                 most: GREATEST_GAMMA,
                 default: Some(DEFAULT_GAMMA),
+            },
+            OptionName::Number => ValueKind::Number {
+                least: 0,
+                most: MOST_TRIAL_NUMBER,
+                default: None,
+            },
+            OptionName::Candidates => ValueKind::Number {
+                least: FEWEST_CANDIDATES,
+                most: MOST_CANDIDATES,
+                default: Some(DEFAULT_CANDIDATES),
+            },
+            OptionName::Ballots => ValueKind::Number {
+                least: 1,
+                most: MOST_RECORDS,
+                default: Some(DEFAULT_BALLOTS),
             },
         }
     }

@@ -23,6 +23,8 @@ fn takes_lines(rt: HostRuntime) -> Result<(), Fail> {
         "search --contest 1 row1.raire",
         "search --contest=1 -- row1.raire",
         "search row1.raire --nodes 200000 --floor=0000000001",
+        "search --workers 1 row1.raire",
+        "search row1.raire --workers=08 --nodes 1",
         "tabulate --contest 7 -- --nodes",
         "check row1.raire f.json",
         "check --nodes=200000 a --contest 7 -- -b",
@@ -35,6 +37,9 @@ fn takes_lines(rt: HostRuntime) -> Result<(), Fail> {
         "audit s.json a.raire m.csv f.json v.csv --draws 4",
         "audit --draws=100000 s.json --nodes 200000 -- a.raire m.csv f.json -v",
         "report s.json",
+        "trial --number 0",
+        "trial --number=4294967295 --candidates 20 --ballots=1000000",
+        "trial --workers 8 --candidates=2 --nodes 200000 --ballots 1 --number 0000000007",
     ];
     for line in lines {
         assert!(rt; is_taken(rt.alloc(), line)?);
@@ -52,6 +57,13 @@ fn takes_no_other_words(rt: HostRuntime) -> Result<(), Fail> {
         "search a b",
         "find a",
         "search a --floor 0",
+        "search a --workers 0",
+        "search a --workers 9",
+        "search a --workers",
+        "search --workers a",
+        "search a --workers=",
+        "search a --workers 2 --workers 2",
+        "check a b --workers 1",
         "search a --nodes 200001",
         "search a --nodes 00000000001",
         "search a --floor 1000001",
@@ -90,6 +102,23 @@ fn takes_no_other_words(rt: HostRuntime) -> Result<(), Fail> {
         "audit s.json a.raire m.csv f.json v.csv --draws 4 --seed 1",
         "report",
         "report s.json --nodes 1",
+        "trial",
+        "trial 7",
+        "trial --number",
+        "trial --number 4294967296",
+        "trial --number 7 --number 7",
+        "trial --number 7 a.raire",
+        "trial --number 7 --candidates 1",
+        "trial --number 7 --candidates 21",
+        "trial --number 7 --ballots 0",
+        "trial --number 7 --ballots 1000001",
+        "trial --number 7 --workers 0",
+        "trial --number 7 --workers 9",
+        "trial --number 7 --nodes 0",
+        "trial --number 7 --nodes 200001",
+        "trial --number 7 --floor 1",
+        "trial --candidates 2 --ballots 1",
+        "search a --number 7",
     ];
     for line in lines {
         assert!(rt; !is_taken(rt.alloc(), line)?);
@@ -99,12 +128,16 @@ fn takes_no_other_words(rt: HostRuntime) -> Result<(), Fail> {
 
 #[test]
 fn reads_a_search(rt: HostRuntime) -> Result<(), Fail> {
-    let words = words(rt.alloc(), "search --contest 1 row1.raire --nodes=08")?;
+    let words = words(
+        rt.alloc(),
+        "search --contest 1 row1.raire --nodes=08 --workers 2",
+    )?;
     let command = read(rt.alloc(), words.as_slice()).expect(&rt, "memory");
     let Some(
         Command::Search {
             ballots,
             contest,
+            workers,
             nodes,
             floor,
         },
@@ -114,6 +147,7 @@ fn reads_a_search(rt: HostRuntime) -> Result<(), Fail> {
     };
     assert!(rt; ballots.as_str() == "row1.raire");
     assert!(rt; contest.is_some_and(|name| name.bytes() == b"1".as_slice()));
+    assert!(rt; workers == 2);
     assert!(rt; nodes == 8);
     assert!(rt; floor == 1);
     Ok(())
@@ -255,5 +289,29 @@ fn reads_a_report(rt: HostRuntime) -> Result<(), Fail> {
         panic!(rt; "no report");
     };
     assert!(rt; session.as_str() == "s.json");
+    Ok(())
+}
+
+#[test]
+fn reads_a_trial(rt: HostRuntime) -> Result<(), Fail> {
+    let words = words(rt.alloc(), "trial --candidates=3 --number 0 --workers 2")?;
+    let command = read(rt.alloc(), words.as_slice()).expect(&rt, "memory");
+    let Some(
+        Command::Trial {
+            number,
+            candidates,
+            ballots,
+            workers,
+            nodes,
+        },
+    ) = command
+    else {
+        panic!(rt; "no trial");
+    };
+    assert!(rt; number == 0);
+    assert!(rt; candidates == 3);
+    assert!(rt; ballots == 10_000);
+    assert!(rt; workers == 2);
+    assert!(rt; nodes == 100_000);
     Ok(())
 }

@@ -21,10 +21,9 @@ use Rattle.assertion_file.specs.Content.{Content, IsMargin, IsSoundClaim}
 use Rattle.set_tallies.specs.Bags.{Kept, IsOf}
 use Rattle.irv_tabulator.specs.Results.{IsTabulation}
 use Rattle.irv_tabulator.specs.declared.tabulated.Tabulated.{Tabulated}
-use Rattle.bound_search.specs.Race.{work_for, IsBest, IsBestOver, IsTooMuch, IsSpentOver}
-use Rattle.bound_search.specs.declared.ends.RaceFault.{RaceFault}
+use Rattle.bound_search.specs.Race.{work_for, IsBest, IsTooMuch}
 use Rattle.bound_search.specs.declared.ends.RaceEnd.{RaceEnd}
-use Rattle.certifier.specs.Certified.{IsWithin, IsOver, IsCertified, IsSpent as IsCertificateSpent}
+use Rattle.certifier.specs.Certified.{IsWithin, IsOver, IsCertified, IsSpent as IsOverBudget}
 use Rattle.certifier.specs.declared.certificate.Certificate.{Certificate}
 use Rattle.contest_commands.specs.Contest.{candidate_count, IsWon}
 use Rattle.contest_commands.specs.Search.{low_of, margin_of, order_of, order_count_of, certificate_nodes, certificate_of, IsSpent}
@@ -44,13 +43,6 @@ won_by ballots t is = record { order = t.order; permutation = is.order; tabulate
 best_of : (ballots : BallotFile) (bag : Kept) (t : Tabulated) (end : RaceEnd) → IsCounted ballots bag t → IsBestOf bag t end → IsBest (candidate_count ballots) ballots.rankings t.winner end
 best_of ballots bag t end c best = subst (λ n. IsBest n ballots.rankings t.winner end) c.candidates (best ballots.rankings c.records)
 
--- what the race says over the bag, it says over that of the tallies
-pub spent_same : (a b : Kept) (t : Tabulated) (nodes : ℕ) (fault : RaceFault) → a ≡ b → IsSpentOver b t nodes fault → IsSpentOver a t nodes fault
-spent_same a b t nodes fault same h = subst (λ x. IsSpentOver x t nodes fault) (sym same) h
-
-pub best_same : (a b : Kept) (winner : ℕ) (end : RaceEnd) → a ≡ b → IsBestOver b winner end → IsBestOver a winner end
-best_same a b winner end same h = subst (λ x. IsBestOver x winner end) (sym same) h
-
 -- ---- a budget that is spent
 
 pub race-spent : (ballots : BallotFile) (t : Tabulated) (nodes last upper : ℕ) (order : List ℕ) → IsTabulation (candidate_count ballots) ballots.rankings t →
@@ -61,7 +53,7 @@ race-spent ballots t nodes last upper order is much =
       winner = t.winner;
       won = won_by ballots t is;
       named = record { candidate = much.candidate; other = much.other };
-      above = omega (arith, more);
+      cause = inl (record { above = more });
       alternative = much.alternative;
       hardness = sym much.hardness;
       within = much.reached;
@@ -81,8 +73,15 @@ over-above ballots winner nodes last order is (inr count) =
     ap (λ o. order_count_of ballots (margin_of ballots winner) o last) is in
     omega (arith, count, same)
 
+within-budget : (ballots : BallotFile) (winner nodes : ℕ) (order : List ℕ) (c : ℕ) → order_of ballots winner ≡ Some order →
+    IsWithin (candidate_count ballots) (low_of ballots) (margin_of ballots winner) order nodes c → certificate_nodes ballots winner c ≤ nodes
+within-budget ballots winner nodes order c is (cover, count) =
+    let same : order_count_of ballots (margin_of ballots winner) (order_of ballots winner) c ≡ order_count (candidate_count ballots) (low_of ballots) (margin_of ballots winner) order c =
+    ap (λ o. order_count_of ballots (margin_of ballots winner) o c) is in
+    omega (arith, cover, count, same)
+
 pub certificate-spent : (ballots : BallotFile) (t : Tabulated) (end : RaceEnd) (nodes last : ℕ) → 1 < candidate_count ballots → IsTabulation (candidate_count ballots) ballots.rankings t →
-    IsBest (candidate_count ballots) ballots.rankings t.winner end → IsCertificateSpent (candidate_count ballots) ballots.rankings t.winner end.margin nodes last → IsSpent nodes ballots last end.order end.margin
+    IsBest (candidate_count ballots) ballots.rankings t.winner end → IsOverBudget (candidate_count ballots) ballots.rankings t.winner end.margin nodes last → IsSpent nodes ballots last end.order end.margin
 certificate-spent ballots t end nodes last two is best spent =
     let n = candidate_count ballots in
     let margin : end.margin ≡ margin_of ballots t.winner = best.best in
@@ -93,7 +92,12 @@ certificate-spent ballots t end nodes last two is best spent =
       winner = t.winner;
       won = won_by ballots t is;
       named = record { candidate = spent.below; other = spent.alternative };
-      above = omega (arith, over);
+      cause = inr (record {
+        above = over;
+        least = λ c other before.
+            within-budget ballots t.winner nodes spent.order c order (subst (λ m. IsWithin n (low_of ballots) m spent.order nodes c) margin (spent.least c before other.other));
+        best = margin;
+      });
       alternative = best.alternative;
       hardness = sym best.hardness;
       within = omega (arith, first, margin);
@@ -161,7 +165,7 @@ certified ballots t end nodes x file is best c shown =
         least = least;
         is = shown ∙ content_same ballots t.winner x (c.margin ∙ best.best) c.claims;
       };
-      budget = λ k other. in_budget ballots t.winner nodes x.order k least (subst (λ m. IsWithin n (low_of ballots) m x.order nodes k) best.best (c.within k other.candidate other.other));
+      budget = λ k other. within-budget ballots t.winner nodes x.order k least (subst (λ m. IsWithin n (low_of ballots) m x.order nodes k) best.best (c.within k other.candidate other.other));
     }
   where
     content_same : (ballots : BallotFile) (winner : ℕ) (x : Certificate) → x.margin ≡ margin_of ballots winner → x.claims.items ≡ certificate_claims (candidate_count ballots) ballots.rankings winner →
@@ -176,13 +180,6 @@ certified ballots t end nodes x file is best c shown =
       claims = claims i;
     }
 
-    in_budget : (ballots : BallotFile) (winner nodes : ℕ) (order : List ℕ) (k : ℕ) → order_of ballots winner ≡ Some order →
-        IsWithin (candidate_count ballots) (low_of ballots) (margin_of ballots winner) order nodes k → certificate_nodes ballots winner k ≤ nodes
-    in_budget ballots winner nodes order k is (cover, count) =
-        let same : order_count_of ballots (margin_of ballots winner) (order_of ballots winner) k ≡ order_count (candidate_count ballots) (low_of ballots) (margin_of ballots winner) order k =
-        ap (λ o. order_count_of ballots (margin_of ballots winner) o k) is in
-        omega (arith, cover, count, same)
-
 -- ---- from what the parts answer for whatever records the bag is of
 
 module _ (ballots : BallotFile) (bag : Kept) (t : Tabulated) (counted : IsCounted ballots bag t) where
@@ -193,11 +190,11 @@ module _ (ballots : BallotFile) (bag : Kept) (t : Tabulated) (counted : IsCounte
   race_is_spent nodes last upper order much =
       race-spent ballots t nodes last upper order (tabulation_of ballots bag t counted) (of_ballots (λ n records. IsTooMuch n records t nodes last upper order) much)
 
-  pub certificate_is_spent : (end : RaceEnd) (nodes last : ℕ) → IsBestOf bag t end → ((records : List (List ℕ)) → IsOf bag records → IsCertificateSpent bag.n records t.winner end.margin nodes last) →
+  pub certificate_is_spent : (end : RaceEnd) (nodes last : ℕ) → IsBestOf bag t end → ((records : List (List ℕ)) → IsOf bag records → IsOverBudget bag.n records t.winner end.margin nodes last) →
       IsSpent nodes ballots last end.order end.margin
   certificate_is_spent end nodes last best spent =
       certificate-spent ballots t end nodes last counted.two (tabulation_of ballots bag t counted) (best_of ballots bag t end counted best)
-      (of_ballots (λ n records. IsCertificateSpent n records t.winner end.margin nodes last) spent)
+      (of_ballots (λ n records. IsOverBudget n records t.winner end.margin nodes last) spent)
 
   pub is_printable : (end : RaceEnd) (nodes : ℕ) (x : Certificate) → IsBestOf bag t end → ((records : List (List ℕ)) → IsOf bag records → IsCertified bag.n records t.winner end.margin nodes x) →
       IsPrintable ballots t.winner x

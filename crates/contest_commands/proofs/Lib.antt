@@ -3,6 +3,10 @@ pub mod Contests
 pub mod Searches
 pub mod Tabulations
 mod Findings
+mod FoundThere
+mod Numbered
 pub mod Nodes
 pub mod Printed
 pub mod Checks
+pub mod Tried
+mod TrialLaws

@@ -1,5 +1,5 @@
--- How many nodes suffice for a search.
-use Rattle.std.proofs.Common.{ℕ, [], ◌<◌, ◌≤◌, ◌-◌, ◌*◌, List, Option, None, Some, arith}
+-- How many nodes suffice for a search, and that one that is spent needs more than it has.
+use Rattle.std.proofs.Common.{◌⊎◌, inl, inr, ℕ, [], ◌<◌, ◌≤◌, ◌-◌, ◌*◌, List, Option, None, Some, arith}
 use Rattle.assertions.specs.Suffixes.{factorial}
 use Rattle.assertions.specs.Certificate.{cover_count}
 use Rattle.assertions.proofs.Few.{parts_are_few, counts_are_few}
@@ -7,7 +7,7 @@ use Rattle.bound_search.specs.Race.{work_for}
 use Rattle.bound_search.proofs.Fewness.{work_few}
 use Rattle.ballot_reader.specs.Ballots.{BallotFile}
 use Rattle.contest_commands.specs.Contest.{candidate_count, IsOther}
-use Rattle.contest_commands.specs.Search.{low_of, margin_of, order_of, order_count_of, nodes_for}
+use Rattle.contest_commands.specs.Search.{low_of, margin_of, order_of, order_count_of, certificate_nodes, nodes_for, IsRaceSpent, IsCertificateSpent, IsSpent}
 
 work-few : (n : ℕ) (records : List (List ℕ)) (order : List ℕ) (c : ℕ) → c < n → work_for n records order c ≤ 2 * factorial (n - 1)
 work-few n records order c below =
@@ -28,3 +28,13 @@ nodes_are_few ballots tabulated winner c other =
     let b = cover-few ballots (margin_of ballots winner) c other.candidate in
     let d = order-few ballots (margin_of ballots winner) (order_of ballots winner) c other.candidate in
     omega (arith, a, b, d)
+
+by-cause : (nodes : ℕ) (ballots : BallotFile) (tabulated : List ℕ) (winner last margin : ℕ) →
+    IsRaceSpent nodes ballots tabulated last ⊎ IsCertificateSpent nodes ballots winner last margin → nodes < nodes_for ballots tabulated winner last
+by-cause nodes ballots tabulated winner last margin (inl race) =
+    let above : nodes < work_for (candidate_count ballots) ballots.rankings tabulated last = race.above in omega (arith, above)
+by-cause nodes ballots tabulated winner last margin (inr it) =
+    let above : nodes < certificate_nodes ballots winner last = it.above in omega (arith, above)
+
+pub spent_above : (nodes : ℕ) (ballots : BallotFile) (last : ℕ) (order : List ℕ) (margin : ℕ) (is : IsSpent nodes ballots last order margin) → nodes < nodes_for ballots is.won.order is.winner last
+spent_above nodes ballots last order margin is = by-cause nodes ballots is.won.order is.winner last margin is.cause

@@ -1,5 +1,5 @@
 -- A search comes to one end, but for its budget.
-use Rattle.std.proofs.Common.{◌≡◌, inl, inr, ℕ, ◌<◌, List, [], ◌∷◌, All, Option, Some, Result, Ok, Err, refl, sym, ap, subst, arith, ◌∙◌}
+use Rattle.std.proofs.Common.{◌≡◌, inl, inr, ℕ, ◌<◌, ◌≤◌, List, [], ◌∷◌, All, Option, Some, Result, Ok, Err, refl, sym, ap, subst, arith, ◌∙◌}
 use Rattle.std.proofs.lemmas.List.Elements.{All-nil, All-cons}
 use Rattle.irv_base.specs.Names.{Id}
 use Rattle.irv_base.proofs.Members.{Member, here, there}
@@ -8,14 +8,14 @@ use Rattle.ballot_reader.specs.Ballots.{BallotFile}
 use Rattle.ballot_reader.specs.Grammar.{Refusal, ballots_of}
 use Rattle.assertion_file.specs.Content.{Content}
 use Rattle.assertion_file.specs.Text.{assertion_file_text}
-use Rattle.cli_base.specs.Outcome.{Verdict, Answered, outcome}
+use Rattle.cli_base.specs.Outcome.{Verdict, Answered, One, outcome}
 use Rattle.cli_base.specs.Script.{Agree, AreOfKind, IsOfKind, SameButBudget}
 use Rattle.cli_base.specs.declared.outcome.AnswerKind.TheVariants.{Done, Tie, Spent, FullCount}
 use Rattle.cli_base.proofs.Ended.{one-same, of_answers, one-kind, refused-kind}
 use Rattle.cli_base.proofs.Scripts.{some_is}
-use Rattle.contest_commands.specs.Contest.{candidate_count, IsWon, HasTie}
+use Rattle.contest_commands.specs.Contest.{candidate_count, IsWon, IsOther, HasTie}
 use Rattle.contest_commands.specs.declared.search.Terms.{Terms}
-use Rattle.contest_commands.specs.Search.{low_of, order_of, certificate_of, full_count_text, IsCertificateOf, HasCertificate, HasSpent, HasFullCount, Finds, FindsIn, Kinds, script}
+use Rattle.contest_commands.specs.Search.{low_of, order_of, certificate_nodes, certificate_of, full_count_text, IsInBudget, IsCertificateOf, HasCertificate, HasSpent, HasFullCount, Finds, FindsIn, Kinds, script}
 use Rattle.contest_commands.proofs.Contests.{winner-one, winner-below, tie-one, never_both}
 
 pub each : {X : Type 0} (P : X → Type 0) (xs : List X) → ((x : X) → Member x xs → P x) → All P xs
@@ -84,6 +84,25 @@ found_in-kind terms name (Ok ballots) v (inr (inr (inr a))) = one-kind Kinds (Ha
 
 pub kinds : (name : List ℕ) (contest : Option Id) (terms : Terms) → AreOfKind Kinds (script name contest terms)
 kinds name contest terms = λ bytes v found. found_in-kind terms name (ballots_of bytes contest) v found
+
+-- ---- a count of the certificate above the nodes
+
+over-budget : (ballots : BallotFile) (winner other c nodes : ℕ) → IsWon ballots winner → IsWon ballots other → IsOther ballots winner c →
+    nodes < certificate_nodes ballots winner c → IsInBudget ballots other nodes → ⊥
+over-budget ballots winner other c nodes won its is above budget =
+    let w = winner-one ballots winner other won its in
+    let within : certificate_nodes ballots other c ≤ nodes = budget c (subst (λ v. IsOther ballots v c) w is) in
+    let same : certificate_nodes ballots winner c ≡ certificate_nodes ballots other c = ap (λ v. certificate_nodes ballots v c) w in
+    omega (arith, above, within, same)
+
+pub spent_where_above : (terms : Terms) (ballots : BallotFile) (winner c : ℕ) (v : Verdict) → IsWon ballots winner → IsOther ballots winner c →
+    terms.nodes < certificate_nodes ballots winner c → Finds terms ballots v → One (HasSpent terms ballots) Spent v
+spent_where_above terms ballots winner c v won other above (inl (text, has, e)) =
+    absurd (over-budget ballots winner has.is.winner c terms.nodes won has.is.won other above has.budget)
+spent_where_above terms ballots winner c v won other above (inr (inl (text, tie, e))) = absurd (never_both ballots winner text won tie)
+spent_where_above terms ballots winner c v won other above (inr (inr (inl has))) = has
+spent_where_above terms ballots winner c v won other above (inr (inr (inr (text, has, e)))) =
+    absurd (over-budget ballots winner has.is.winner c terms.nodes won has.is.won other above has.budget)
 
 -- ---- the texts of a kind
 

@@ -1,9 +1,10 @@
 -- The contest that a command is about: its files, or what is wrong with one, and its first tie or its winner.
-use Rattle.std.specs.Prelude.{◌≡◌, ◌≢◌, ◌≤◌, ◌<◌, ℕ, List, ◌++◌, length, Result, codes}
+use Rattle.std.specs.Prelude.{◌≡◌, ◌≢◌, ◌≤◌, ◌<◌, ℕ, List, [], ◌++◌, length, All, Result, codes}
 use Rattle.std.specs.Fmt.{decimal}
 use Rattle.irv_base.specs.Names.{Id}
 use Rattle.irv_base.specs.Tabulation.{IsFirstTie}
-use Rattle.ballot_reader.specs.Ballots.{BallotFile}
+use Rattle.irv_base.specs.declared.limits.TheConstants.{MOST_RECORDS}
+use Rattle.ballot_reader.specs.Ballots.{AreCandidates, BallotFile}
 use Rattle.ballot_reader.specs.Faults.{rule_name}
 use Rattle.ballot_reader.specs.Grammar.{Refusal}
 use Rattle.assertion_file.specs.Content.{Content}
@@ -17,6 +18,20 @@ use Rattle.report.specs.Texts.{set_text}
 
 abbrev pub candidate_count : BallotFile → ℕ
 candidate_count ballots = length ballots.candidates
+
+-- ---- what a search has to know of it
+
+-- its id, the ids of its candidates and the rankings of its records, without ids of ballots and without places in a file
+abbrev pub contest_with : Id → List Id → List (List ℕ) → BallotFile
+contest_with id candidates rankings = record { contest = id; candidates = candidates; ids = []; places = []; rankings = rankings }
+
+abbrev pub searched : BallotFile → BallotFile
+searched ballots = contest_with ballots.contest ballots.candidates ballots.rankings
+
+pub record IsWithinLimits (ballots : BallotFile) : Type 0 where
+  pub candidates : AreCandidates ballots.candidates
+  pub few : length ballots.rankings ≤ MOST_RECORDS
+  pub below : All (λ ranking. All (λ c. c < candidate_count ballots) ranking) ballots.rankings
 
 -- ---- its files
 

@@ -72,6 +72,16 @@ nodes_for ballots tabulated winner c = max (work_for (candidate_count ballots) b
 abbrev pub IsInBudget : BallotFile → ℕ → ℕ → Type 0
 IsInBudget ballots winner nodes = (c : ℕ) → IsOther ballots winner c → certificate_nodes ballots winner c ≤ nodes
 
+-- the race is spent at this candidate: the work of a piece whose orders elect it is above the nodes
+pub record IsRaceSpent (nodes : ℕ) (ballots : BallotFile) (tabulated : List ℕ) (last : ℕ) : Type 0 where
+  pub above : nodes < work_for (candidate_count ballots) ballots.rankings tabulated last
+
+-- the certificate is: of those who didn't win, this is the least candidate for whom it needs more; the margin is the best then
+pub record IsCertificateSpent (nodes : ℕ) (ballots : BallotFile) (winner last margin : ℕ) : Type 0 where
+  pub above : nodes < certificate_nodes ballots winner last
+  pub least : (c : ℕ) → IsOther ballots winner c → c < last → certificate_nodes ballots winner c ≤ nodes
+  pub best : margin ≡ margin_of ballots winner
+
 -- ---- the texts
 
 abbrev pub spent_lines : List ℕ → List ℕ → ℕ → List ℕ
@@ -101,12 +111,13 @@ pub record HasFullCount (terms : Terms) (ballots : BallotFile) (text : List ℕ)
   pub floor : file.margin < terms.floor
   pub shown : text ≡ full_count_text file terms.floor
 
--- a search is spent at this candidate, with an order that elects another candidate than the winner, no harder than the first that is tried
+-- a search is spent at this candidate, in the race or then in the certificate, with an order that elects another candidate than the
+-- winner, no harder than the first that is tried
 pub record IsSpent (nodes : ℕ) (ballots : BallotFile) (last : ℕ) (order : List ℕ) (margin : ℕ) : Type 0 where
   pub winner : ℕ
   pub won : IsWon ballots winner
   pub named : IsOther ballots winner last
-  pub above : nodes < nodes_for ballots won.order winner last
+  pub cause : IsRaceSpent nodes ballots won.order last ⊎ IsCertificateSpent nodes ballots winner last margin
   pub alternative : IsAlternative (candidate_count ballots) winner order
   pub hardness : margin ≡ low_of ballots order
   pub within : margin ≤ first_bound (candidate_count ballots) ballots.rankings won.order

@@ -3,15 +3,15 @@ ghost use Rattle.std.specs.Prelude.{◌≡◌, ◌≤◌, IfOk};
 ghost use Rattle.bound_search.specs.declared.limits.TheConstants.{MOST_WORKERS};
 ghost use Rattle.contest_commands.specs.Found.{FoundIn, IsCounted, IsBestOf, IsPrintable, content_of};
 
+use crate::searched::Contest;
 use assertion_file::AssertionFile;
 use assertions::Claim;
-use ballot_reader::Ballots;
 use bound_search::{RaceEnd, RaceFault, race};
 use certifier::{CertFault, Certificate, certify};
 use desk::Gate;
 use irv_base::{CandSet, Candidate, Memory, Order};
 use irv_tabulator::{TabFault, Tabulated, tabulate};
-use set_tallies::{Counted, Tallies};
+use set_tallies::Counted;
 use std::alloc::Global;
 use std::thread::Threads;
 
@@ -33,31 +33,22 @@ pub(crate) enum Found {
     },
 }
 
-/// What a search of the ballots finds, by so many workers, with so many nodes for each of their pieces.
+/// What a search of the contest finds, by so many workers, with so many nodes for each of their pieces.
 pub(crate) fn find<R: AllocGlobal + Threads + Sync, G: Gate + Sync>(
     rt: &R,
-    ballots: &Ballots,
+    contest: &Contest<'_>,
     nodes: u32,
     workers: u32,
     gate: &G,
 ) -> Result<Found, Memory>
     requires { (1 ≤ workers) × (workers ≤ MOST_WORKERS) }
-    ensures { IfOk result (FoundIn nodes ballots.now) }
+    ensures { IfOk result (FoundIn nodes contest.now) }
 {
     let alloc = rt.alloc();
-    let counted = Counted::of(alloc, ballots.candidates().len() as u32, ballots.rankings())?;
+    let counted = Counted::of(alloc, contest.candidates().len() as u32, contest.rankings())?;
     let mut tallies = counted.tallies()?;
     match tabulate(alloc, &mut tallies) {
-        Ok(tabulated) => race_of(
-            rt,
-            ballots,
-            &counted,
-            &mut tallies,
-            &tabulated,
-            nodes,
-            workers,
-            gate,
-        ),
+        Ok(tabulated) => race_of(rt, contest, &counted, &tabulated, nodes, workers, gate),
         Err(fault) => match fault {
             TabFault::Tie { round, tied, tally } => Ok(Found::Tie {
                 round,
@@ -72,21 +63,19 @@ pub(crate) fn find<R: AllocGlobal + Threads + Sync, G: Gate + Sync>(
 // What a search of a contest without a tie finds.
 fn race_of<R: AllocGlobal + Threads + Sync, G: Gate + Sync>(
     rt: &R,
-    ballots: &Ballots,
+    contest: &Contest<'_>,
     counted: &Counted,
-    tallies: &mut Tallies<'_>,
     tabulated: &Tabulated,
     nodes: u32,
     workers: u32,
     gate: &G,
 ) -> Result<Found, Memory>
     requires workers { (1 ≤ workers) × (workers ≤ MOST_WORKERS) }
-    requires bag { tallies.old.bag ≡ counted.now.bag }
-    requires counted { IsCounted ballots.now tallies.old.bag tabulated.now }
-    ensures { IfOk result (FoundIn nodes ballots.now) }
+    requires counted { IsCounted contest.now counted.now.bag tabulated.now }
+    ensures { IfOk result (FoundIn nodes contest.now) }
 {
     match race(rt, counted, tabulated, workers, nodes, gate) {
-        Ok(end) => certificate_of(rt.alloc(), ballots, tallies, tabulated, end, nodes),
+        Ok(end) => certificate_of(rt, contest, counted, tabulated, end, nodes, workers),
         Err(fault) => match fault {
             RaceFault::Spent { last, upper, order } => Ok(Found::Spent {
                 last,
@@ -99,22 +88,24 @@ fn race_of<R: AllocGlobal + Threads + Sync, G: Gate + Sync>(
 }
 
 // The certificate of the best margin.
-fn certificate_of(
-    alloc: Global,
-    ballots: &Ballots,
-    tallies: &mut Tallies<'_>,
+fn certificate_of<R: AllocGlobal + Threads + Sync>(
+    rt: &R,
+    contest: &Contest<'_>,
+    counted: &Counted,
     tabulated: &Tabulated,
     end: RaceEnd,
     nodes: u32,
+    workers: u32,
 ) -> Result<Found, Memory>
-    requires counted { IsCounted ballots.now tallies.old.bag tabulated.now }
-    requires best { IsBestOf tallies.old.bag tabulated.now end }
-    ensures { IfOk result (FoundIn nodes ballots.now) }
+    requires workers { (1 ≤ workers) × (workers ≤ MOST_WORKERS) }
+    requires counted { IsCounted contest.now counted.now.bag tabulated.now }
+    requires best { IsBestOf counted.now.bag tabulated.now end }
+    ensures { IfOk result (FoundIn nodes contest.now) }
 {
     let RaceEnd { margin, order, .. } = end;
-    match certify(alloc, tallies, tabulated, margin, nodes) {
+    match certify(rt, counted, tabulated, margin, nodes, workers) {
         Ok(certificate) => {
-            let file = file_of(alloc, ballots, tabulated.winner, certificate)?;
+            let file = file_of(rt.alloc(), contest, tabulated.winner, certificate)?;
             Ok(Found::Certificate(file))
         }
         Err(fault) => match fault {
@@ -131,27 +122,19 @@ fn certificate_of(
 // The assertion file that says what the certificate does.
 fn file_of(
     alloc: Global,
-    ballots: &Ballots,
+    contest: &Contest<'_>,
     winner: Candidate,
     certificate: Certificate,
 ) -> Result<AssertionFile, Memory>
-    requires { IsPrintable ballots.now winner certificate }
-    ensures { IfOk result (λ file. file ≡ content_of ballots.now winner certificate) }
+    requires { IsPrintable contest.now winner certificate }
+    ensures { IfOk result (λ file. file ≡ content_of contest.now winner certificate) }
 {
     let Certificate {
         claims,
         margin,
         order,
     } = certificate;
-    let names = ballots.candidates().to_vec(alloc)?;
-    let records = ballots.rankings().len() as u32;
-    Ok(AssertionFile::new(
-        *ballots.contest(),
-        names,
-        records,
-        winner,
-        margin,
-        order,
-        claims,
-    ))
+    let names = contest.candidates().to_vec(alloc)?;
+    let records = contest.rankings().len() as u32;
+    Ok(AssertionFile::new(*contest.id(), names, records, winner, margin, order, claims))
 }

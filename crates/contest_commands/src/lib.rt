@@ -1,5 +1,5 @@
-//! The commands on the contest of a ballot file, one a module: its tabulation, the assertions that confirm its winner, and whether an
-//! assertion file holds.
+//! The commands on a contest, one a module: its tabulation, the assertions that confirm its winner, whether an assertion file holds; and a
+//! trial, whose contest is no file's.
 #![tactic(auto)]
 
 pub mod check;
@@ -9,4 +9,7 @@ mod found;
 pub mod laws;
 pub mod search;
 mod search_texts;
+mod searched;
 pub mod tabulate;
+mod trial_texts;
+pub mod trials;

@@ -1,22 +1,23 @@
 // `search FILE`: the assertions that together confirm the winner of a ballot file's contest, or why there are none.
-ghost use Rattle.std.specs.Prelude.{◌≡◌, ◌≤◌, option_copied};
+ghost use Rattle.std.specs.Prelude.{◌≡◌, ◌≤◌, IfOk, option_copied};
 ghost use Rattle.desk.specs.Count.{Rose};
 ghost use Rattle.ballot_reader.specs.Grammar.{ballots_of};
 ghost use Rattle.cli_base.specs.Accounts.{IsAccountedFor};
 ghost use Rattle.cli_base.specs.Script.{ByDesk, MayOrMemory};
 ghost use Rattle.contest_commands.specs.Search.{Finds, FindsIn, script};
-ghost use Rattle.contest_commands.specs.Found.{IsFoundIn};
+ghost use Rattle.contest_commands.specs.Found.{FoundIn, IsFoundIn};
 ghost use Rattle.cli_base.specs.Due.{due, IsOneOrMemory};
 ghost use Rattle.bound_search.specs.declared.limits.TheConstants.{MOST_WORKERS};
 
 use crate::contest::{ballots_in, first_tie};
 use crate::found::{Found, find};
 use crate::search_texts::{full_count, spent};
+use crate::searched::Contest;
 use assertion_file::{AssertionFile, print_file};
 use ballot_reader::Ballots;
 use cli_base::{Answer, AnswerKind, Refusal, read_file};
 use desk::{Desk, Gate};
-use irv_base::Name;
+use irv_base::{Memory, Name};
 use std::alloc::Global;
 use std::thread::Threads;
 
@@ -67,6 +68,20 @@ fn search_in<R: AllocGlobal + Threads + Sync, G: Gate + Sync>(
     }
 }
 
+// What is found in the ballots.
+fn find_in<R: AllocGlobal + Threads + Sync, G: Gate + Sync>(
+    rt: &R,
+    ballots: &Ballots,
+    nodes: u32,
+    workers: u32,
+    gate: &G,
+) -> Result<Found, Memory>
+    requires { (1 ≤ workers) × (workers ≤ MOST_WORKERS) }
+    ensures { IfOk result (FoundIn nodes ballots.now) }
+{
+    find(rt, &Contest::of(ballots), nodes, workers, gate)
+}
+
 fn search<R: AllocGlobal + Threads + Sync, G: Gate + Sync>(
     rt: &R,
     ballots: &Ballots,
@@ -79,7 +94,7 @@ fn search<R: AllocGlobal + Threads + Sync, G: Gate + Sync>(
 {
     let alloc = rt.alloc();
     let names = ballots.candidates();
-    let found = find(rt, ballots, terms.nodes, workers, gate)?;
+    let found = find_in(rt, ballots, terms.nodes, workers, gate)?;
     match found {
         Found::Certificate(file) => certificate(alloc, ballots, &file, terms),
         Found::Tie { round, tied, votes } => first_tie(alloc, names, round, tied, votes),

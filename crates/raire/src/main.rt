@@ -1,6 +1,7 @@
 //! The program: the words of the command line, real files, the standard streams, and the top call.
 #![tactic(auto)]
 
+use cli_base::{Refusal, deliver};
 use desk::{FileDesk, NoGate, StreamSink};
 use raire_cli::run;
 use std::io::ErrorKind;
@@ -8,15 +9,10 @@ use std::process::ExitCode;
 use std::rt::Env;
 use std::{env, io};
 
-/// The words of the command line without the program's name, or the status that says why there are none.
-fn words<R: Env + AllocGlobal>(rt: &R) -> Result<Vec<String>, u8> {
-    match collect_words(rt) {
-        Ok(words) => Ok(words),
-        Err(e) if e.kind() == ErrorKind::OutOfMemory => Err(9),
-        Err(_) => Err(13),
-    }
-}
+// The status where the system doesn't give the words, or one of them isn't UTF-8.
+const NO_WORDS: u8 = 13;
 
+/// The words of the command line without the program's name.
 fn collect_words<R: Env + AllocGlobal>(rt: &R) -> io::Result<Vec<String>> {
     let mut words = Vec::new(rt.alloc());
     for word in env::args(rt)?.skip(1) {
@@ -26,13 +22,16 @@ fn collect_words<R: Env + AllocGlobal>(rt: &R) -> io::Result<Vec<String>> {
 }
 
 fn main(rt: HostRuntime) -> ExitCode {
-    let words = match words(&rt) {
-        Ok(words) => words,
-        Err(status) => return ExitCode::from(status),
-    };
-    let mut desk = FileDesk::new(&rt);
     let (stdout, stderr) = (rt.stdout(), rt.stderr());
     let mut out = StreamSink::new(io::writer(&stdout));
     let mut err = StreamSink::new(io::writer(&stderr));
+    let words = match collect_words(&rt) {
+        Ok(words) => words,
+        Err(e) if e.kind() == ErrorKind::OutOfMemory => {
+            return ExitCode::from(deliver(&Err(Refusal::Memory), &mut out, &mut err));
+        }
+        Err(_) => return ExitCode::from(NO_WORDS),
+    };
+    let mut desk = FileDesk::new(&rt);
     ExitCode::from(run(&rt, &words, &mut desk, &mut out, &mut err, &NoGate))
 }

@@ -59,7 +59,7 @@ IsKind kind = (kind ≡ Done) ⊎ (kind ≡ Unconfirmed)
 -- ---- the assertion file was accepted
 
 -- a check alone answers `yes`, which is no session
-not_checked : (nodes : ℕ) (ballots : BallotFile) (file : FileContent) (kind : AnswerKind) (text : List ℕ) → IsKind kind → is_accepted nodes ballots file ≡ false → Checks nodes ballots file (Answered kind text) → ⊥
+pub not_checked : (nodes : ℕ) (ballots : BallotFile) (file : FileContent) (kind : AnswerKind) (text : List ℕ) → IsKind kind → is_accepted nodes ballots file ≡ false → Checks nodes ballots file (Answered kind text) → ⊥
 not_checked nodes ballots file kind text (inl done) out (answer, found, is) =
     let holds = accepted_answer file answer text (subst (λ k. verdict_on file answer ≡ Some (Answered k text)) done is) in
     let accepted : is_accepted nodes ballots file ≡ true = (decided nodes ballots file).1 (subst (λ a. IsAnswer nodes ballots file a) holds found) in

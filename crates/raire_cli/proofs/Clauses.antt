@@ -1,6 +1,6 @@
 -- The clauses of `run`, each from how the call went.
 use Rattle.std.proofs.Common.{◌≡◌, ◌⊎◌, inl, inr, ⊎_elim, ℕ, List, Option, None, Some, IfSome, false, refl, sym, subst, ◌∙◌, arith}
-use Rattle.std.specs.Prelude.{is_some}
+use Rattle.std.specs.Prelude.{◌≢◌, is_some}
 use Rattle.desk.specs.Desk.{File}
 use Rattle.assertion_file.specs.Content.{Content}
 use Rattle.assertion_file.specs.Text.{assertion_file_text}
@@ -25,9 +25,13 @@ use Rattle.raire_cli.specs.Confirmation.{AsksForSearch, ConfirmsAsked, GivesReas
 use Rattle.raire_cli.specs.Acceptance.{AsksForCheck, HoldsAsked, IsUpheld}
 use Rattle.raire_cli.specs.Promises.{IsSearchable, IsComplete, IsExactUnlessOpen, HasCause}
 use Rattle.raire_cli.specs.Audits.{AsksForAudit, GoesOn, IsAudited}
+use Rattle.raire_cli.specs.Enough.{AreEnough, Judging, IsNeverSpent, judging_of}
+use Rattle.raire_cli.specs.Openings.{AsksForOpening, Opens, IsOpened}
 use Rattle.raire_cli.proofs.Accepted.{held_of}
 use Rattle.raire_cli.proofs.Audited.{IsKind, done_signed, goes_on, unconfirmed_not}
+use Rattle.raire_cli.proofs.Enough.{never_spent}
 use Rattle.raire_cli.proofs.Limited.{limited}
+use Rattle.raire_cli.proofs.Opened.{is_opened}
 use Rattle.raire_cli.proofs.EachCommand.{agrees_by, agrees_exactly, counts_in_full}
 use Rattle.raire_cli.proofs.Complete.{not_spent, has_answer}
 use Rattle.raire_cli.proofs.Headline.{confirms_asked, gives_reason}
@@ -78,6 +82,15 @@ module _ (words : List (List ℕ)) {held : Option (List File)} {failed : Type 0}
       (file, holds, subst (Took out) shown took))
       (answered_with story Done)
 
+  pub opened_clause : IsOpened held words status out
+  opened_clause = if_some held (λ files. status ≡ 0 → (text : List ℕ) × ComesTo (AsHeld files) (asked words) (Answered Done text) × Took out text)
+      (λ files. AsksForOpening words → status ≡ 0 → (session : SessionContent) × Opens words files session × Took out (session_text session))
+      (λ files answer asks zero.
+      let (text, comes, took) = answer zero in
+      let (session, opens, shown) = is_opened words files asks text comes in
+      (session, opens, subst (Took out) shown took))
+      (answered_with story Done)
+
   -- an audit that ends with an answer of this kind, and its session
   audited-of : (files : List File) (kind : AnswerKind) → IsKind kind → AsksForAudit words → (text : List ℕ) × ComesTo (AsHeld files) (asked words) (Answered kind text) × Took out text →
       (next : SessionContent) × (on : GoesOn words files next) × Took out (session_text next) × (kind ≡ kind_of next.session)
@@ -112,6 +125,12 @@ module _ (words : List (List ℕ)) {held : Option (List File)} {failed : Type 0}
 
   pub exact_promise : IsExactUnlessOpen held words status
   exact_promise command is closed = exact_clause story (asked_exact words command is closed)
+
+  pub enough_clause : IsNeverSpent held words status
+  enough_clause = if_some held (λ files. status ≡ 4 → HasAnswer (asked words) files Spent)
+      (λ files. (command : Command) (judging : Judging) → command_of words ≡ Some command → judging_of command ≡ Some judging → AreEnough files judging → status ≢ 4)
+      (λ files spent command judging line is enough four. never_spent words files command judging line is enough (spent four))
+      causes.spent
 
   -- ---- a search that can't be spent
 

@@ -11,6 +11,7 @@ use Rattle.cli_base.specs.declared.outcome.AnswerKind.TheVariants.{Done, Spent, 
 use Rattle.contest_commands.specs.Contest.{IsOther}
 use Rattle.contest_commands.specs.Search.{certificate_nodes, nodes_for, full_count_text, IsInBudget, HasCertificate, HasSpent, HasFullCount, Finds, FindsIn}
 use Rattle.contest_commands.proofs.Contests.{winner-one, same_tabulated}
+use Rattle.contest_commands.proofs.Nodes.{spent_above}
 use Rattle.contest_commands.proofs.ReadBallots.{ballots_fit}
 use Rattle.contest_commands.proofs.Searches.{won-certificate, spent_is}
 use Rattle.cli_base.proofs.Scripts.{some_is}
@@ -47,7 +48,8 @@ module _ (words : List (List ℕ)) (files : List File) (ok : IsSearchable words 
       let w : is.winner ≡ ok.winner = winner-one ok.ballots is.winner ok.winner is.won ok.asks.won in
       let other : IsOther ok.ballots ok.winner spent.last = subst (λ v. IsOther ok.ballots v spent.last) w is.named in
       let enough : nodes_for ok.ballots ok.asks.won.order ok.winner spent.last ≤ ok.asks.search.nodes = ok.budget spent.last other in
-      let above : ok.asks.search.nodes < nodes_for ok.ballots is.won.order is.winner spent.last = is.above in
+      let above : ok.asks.search.nodes < nodes_for ok.ballots is.won.order is.winner spent.last =
+      spent_above ok.asks.search.nodes ok.ballots spent.last spent.order spent.margin is in
       let same = ap (λ order. nodes_for ok.ballots order is.winner spent.last) (same_tabulated ok.ballots is.winner ok.winner is.won ok.asks.won)
       ∙ ap (λ v. nodes_for ok.ballots ok.asks.won.order v spent.last) w in
       omega (arith, enough, above, same)

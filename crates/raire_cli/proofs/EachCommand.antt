@@ -7,9 +7,11 @@ use Rattle.cli_base.specs.declared.outcome.AnswerKind.TheVariants.{FullCount}
 use Rattle.cli_base.proofs.Scripts.{agree-weaker, of_kind}
 use Rattle.command_line.specs.Line.{command_of}
 use Rattle.command_line.specs.declared.command.Command.{Command}
-use Rattle.command_line.specs.declared.command.Command.TheVariants.{Search, Tabulate, Check, Sample, Plan, Open, Audit, Report}
+use Rattle.command_line.specs.declared.command.Command.TheVariants.{Search, Tabulate, Check, Sample, Plan, Open, Audit, Report, Trial}
 use Rattle.contest_commands.specs.Tabulate as tabulate
 use Rattle.contest_commands.specs.Check as check
+use Rattle.contest_commands.specs.Trial as trial
+use Rattle.contest_commands.specs.declared.trials.Terms.{Terms as TrialTerms}
 use Rattle.audit_commands.specs.Sample as sample
 use Rattle.audit_commands.specs.Plan as plan
 use Rattle.audit_commands.specs.declared.plan.Setting.{Setting}
@@ -20,6 +22,7 @@ use Rattle.session_commands.specs.Report as report
 use Rattle.contest_commands.proofs.Searches as searches
 use Rattle.contest_commands.proofs.Tabulations as tabulations
 use Rattle.contest_commands.proofs.Checks as checks
+use Rattle.contest_commands.proofs.Tried as tried
 use Rattle.audit_commands.proofs.Samples as samples
 use Rattle.audit_commands.proofs.Plans as plans
 use Rattle.session_commands.proofs.Opens as opens
@@ -33,7 +36,7 @@ weaker script same = agree-weaker Same SameButBudget (λ d e same. inl same) scr
 
 -- A budget alone leaves a command open.
 agrees : (command : Command) → Agree SameButBudget (script_of command)
-agrees (Search ballots contest nodes floor) = searches.agrees ballots contest (record { nodes = nodes; floor = floor })
+agrees (Search ballots contest workers nodes floor) = searches.agrees ballots contest (record { nodes = nodes; floor = floor })
 agrees (Tabulate ballots contest) = weaker (tabulate.script ballots contest) (tabulations.agrees ballots contest)
 agrees (Check ballots assertions contest nodes) = weaker (check.script ballots assertions contest nodes) (checks.agrees ballots assertions contest nodes)
 agrees (Sample manifest seed draws) = weaker (sample.script manifest seed draws) (samples.agrees manifest seed draws)
@@ -45,14 +48,15 @@ agrees (Open ballots manifest assertions seed contest limit gamma nodes) =
 agrees (Audit session ballots manifest assertions seen draws nodes) =
     weaker (audit.script session ballots manifest assertions seen draws nodes) (audits.agrees session ballots manifest assertions seen draws nodes)
 agrees (Report session) = weaker (report.script session) (reports.agrees session)
+agrees (Trial number candidates ballots workers nodes) = tried.agrees (record { number = number; candidates = candidates; ballots = ballots; nodes = nodes })
 
 pub agrees_by : (command : Option Command) → AgreeOn SameButBudget (asked_by command)
 agrees_by None = tt
 agrees_by (Some command) = agrees command
 
--- Those that don't search come to one end.
+-- Those that search no contest come to one end.
 pub agrees_exactly : (command : Command) → is_open command ≡ false → Agree Same (script_of command)
-agrees_exactly (Search ballots contest nodes floor) closed = absurd (cc closed)
+agrees_exactly (Search ballots contest workers nodes floor) closed = absurd (cc closed)
 agrees_exactly (Tabulate ballots contest) closed = tabulations.agrees ballots contest
 agrees_exactly (Check ballots assertions contest nodes) closed = checks.agrees ballots assertions contest nodes
 agrees_exactly (Sample manifest seed draws) closed = samples.agrees manifest seed draws
@@ -61,6 +65,7 @@ agrees_exactly (Open ballots manifest assertions seed contest limit gamma nodes)
     opens.agrees ballots manifest assertions contest (record { seed = seed; limit = limit; gamma = gamma; nodes = nodes })
 agrees_exactly (Audit session ballots manifest assertions seen draws nodes) closed = audits.agrees session ballots manifest assertions seen draws nodes
 agrees_exactly (Report session) closed = reports.agrees session
+agrees_exactly (Trial number candidates ballots workers nodes) closed = absurd (cc closed)
 
 never_full : (kinds : AnswerKind → Type 0) → (kinds FullCount → ⊥) → (readings : Readings) (script : Script) (text : List ℕ) → AreOfKind kinds script → Concludes readings script (Answered FullCount text) → ⊥
 never_full kinds other readings script text are concludes = other (of_kind kinds readings script (Answered FullCount text) are concludes)
@@ -88,10 +93,15 @@ not_audited (inr (inr (inl e))) = cc e
 not_audited (inr (inr (inr (inl e)))) = cc e
 not_audited (inr (inr (inr (inr e)))) = cc e
 
+not_tried : trial.Kinds FullCount → ⊥
+not_tried (inl e) = cc e
+not_tried (inr (inl e)) = cc e
+not_tried (inr (inr e)) = cc e
+
 -- A full count is called for by a search alone.
 pub counts_in_full : (words : List (List ℕ)) (readings : Readings) (text : List ℕ) (command : Option Command) → command_of words ≡ command → ComesTo readings (asked_by command) (Answered FullCount text) → AsksForSearch words
 counts_in_full words readings text None is comes = absurd comes
-counts_in_full words readings text (Some (Search ballots contest nodes floor)) is comes = record { name = ballots; contest = contest; nodes = nodes; floor = floor; asked = is }
+counts_in_full words readings text (Some (Search ballots contest workers nodes floor)) is comes = record { name = ballots; contest = contest; workers = workers; nodes = nodes; floor = floor; asked = is }
 counts_in_full words readings text (Some (Tabulate ballots contest)) is comes =
     absurd (never_full tabulate.Kinds not_tabulated readings (tabulate.script ballots contest) text (tabulations.kinds ballots contest) comes)
 counts_in_full words readings text (Some (Check ballots assertions contest nodes)) is comes =
@@ -108,3 +118,6 @@ counts_in_full words readings text (Some (Audit session ballots manifest asserti
     absurd (never_full audit.Kinds not_audited readings (audit.script session ballots manifest assertions seen draws nodes) text (audits.kinds session ballots manifest assertions seen draws nodes) comes)
 counts_in_full words readings text (Some (Report session)) is comes =
     absurd (never_full report.Kinds (λ e. cc e) readings (report.script session) text (reports.kinds session) comes)
+counts_in_full words readings text (Some (Trial number candidates ballots workers nodes)) is comes =
+    let terms : TrialTerms = record { number = number; candidates = candidates; ballots = ballots; nodes = nodes } in
+    absurd (never_full trial.Kinds not_tried readings (trial.script terms) text (tried.kinds terms) comes)

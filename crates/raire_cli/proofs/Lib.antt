@@ -3,8 +3,15 @@ mod Headline
 mod Accepted
 mod Said
 mod Audited
+mod Opened
+mod Enough
 mod Limited
 mod EachCommand
+mod Workers
 mod Complete
 mod Clauses
 mod Nodes
+mod Agreement
+mod Ended
+mod Unconfirmed
+mod EachStatus

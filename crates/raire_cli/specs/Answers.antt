@@ -3,10 +3,11 @@ use Rattle.std.specs.Prelude.{ℕ, Bool, true, false, List, Option, None, Some}
 use Rattle.cli_base.specs.Script.{Script, Asked, Nothing, Runs}
 use Rattle.command_line.specs.Line.{command_of}
 use Rattle.command_line.specs.declared.command.Command.{Command}
-use Rattle.command_line.specs.declared.command.Command.TheVariants.{Search, Tabulate, Check, Sample, Plan, Open, Audit, Report}
+use Rattle.command_line.specs.declared.command.Command.TheVariants.{Search, Tabulate, Check, Sample, Plan, Open, Audit, Report, Trial}
 use Rattle.contest_commands.specs.Search as search
 use Rattle.contest_commands.specs.Tabulate as tabulate
 use Rattle.contest_commands.specs.Check as check
+use Rattle.contest_commands.specs.Trial as trial
 use Rattle.audit_commands.specs.Sample as sample
 use Rattle.audit_commands.specs.Plan as plan
 use Rattle.session_commands.specs.Open as opening
@@ -14,7 +15,7 @@ use Rattle.session_commands.specs.Audit as audit
 use Rattle.session_commands.specs.Report as report
 
 abbrev pub script_of : Command → Script
-script_of (Search ballots contest nodes floor) = search.script ballots contest (record { nodes = nodes; floor = floor })
+script_of (Search ballots contest workers nodes floor) = search.script ballots contest (record { nodes = nodes; floor = floor })
 script_of (Tabulate ballots contest) = tabulate.script ballots contest
 script_of (Check ballots assertions contest nodes) = check.script ballots assertions contest nodes
 script_of (Sample manifest seed draws) = sample.script manifest seed draws
@@ -23,6 +24,8 @@ script_of (Open ballots manifest assertions seed contest limit gamma nodes) =
     opening.script ballots manifest assertions contest (record { seed = seed; limit = limit; gamma = gamma; nodes = nodes })
 script_of (Audit session ballots manifest assertions seen draws nodes) = audit.script session ballots manifest assertions seen draws nodes
 script_of (Report session) = report.script session
+script_of (Trial number candidates ballots workers nodes) =
+    trial.script (record { number = number; candidates = candidates; ballots = ballots; nodes = nodes })
 
 abbrev pub asked_by : Option Command → Asked
 asked_by None = Nothing
@@ -33,7 +36,7 @@ asked words = asked_by (command_of words)
 
 -- a budget may leave open what the command comes to
 abbrev pub is_open : Command → Bool
-is_open (Search ballots contest nodes floor) = true
+is_open (Search ballots contest workers nodes floor) = true
 is_open (Tabulate ballots contest) = false
 is_open (Check ballots assertions contest nodes) = false
 is_open (Sample manifest seed draws) = false
@@ -41,3 +44,4 @@ is_open (Plan manifest assertions limit gamma) = false
 is_open (Open ballots manifest assertions seed contest limit gamma nodes) = false
 is_open (Audit session ballots manifest assertions seen draws nodes) = false
 is_open (Report session) = false
+is_open (Trial number candidates ballots workers nodes) = true

@@ -51,9 +51,10 @@ pub record Confirms (n : ℕ) (records : List (List ℕ)) (winner : ℕ) (file :
 pub record AsksForSearch (words : List (List ℕ)) : Type 0 where
   pub name : List ℕ
   pub contest : Option Id
+  pub workers : ℕ
   pub nodes : ℕ
   pub floor : ℕ
-  pub asked : command_of words ≡ Some (Search name contest nodes floor)
+  pub asked : command_of words ≡ Some (Search name contest workers nodes floor)
 
 -- its file is held and accepted, and the contest has this winner
 pub record AsksFor (words : List (List ℕ)) (files : List File) (ballots : BallotFile) (winner : ℕ) : Type 0 where

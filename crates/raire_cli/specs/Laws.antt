@@ -1,5 +1,5 @@
--- How many nodes suffice for a search, and which sessions of an audit the risk limit counts.
-use Rattle.std.specs.Prelude.{◌≡◌, ℕ, ◌≤◌, List, length, IsTrue}
+-- What the workers of a search or a trial change, how many nodes suffice for it, and which sessions of an audit the risk limit counts.
+use Rattle.std.specs.Prelude.{◌≡◌, ℕ, ◌≤◌, List, length, Option, Some, IsTrue, ⊤}
 use Rattle.desk.specs.Desk.{File}
 use Rattle.manifest.specs.Linked.{linked_of}
 use Rattle.audit_rounds.specs.Content.{Content}
@@ -7,10 +7,49 @@ use Rattle.audit_rounds.specs.Sessions.{is_signed_off}
 use Rattle.audit_laws.specs.Laws.{AreTrueEntries}
 use Rattle.audit_laws.specs.RiskLimit.{MayBeSignedOff}
 use Rattle.ballot_reader.specs.Ballots.{BallotFile}
-use Rattle.command_line.specs.declared.limits.TheConstants.{DEFAULT_NODES}
+use Rattle.bound_search.specs.declared.limits.TheConstants.{MOST_WORKERS as MOST_OF_A_RACE}
+use Rattle.cli_base.specs.Outcome.{Outcome}
+use Rattle.cli_base.specs.Script.{AsHeld, ByDesk, IsDue, MayCome, SameButBudget}
+use Rattle.command_line.specs.Line.{command_of}
+use Rattle.command_line.specs.declared.command.Command.TheVariants.{Search, Trial}
+use Rattle.command_line.specs.declared.limits.TheConstants.{DEFAULT_NODES, MOST_WORKERS}
+use Rattle.irv_base.specs.Names.{Id}
+use Rattle.raire_cli.specs.Answers.{asked}
 use Rattle.contest_commands.specs.Contest.{candidate_count, IsOther}
 use Rattle.contest_commands.specs.Search.{nodes_for}
 use Rattle.raire_cli.specs.Audits.{GoesOn, cards, drawn}
+
+-- A line may ask for as many workers as a race may have.
+abbrev pub WorkersOfARace : Type 0
+WorkersOfARace = MOST_WORKERS ≡ MOST_OF_A_RACE
+
+-- the words ask for a search with so many workers, all else being this
+abbrev pub AskForWorkers : List ℕ → Option Id → ℕ → ℕ → ℕ → List (List ℕ) → Type 0
+AskForWorkers name contest nodes floor workers words = command_of words ≡ Some (Search name contest workers nodes floor)
+
+-- Of two searches that differ in their workers alone, what the one may come to, the other may come to, whatever files there are, and
+-- where the desk or memory fails.
+abbrev pub WorkersAskTheSame : Type 0
+WorkersAskTheSame =
+    (name : List ℕ) (contest : Option Id) (nodes floor some more : ℕ) (words others : List (List ℕ)) →
+    AskForWorkers name contest nodes floor some words → AskForWorkers name contest nodes floor more others →
+    (held : Option (List File)) (due : Outcome) → IsDue (ByDesk held ⊤) (asked words) due → IsDue (ByDesk held ⊤) (asked others) due
+
+-- Over the same files they come to the same status and bytes, but for a budget that is spent.
+abbrev pub WorkersComeToTheSame : Type 0
+WorkersComeToTheSame =
+    (name : List ℕ) (contest : Option Id) (nodes floor some more : ℕ) (words others : List (List ℕ)) →
+    AskForWorkers name contest nodes floor some words → AskForWorkers name contest nodes floor more others →
+    (files : List File) (due other : Outcome) → MayCome (AsHeld files) (asked words) due → MayCome (AsHeld files) (asked others) other →
+    SameButBudget due other
+
+-- So it is of two trials.
+abbrev pub TrialsComeToTheSame : Type 0
+TrialsComeToTheSame =
+    (number candidates ballots nodes some more : ℕ) (words others : List (List ℕ)) →
+    command_of words ≡ Some (Trial number candidates ballots some nodes) → command_of others ≡ Some (Trial number candidates ballots more nodes) →
+    (files : List File) (due other : Outcome) → MayCome (AsHeld files) (asked words) due → MayCome (AsHeld files) (asked others) other →
+    SameButBudget due other
 
 -- The default suffices for up to nine candidates.
 abbrev pub DefaultSuffices : Type 0

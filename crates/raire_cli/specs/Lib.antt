@@ -2,5 +2,9 @@ pub mod Answers
 pub mod Confirmation
 pub mod Acceptance
 pub mod Audits
+pub mod Openings
+pub mod Enough
 pub mod Promises
 pub mod Laws
+pub mod Agreement
+pub mod EachStatus

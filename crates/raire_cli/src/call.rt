@@ -13,6 +13,8 @@ ghost use Rattle.raire_cli.specs.Acceptance.{IsUpheld};
 ghost use Rattle.raire_cli.specs.Answers.{asked};
 ghost use Rattle.raire_cli.specs.Audits.{IsAudited};
 ghost use Rattle.raire_cli.specs.Confirmation.{IsConfirmed, IsReasoned};
+ghost use Rattle.raire_cli.specs.Enough.{IsNeverSpent};
+ghost use Rattle.raire_cli.specs.Openings.{IsOpened};
 ghost use Rattle.raire_cli.specs.Promises.{IsComplete, IsExactUnlessOpen, HasCause};
 
 use crate::commands::answer_command;
@@ -56,8 +58,14 @@ pub fn run<R: AllocGlobal + Threads + Sync, D: Desk, O: Sink, E: Sink, G: Gate +
     ensures complete { IsComplete (D.held desk.old) (texts words.now) (Rose (D.faults desk.old) (D.faults desk.new))
         result (writing O.Sink out.old out.new) (writing E.Sink err.old err.new) }
 
+    // With enough nodes no check is spent, also where a session is opened or goes on.
+    ensures enough { IsNeverSpent (D.held desk.old) (texts words.now) result }
+
     // An assertion file that is accepted holds.
     ensures accepted { IsUpheld (D.held desk.old) (texts words.now) result (writing O.Sink out.old out.new) }
+
+    // A session that is opened is that of its words and files.
+    ensures opened { IsOpened (D.held desk.old) (texts words.now) result (writing O.Sink out.old out.new) }
 
     // A session goes on by the round that its files make, and is signed off exactly with status 0.
     ensures audited { IsAudited (D.held desk.old) (texts words.now) result (writing O.Sink out.old out.new) }
@@ -70,7 +78,7 @@ pub fn run<R: AllocGlobal + Threads + Sync, D: Desk, O: Sink, E: Sink, G: Gate +
     ensures status { HasCause (D.held desk.old) (texts words.now) (Rose (D.faults desk.old) (D.faults desk.new))
         result (writing O.Sink out.old out.new) (writing E.Sink err.old err.new) }
 
-    // No budget leaves open what another command than a search comes to.
+    // No budget leaves open what another command than a search or a trial comes to.
     ensures exact { IsExactUnlessOpen (D.held desk.old) (texts words.now) result }
 
     // 11 and 12 come exactly where the desk served so, told or not told what it holds.

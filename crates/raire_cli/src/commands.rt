@@ -10,13 +10,10 @@ ghost use Rattle.raire_cli.specs.Answers.{script_of};
 use audit_commands::{plan, sample};
 use cli_base::{Answer, Refusal};
 use command_line::Command;
-use contest_commands::{check, search, tabulate};
+use contest_commands::{check, search, tabulate, trials};
 use desk::{Desk, Gate};
 use session_commands::{audit, open, tell};
 use std::thread::Threads;
-
-// How many workers a search has.
-const WORKERS: u32 = 4;
 
 /// Reads the files of a command, and answers it or refuses.
 pub(crate) fn answer_command<R: AllocGlobal + Threads + Sync, D: Desk, G: Gate + Sync>(
@@ -37,6 +34,7 @@ pub(crate) fn answer_command<R: AllocGlobal + Threads + Sync, D: Desk, G: Gate +
         Command::Search {
             ballots,
             contest,
+            workers,
             nodes,
             floor,
         } => {
@@ -45,7 +43,7 @@ pub(crate) fn answer_command<R: AllocGlobal + Threads + Sync, D: Desk, G: Gate +
                 floor: *floor,
             };
             let (file, contest) = (ballots.as_str(), contest.as_ref());
-            search::answer(rt, desk, file, contest, terms, WORKERS, gate)
+            search::answer(rt, desk, file, contest, terms, *workers, gate)
         }
         Command::Tabulate { ballots, contest } => {
             tabulate::answer(alloc, desk, ballots.as_str(), contest.as_ref())
@@ -125,5 +123,20 @@ pub(crate) fn answer_command<R: AllocGlobal + Threads + Sync, D: Desk, G: Gate +
             audit::answer(alloc, desk, files, *draws, *nodes)
         }
         Command::Report { session } => tell::answer(alloc, desk, session.as_str()),
+        Command::Trial {
+            number,
+            candidates,
+            ballots,
+            workers,
+            nodes,
+        } => {
+            let terms = trials::Terms {
+                number: *number,
+                candidates: *candidates,
+                ballots: *ballots,
+                nodes: *nodes,
+            };
+            trials::answer(rt, terms, *workers, gate)
+        }
     }
 }

@@ -1,5 +1,27 @@
 //! The laws of the top call: each holds of every value that it names, and has no code.
-ghost use Rattle.raire_cli.specs.Laws.{DefaultSuffices, SignedOffIsCounted};
+ghost use Rattle.raire_cli.specs.Agreement.{SameFilesSameAnswer};
+ghost use Rattle.raire_cli.specs.EachStatus.{EachStatus};
+ghost use Rattle.raire_cli.specs.Laws.{WorkersOfARace, WorkersAskTheSame, WorkersComeToTheSame, TrialsComeToTheSame, DefaultSuffices, SignedOffIsCounted};
+
+/// A line may ask for as many workers as a race may have.
+pub fn workers_of_a_race()
+    ensures { WorkersOfARace }
+{}
+
+/// What a search may come to, searches that differ from it in their number of workers alone may come to.
+pub fn workers_ask_the_same()
+    ensures { WorkersAskTheSame }
+{}
+
+/// Over the same files they come to the same status and bytes, unless a budget is spent.
+pub fn workers_come_to_the_same()
+    ensures { WorkersComeToTheSame }
+{}
+
+/// So do trials.
+pub fn trials_come_to_the_same()
+    ensures { TrialsComeToTheSame }
+{}
 
 /// With the default number of nodes no search of up to nine candidates is spent.
 pub fn default_suffices()
@@ -9,4 +31,15 @@ pub fn default_suffices()
 /// A session that an audit signs off is among those that the risk limit counts, if the cards that were seen were read as they are.
 pub fn signed_off_is_counted()
     ensures { SignedOffIsCounted }
+{}
+
+/// Two calls with the same words, over desks that hold the same, have the same status and write the same, where nothing failed,
+/// memory was found, and no search and no trial was spent.
+pub fn same_files_same_answer()
+    ensures { SameFilesSameAnswer }
+{}
+
+/// Each status comes of some words and files, but 7, 8 and 9, which come of a desk, a sink or memory.
+pub fn each_status_comes()
+    ensures { EachStatus }
 {}

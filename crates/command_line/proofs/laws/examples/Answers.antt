@@ -3,6 +3,10 @@ use Rattle.command_line.proofs.laws.examples.Goals as goal
 
 pub returns : goal.returns
 returns c = record {
+  least_workers = refl;
+  no_workers = refl;
+  most_workers = refl;
+  more_workers = refl;
   least_nodes = refl;
   no_nodes = refl;
   most_nodes = refl;
@@ -23,6 +27,17 @@ returns c = record {
   no_gamma = refl;
   most_gamma = refl;
   more_gamma = refl;
+  least_number = refl;
+  most_number = refl;
+  more_number = refl;
+  fewest_candidates = refl;
+  one_candidate = refl;
+  most_candidates = refl;
+  more_candidates = refl;
+  one_ballot = refl;
+  no_ballots = refl;
+  most_ballots = refl;
+  more_ballots = refl;
   ten_digits = refl;
   eleven_digits = refl;
   no_digits = refl;

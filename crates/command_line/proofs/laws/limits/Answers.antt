@@ -2,4 +2,16 @@ use Rattle.std.proofs.Common.{refl}
 use Rattle.command_line.proofs.laws.limits.Goals as goal
 
 pub returns : goal.returns
-returns c = record { nodes = refl; default_nodes = refl; floor = refl; default_floor = refl; default_limit = refl; default_gamma = refl }
+returns c = record {
+  workers = refl;
+  default_workers = refl;
+  nodes = refl;
+  default_nodes = refl;
+  floor = refl;
+  default_floor = refl;
+  default_limit = refl;
+  default_gamma = refl;
+  trial_number = refl;
+  default_candidates = refl;
+  default_ballots = refl;
+}

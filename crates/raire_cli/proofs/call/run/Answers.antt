@@ -1,7 +1,7 @@
 -- Each clause follows from the story of the call.
 use Rattle.cli_base.proofs.Clauses.{answered_clause, kept_clause}
 use Rattle.command_line.specs.Words.{texts}
-use Rattle.raire_cli.proofs.Clauses.{headline_clause, full_count_clause, complete_clause, accepted_clause, audited_clause, status_clause, exact_promise}
+use Rattle.raire_cli.proofs.Clauses.{headline_clause, full_count_clause, complete_clause, enough_clause, accepted_clause, opened_clause, audited_clause, status_clause, exact_promise}
 use Rattle.raire_cli.proofs.call.run.Goals as goal
 
 pub returns-clause-headline : goal.returns-clause-headline
@@ -13,8 +13,14 @@ returns-clause-full_count g c = full_count_clause (texts c.args.words.now) c.per
 pub returns-clause-complete : goal.returns-clause-complete
 returns-clause-complete g c = complete_clause (texts c.args.words.now) c.perform.ensures.story
 
+pub returns-clause-enough : goal.returns-clause-enough
+returns-clause-enough g c = enough_clause (texts c.args.words.now) c.perform.ensures.story
+
 pub returns-clause-accepted : goal.returns-clause-accepted
 returns-clause-accepted g c = accepted_clause (texts c.args.words.now) c.perform.ensures.story
+
+pub returns-clause-opened : goal.returns-clause-opened
+returns-clause-opened g c = opened_clause (texts c.args.words.now) c.perform.ensures.story
 
 pub returns-clause-audited : goal.returns-clause-audited
 returns-clause-audited g c = audited_clause (texts c.args.words.now) c.perform.ensures.story

@@ -1,0 +1,76 @@
+-- A trial is a search of its contest at floor 1, and isn't spent with enough nodes.
+use Rattle.std.proofs.Common.{◌≡◌, ◌⊎◌, inl, inr, ℕ, ◌<◌, ◌≤◌, ◌-◌, ◌*◌, List, refl, ap, arith}
+use Rattle.std.specs.Prelude.{◌↔◌}
+use Rattle.irv_base.specs.declared.limits.TheConstants.{FEWEST_CANDIDATES}
+use Rattle.assertions.specs.Suffixes.{factorial}
+use Rattle.assertions.proofs.Positive.{best_is_positive}
+use Rattle.ballot_reader.specs.Ballots.{BallotFile}
+use Rattle.assertion_file.specs.Content.{Content}
+use Rattle.assertion_file.specs.Text.{assertion_file_text}
+use Rattle.cli_base.specs.Outcome.{Verdict, Answered, One}
+use Rattle.cli_base.specs.declared.outcome.AnswerKind.{AnswerKind}
+use Rattle.cli_base.specs.declared.outcome.AnswerKind.TheVariants.{Done, Tie}
+use Rattle.contest_commands.specs.Contest.{candidate_count, HasTie}
+use Rattle.contest_commands.specs.Search.{margin_of, nodes_for, Finds, HasCertificate, HasSpent, IsCertificateOf}
+use Rattle.contest_commands.specs.Trial.{contest_of, search_of, trial_text, HasLines, Tries}
+use Rattle.contest_commands.specs.Laws.{IsAmongKinds}
+use Rattle.contest_commands.specs.declared.trials.Terms.{Terms}
+use Rattle.contest_commands.proofs.Nodes.{nodes_are_few, spent_above}
+use Rattle.contest_commands.proofs.Numbered.{length-numbered}
+
+-- ---- no margin is below floor 1
+
+positive : (ballots : BallotFile) (file : Content) → 1 < candidate_count ballots → IsCertificateOf ballots file → 1 ≤ file.margin
+positive ballots file two c =
+    let some = best_is_positive (candidate_count ballots) c.winner ballots.rankings c.won.order two c.won.permutation c.won.tabulated c.won.elects in
+    let same : file.margin ≡ margin_of ballots c.winner = ap (λ (f : Content). f.margin) c.is in
+    omega (arith, some, same)
+
+module _ (terms : Terms) (kind : AnswerKind) (fewest : FEWEST_CANDIDATES ≤ terms.candidates) where
+  two : 1 < candidate_count (contest_of terms)
+  two = let long = length-numbered terms.candidates in omega (arith, fewest, long)
+
+  searched_so : IsAmongKinds (Tries terms) kind → IsAmongKinds (Finds (search_of terms) (contest_of terms)) kind
+  searched_so (text, inl (other, has, e)) =
+      let file = has.found.is in
+      let shown = assertion_file_text has.file in
+      let done : kind ≡ Done = cc e in
+      let found : HasCertificate (search_of terms) (contest_of terms) shown =
+      record { file = has.file; is = has.found.is; budget = has.found.budget; floor = positive (contest_of terms) has.file two has.found.is; shown = refl } in
+      (shown, inl (shown, found, ap (λ k. Answered k shown) done))
+  searched_so (text, inr (inl has)) = (text, inr (inl has))
+  searched_so (text, inr (inr has)) = (text, inr (inr (inl has)))
+
+  tried_so : IsAmongKinds (Finds (search_of terms) (contest_of terms)) kind → IsAmongKinds (Tries terms) kind
+  tried_so (text, inl (other, has, e)) =
+      let shown = trial_text terms.number has.file in
+      let done : kind ≡ Done = cc e in
+      let lines : HasLines terms shown = record { file = has.file; found = record { is = has.is; budget = has.budget }; shown = refl } in
+      (shown, inl (shown, lines, ap (λ k. Answered k shown) done))
+  tried_so (text, inr (inl has)) = (text, inr (inl has))
+  tried_so (text, inr (inr (inl has))) = (text, inr (inr has))
+  tried_so (text, inr (inr (inr (other, has, e)))) =
+      let some = positive (contest_of terms) has.file two has.is in
+      let below = has.floor in
+      absurd (omega (arith, some, below))
+
+  pub trial_is_a_search : IsAmongKinds (Tries terms) kind ↔ IsAmongKinds (Finds (search_of terms) (contest_of terms)) kind
+  trial_is_a_search = (searched_so, tried_so)
+
+-- ---- enough nodes
+
+not_spent : (terms : Terms) (text : List ℕ) → 2 * factorial (terms.candidates - 1) ≤ terms.nodes → HasSpent (search_of terms) (contest_of terms) text → ⊥
+not_spent terms text enough spent =
+    let is = spent.is in
+    let few : nodes_for (contest_of terms) is.won.order is.winner spent.last ≤ 2 * factorial (candidate_count (contest_of terms) - 1) =
+    nodes_are_few (contest_of terms) is.won.order is.winner spent.last is.named in
+    let above : terms.nodes < nodes_for (contest_of terms) is.won.order is.winner spent.last =
+    spent_above terms.nodes (contest_of terms) spent.last spent.order spent.margin is in
+    let same : 2 * factorial (candidate_count (contest_of terms) - 1) ≡ 2 * factorial (terms.candidates - 1) =
+    ap (λ n. 2 * factorial (n - 1)) (length-numbered terms.candidates) in
+    omega (arith, enough, few, above, same)
+
+pub trial_is_complete : (terms : Terms) (verdict : Verdict) → 2 * factorial (terms.candidates - 1) ≤ terms.nodes → Tries terms verdict → One (HasLines terms) Done verdict ⊎ One (HasTie (contest_of terms)) Tie verdict
+trial_is_complete terms verdict enough (inl a) = inl a
+trial_is_complete terms verdict enough (inr (inl a)) = inr a
+trial_is_complete terms verdict enough (inr (inr (text, spent, e))) = absurd (not_spent terms text enough spent)

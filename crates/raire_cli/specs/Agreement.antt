@@ -1,0 +1,54 @@
+-- Two calls with the same words, over desks that hold the same.
+use Rattle.std.specs.Prelude.{◌≡◌, ◌≢◌, ℕ, true, List, Some}
+use Rattle.desk.specs.Count.{Rose}
+use Rattle.desk.specs.Desk.{File, held_bytes}
+use Rattle.cli_base.specs.Ends.{Writing, Took}
+use Rattle.cli_base.specs.Statuses.{IsAnswered, IsQuiet}
+use Rattle.command_line.specs.Line.{command_of}
+use Rattle.command_line.specs.declared.command.Command.{Command}
+use Rattle.raire_cli.specs.Answers.{asked, is_open}
+
+-- what is seen of a call of `run`: the desk's count of faults before and after it, its status, and what its sinks took
+pub record Call : Type 0 where
+  pub faults_before : ℕ
+  pub faults_after : ℕ
+  pub status : ℕ
+  pub out : Writing
+  pub err : Writing
+
+abbrev pub Failed : Call → Type 0
+Failed call = Rose call.faults_before call.faults_after
+
+-- the words ask for a command that its budget may leave open: a search or a trial
+pub record MayBeSpent (words : List (List ℕ)) : Type 0 where
+  pub command : Command
+  pub asked_for : command_of words ≡ Some command
+  pub is_open : is_open command ≡ true
+
+-- The call was of these words, over a desk that holds these files. Nothing failed in it, memory was found, and it is no search and no
+-- trial whose budget was spent.
+pub record IsSettled (words : List (List ℕ)) (files : List File) (call : Call) : Type 0 where
+  pub answered : IsAnswered (asked words) (Some files) (Failed call) call.status call.out call.err
+  pub quiet : IsQuiet (Failed call) call.out call.err
+  pub memory : call.status ≢ 9
+  pub unspent : MayBeSpent words → call.status ≢ 4
+
+-- each name has the same bytes in both, or is in neither
+abbrev pub HoldTheSame : List File → List File → Type 0
+HoldTheSame files others = (name : List ℕ) → held_bytes name files ≡ held_bytes name others
+
+-- both have one status, and their sinks took the same texts
+pub record AreTheSame (first second : Call) : Type 0 where
+  pub status : first.status ≡ second.status
+  pub to_out : List ℕ
+  pub to_err : List ℕ
+  pub first_out : Took first.out to_out
+  pub first_err : Took first.err to_err
+  pub second_out : Took second.out to_out
+  pub second_err : Took second.err to_err
+
+-- ---- the law
+
+abbrev pub SameFilesSameAnswer : Type 0
+SameFilesSameAnswer =
+    (words : List (List ℕ)) (files others : List File) (first second : Call) → HoldTheSame files others → IsSettled words files first → IsSettled words others second → AreTheSame first second

@@ -1,0 +1,39 @@
+-- How many nodes suffice where an assertion file is judged.
+use Rattle.std.specs.Prelude.{◌≡◌, ◌≢◌, ◌≤◌, ◌-◌, ◌*◌, ℕ, List, Option, None, Some, IfSome, Ok}
+use Rattle.desk.specs.Desk.{File, held_bytes}
+use Rattle.assertions.specs.Suffixes.{factorial}
+use Rattle.assertion_file.specs.Content.{Content, candidate_count}
+use Rattle.assertion_file.specs.Reading.{assertion_file_of}
+use Rattle.command_line.specs.Line.{command_of}
+use Rattle.command_line.specs.declared.command.Command.{Command}
+use Rattle.command_line.specs.declared.command.Command.TheVariants.{Search, Tabulate, Check, Sample, Plan, Open, Audit, Report, Trial}
+
+-- an assertion file, and the nodes to judge it with
+pub record Judging : Type 0 where
+  pub assertions : List ℕ
+  pub nodes : ℕ
+
+-- what a command judges: a check, one that opens a session, and one before a round
+abbrev pub judging_of : Command → Option Judging
+judging_of (Search ballots contest workers nodes floor) = None
+judging_of (Tabulate ballots contest) = None
+judging_of (Check ballots assertions contest nodes) = Some (record { assertions = assertions; nodes = nodes })
+judging_of (Sample manifest seed draws) = None
+judging_of (Plan manifest assertions limit gamma) = None
+judging_of (Open ballots manifest assertions seed contest limit gamma nodes) = Some (record { assertions = assertions; nodes = nodes })
+judging_of (Audit session ballots manifest assertions seen draws nodes) = Some (record { assertions = assertions; nodes = nodes })
+judging_of (Report session) = None
+judging_of (Trial number candidates ballots workers nodes) = None
+
+-- as many as twice the factorial of the number of the candidates but one, of whatever contest the file is
+abbrev pub AreEnough : List File → Judging → Type 0
+AreEnough files judging =
+    (bytes : List ℕ) (file : Content) → held_bytes judging.assertions files ≡ Some bytes → assertion_file_of bytes ≡ Ok file →
+    2 * factorial (candidate_count file - 1) ≤ judging.nodes
+
+-- ---- what `run` promises
+
+-- With enough nodes a budget isn't spent.
+abbrev pub IsNeverSpent : Option (List File) → List (List ℕ) → ℕ → Type 0
+IsNeverSpent held words status = IfSome held (λ files. (command : Command) (judging : Judging) →
+    command_of words ≡ Some command → judging_of command ≡ Some judging → AreEnough files judging → status ≢ 4)

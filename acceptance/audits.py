@@ -19,7 +19,7 @@ import compare
 import plain
 import plain_audit
 from draws import Draws
-from limits import GREATEST_GAMMA, GREATEST_LIMIT, MOST_CANDIDATES, MOST_DRAWS, MOST_NUMBER, MOST_RECORDS, MOST_SEED_BYTES
+from limits import GREATEST_GAMMA, GREATEST_LIMIT, MOST_CANDIDATES, MOST_DRAWS, MOST_NUMBER, MOST_RECORDS, MOST_SEED_BYTES, MOST_WORKERS
 
 UNIT = plain_audit.UNIT
 
@@ -101,7 +101,8 @@ def one_card(runs):
     write("ballots.raire", BALLOTS)
     write("manifest.csv", MANIFEST)
     write("seen.csv", SEEN)
-    runs.row("search ballots.raire", (0, ASSERTIONS, ""))
+    for workers in ("", " --workers 1", " --workers=2", " --workers 008"):
+        runs.row(f"search ballots.raire{workers}", (0, ASSERTIONS, ""))
     write("assertions.json", ASSERTIONS)
     opening = "open ballots.raire manifest.csv assertions.json --seed 2024"
     runs.row(opening, (0, session_with([], False), ""))
@@ -160,6 +161,16 @@ def tables(runs):
     runs.row("trial --number 0 --candidates 2 --ballots 1", (0, told, ""))
 
 
+def trials(runs):
+    """Trials of 2 to 6 candidates: with a winner or a tie, by any number of workers."""
+    draws = Draws(2026)
+    for _ in range(100):
+        number, n, ballots, workers = (low + draws.below(count) for low, count in [(0, MOST_NUMBER + 1), (2, 5), (1, 400), (1, MOST_WORKERS)])
+        runs.run(["trial", f"--number={number}", f"--candidates={n}", f"--ballots={ballots}", f"--workers={workers}"])
+    for workers in (1, 4, MOST_WORKERS):
+        runs.run(["trial", "--number", "7", "--workers", str(workers)])
+
+
 def manifests(runs):
     for text, rule in [
         ("batch,count\nb,1\n", "M1 at 1"), ("batch,cards\nb,0\n", "M3 at 2"), ("batch,cards\n", "M6 at 1"),
@@ -191,6 +202,8 @@ def words(runs):
         ["trial", "--number", "0", "--ballots", "0"], ["trial", "--number", "0", f"--ballots={MOST_RECORDS + 1}"],
         ["plan", "manifest.csv", "a.json", "--limit", "0"], ["plan", "manifest.csv", "a.json", f"--limit={GREATEST_LIMIT + 1}"],
         ["plan", "manifest.csv", "a.json", f"--gamma={GREATEST_GAMMA + 1}"], ["plan", "manifest.csv"], ["report"], ["report", "a", "b"],
+        ["search", "a.raire", "--workers", "0"], ["search", "a.raire", f"--workers={MOST_WORKERS + 1}"], ["search", "a.raire", "--workers"],
+        ["search", "a.raire", "--workers=2", "--workers=2"], ["search", "--workers", "a.raire"], ["check", "a.raire", "a.json", "--workers=1"],
     ]:
         if runs.run(line)[0] != 1:
             runs.differ(line, 1, plain_audit.run(line))
@@ -395,7 +408,7 @@ def made(job):
 
 def main():
     runs, count = Runs(sys.argv[1]), int(sys.argv[2]) if len(sys.argv) > 2 else 1000
-    for make in (one_card, tables, manifests, county, words):
+    for make in (one_card, tables, trials, manifests, county, words):
         in_folder(make, runs)
     parts = max(1, count // 50)
     with multiprocessing.Pool(min(4, os.cpu_count())) as pool:

@@ -2,8 +2,10 @@
 """Compares what the built program prints with plain.py, on contests that are made by a fixed generator.
 
 acceptance/compare.py PROGRAM [CONTESTS] searches and tabulates so many contests of 2 to 6 candidates, 400 if no number
-is given, and a few of 8 to 12. The last line says how many agreed.
+is given, and a few of 8 to 12. Then it searches each example at one worker and twenty times at eight. The last line says
+how many agreed.
 """
+import glob
 import os
 import subprocess
 import sys
@@ -11,6 +13,8 @@ import tempfile
 
 import plain
 from draws import Draws
+
+TOP = os.path.dirname(os.path.dirname(os.path.abspath(__file__)))
 
 
 def contest_of(draws, n, ballots):
@@ -49,6 +53,20 @@ def differs(program, path, contest, make, command):
     return True
 
 
+def searched(program, path, workers):
+    ran = subprocess.run([program, "search", path, f"--workers={workers}"], capture_output=True, timeout=60)
+    return ran.returncode, ran.stdout, ran.stderr
+
+
+def hangs_on_turns(program, path):
+    """Whether eight workers, in one of twenty runs, come to another status or text than one."""
+    one = searched(program, path, 1)
+    if one[0] in (0, 3, 5) and all(searched(program, path, 8) == one for _ in range(20)):
+        return False
+    print(f"search of {path}: eight workers don't always come to what one comes to")
+    return True
+
+
 def main():
     program, contests = sys.argv[1], int(sys.argv[2]) if len(sys.argv) > 2 else 400
     sizes = [2 + number % 5 for number in range(contests)] + [8, 8, 9, 9, 10, 12]
@@ -62,7 +80,9 @@ def main():
             contest = plain.Contest("9", ids, rankings)
             search = plain.certificate if n < 7 else plain.certificate_by_bound
             failed += differs(program, path, contest, search, "search") or differs(program, path, contest, plain.tabulation, "tabulate")
-    print(f"{len(sizes) - failed} contests agree, {failed} don't")
+    examples = sorted(glob.glob(os.path.join(TOP, "examples", "*.raire")))
+    failed += sum(hangs_on_turns(program, path) for path in examples)
+    print(f"{len(sizes) + len(examples) - failed} contests agree, {failed} don't")
     sys.exit(1 if failed else 0)
 
 

@@ -1,7 +1,7 @@
 #!/usr/bin/env python3
 """Damaged files: cuts, flipped bits, repeats, swaps and words put in, of every kind of file, given to the built program.
 
-acceptance/damaged.py PROGRAM [FILES] gives it each beginning of a file of each kind, and so many damaged files, 5,000 if no
+acceptance/damaged.py PROGRAM [FILES] gives it each beginning of a file of each kind, and so many damaged files, 20,000 if no
 number is given. Each run has to end with the status and both texts that plain_audit.py gives, which has no answer but those of
 docs/formats.md. The last line says how many did.
 """
@@ -139,7 +139,7 @@ def beginnings(program, kinds):
 
 
 def main():
-    program, files = os.path.abspath(sys.argv[1]), int(sys.argv[2]) if len(sys.argv) > 2 else 5000
+    program, files = os.path.abspath(sys.argv[1]), int(sys.argv[2]) if len(sys.argv) > 2 else 20000
     commands = audits.Runs(program).commands
     kinds = {kind: [words for words in lines if words[0] in commands] for kind, lines in COMMANDS.items()}
     kinds = {kind: lines for kind, lines in kinds.items() if lines}

@@ -1,7 +1,7 @@
 // What a call takes, and what comes of it.
 use crate::table::{CASES, FAILING, FILES, File};
 use crate::{audit_table, session_table};
-use desk::{MemoryDesk, MemorySink, Named, NoGate};
+use desk::{Gate, MemoryDesk, MemorySink, Named, NoGate};
 use irv_base::{MOST_FILE_BYTES, Name};
 use raire_cli::run;
 use std::alloc::{AllocError, Global};
@@ -19,9 +19,18 @@ pub(crate) struct Ran {
     pub(crate) err: Vec<u8>,
 }
 
-fn words_of(alloc: Global, words: &[&str]) -> Result<Vec<String>, AllocError> {
+fn texts_of(alloc: Global, words: &[&str]) -> Result<Vec<String>, AllocError> {
     let mut all = Vec::new(alloc);
     for word in words {
+        all.push(String::from_str(alloc, word)?)?;
+    }
+    Ok(all)
+}
+
+/// The words of a line, of which a blank stands between each two.
+pub(crate) fn words_of(alloc: Global, line: &str) -> Result<Vec<String>, AllocError> {
+    let mut all = Vec::new(alloc);
+    for word in line.split(' ') {
         all.push(String::from_str(alloc, word)?)?;
     }
     Ok(all)
@@ -48,7 +57,8 @@ fn hold_all(alloc: Global, files: &mut Vec<Named>, more: &[File]) -> Result<(), 
     Ok(())
 }
 
-fn held(alloc: Global) -> Result<Vec<Named>, AllocError> {
+/// The files of all tables.
+pub(crate) fn held(alloc: Global) -> Result<Vec<Named>, AllocError> {
     let mut files = Vec::new(alloc);
     hold_all(alloc, &mut files, &FILES)?;
     hold_all(alloc, &mut files, &audit_table::FILES)?;
@@ -64,12 +74,24 @@ pub(crate) fn ran_over<R: AllocGlobal + Threads + Sync>(
     desk_fails: &[u32],
     sink_fails: &[u32],
 ) -> Result<Ran, AllocError> {
+    ran_with(rt, files, words, desk_fails, sink_fails, &NoGate)
+}
+
+/// The same, where the workers of a search stop at this gate.
+pub(crate) fn ran_with<R: AllocGlobal + Threads + Sync, G: Gate + Sync>(
+    rt: &R,
+    files: Vec<Named>,
+    words: &[&str],
+    desk_fails: &[u32],
+    sink_fails: &[u32],
+    gate: &G,
+) -> Result<Ran, AllocError> {
     let alloc = rt.alloc();
-    let words = words_of(alloc, words)?;
+    let words = texts_of(alloc, words)?;
     let mut desk = MemoryDesk::new(files, desk_fails.to_vec(alloc)?);
     let mut out = sink(alloc, sink_fails)?;
     let mut err = sink(alloc, sink_fails)?;
-    let status = run(rt, &words, &mut desk, &mut out, &mut err, &NoGate);
+    let status = run(rt, &words, &mut desk, &mut out, &mut err, gate);
     Ok(Ran {
         status,
         out: out.bytes().to_vec(alloc)?,
@@ -89,7 +111,8 @@ fn is_answer(status: u8) -> bool {
     matches!(status, 0 | 3..=6 | 10)
 }
 
-fn is_as_wanted(ran: &Ran, status: u8, text: &str) -> bool {
+/// The run has this status, its text went where the status says, and nothing else was written.
+pub(crate) fn is_as_wanted(ran: &Ran, status: u8, text: &str) -> bool {
     let (said, silent) = if is_answer(status) {
         (&ran.out, &ran.err)
     } else {
@@ -98,7 +121,8 @@ fn is_as_wanted(ran: &Ran, status: u8, text: &str) -> bool {
     ran.status == status && said.as_slice() == text.as_bytes() && silent.is_empty()
 }
 
-fn case_ran<R: AllocGlobal + Threads + Sync>(
+/// Runs the words of a line over the files of all tables.
+pub(crate) fn case_ran<R: AllocGlobal + Threads + Sync>(
     rt: &R,
     line: &str,
     desk_fails: &[u32],

@@ -1,6 +1,6 @@
-// The search, compared with the plain program.
+// The search, compared with the plain program, and with itself at other numbers of workers.
 use crate::cases::{Ran, hold, ran_over};
-use crate::contests::{ballot_file, generated};
+use crate::contests::{SIZES, SMALL_SIZES, ballot_file, generated};
 use crate::plain::{Contest, Plain, search};
 use desk::Named;
 use std::alloc::{AllocError, Global};
@@ -17,9 +17,15 @@ fn file_of(alloc: Global, contest: &Contest) -> Result<Vec<Named>, AllocError> {
     Ok(files)
 }
 
-fn searched<R: AllocGlobal + Threads + Sync>(rt: &R, contest: &Contest) -> Result<Ran, AllocError> {
+// A search of so many workers.
+fn searched<R: AllocGlobal + Threads + Sync>(
+    rt: &R,
+    contest: &Contest,
+    workers: &str,
+) -> Result<Ran, AllocError> {
     let files = file_of(rt.alloc(), contest)?;
-    ran_over(rt, files, &["search", FILE], &[], &[])
+    let words = ["search", FILE, "--workers", workers];
+    ran_over(rt, files, &words, &[], &[])
 }
 
 // The call came to the status and the bytes of the plain program, and to no word of a fault.
@@ -32,10 +38,23 @@ fn is_same(ran: &Ran, plain: &Plain) -> bool {
 }
 
 fn agree<R: AllocGlobal + Threads + Sync>(rt: &R, number: u64) -> Result<bool, AllocError> {
-    let contest = generated(rt.alloc(), number)?;
+    let contest = generated(rt.alloc(), number, SMALL_SIZES)?;
     let plain = search(rt.alloc(), &contest)?;
-    let ran = searched(rt, &contest)?;
+    let ran = searched(rt, &contest, "4")?;
     Ok(is_same(&ran, &plain))
+}
+
+// An answer or a tie, and the same bytes for 1, 2, 4 and 8 workers.
+fn is_one<R: AllocGlobal + Threads + Sync>(rt: &R, number: u64) -> Result<bool, AllocError> {
+    let contest = generated(rt.alloc(), number, SIZES)?;
+    let one = searched(rt, &contest, "1")?;
+    let mut same = matches!(one.status, 0 | 3) && one.err.is_empty();
+    for workers in ["2", "4", "8"] {
+        let more = searched(rt, &contest, workers)?;
+        same = same && more.status == one.status && more.err.is_empty();
+        same = same && more.out.as_slice() == one.out.as_slice();
+    }
+    Ok(same)
 }
 
 #[test]
@@ -58,6 +77,30 @@ fn a_second_hundred(rt: HostRuntime) -> Result<(), Fail> {
 fn a_third_hundred(rt: HostRuntime) -> Result<(), Fail> {
     for number in 200..300 {
         assert!(rt; agree(&rt, number)?, "contest {number}");
+    }
+    Ok(())
+}
+
+#[test]
+fn a_hundred_contests_at_any_number_of_workers(rt: HostRuntime) -> Result<(), Fail> {
+    for number in 0..100 {
+        assert!(rt; is_one(&rt, number)?, "contest {number}");
+    }
+    Ok(())
+}
+
+#[test]
+fn a_second_hundred_at_any_number_of_workers(rt: HostRuntime) -> Result<(), Fail> {
+    for number in 100..200 {
+        assert!(rt; is_one(&rt, number)?, "contest {number}");
+    }
+    Ok(())
+}
+
+#[test]
+fn a_third_hundred_at_any_number_of_workers(rt: HostRuntime) -> Result<(), Fail> {
+    for number in 200..300 {
+        assert!(rt; is_one(&rt, number)?, "contest {number}");
     }
     Ok(())
 }

@@ -5,10 +5,13 @@ use irv_base::{Candidate, Ranking};
 use std::alloc::{AllocError, Global};
 
 // The most candidates of a contest.
-const MOST: u8 = 6;
+const MOST: u8 = 8;
 
-// How many numbers of candidates there are, from 2.
-const SIZES: u64 = 5;
+/// How many numbers of candidates there are, from 2.
+pub const SIZES: u64 = 7;
+
+/// So many of them are few enough for the plain program.
+pub const SMALL_SIZES: u64 = 5;
 
 // The id of the contest.
 const CONTEST: u32 = 9;
@@ -57,10 +60,11 @@ fn ranking(draws: &mut Draws, candidates: &[Candidate]) -> Ranking {
     ranking
 }
 
-/// The contest of this number.
-pub fn generated(alloc: Global, number: u64) -> Result<Contest, AllocError> {
+/// The contest of this number, of one of so many numbers of candidates in turn.
+pub fn generated(alloc: Global, number: u64, sizes: u64) -> Result<Contest, AllocError> {
     let mut draws = Draws { state: number };
-    let candidates = candidates(alloc, 2 + number % SIZES)?;
+    let more = number.checked_rem(sizes).unwrap_or(0);
+    let candidates = candidates(alloc, more.saturating_add(2))?;
     let mut rankings = Vec::new(alloc);
     for _ in 0..draws.below(100).saturating_add(20) {
         rankings.push(ranking(&mut draws, &candidates))?;

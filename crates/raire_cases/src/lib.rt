@@ -1,7 +1,8 @@
-//! Worked cases of the top call, over files and sinks in memory, assertion files of one contest that are checked, and a
-//! comparison with a plain program.
+//! Worked cases of the top call, over files and sinks in memory, assertion files of one contest that are checked, devices of which
+//! each call fails in turn, and a comparison with a plain program. Workers that wait for each other. And a session that goes on where memory was wanting.
 #![tactic(auto)]
 
+pub mod again;
 #[cfg(test)]
 mod audit_table;
 #[cfg(test)]
@@ -13,8 +14,12 @@ mod compared;
 #[cfg(test)]
 mod contests;
 #[cfg(test)]
+mod devices;
+#[cfg(test)]
 mod plain;
 #[cfg(test)]
 mod session_table;
 #[cfg(test)]
 mod table;
+#[cfg(test)]
+mod together;

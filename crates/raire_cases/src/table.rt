@@ -100,6 +100,11 @@ const COUNCIL_PRINTED: &str =
 const SIX_PRINTED: &str =
     "{\"assertions\":[{\"kind\":\"NEB\",\"loser\":\"3\",\"margin\":3,\"winner\":\"1\"},{\"kind\":\"NEB\",\"loser\":\"4\",\"margin\":2,\"winner\":\"1\"},{\"kind\":\"NEB\",\"loser\":\"5\",\"margin\":5,\"winner\":\"1\"},{\"kind\":\"NEB\",\"loser\":\"6\",\"margin\":7,\"winner\":\"1\"},{\"kind\":\"NEN\",\"loser\":\"2\",\"margin\":1,\"rest\":[\"1\",\"2\"],\"winner\":\"1\"}],\"candidates\":[\"1\",\"2\",\"3\",\"4\",\"5\",\"6\"],\"contest\":\"6\",\"margin\":1,\"order\":[\"6\",\"5\",\"4\",\"3\",\"1\",\"2\"],\"records\":26,\"version\":1,\"winner\":\"1\"}\n";
 
+const TRIAL_7: &str =
+    "number 7\ncandidates 4\nrecords 30\nwinner 1\nmargin 5\nassertions 3\norder 4,3,1,2\n";
+
+const SPENT: &str = "spent\ncandidate 3\norder 2,1,3\nmargin 1\n";
+
 const ROW_1_ROUNDS: &str =
     "contest 1\nrecords 12\nround 1: 1=5 2=4 3=3 exhausted=0\neliminated 3\nround 2: 1=5 2=7 exhausted=0\neliminated 1\nwinner 2\n";
 
@@ -107,7 +112,7 @@ const COUNTY_ROUNDS: &str =
     "contest 339\nrecords 10\nround 1: 15=1 16=4 17=3 18=2 exhausted=0\neliminated 15\nround 2: 16=5 17=3 18=2 exhausted=0\neliminated 18\nround 3: 16=5 17=4 exhausted=1\neliminated 17\nwinner 16\n";
 
 /// The words of a call, its status, and the text that goes to `out` where that is an answer, and else to `err`.
-pub const CASES: [(&str, u8, &str); 46] = [
+pub const CASES: [(&str, u8, &str); 72] = [
     ("search five.raire", 0, FIVE_PRINTED),
     ("search later.raire", 0, LATER_PRINTED),
     (
@@ -131,13 +136,28 @@ pub const CASES: [(&str, u8, &str); 46] = [
         "tie\nround 1\ntied 1,2,3\ntally 0\n",
     ),
     ("search row1.raire --nodes 2", 0, PRINTED),
-    (
-        "search row1.raire --nodes 1",
-        4,
-        "spent\ncandidate 3\norder 2,1,3\nmargin 1\n",
-    ),
+    ("search row1.raire --nodes 1", 4, SPENT),
     ("search row1.raire --nodes 3", 0, PRINTED),
     ("search row1.raire --nodes=4", 0, PRINTED),
+    ("search row1.raire --workers 1", 0, PRINTED),
+    ("search row1.raire --workers 2", 0, PRINTED),
+    ("search row1.raire --workers 4", 0, PRINTED),
+    ("search row1.raire --workers 8", 0, PRINTED),
+    ("search --workers=08 row1.raire", 0, PRINTED),
+    ("search row1.raire --nodes 1 --workers 1", 4, SPENT),
+    ("search row1.raire --nodes 1 --workers 2", 4, SPENT),
+    ("search row1.raire --nodes 1 --workers 4", 4, SPENT),
+    ("search row1.raire --nodes 1 --workers 8", 4, SPENT),
+    ("search row1.raire --nodes 3 --workers 1", 0, PRINTED),
+    ("search row1.raire --nodes 3 --workers 2", 0, PRINTED),
+    ("search row1.raire --nodes 3 --workers 4", 0, PRINTED),
+    ("search row1.raire --nodes 3 --workers 8", 0, PRINTED),
+    ("search row1.raire --workers 0", 1, BAD_WORDS),
+    ("search row1.raire --workers 9", 1, BAD_WORDS),
+    ("search row1.raire --workers 2 --workers 2", 1, BAD_WORDS),
+    ("search row1.raire --workers", 1, BAD_WORDS),
+    ("search --workers row1.raire", 1, BAD_WORDS),
+    ("check row1.raire row1.json --workers 1", 1, BAD_WORDS),
     ("search --floor 1 row1.raire", 0, PRINTED),
     (
         "search row1.raire --floor 2",
@@ -226,6 +246,33 @@ pub const CASES: [(&str, u8, &str); 46] = [
     ),
     ("check row1.raire", 1, BAD_WORDS),
     ("check row1.raire row1.json --floor 1", 1, BAD_WORDS),
+    (
+        "trial --number 0 --candidates 2 --ballots 1",
+        0,
+        "number 0\ncandidates 2\nrecords 1\nwinner 1\nmargin 1\nassertions 1\norder 1,2\n",
+    ),
+    ("trial --number 7 --candidates 4 --ballots 30", 0, TRIAL_7),
+    (
+        "trial --number 7 --candidates 4 --ballots 30 --workers 1",
+        0,
+        TRIAL_7,
+    ),
+    (
+        "trial --workers=8 --ballots=30 --candidates=4 --number=7",
+        0,
+        TRIAL_7,
+    ),
+    (
+        "trial --number 1 --candidates 3 --ballots 2",
+        3,
+        "tie\nround 1\ntied 2,3\ntally 0\n",
+    ),
+    (
+        "trial --number 7 --candidates 4 --ballots 30 --nodes 1 --workers 1",
+        4,
+        "spent\ncandidate 2\norder 4,3,1,2\nmargin 5\n",
+    ),
+    ("trial", 1, BAD_WORDS),
 ];
 
 /// The words of a call, the calls of the desk and the writes of both sinks that fail, its status, and its line on `err`.

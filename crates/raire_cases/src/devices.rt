@@ -1,0 +1,219 @@
+// Each call of the desk fails in turn, and each write of a sink.
+ghost use Rattle.std.specs.Prelude.{None};
+
+use crate::cases::{Ran, case_ran, held, is_as_wanted, words_of};
+use desk::{Failed, MemoryDesk, NoGate, Sink};
+use raire_cli::run;
+use std::alloc::{AllocError, Global};
+use std::test::Fail;
+use std::thread::Threads;
+
+// How often the desk is called for a file: it is begun, its bytes come, and its end.
+const CALLS: u32 = 3;
+
+// Bytes that a narrow sink takes at most of a write.
+const NARROW: usize = 7;
+
+// The words of a call that has an answer, and the files that it reads, first read first.
+const ANSWERED: [(&str, &[&str]); 13] = [
+    ("search row1.raire", &["row1.raire"]),
+    ("search tie.raire", &["tie.raire"]),
+    ("search row1.raire --nodes 1", &["row1.raire"]),
+    ("search row1.raire --floor 2", &["row1.raire"]),
+    ("tabulate row1.raire", &["row1.raire"]),
+    ("check row1.raire row1.json", &["row1.raire", "row1.json"]),
+    (
+        "check row1.raire no_neb.json",
+        &["row1.raire", "no_neb.json"],
+    ),
+    ("sample three.csv --seed 2024! --draws 6", &["three.csv"]),
+    ("plan twelve.csv row1.json", &["twelve.csv", "row1.json"]),
+    (
+        "open one_card.raire m.csv one_card.json --seed 2024",
+        &["one_card.raire", "m.csv", "one_card.json"],
+    ),
+    (
+        "audit opened.json one_card.raire m.csv one_card.json seen.csv --draws 4",
+        &[
+            "opened.json",
+            "one_card.raire",
+            "m.csv",
+            "one_card.json",
+            "seen.csv",
+        ],
+    ),
+    (
+        "audit unconfirmed.json one_card.raire m.csv one_card.json seen.csv --draws 5",
+        &[
+            "unconfirmed.json",
+            "one_card.raire",
+            "m.csv",
+            "one_card.json",
+            "seen.csv",
+        ],
+    ),
+    ("report signed_off.json", &["signed_off.json"]),
+];
+
+// The words of a call that is refused, the call of the desk that fails, or 0, and its status.
+const REFUSED: [(&str, u32, u8); 12] = [
+    ("", 0, 1),
+    ("search", 0, 1),
+    ("search cut.raire", 0, 2),
+    ("check row1.raire rest_of_one.json", 0, 2),
+    ("sample twice.csv --seed 1 --draws 1", 0, 2),
+    ("plan thousand.csv more.json", 0, 2),
+    (
+        "open other_card.raire m.csv one_card.json --seed 2024",
+        0,
+        2,
+    ),
+    (
+        "audit opened.json other_byte.raire m.csv one_card.json seen.csv --draws 4",
+        0,
+        2,
+    ),
+    ("report other_risk.json", 0, 2),
+    ("tabulate none.raire", 0, 12),
+    ("search row1.raire", 2, 7),
+    ("check row1.raire row1.json", 4, 7),
+];
+
+// ---- the desk
+
+#[test]
+fn each_call_of_the_desk_fails(rt: HostRuntime) -> Result<(), Fail> {
+    let alloc = rt.alloc();
+    for (line, files) in ANSWERED {
+        let mut call = 0u32;
+        for file in files {
+            let said = format!(in alloc; "raire: {file}: read fault\n")?;
+            for _ in 0..CALLS {
+                call = call.saturating_add(1);
+                let ran = case_ran(&rt, line, &[call], &[])?;
+                assert!(rt; is_as_wanted(&ran, 7, said.as_str()), "{line}, call {call}");
+            }
+        }
+        let own = case_ran(&rt, line, &[], &[])?;
+        let ran = case_ran(&rt, line, &[call.saturating_add(1)], &[])?;
+        assert!(rt; is_same(&ran, &own), "{line}, after call {call}");
+    }
+    Ok(())
+}
+
+fn is_same(ran: &Ran, own: &Ran) -> bool {
+    ran.status == own.status
+        && ran.out.as_slice() == own.out.as_slice()
+        && ran.err.as_slice() == own.err.as_slice()
+}
+
+// ---- the sinks
+
+// A sink that takes a few bytes of each write, of which one may be to fail. Its writes are counted from 1.
+#[derive(Drop)]
+struct NarrowSink {
+    taken: Vec<u8>,
+    writes: u32,
+    fails: u32,
+    faults: u64,
+}
+
+impl NarrowSink {
+    fn new(alloc: Global, fails: u32) -> NarrowSink {
+        NarrowSink {
+            taken: Vec::new(alloc),
+            writes: 0,
+            fails,
+            faults: 0,
+        }
+    }
+}
+
+impl Sink for NarrowSink {
+    ghost taken = { λ _. None };
+
+    ghost faults = { λ s. s.faults };
+
+    fn write(&mut self, bytes: &[u8]) -> Result<usize, Failed> {
+        self.writes = self.writes.saturating_add(1);
+        let count = bytes.len().min(NARROW);
+        if self.writes == self.fails || self.taken.extend_from_slice(&bytes[..count]).is_err() {
+            self.faults = self.faults.saturating_add(1);
+            return Err(Failed);
+        }
+        Ok(count)
+    }
+}
+
+// Runs the words into narrow sinks, where a call of the desk fails and a write of both sinks.
+fn ran_narrowly<R: AllocGlobal + Threads + Sync>(
+    rt: &R,
+    line: &str,
+    call: u32,
+    write: u32,
+) -> Result<Ran, AllocError> {
+    let alloc = rt.alloc();
+    let words = words_of(alloc, line)?;
+    let mut desk = MemoryDesk::new(held(alloc)?, [call].to_vec(alloc)?);
+    let mut out = NarrowSink::new(alloc, write);
+    let mut err = NarrowSink::new(alloc, write);
+    let status = run(rt, &words, &mut desk, &mut out, &mut err, &NoGate);
+    Ok(Ran {
+        status,
+        out: out.taken,
+        err: err.taken,
+    })
+}
+
+// The first failing write after which something is wrong, where each write of the text of a run fails in turn.
+fn wrong_write<R: AllocGlobal + Threads + Sync>(
+    rt: &R,
+    line: &str,
+    call: u32,
+    own: &Ran,
+) -> Result<Option<u32>, AllocError> {
+    let mut write = 0u32;
+    for taken in (0..own.out.len().max(own.err.len())).step_by(NARROW) {
+        write = write.saturating_add(1);
+        let ran = ran_narrowly(rt, line, call, write)?;
+        if ran.status != 8 || !has_prefixes(&ran, own, taken) {
+            return Ok(Some(write));
+        }
+    }
+    write = write.saturating_add(1);
+    let ran = ran_narrowly(rt, line, call, write)?;
+    Ok(if is_same(&ran, own) {
+        None
+    } else {
+        Some(write)
+    })
+}
+
+// Of each text of a run so many first bytes came, or the whole text where it is shorter.
+fn has_prefixes(ran: &Ran, own: &Ran, taken: usize) -> bool {
+    is_prefix(&ran.out, &own.out, taken) && is_prefix(&ran.err, &own.err, taken)
+}
+
+fn is_prefix(part: &[u8], text: &[u8], taken: usize) -> bool {
+    part.len() == text.len().min(taken) && text.starts_with(part)
+}
+
+#[test]
+fn each_write_of_an_answer_fails(rt: HostRuntime) -> Result<(), Fail> {
+    for (line, _) in ANSWERED {
+        let own = case_ran(&rt, line, &[], &[])?;
+        assert!(rt; own.err.is_empty() && !own.out.is_empty(), "{line}");
+        assert!(rt; wrong_write(&rt, line, 0, &own)?.is_none(), "{line}");
+    }
+    Ok(())
+}
+
+#[test]
+fn each_write_of_a_refusal_fails(rt: HostRuntime) -> Result<(), Fail> {
+    for (line, call, status) in REFUSED {
+        let own = case_ran(&rt, line, &[call], &[])?;
+        assert!(rt; own.status == status && own.out.is_empty(), "{line}");
+        assert!(rt; wrong_write(&rt, line, call, &own)?.is_none(), "{line}");
+    }
+    Ok(())
+}

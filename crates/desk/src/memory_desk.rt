@@ -80,7 +80,8 @@ impl MemoryDesk {
 // The first file of a name.
 fn place_of(files: &[Named], name: &str) -> Option<usize>
     ensures found { MatchOption result (held_bytes name.now (files_of files.now) ≡ None)
-        (λ i. held_bytes name.now (files_of files.now) ≡ Some (bytes_from 0 (slice_get files.now i))) }
+        (λ i. held_bytes name.now (files_of files.now)
+        ≡ Some (bytes_from 0 (slice_get files.now i))) }
 {
     for (i, file) in files.iter().enumerate() {
         if file.name.bytes() == name.as_bytes() {
@@ -132,8 +133,10 @@ impl Desk for MemoryDesk {
     fn begin(&mut self, name: &str) -> Result<bool, Failed>
         ensures held { self.new.files ≡ self.old.files }
         ensures begun { self.new.begun ≡ is_ok_true result }
-        ensures found { IfOk result (λ found. found ≡ is_some (held_bytes name.now self.old.files)) }
-        ensures start { is_ok_true result ≡ true → Some self.new.left ≡ held_bytes name.now self.old.files }
+        ensures found { IfOk result (λ found.
+            found ≡ is_some (held_bytes name.now self.old.files)) }
+        ensures start { is_ok_true result ≡ true
+            → Some self.new.left ≡ held_bytes name.now self.old.files }
         ensures served { self.new.served ≡ after_begin result self.old.served }
         ensures cause { HasCause self.old.faults self.new.faults result }
 

@@ -40,6 +40,7 @@ pub fn limits()
     ensures greatest_limit { limit.GREATEST_LIMIT ≡ 999999 }
     ensures most_file_bytes { limit.MOST_FILE_BYTES ≡ 67108864 }
     ensures most_name_bytes { limit.MOST_NAME_BYTES ≡ 64 }
+    ensures most_workers { limit.MOST_WORKERS ≡ 8 }
     ensures most_number_digits { limit.MOST_NUMBER_DIGITS ≡ 10 }
 {}
 

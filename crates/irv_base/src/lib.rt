@@ -16,7 +16,7 @@ pub use cand_set::CandSet;
 pub use candidate::Candidate;
 pub use limits::{
     FEWEST_CANDIDATES, GREATEST_GAMMA, GREATEST_LIMIT, MOST_CANDIDATES, MOST_CARDS, MOST_DRAWS,
-    MOST_FILE_BYTES, MOST_NAME_BYTES, MOST_NUMBER_DIGITS, MOST_RECORDS, ROOM,
+    MOST_FILE_BYTES, MOST_NAME_BYTES, MOST_NUMBER_DIGITS, MOST_RECORDS, MOST_WORKERS, ROOM,
 };
 pub use memory::Memory;
 pub use name::{Name, candidate_named};

@@ -30,5 +30,8 @@ pub const MOST_FILE_BYTES: u64 = 67_108_864;
 /// The most bytes of a name.
 pub const MOST_NAME_BYTES: usize = 64;
 
+/// The most workers that a piece of work is divided among.
+pub const MOST_WORKERS: u32 = 8;
+
 /// The most digits of a number in a file or among the words of a call.
 pub const MOST_NUMBER_DIGITS: usize = 10;

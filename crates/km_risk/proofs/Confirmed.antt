@@ -14,14 +14,14 @@ use Rattle.km_risk.proofs.RiskBounds.{not_below_law}
 use Rattle.km_risk.proofs.Sequences.{passes, passes-from_none, reach_law, All-sequences}
 use Rattle.km_risk.specs.declared.limits.TheConstants.{ONE, MILLIONTH}
 use Rattle.km_risk.specs.Factor.{denominator}
-use Rattle.km_risk.specs.Exact.{exact_numerator, exact_denominator, is_within}
+use Rattle.km_risk.specs.Exact.{millionths_in_one, exact_numerator, exact_denominator, is_within}
 use Rattle.km_risk.specs.Counts.{counts_of}
 use Rattle.km_risk.specs.Printed.{printed_risk, is_printed_within}
 use Rattle.km_risk.specs.Reach.{sequences, prefixes}
 use Rattle.km_risk.specs.Laws.{ConfirmedLaw, RiskLimitLaw}
 
 -- the limit at a risk of at least the smaller of one and a fraction
-within_limit : (a b r limit : ℕ) → 0 < b → limit < 1000000 → ONE * min a b ≤ r * b → r ≤ limit * MILLIONTH → a * 1000000 ≤ limit * b
+within_limit : (a b r limit : ℕ) → 0 < b → limit < millionths_in_one → ONE * min a b ≤ r * b → r ≤ limit * MILLIONTH → a * millionths_in_one ≤ limit * b
 within_limit a b r limit pos part bound small =
     let m1 = mul-le-mul_right b small in
     let m2 = mul-le-mul_right b part in

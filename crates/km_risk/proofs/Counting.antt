@@ -6,7 +6,7 @@ use Rattle.std.proofs.lemmas.List.Sums.{sum_by-cons}
 use Rattle.km_risk.proofs.Factors.{numerator_pos}
 use Rattle.km_risk.proofs.Products.{product-push, power-push}
 use Rattle.km_risk.specs.Factor.{numerator, denominator}
-use Rattle.km_risk.specs.Exact.{product, is_within}
+use Rattle.km_risk.specs.Exact.{millionths_in_one, product, is_within}
 use Rattle.km_risk.specs.Reach.{reach}
 use Rattle.km_risk.specs.Laws.{CountingLaw}
 
@@ -30,10 +30,10 @@ mean_within cards margin gamma ds count small =
     (let most = mul-le-mul_right cards small in omega arith)
 
 -- a history that is within the limit, or else one whose continuations are bounded
-either_way : (w x all rest : ℕ) → rest * 1000000 * w ≤ x * all → (b : Bool) → b ≡ nat_le (w * 1000000) x →
-    (if b then all else rest) * 1000000 * w ≤ x * all
+either_way : (w x all rest : ℕ) → rest * millionths_in_one * w ≤ x * all → (b : Bool) → b ≡ nat_le (w * millionths_in_one) x →
+    (if b then all else rest) * millionths_in_one * w ≤ x * all
 either_way w x all rest h true e =
-    let here : w * 1000000 ≤ x = leb-true (w * 1000000) x (sym e) in
+    let here : w * millionths_in_one ≤ x = leb-true (w * millionths_in_one) x (sym e) in
     let most = mul-le-mul_left all here in omega arith
 either_way w x all rest h false e = h
 
@@ -48,20 +48,20 @@ module _ (cards margin gamma limit : ℕ) (ds : List ℕ) (pos : 0 < numerator c
     (mean : sum_by (denominator cards margin gamma) ds ≤ cards * numerator cards margin gamma) where
   -- a history that isn't within the limit, from those with one draw more
   counting_step : (n : ℕ) (h : List ℕ) →
-      ((d : ℕ) → reach cards margin gamma limit ds (h ++ d ∷ []) n * 1000000 * numerator cards margin gamma ^ length (h ++ d ∷ [])
+      ((d : ℕ) → reach cards margin gamma limit ds (h ++ d ∷ []) n * millionths_in_one * numerator cards margin gamma ^ length (h ++ d ∷ [])
       ≤ limit * product (map (denominator cards margin gamma) (h ++ d ∷ [])) * cards ^ n) →
-      sum_by (λ d. reach cards margin gamma limit ds (h ++ d ∷ []) n) ds * 1000000 * numerator cards margin gamma ^ length h
+      sum_by (λ d. reach cards margin gamma limit ds (h ++ d ∷ []) n) ds * millionths_in_one * numerator cards margin gamma ^ length h
       ≤ limit * product (map (denominator cards margin gamma) h) * cards ^ suc n
   counting_step n h longer =
       rw (pow-suc cards n)
-      (next_step _ (sum_by (denominator cards margin gamma) ds) 1000000 (numerator cards margin gamma ^ length h) (numerator cards margin gamma) limit (cards ^ n) cards
+      (next_step _ (sum_by (denominator cards margin gamma) ds) millionths_in_one (numerator cards margin gamma ^ length h) (numerator cards margin gamma) limit (cards ^ n) cards
       (product (map (denominator cards margin gamma) h)) pos
       (sum_within (λ d. reach cards margin gamma limit ds (h ++ d ∷ []) n) (denominator cards margin gamma)
-      (1000000 * (numerator cards margin gamma ^ length h * numerator cards margin gamma)) (limit * cards ^ n * product (map (denominator cards margin gamma) h))
+      (millionths_in_one * (numerator cards margin gamma ^ length h * numerator cards margin gamma)) (limit * cards ^ n * product (map (denominator cards margin gamma) h))
       (λ d. let next = rw (power-push (numerator cards margin gamma) h d, product-push (denominator cards margin gamma) h d) at (longer d) in omega arith) ds) mean)
 
   counting_from : (n : ℕ) (h : List ℕ) →
-      reach cards margin gamma limit ds h n * 1000000 * numerator cards margin gamma ^ length h
+      reach cards margin gamma limit ds h n * millionths_in_one * numerator cards margin gamma ^ length h
       ≤ limit * product (map (denominator cards margin gamma) h) * cards ^ n
   counting_from zero h =
       rw (pow-zero cards)

@@ -5,7 +5,7 @@ use Rattle.std.proofs.lemmas.Nat.{mul-le}
 use Rattle.std.proofs.lemmas.Bool.{leb-true, le-leb}
 use Rattle.std.proofs.lemmas.List.{length-map}
 use Rattle.km_risk.specs.Factor.{numerator, denominator}
-use Rattle.km_risk.specs.Exact.{product, is_within, exact_numerator, exact_denominator}
+use Rattle.km_risk.specs.Exact.{millionths_in_one, product, is_within, exact_numerator, exact_denominator}
 use Rattle.km_risk.specs.Laws.{LargerDiscrepanciesLaw}
 use Rattle.km_risk.proofs.Products.{product-cons}
 
@@ -23,8 +23,8 @@ pub within_grows : LargerDiscrepanciesLaw
 within_grows cards margin gamma limit f g less drawn within =
     let den : ℕ → ℕ = denominator cards margin gamma in
     let more = mul-le-mul_left limit (product_grows den (denominator_grows cards margin gamma) f g less drawn) in
-    let now = leb-true (exact_numerator cards margin gamma (map f drawn) * 1000000) (limit * exact_denominator cards margin gamma (map f drawn)) within in
+    let now = leb-true (exact_numerator cards margin gamma (map f drawn) * millionths_in_one) (limit * exact_denominator cards margin gamma (map f drawn)) within in
     let same : exact_numerator cards margin gamma (map f drawn) ≡ exact_numerator cards margin gamma (map g drawn) =
     ap (λ n. numerator cards margin gamma ^ n) (length-map drawn f ∙ sym (length-map drawn g)) in
-    le-leb (exact_numerator cards margin gamma (map g drawn) * 1000000) (limit * exact_denominator cards margin gamma (map g drawn))
+    le-leb (exact_numerator cards margin gamma (map g drawn) * millionths_in_one) (limit * exact_denominator cards margin gamma (map g drawn))
     (rw (← same) (omega arith))

@@ -2,6 +2,10 @@
 use Rattle.std.specs.Prelude.{ℕ, ◌*◌, ◌^◌, Bool, nat_le, List, map, length, fold}
 use Rattle.km_risk.specs.Factor.{numerator, denominator}
 
+-- a risk limit is a number of these, of which a risk of one has so many
+abbrev pub millionths_in_one : ℕ
+millionths_in_one = 1000000
+
 -- the product of the numbers, and 1 for none
 abbrev pub product : List ℕ → ℕ
 product xs = fold (λ all x. all * x) 1 xs
@@ -15,4 +19,4 @@ module _ (cards margin gamma : ℕ) where
 
   -- the exact risk is at most limit millionths
   abbrev pub is_within : ℕ → List ℕ → Bool
-  is_within limit draws = nat_le (exact_numerator draws * 1000000) (limit * exact_denominator draws)
+  is_within limit draws = nat_le (exact_numerator draws * millionths_in_one) (limit * exact_denominator draws)

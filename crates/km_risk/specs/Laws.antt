@@ -4,7 +4,7 @@ use Rattle.std.specs.List.{range_with_len}
 use Rattle.km_risk.specs.declared.limits.TheConstants.{MILLIONTH, ONE}
 use Rattle.km_risk.specs.declared.draws.Counts.{Counts}
 use Rattle.km_risk.specs.Factor.{threshold, numerator, denominator}
-use Rattle.km_risk.specs.Exact.{exact_numerator, exact_denominator, is_within}
+use Rattle.km_risk.specs.Exact.{millionths_in_one, exact_numerator, exact_denominator, is_within}
 use Rattle.km_risk.specs.Counts.{draws_in, in_order, counts_of, clean}
 use Rattle.km_risk.specs.Printed.{printed_risk, is_printed_within}
 use Rattle.km_risk.specs.Bounds.{IsNotBelow, IsNotFarAbove}
@@ -14,7 +14,7 @@ use Rattle.km_risk.specs.Reach.{IsSequence, sequences, some_prefix, reach}
 -- the units of a risk
 pub record UnitsLaw : Type 0 where
   pub one : ONE ≡ 10 ^ 18
-  pub millionth : ONE ≡ 1000000 * MILLIONTH
+  pub millionth : ONE ≡ millionths_in_one * MILLIONTH
 
 -- a draw lowers the risk exactly where its d is 2 or more
 abbrev pub FactorLaw : Type 0
@@ -62,7 +62,7 @@ NotFarAboveLaw =
 abbrev pub ConfirmedLaw : Type 0
 ConfirmedLaw =
     (cards margin gamma limit : ℕ) (draws : List ℕ) →
-    1 ≤ cards → margin ≤ cards → 1 ≤ gamma → limit < 1000000 → All (λ d. d ≤ 4) draws →
+    1 ≤ cards → margin ≤ cards → 1 ≤ gamma → limit < millionths_in_one → All (λ d. d ≤ 4) draws →
     IsTrue (is_printed_within cards margin gamma limit draws) → IsTrue (is_within cards margin gamma limit draws)
 
 -- of a number of cards there are that number ^ n sequences of n draws, and the discrepancies along them are the sequences of
@@ -93,17 +93,17 @@ abbrev pub CountingLaw : Type 0
 CountingLaw =
     (cards margin gamma limit : ℕ) (discrepancies : List ℕ) →
     1 ≤ cards → margin ≤ cards → length discrepancies ≡ cards → sum discrepancies ≤ threshold cards margin →
-    (n : ℕ) → reach cards margin gamma limit discrepancies [] n * 1000000 ≤ limit * cards ^ n
+    (n : ℕ) → reach cards margin gamma limit discrepancies [] n * millionths_in_one ≤ limit * cards ^ n
 
 -- and so are those of which some prefix has a printed risk within the limit: however often the audit looks at its risk, it
 -- confirms such an assertion on no more than limit millionths of all sequences
 abbrev pub RiskLimitLaw : Type 0
 RiskLimitLaw =
     (cards margin gamma limit : ℕ) (discrepancies : List ℕ) →
-    1 ≤ cards → margin ≤ cards → 1 ≤ gamma → limit < 1000000 →
+    1 ≤ cards → margin ≤ cards → 1 ≤ gamma → limit < millionths_in_one →
     length discrepancies ≡ cards → All (λ d. d ≤ 4) discrepancies → sum discrepancies ≤ threshold cards margin →
     (n : ℕ) →
-    count_by (some_prefix (is_printed_within cards margin gamma limit)) (sequences discrepancies n) * 1000000 ≤ limit * cards ^ n
+    count_by (some_prefix (is_printed_within cards margin gamma limit)) (sequences discrepancies n) * millionths_in_one ≤ limit * cards ^ n
 
 -- the clean draws are the least number that is enough
 abbrev pub LeastLaw : Type 0

@@ -3,7 +3,7 @@ ghost use Rattle.std.specs.Prelude.{◌≡◌, ◌+◌, ◌*◌, ◌<◌, ◌≤
 ghost use Rattle.std.specs.Bool.{OnTrue};
 ghost use Rattle.irv_base.specs.declared.limits.TheConstants.{GREATEST_LIMIT, MOST_DRAWS};
 ghost use Rattle.km_risk.specs.declared.limits.TheConstants.{MILLIONTH};
-ghost use Rattle.km_risk.specs.Around.{IsAround};
+ghost use Rattle.km_risk.specs.Around.{AreAround};
 ghost use Rattle.km_risk.specs.Counts.{clean};
 ghost use Rattle.km_risk.specs.Printed.{printed_risk};
 
@@ -23,7 +23,7 @@ pub struct Bounds {
 
 /// No draws, whose risk is one.
 pub fn no_draws(setting: Setting) -> Bounds
-    ensures around { IsAround setting.cards setting.margin setting.gamma result.draws result.least result.most }
+    ensures around { AreAround setting result }
     ensures none { result.draws ≡ 0 }
 {
     let _cards = setting.cards;
@@ -36,7 +36,7 @@ pub fn no_draws(setting: Setting) -> Bounds
 
 /// One draw.
 pub fn one_draw(setting: Setting) -> Bounds
-    ensures around { IsAround setting.cards setting.margin setting.gamma result.draws result.least result.most }
+    ensures around { AreAround setting result }
     ensures one { result.draws ≡ 1 }
 {
     let cards = u64::from(setting.cards);
@@ -56,9 +56,9 @@ impl Bounds {
     /// These draws and others.
     pub fn joined(self, setting: Setting, other: Bounds) -> Bounds
         requires few { self.draws + other.draws < 2 ^ 32 }
-        requires around { IsAround setting.cards setting.margin setting.gamma self.draws self.least self.most }
-        requires other { IsAround setting.cards setting.margin setting.gamma other.draws other.least other.most }
-        ensures around { IsAround setting.cards setting.margin setting.gamma result.draws result.least result.most }
+        requires around { AreAround setting self }
+        requires other { AreAround setting other }
+        ensures around { AreAround setting result }
         ensures draws { result.draws ≡ self.draws + other.draws }
     {
         let _cards = setting.cards;
@@ -75,7 +75,7 @@ impl Bounds {
     /// The printed risk of the draws is surely above the limit.
     pub fn is_above(self, setting: Setting, limit: u32) -> bool
         requires limit { limit ≤ GREATEST_LIMIT }
-        requires around { IsAround setting.cards setting.margin setting.gamma self.draws self.least self.most }
+        requires around { AreAround setting self }
         ensures { OnTrue result
             (limit * MILLIONTH < printed_risk setting.cards setting.margin setting.gamma
             (clean self.draws)) }
@@ -88,7 +88,7 @@ impl Bounds {
     /// The printed risk of the draws is surely within the limit.
     pub fn is_within(self, setting: Setting, limit: u32) -> bool
         requires limit { limit ≤ GREATEST_LIMIT }
-        requires around { IsAround setting.cards setting.margin setting.gamma self.draws self.least self.most }
+        requires around { AreAround setting self }
         ensures { OnTrue result
             (printed_risk setting.cards setting.margin setting.gamma
             (clean self.draws) ≤ limit * MILLIONTH) }
@@ -105,11 +105,11 @@ pub fn climb(setting: Setting, limit: u32, most: u32, step: Bounds) -> Bounds
     requires limit { limit ≤ GREATEST_LIMIT }
     requires some { 1 ≤ step.draws }
     requires few { most ≤ MOST_DRAWS }
-    requires around { IsAround setting.cards setting.margin setting.gamma step.draws step.least step.most }
+    requires around { AreAround setting step }
     ensures within { result.draws ≤ most }
     ensures above { limit * MILLIONTH < printed_risk setting.cards setting.margin setting.gamma
         (clean result.draws) }
-    ensures around { IsAround setting.cards setting.margin setting.gamma result.draws result.least result.most }
+    ensures around { AreAround setting result }
 {
     if step.draws > most {
         return no_draws(setting);

@@ -50,9 +50,11 @@ impl Model for State {
 
     ghost use Rattle.race_core.specs.State.{shown_race, IsSound};
 
-    ghost view = { λ s. shown_race s.pieces.items (take s.closed s.closings.items) s.entries.items s.next s.bound };
+    ghost view = { λ s.
+        shown_race s.pieces.items (take s.closed s.closings.items) s.entries.items s.next s.bound };
 
-    ghost invariant = { λ s. IsSound s.pieces.items s.closings.items s.entries.items s.next s.closed s.lowest };
+    ghost invariant = { λ s.
+        IsSound s.pieces.items s.closings.items s.entries.items s.next s.closed s.lowest };
 }
 
 impl State {

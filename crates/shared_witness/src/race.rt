@@ -2,6 +2,7 @@
 ghost use Rattle.std.specs.Prelude.{◌≡◌, ◌≢◌, ◌+◌, ◌≤◌, ◌<◌, ◌++◌, ◌∷◌, [], All, IfOk, IsTrue, not, min, length, replicate, fold};
 ghost use Rattle.std.specs.Vec.Iter.{into_iter_items};
 ghost use Rattle.irv_base.specs.Candidates.{is_in};
+ghost use Rattle.irv_base.specs.declared.limits.TheConstants.{MOST_WORKERS};
 ghost use Rattle.shared_witness.specs.View.{new_view, view_after_take, view_after_look, view_after_post, view_after_close, view_after_split, joined};
 ghost use Rattle.shared_witness.specs.Moment.{EachOnce, least_posted, taken_pieces};
 ghost use Rattle.shared_witness.specs.Steps.{Takes, Looks, Posts, Closes};
@@ -62,8 +63,9 @@ impl Race {
     /// A race over pieces 0, 1 and so on below `pieces`, with `first` as the bound, and a seat for each of the workers.
     pub fn new(alloc: Global, pieces: u32, first: u32, workers: u32) -> Result<Seats, Memory>
         requires pieces { 1 ≤ pieces }
-        requires workers { (1 ≤ workers) × (workers ≤ 8) }
-        ensures terms { IfOk result (λ s. s.race.terms ≡ record { pieces = pieces; first = first; workers = workers }) }
+        requires workers { (1 ≤ workers) × (workers ≤ MOST_WORKERS) }
+        ensures terms { IfOk result (λ s. s.race.terms
+            ≡ record { pieces = pieces; first = first; workers = workers }) }
         ensures seats { IfOk result (λ s. s.seats.items ≡ replicate workers (new_seat s.race)) }
     {
         let mut seats = Vec::with_capacity(alloc, workers as usize)?;
@@ -91,8 +93,11 @@ impl Race {
         ensures most { result ≤ self.now.terms.pieces }
         ensures view { seat.new.view ≡ view_after_take self.now.terms.pieces result seat.old.view }
         ensures step { TakesPiece self.now.terms seat.old.view result seat.new.view }
-        ensures fresh { result < self.now.terms.pieces → IsTrue (not (is_in seat.old.view.taken result)) }
-        ensures open_piece { result < self.now.terms.pieces → IsTrue (is_in seat.new.view.taken result) × IsTrue (not (is_in seat.new.view.closed result)) }
+        ensures fresh { result < self.now.terms.pieces
+            → IsTrue (not (is_in seat.old.view.taken result)) }
+        ensures open_piece { result < self.now.terms.pieces
+            → IsTrue (is_in seat.new.view.taken result)
+            × IsTrue (not (is_in seat.new.view.closed result)) }
         ensures few { length seat.new.view.taken ≤ self.now.terms.pieces }
     {
         take_word::<Brand>(&self.words, &mut seat.seat).min(u64::from(self.pieces)) as u32
@@ -113,7 +118,8 @@ impl Race {
     pub fn post(&self, seat: &mut RaceSeat, m: u32) -> u32
         requires race { seat.old.race ≡ self.now.id }
         ensures race { seat.new.race ≡ self.now.id }
-        ensures least { (result ≤ m) × (result ≤ self.now.terms.first) × (result ≤ seat.old.view.seen) }
+        ensures least { (result ≤ m) × (result ≤ self.now.terms.first)
+            × (result ≤ seat.old.view.seen) }
         ensures view { seat.new.view ≡ view_after_post result m seat.old.view }
         ensures step { PostsValue self.now.terms seat.old.view m result seat.new.view }
     {
@@ -140,7 +146,8 @@ impl Race {
         requires each { length seats.items ≡ self.terms.workers }
         ensures bound { result ≡ least_posted self.terms.first (views_of seats.items) }
         ensures seen { All (λ s. result ≤ s.view.seen) seats.items }
-        ensures taken { All (λ s. 1 ≤ s.view.ends) seats.items → EachOnce self.terms.pieces (taken_pieces (views_of seats.items)) }
+        ensures taken { All (λ s. 1 ≤ s.view.ends) seats.items
+            → EachOnce self.terms.pieces (taken_pieces (views_of seats.items)) }
     {
         let Race { words, pieces: _ } = self;
         let mut rest = seats.into_iter();
@@ -170,11 +177,13 @@ fn last_bound(words: Words, all: WordSeat) -> u32
 
 /// Joins the seats to the first, in turn.
 fn join_seats(words: &Words, first: &mut WordSeat, seats: IntoIter<RaceSeat>)
-    requires table { (first.old.table_id ≡ words.now.shared.table_id) × (words.now.shared.table_id.words ≡ 2) }
+    requires table { first.old.table_id ≡ words.now.shared.table_id }
+    requires two_words { words.now.shared.table_id.words ≡ 2 }
     requires share { first.old.me.0.ends + first.old.me.0.may ≢ 0 }
     requires seats { All (λ s. s.race ≡ words.now.shared.table_id) (into_iter_items seats) }
     ensures table { first.new.table_id ≡ first.old.table_id }
-    ensures view { first.new.me ≡ (fold joined first.old.me.0 (views_of (into_iter_items seats)), first.old.me.1) }
+    ensures view { first.new.me
+        ≡ (fold joined first.old.me.0 (views_of (into_iter_items seats)), first.old.me.1) }
     ensures shares { All (λ s. s.view.ends + s.view.may ≡ 1) (into_iter_items seats) }
 {
     for seat in seats {
@@ -184,7 +193,8 @@ fn join_seats(words: &Words, first: &mut WordSeat, seats: IntoIter<RaceSeat>)
 
 /// Joins a seat to the first.
 fn join_to(words: &Words, first: &mut WordSeat, seat: RaceSeat)
-    requires table { (first.old.table_id ≡ words.now.shared.table_id) × (words.now.shared.table_id.words ≡ 2) }
+    requires table { first.old.table_id ≡ words.now.shared.table_id }
+    requires two_words { words.now.shared.table_id.words ≡ 2 }
     requires share { first.old.me.0.ends + first.old.me.0.may ≢ 0 }
     requires race { seat.race ≡ words.now.shared.table_id }
     ensures table { first.new.table_id ≡ first.old.table_id }
@@ -197,9 +207,11 @@ fn join_to(words: &Words, first: &mut WordSeat, seat: RaceSeat)
 
 /// A seat for one worker, cut off the seat of several.
 fn split_off(words: &Words, rest: &mut WordSeat) -> RaceSeat
-    requires table { (rest.old.table_id ≡ words.now.shared.table_id) × (words.now.shared.table_id.words ≡ 2) }
+    requires table { rest.old.table_id ≡ words.now.shared.table_id }
+    requires two_words { words.now.shared.table_id.words ≡ 2 }
     requires several { 2 ≤ rest.old.me.0.may }
-    ensures rest { (rest.new.table_id ≡ rest.old.table_id) × (rest.new.me ≡ (view_after_split rest.old.me.0, rest.old.me.1)) }
+    ensures table { rest.new.table_id ≡ rest.old.table_id }
+    ensures view { rest.new.me ≡ (view_after_split rest.old.me.0, rest.old.me.1) }
     ensures seat { result ≡ record { race = rest.old.table_id; view = new_view 1 } }
 {
     RaceSeat {

@@ -55,7 +55,8 @@ struct Posting<T: Told> {
 }
 
 impl<T: Told> Play<u8, View> for Posting<T> {
-    ghost then = { λ s me found after. (after.1 ≡ me.1) × Posts T.terms me.0 found after.0 s.first };
+    ghost then = { λ s me found after.
+        (after.1 ≡ me.1) × Posts T.terms me.0 found after.0 s.first };
 }
 
 struct Closing<T: ToldPiece> {
@@ -63,13 +64,15 @@ struct Closing<T: ToldPiece> {
 }
 
 impl<T: ToldPiece> Play<u8, View> for Closing<T> {
-    ghost then = { λ s me found after. (after.1 ≡ me.1) × Closes T.terms me.0 found after.0 T.piece };
+    ghost then = { λ s me found after.
+        (after.1 ≡ me.1) × Closes T.terms me.0 found after.0 T.piece };
 }
 
 /// Adds one to the ticket, and answers what it was.
 pub(crate) fn take_word<T: Told>(words: &Words, seat: &mut WordSeat) -> u64
     requires terms { T.terms ≡ words.now.shared.key }
-    requires table { (seat.old.table_id ≡ words.now.shared.table_id) × (words.now.shared.table_id.words ≡ 2) }
+    requires table { seat.old.table_id ≡ words.now.shared.table_id }
+    requires two_words { words.now.shared.table_id.words ≡ 2 }
     requires may { 1 ≤ seat.old.me.0.may }
     ensures table { seat.new.table_id ≡ seat.old.table_id }
     ensures slots { seat.new.me.1 ≡ seat.old.me.1 }
@@ -81,7 +84,8 @@ pub(crate) fn take_word<T: Told>(words: &Words, seat: &mut WordSeat) -> u64
 /// Loads the bound.
 pub(crate) fn look_word<T: Told>(words: &Words, seat: &mut WordSeat) -> u64
     requires terms { T.terms ≡ words.now.shared.key }
-    requires table { (seat.old.table_id ≡ words.now.shared.table_id) × (words.now.shared.table_id.words ≡ 2) }
+    requires table { seat.old.table_id ≡ words.now.shared.table_id }
+    requires two_words { words.now.shared.table_id.words ≡ 2 }
     requires share { seat.old.me.0.ends + seat.old.me.0.may ≢ 0 }
     ensures table { seat.new.table_id ≡ seat.old.table_id }
     ensures slots { seat.new.me.1 ≡ seat.old.me.1 }
@@ -93,7 +97,8 @@ pub(crate) fn look_word<T: Told>(words: &Words, seat: &mut WordSeat) -> u64
 /// Lowers the bound to the value, where it is above, and answers what it was.
 pub(crate) fn post_word<T: Told>(words: &Words, seat: &mut WordSeat, value: u32) -> u64
     requires terms { T.terms ≡ words.now.shared.key }
-    requires table { (seat.old.table_id ≡ words.now.shared.table_id) × (words.now.shared.table_id.words ≡ 2) }
+    requires table { seat.old.table_id ≡ words.now.shared.table_id }
+    requires two_words { words.now.shared.table_id.words ≡ 2 }
     requires share { seat.old.me.0.ends + seat.old.me.0.may ≢ 0 }
     ensures table { seat.new.table_id ≡ seat.old.table_id }
     ensures slots { seat.new.me.1 ≡ seat.old.me.1 }
@@ -108,7 +113,8 @@ pub(crate) fn post_word<T: Told>(words: &Words, seat: &mut WordSeat, value: u32)
 pub(crate) fn close_word<T: ToldPiece>(words: &Words, seat: &mut WordSeat, piece: u32) -> u64
     requires terms { T.terms ≡ words.now.shared.key }
     requires piece { T.piece ≡ piece }
-    requires table { (seat.old.table_id ≡ words.now.shared.table_id) × (words.now.shared.table_id.words ≡ 2) }
+    requires table { seat.old.table_id ≡ words.now.shared.table_id }
+    requires two_words { words.now.shared.table_id.words ≡ 2 }
     requires share { seat.old.me.0.ends + seat.old.me.0.may ≢ 0 }
     requires taken { IsTrue (is_in seat.old.me.0.taken piece) }
     requires open_piece { IsTrue (not (is_in seat.old.me.0.closed piece)) }

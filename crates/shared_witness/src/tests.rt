@@ -1,4 +1,5 @@
 ghost use Rattle.std.specs.Prelude.{◌≡◌, ◌≤◌, ◌<◌, All, IfOk, length};
+ghost use Rattle.irv_base.specs.declared.limits.TheConstants.{MOST_WORKERS};
 
 use crate::{Race, RaceSeat, Seats};
 use irv_base::Memory;
@@ -70,7 +71,7 @@ fn raced<R: Threads + Sync>(
     alloc: Global,
     workers: u32,
 ) -> Result<(u32, Vec<AtomicU64>), Memory>
-    requires { (1 ≤ workers) × (workers ≤ 8) }
+    requires { (1 ≤ workers) × (workers ≤ MOST_WORKERS) }
 {
     let mut taken = Vec::with_capacity(alloc, PIECES as usize)?;
     for _piece in 0..PIECES {
@@ -84,7 +85,8 @@ fn raced<R: Threads + Sync>(
         seats.as_mut_slice(),
         workers as usize,
         &|_, seat: &mut RaceSeat|
-            requires { (seat.now.race ≡ shared.now.id) × (seat.now.view.ends ≡ 0) × (shared.now.terms.pieces ≡ PIECES) }
+            requires { (seat.now.race ≡ shared.now.id) × (seat.now.view.ends ≡ 0)
+                × (shared.now.terms.pieces ≡ PIECES) }
         { take_all(shared, seat, times) },
     );
     Ok((race.finish(seats), taken))

@@ -7,4 +7,4 @@ fetch_min-requires g c =
     let key = c.args.words.now.shared.key in
     let id = c.args.words.now.shared.table_id in
     let seat = c.args.seat.now in
-    (c.requires.table.0, omega (arith, c.requires.table.1), rw (c.requires.terms, c.from.ensures) (post_allowed key id.slots seat.id seat.me c.requires.share c.args.value))
+    (c.requires.table, omega (arith, c.requires.two_words), rw (c.requires.terms, c.from.ensures) (post_allowed key id.slots seat.id seat.me c.requires.share c.args.value))

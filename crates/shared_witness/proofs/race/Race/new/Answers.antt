@@ -16,8 +16,8 @@ loop-i-preserved c =
     let one : i - 1 + 1 ≡ i + 1 - 1 = omega arith in
     let is = c.split_off.ensures.seat ∙ ap seat c.loop-i.invariant.same_table in
     record {
-      rest_is = c.split_off.ensures.rest.1 ∙ ap (λ (me : Me ℕ View). (view_after_split me.0, me.1)) c.loop-i.invariant.rest_is ∙ ap (λ n. (new_view n, [])) left;
-      same_table = c.split_off.ensures.rest.0 ∙ c.loop-i.invariant.same_table;
+      rest_is = c.split_off.ensures.view ∙ ap (λ (me : Me ℕ View). (view_after_split me.0, me.1)) c.loop-i.invariant.rest_is ∙ ap (λ n. (new_view n, [])) left;
+      same_table = c.split_off.ensures.table ∙ c.loop-i.invariant.same_table;
       seats_are = c.in_ok-push.ensures.items ∙ ap (λ ss. ss ++ c.split_off.result ∷ []) c.loop-i.invariant.seats_are ∙ ap (λ s. replicate (i - 1) (seat id) ++ s ∷ []) is ∙ replicate_more (i - 1) (seat id)
           ∙ ap (λ n. replicate n (seat id)) one;
     }

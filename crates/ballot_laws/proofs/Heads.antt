@@ -10,7 +10,8 @@ use Rattle.ballot_reader.specs.Grammar.{Contest, Refusal, and_then, contest_name
 use Rattle.ballot_reader.specs.declared.fault.BRule.{BRule}
 use Rattle.ballot_reader.specs.declared.fault.BRule.TheVariants.{B2, B3, B4}
 use Rattle.ballot_reader.specs.declared.limits.TheConstants.{MOST_LISTED}
-use Rattle.ballot_laws.specs.Rows.{candidates_for, candidates_in, contest_id, number_or_0}
+use Rattle.ballot_laws.specs.Rows.{candidates_for, candidates_in, contest_id}
+use Rattle.manifest.specs.Spelling.{number_or_0}
 use Rattle.ballot_laws.specs.Breaking.{contest_rule, first_broken, lists_candidates, names_candidates}
 use Rattle.ballot_laws.proofs.Walk.{Judges, as_judged, numbered, walk}
 

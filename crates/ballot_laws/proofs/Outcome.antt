@@ -12,8 +12,10 @@ use Rattle.ballot_reader.specs.Grammar.{Ballot, Contest, Refusal, asked_for, bal
 use Rattle.ballot_reader.specs.declared.fault.BRule.{BRule}
 use Rattle.ballot_reader.specs.declared.fault.BRule.TheVariants.{B1, B2, B3, B5}
 use Rattle.ballot_reader.specs.declared.limits.TheConstants.{MOST_CONTESTS}
-use Rattle.ballot_laws.specs.Rows.{asked_place, ballot_contest, ballot_id, ballots, candidates_for, candidates_in, contest_id, contests, count, is_counted, number_or_0, places_of, record_at}
-use Rattle.ballot_laws.specs.Breaking.{AreUnbroken, HasContests, IsFirstBroken, IsRefused, ballot_rule, choice_refused, contest_rule, has_auditable_size}
+use Rattle.ballot_laws.specs.Rows.{asked_place, ballot_contest, ballot_id, ballots, candidates_for, candidates_in, contest_id, contests, count, is_counted, places_of, record_at}
+use Rattle.manifest.specs.Spelling.{number_or_0}
+use Rattle.ballot_laws.specs.Breaking.{AreUnbroken, HasContests, IsRefused, ballot_rule, choice_refused, contest_rule, has_auditable_size}
+use Rattle.manifest.specs.Spelling.{IsFirstBroken}
 use Rattle.ballot_laws.proofs.Ballots.{ballot_said, ballots-walk, judges_ballots, ranking_in}
 use Rattle.ballot_laws.proofs.Differ.{contests-differ}
 use Rattle.ballot_laws.proofs.Heads.{contests-walk, head_of, if_all, judges_contests}

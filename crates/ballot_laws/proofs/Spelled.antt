@@ -13,7 +13,8 @@ use Rattle.ballot_reader.specs.Ballots.{BallotFile}
 use Rattle.ballot_reader.specs.Grammar.{ballots_from}
 use Rattle.ballot_reader.specs.declared.limits.TheConstants.{MOST_CONTESTS}
 use Rattle.ballot_reader.proofs.Ended.{got}
-use Rattle.ballot_laws.specs.Rows.{ballot_contest, ballot_id, ballots, ballots_for, candidates_for, candidates_in, contest_id, contests, count, field, number_in, number_or_0, places_of, record_at}
+use Rattle.ballot_laws.specs.Rows.{ballot_contest, ballot_id, ballots, ballots_for, candidates_for, candidates_in, contest_id, contests, count, field, number_in, places_of, record_at}
+use Rattle.manifest.specs.Spelling.{number_or_0}
 use Rattle.ballot_laws.specs.Breaking.{HasContests, ballot_rule}
 use Rattle.ballot_laws.specs.Spelling.{AreBallotRows, AreContests, Has, IsBallot, RecordsSpellFile, Spells}
 use Rattle.ballot_laws.proofs.Ballots.{ranking_in}

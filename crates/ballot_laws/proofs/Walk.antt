@@ -6,7 +6,8 @@ use Rattle.std.proofs.lemmas.Bool.{cases_Bool}
 use Rattle.csv_rows.specs.Rows.{Fields}
 use Rattle.ballot_reader.specs.Grammar.{Refusal, and_then, refused}
 use Rattle.ballot_reader.specs.declared.fault.BRule.{BRule}
-use Rattle.ballot_laws.specs.Breaking.{AreUnbroken, IsFirstBroken}
+use Rattle.ballot_laws.specs.Breaking.{AreUnbroken}
+use Rattle.manifest.specs.Spelling.{IsFirstBroken}
 
 -- what record by record is judged, each by what the ones before it came to
 abbrev pub walk : {A : Type 0} → (List A → ℕ → Fields → Result A BRule) → List A → ℕ → List Fields → Result (List A) Refusal
@@ -127,7 +128,7 @@ module _ {A : Type 0} (judge : List A → ℕ → Fields → Result A BRule) (br
   FirstBroken = (k : ℕ) × (rule : BRule) × IsFirstBroken broken rows k rule
 
   as_first : (b : AreBroken judge broken read first [] rows) → IsFirstBroken broken rows b.k b.rule
-  as_first b = record { row = b.row; there = b.there; broken_rule = b.broken_rule; earlier = b.earlier }
+  as_first b = record { row = b.row; there = b.there; breaks = b.broken_rule; earlier = b.earlier }
 
   pub decided : AreUnbroken broken rows ⊎ FirstBroken
   decided = elim (walked judge broken read first judges [] rows) [
@@ -143,21 +144,21 @@ module _ {A : Type 0} (judge : List A → ℕ → Fields → Result A BRule) (br
 
   one-first : (b : AreBroken judge broken read first [] rows) (k : ℕ) (rule : BRule) → IsFirstBroken broken rows k rule → (b.k ≡ k) × (b.rule ≡ rule)
   one-first b k rule h = elim (cases_Bool (nat_lt k b.k)) [
-    | inl less ↦ absurd (let e = sym (b.earlier k h.row (ltb-true k b.k less) h.there) ∙ h.broken_rule in cc)
+    | inl less ↦ absurd (let e = sym (b.earlier k h.row (ltb-true k b.k less) h.there) ∙ h.breaks in cc)
     | inr more ↦ elim (cases_Bool (nat_lt b.k k)) [
       | inl less ↦ absurd (let e = sym (h.earlier b.k b.row (ltb-true b.k k less) b.there) ∙ b.broken_rule in cc)
       | inr none ↦
           let same : b.k ≡ k = omega (arith, ltb-false k b.k more, ltb-false b.k k none) in
           let there = sym b.there ∙ ap (slice_get rows) same ∙ h.there in
           let row : b.row ≡ h.row = cc in
-          let rules = sym b.broken_rule ∙ ap (broken (take b.k rows)) row ∙ ap (λ j. broken (take j rows) h.row) same ∙ h.broken_rule in
+          let rules = sym b.broken_rule ∙ ap (broken (take b.k rows)) row ∙ ap (λ j. broken (take j rows) h.row) same ∙ h.breaks in
           (same, cc)
     ]
   ]
 
   pub walk-broken : (k : ℕ) (rule : BRule) → IsFirstBroken broken rows k rule → walk judge [] first rows ≡ refused rule (first + k)
   walk-broken k rule h = elim (walked judge broken read first judges [] rows) [
-    | inl f ↦ absurd (let e = sym (f.none k h.row h.there) ∙ h.broken_rule in cc)
+    | inl f ↦ absurd (let e = sym (f.none k h.row h.there) ∙ h.breaks in cc)
     | inr b ↦
         let (place, same) = one-first b k rule h in
         let at : first + 0 + b.k ≡ first + k = omega (arith, place) in

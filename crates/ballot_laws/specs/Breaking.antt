@@ -8,6 +8,7 @@ use Rattle.ballot_reader.specs.Grammar.{ballots_from}
 use Rattle.ballot_reader.specs.declared.fault.BRule.{BRule}
 use Rattle.ballot_reader.specs.declared.fault.BRule.TheVariants.{B1, B2, B3, B4, B5, B6, B7, B8, B9, B10}
 use Rattle.ballot_reader.specs.declared.limits.TheConstants.{MOST_LISTED}
+use Rattle.manifest.specs.Spelling.{IsFirstBroken}
 use Rattle.ballot_laws.specs.Rows.{record_at, field, contest_id, size, candidates_in, candidates_for, ballot_contest, ballot_id, preferences, ballots_for, count, is_counted, contests, ballots, asked_place}
 
 -- ---- a contest's record, behind the records of others
@@ -68,16 +69,6 @@ ballot_rule contests before row = first_broken (ballot_rules contests before row
 abbrev pub AreUnbroken : (List Fields → Fields → Option BRule) → List Fields → Type 0
 AreUnbroken broken rows =
     (k : ℕ) (row : Fields) → slice_get rows k ≡ Some row → broken (take k rows) row ≡ None
-
--- the one at place k breaks this rule, and none before it breaks any
-pub record IsFirstBroken
-    (broken : List Fields → Fields → Option BRule) (rows : List Fields) (k : ℕ) (rule : BRule)
-    : Type 0 where
-  pub row : Fields
-  pub there : slice_get rows k ≡ Some row
-  pub broken_rule : broken (take k rows) row ≡ Some rule
-  pub earlier : (j : ℕ) (other : Fields) → j < k → slice_get rows j ≡ Some other →
-      broken (take j rows) other ≡ None
 
 -- ---- the contest that is audited
 

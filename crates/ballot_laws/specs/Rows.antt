@@ -6,6 +6,7 @@ use Rattle.csv_rows.specs.Rows.{Fields}
 use Rattle.irv_base.specs.Names.{Id, is_same}
 use Rattle.ballot_reader.specs.Grammar.{is_marked}
 use Rattle.ballot_reader.specs.declared.limits.TheConstants.{MOST_CONTESTS}
+use Rattle.manifest.specs.Spelling.{number_or_0}
 
 -- ---- records and fields
 
@@ -18,10 +19,6 @@ abbrev pub field : Fields → ℕ → List ℕ
 field row i = slice_index_or row i []
 
 -- the number that is written so; 0 where none is
-abbrev pub number_or_0 : Option ℕ → ℕ
-number_or_0 None = 0
-number_or_0 (Some n) = n
-
 abbrev pub number_in : List ℕ → ℕ
 number_in text = number_or_0 (number_of text)
 

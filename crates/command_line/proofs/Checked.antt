@@ -8,8 +8,8 @@ use Rattle.command_line.specs.Line.{command_named, are_right, is_given_right, pi
 use Rattle.command_line.specs.Pieces.{Piece, File, Given, Stray, fits, files_in}
 use Rattle.command_line.specs.Table.{kind_of, default_of, is_needed}
 use Rattle.command_line.specs.Values.{is_number, number, is_value}
-use Rattle.command_line.specs.declared.limits.TheConstants.{MOST_WORKERS, MOST_NODES, MOST_FLOOR, MOST_TRIAL_NUMBER, DEFAULT_WORKERS, DEFAULT_NODES, DEFAULT_FLOOR, DEFAULT_LIMIT, DEFAULT_GAMMA, DEFAULT_CANDIDATES, DEFAULT_BALLOTS}
-use Rattle.irv_base.specs.declared.limits.TheConstants.{FEWEST_CANDIDATES, GREATEST_GAMMA, GREATEST_LIMIT, MOST_CANDIDATES, MOST_DRAWS, MOST_RECORDS}
+use Rattle.command_line.specs.declared.limits.TheConstants.{MOST_NODES, MOST_FLOOR, MOST_TRIAL_NUMBER, DEFAULT_WORKERS, DEFAULT_NODES, DEFAULT_FLOOR, DEFAULT_LIMIT, DEFAULT_GAMMA, DEFAULT_CANDIDATES, DEFAULT_BALLOTS}
+use Rattle.irv_base.specs.declared.limits.TheConstants.{FEWEST_CANDIDATES, GREATEST_GAMMA, GREATEST_LIMIT, MOST_CANDIDATES, MOST_DRAWS, MOST_RECORDS, MOST_WORKERS}
 use Rattle.command_line.specs.declared.command.Command.{Command}
 use Rattle.command_line.specs.declared.table.CommandName.{CommandName}
 use Rattle.command_line.specs.declared.table.CommandName.TheVariants as command

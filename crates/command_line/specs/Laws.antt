@@ -1,13 +1,13 @@
 -- The laws of lines.
-use Rattle.std.specs.Prelude.{◌≡◌, ◌≤◌, ℕ, Bool, true, false, List, [], ◌∷◌, length, replicate, Some, is_some, codes}
-use Rattle.irv_base.specs.declared.limits.TheConstants.{FEWEST_CANDIDATES, GREATEST_GAMMA, GREATEST_LIMIT, MOST_CANDIDATES, MOST_DRAWS, MOST_RECORDS}
+use Rattle.std.specs.Prelude.{◌≡◌, ◌≤◌, ℕ, Bool, true, false, List, [], ◌∷◌, length, replicate, Some, None, is_some, codes}
+use Rattle.irv_base.specs.declared.limits.TheConstants.{FEWEST_CANDIDATES, GREATEST_GAMMA, GREATEST_LIMIT, MOST_CANDIDATES, MOST_DRAWS, MOST_RECORDS, MOST_WORKERS}
 use Rattle.sampler.specs.Seeds.{is_seed}
 use Rattle.command_line.specs.Line.{is_line, command_of}
 use Rattle.command_line.specs.Table.{kind_of}
 use Rattle.command_line.specs.Values.{is_number, is_value}
 use Rattle.command_line.specs.declared.command.Command.{Command}
 use Rattle.command_line.specs.declared.command.Command.TheVariants.{Search, Tabulate, Check, Sample, Plan, Open, Audit, Report, Trial}
-use Rattle.command_line.specs.declared.limits.TheConstants.{MOST_WORKERS, MOST_NODES, MOST_FLOOR, MOST_TRIAL_NUMBER, DEFAULT_WORKERS, DEFAULT_NODES, DEFAULT_FLOOR, DEFAULT_LIMIT, DEFAULT_GAMMA, DEFAULT_CANDIDATES, DEFAULT_BALLOTS}
+use Rattle.command_line.specs.declared.limits.TheConstants.{MOST_NODES, MOST_FLOOR, MOST_TRIAL_NUMBER, DEFAULT_WORKERS, DEFAULT_NODES, DEFAULT_FLOOR, DEFAULT_LIMIT, DEFAULT_GAMMA, DEFAULT_CANDIDATES, DEFAULT_BALLOTS}
 use Rattle.command_line.specs.declared.table.OptionName.{OptionName}
 use Rattle.command_line.specs.declared.table.OptionName.TheVariants.{Workers, Nodes, Floor, Seed, Draws, Limit, Gamma, Number, Candidates, Ballots}
 
@@ -53,7 +53,6 @@ LinesAreChecked = (words : List (List ℕ)) (command : Command) → command_of w
 -- ---- the limits
 
 pub record Limits : Type 0 where
-  pub workers : MOST_WORKERS ≡ 8
   pub default_workers : DEFAULT_WORKERS ≡ 4
   pub nodes : MOST_NODES ≡ 200000
   pub default_nodes : DEFAULT_NODES ≡ 100000
@@ -154,3 +153,88 @@ pub record Trials : Type 0 where
   pub two_numbers : is_line (trial_line (codes "--number=7" ∷ codes "--number=7" ∷ [])) ≡ false
   pub with_file : is_line (trial_line (codes "--number=7" ∷ codes "a.raire" ∷ [])) ≡ false
   pub all : is_line (trial_line (codes "--nodes=9" ∷ codes "--workers=8" ∷ codes "--ballots=1" ∷ codes "--candidates=20" ∷ codes "--number=0" ∷ [])) ≡ true
+
+-- a line of each command, with all its options, and with those alone that it needs
+pub record Meanings : Type 0 where
+  pub tabulate :
+      command_of (codes "tabulate" ∷ codes "b" ∷ codes "--contest=c" ∷ [])
+      ≡ Some (Tabulate (codes "b") (Some (codes "c")))
+  pub tabulate_left_out :
+      command_of (codes "tabulate" ∷ codes "b" ∷ []) ≡ Some (Tabulate (codes "b") None)
+  pub search :
+      command_of (codes "search" ∷ codes "b" ∷ codes "--contest=c" ∷ codes "--workers=2"
+      ∷ codes "--nodes=3" ∷ codes "--floor=4" ∷ [])
+      ≡ Some (Search (codes "b") (Some (codes "c")) 2 3 4)
+  pub search_left_out :
+      command_of (codes "search" ∷ codes "b" ∷ [])
+      ≡ Some (Search (codes "b") None DEFAULT_WORKERS DEFAULT_NODES DEFAULT_FLOOR)
+  pub check :
+      command_of (codes "check" ∷ codes "b" ∷ codes "a" ∷ codes "--contest=c"
+      ∷ codes "--nodes=2" ∷ [])
+      ≡ Some (Check (codes "b") (codes "a") (Some (codes "c")) 2)
+  pub check_left_out :
+      command_of (codes "check" ∷ codes "b" ∷ codes "a" ∷ [])
+      ≡ Some (Check (codes "b") (codes "a") None DEFAULT_NODES)
+  pub sample :
+      command_of (codes "sample" ∷ codes "m" ∷ codes "--seed=s" ∷ codes "--draws=2" ∷ [])
+      ≡ Some (Sample (codes "m") (codes "s") 2)
+  pub plan :
+      command_of (codes "plan" ∷ codes "m" ∷ codes "a" ∷ codes "--limit=2" ∷ codes "--gamma=3" ∷ [])
+      ≡ Some (Plan (codes "m") (codes "a") 2 3)
+  pub plan_left_out :
+      command_of (codes "plan" ∷ codes "m" ∷ codes "a" ∷ [])
+      ≡ Some (Plan (codes "m") (codes "a") DEFAULT_LIMIT DEFAULT_GAMMA)
+  pub open_all :
+      command_of (codes "open" ∷ codes "b" ∷ codes "m" ∷ codes "a" ∷ codes "--seed=s"
+      ∷ codes "--contest=c" ∷ codes "--limit=2" ∷ codes "--gamma=3" ∷ codes "--nodes=4" ∷ [])
+      ≡ Some (Open (codes "b") (codes "m") (codes "a") (codes "s") (Some (codes "c")) 2 3 4)
+  pub open_left_out :
+      command_of (codes "open" ∷ codes "b" ∷ codes "m" ∷ codes "a" ∷ codes "--seed=s" ∷ [])
+      ≡ Some (Open (codes "b") (codes "m") (codes "a") (codes "s") None DEFAULT_LIMIT
+      DEFAULT_GAMMA DEFAULT_NODES)
+  pub audit :
+      command_of (codes "audit" ∷ codes "s" ∷ codes "b" ∷ codes "m" ∷ codes "a" ∷ codes "t"
+      ∷ codes "--draws=2" ∷ codes "--nodes=3" ∷ [])
+      ≡ Some (Audit (codes "s") (codes "b") (codes "m") (codes "a") (codes "t") 2 3)
+  pub audit_left_out :
+      command_of (codes "audit" ∷ codes "s" ∷ codes "b" ∷ codes "m" ∷ codes "a" ∷ codes "t"
+      ∷ codes "--draws=2" ∷ [])
+      ≡ Some (Audit (codes "s") (codes "b") (codes "m") (codes "a") (codes "t") 2 DEFAULT_NODES)
+  pub report :
+      command_of (codes "report" ∷ codes "s" ∷ [])
+      ≡ Some (Report (codes "s"))
+  pub trial :
+      command_of (codes "trial" ∷ codes "--number=2" ∷ codes "--candidates=3"
+      ∷ codes "--ballots=4" ∷ codes "--workers=5" ∷ codes "--nodes=6" ∷ [])
+      ≡ Some (Trial 2 3 4 5 6)
+  pub trial_left_out :
+      command_of (codes "trial" ∷ codes "--number=0" ∷ [])
+      ≡ Some (Trial 0 DEFAULT_CANDIDATES DEFAULT_BALLOTS DEFAULT_WORKERS DEFAULT_NODES)
+  pub two_words :
+      command_of (codes "plan" ∷ codes "--gamma" ∷ codes "3" ∷ codes "m" ∷ codes "--limit"
+      ∷ codes "2" ∷ codes "a" ∷ [])
+      ≡ Some (Plan (codes "m") (codes "a") 2 3)
+  pub after_dashes :
+      command_of (codes "report" ∷ codes "--" ∷ codes "-s" ∷ [])
+      ≡ Some (Report (codes "-s"))
+  pub equals_in_a_value :
+      command_of (codes "sample" ∷ codes "m" ∷ codes "--seed=a=b" ∷ codes "--draws=007" ∷ [])
+      ≡ Some (Sample (codes "m") (codes "a=b") 7)
+  pub hyphen_in_a_value :
+      command_of (codes "sample" ∷ codes "m" ∷ codes "--seed=-1" ∷ codes "--draws=1" ∷ [])
+      ≡ Some (Sample (codes "m") (codes "-1") 1)
+
+-- words that are no line
+pub record NoLines : Type 0 where
+  pub part_of_a_word : is_line (codes "searc" ∷ codes "b" ∷ []) ≡ false
+  pub longer_word : is_line (codes "searches" ∷ codes "b" ∷ []) ≡ false
+  pub part_of_an_option : is_line (codes "search" ∷ codes "b" ∷ codes "--node=3" ∷ []) ≡ false
+  pub option_of_another_command :
+      is_line (codes "tabulate" ∷ codes "b" ∷ codes "--nodes=3" ∷ []) ≡ false
+  pub hyphen_alone : is_line (codes "report" ∷ codes "-" ∷ []) ≡ false
+  pub file_without_name : is_line (codes "report" ∷ codes "" ∷ []) ≡ false
+  pub hyphen_as_value :
+      is_line (codes "search" ∷ codes "b" ∷ codes "--contest" ∷ codes "-c" ∷ []) ≡ false
+  pub value_left_empty : is_line (codes "search" ∷ codes "b" ∷ codes "--contest=" ∷ []) ≡ false
+  pub file_too_many : is_line (codes "report" ∷ codes "s" ∷ codes "s" ∷ []) ≡ false
+  pub no_command : is_line [] ≡ false

@@ -40,12 +40,15 @@ one_form command pieces =
 abbrev pub option_rule : List ℕ → Rule
 option_rule name = record (new_rule name) { long = Some name }
 
+abbrev pub option_rules : List OptionName → List Rule
+option_rules options = map (λ option. option_rule (text_of option)) options
+
 abbrev pub with_rules : App → List Rule → App
 with_rules app rules = fold with_rule app rules
 
 -- the command with this word, these files and these options
 abbrev pub app_for : List ℕ → List (List ℕ) → List OptionName → App
-app_for word files options = with_rules (with_rules (new_app word) (map (λ option. option_rule (text_of option)) options)) (map new_rule files)
+app_for word files options = with_rules (with_rules (new_app word) (option_rules options)) (map new_rule files)
 
 abbrev pub app_of_command : CommandName → App
 app_of_command command = let form = form_of command in app_for form.word form.files form.options

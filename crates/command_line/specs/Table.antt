@@ -1,7 +1,7 @@
 -- The commands and the options: a line for each.
 use Rattle.std.specs.Prelude.{ℕ, Bool, true, false, List, [], ◌∷◌, None, Some, is_none, unwrap_or, codes}
-use Rattle.irv_base.specs.declared.limits.TheConstants.{FEWEST_CANDIDATES, GREATEST_GAMMA, GREATEST_LIMIT, MOST_CANDIDATES, MOST_DRAWS, MOST_RECORDS}
-use Rattle.command_line.specs.declared.limits.TheConstants.{MOST_WORKERS, MOST_NODES, MOST_FLOOR, MOST_TRIAL_NUMBER, DEFAULT_WORKERS, DEFAULT_NODES, DEFAULT_FLOOR, DEFAULT_LIMIT, DEFAULT_GAMMA, DEFAULT_CANDIDATES, DEFAULT_BALLOTS}
+use Rattle.irv_base.specs.declared.limits.TheConstants.{FEWEST_CANDIDATES, GREATEST_GAMMA, GREATEST_LIMIT, MOST_CANDIDATES, MOST_DRAWS, MOST_RECORDS, MOST_WORKERS}
+use Rattle.command_line.specs.declared.limits.TheConstants.{MOST_NODES, MOST_FLOOR, MOST_TRIAL_NUMBER, DEFAULT_WORKERS, DEFAULT_NODES, DEFAULT_FLOOR, DEFAULT_LIMIT, DEFAULT_GAMMA, DEFAULT_CANDIDATES, DEFAULT_BALLOTS}
 use Rattle.command_line.specs.declared.table.CommandName.{CommandName}
 use Rattle.command_line.specs.declared.table.CommandName.TheVariants.{Search, Tabulate, Check, Sample, Plan, Open, Audit, Report, Trial}
 use Rattle.command_line.specs.declared.table.OptionName.{OptionName}

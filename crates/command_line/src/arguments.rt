@@ -16,7 +16,8 @@ use std::alloc::{AllocError, Global};
 
 // The text that the matches have of an option or a file.
 fn text<'a>(matches: &ArgMatches<'a>, id: &str) -> &'a str
-    ensures { (text : List ℕ) → first_of id.now (rows_of (found_of matches.now)) ≡ Some text → result.now ≡ text }
+    ensures { (text : List ℕ) → first_of id.now (rows_of (found_of matches.now)) ≡ Some text
+        → result.now ≡ text }
 {
     matches.get_str(id).unwrap_or("")
 }
@@ -30,7 +31,8 @@ fn name_in(text: &str) -> Option<Name>
 /// The contest, if a line gives one.
 pub fn contest(matches: &ArgMatches<'_>) -> Option<Name>
     ensures { (pieces : List Piece) → list_all fits pieces ≡ true
-        → IsShown OptionName.Contest pieces (rows_of (found_of matches.now)) → result ≡ contest pieces }
+        → IsShown OptionName.Contest pieces (rows_of (found_of matches.now))
+        → result ≡ contest pieces }
 {
     name_in(text(matches, OptionName::Contest.text()))
 }
@@ -38,7 +40,9 @@ pub fn contest(matches: &ArgMatches<'_>) -> Option<Name>
 /// The seed of a line that gives one.
 pub fn seed(matches: &ArgMatches<'_>) -> Seed
     requires { HasSeed (rows_of (found_of matches.now)) }
-    ensures { (pieces : List Piece) → IsShown OptionName.Seed pieces (rows_of (found_of matches.now)) → result ≡ seed pieces }
+    ensures { (pieces : List Piece)
+        → IsShown OptionName.Seed pieces (rows_of (found_of matches.now))
+        → result ≡ seed pieces }
 {
     Seed::read(text(matches, OptionName::Seed.text())).unwrap()
 }
@@ -56,7 +60,8 @@ fn number_or(default: u32, text: &str) -> u32
 pub fn number(option: OptionName, matches: &ArgMatches<'_>) -> u32
     requires { IsTrue (is_number_option option) }
     ensures { (pieces : List Piece) → list_all fits pieces ≡ true
-        → IsShown option pieces (rows_of (found_of matches.now)) → result ≡ number_of option pieces }
+        → IsShown option pieces (rows_of (found_of matches.now))
+        → result ≡ number_of option pieces }
 {
     number_or(option.kind().default(), text(matches, option.text()))
 }

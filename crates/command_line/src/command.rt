@@ -64,7 +64,7 @@ pub enum Command {
         gamma: u32,
         nodes: u32,
     },
-    /// The session with a round more, up to so many draws in all.
+    /// The session with a round more, up to `draws` draws in all.
     Audit {
         session: FileName,
         ballots: FileName,
@@ -78,7 +78,7 @@ pub enum Command {
     Report {
         session: FileName,
     },
-    /// What a search comes to of so many ballots of a contest that is drawn from a number.
+    /// What a search comes to of a contest with so many `candidates` and `ballots`, drawn from `number`.
     Trial {
         number: u32,
         candidates: u32,

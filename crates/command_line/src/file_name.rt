@@ -24,6 +24,7 @@ impl FileName {
         FileName { text }
     }
 
+    /// Its text, as the word gave it.
     pub fn as_str(&self) -> &str
         ensures { result.now ≡ self.now }
     {

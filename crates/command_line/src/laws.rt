@@ -1,5 +1,5 @@
 //! The laws of lines: each holds of all words, and has no code.
-ghost use Rattle.command_line.specs.Laws.{LinesHaveMeanings, LinesAreChecked, Limits, Examples, Searches, Samples, Trials};
+ghost use Rattle.command_line.specs.Laws.{LinesHaveMeanings, LinesAreChecked, Limits, Examples, Searches, Samples, Trials, Meanings, NoLines};
 
 /// Words are a line exactly where they have a meaning.
 pub fn lines_have_meanings()
@@ -34,4 +34,14 @@ pub fn sample_lines()
 /// Lines of `trial`, with and without the number that they need.
 pub fn trial_lines()
     ensures { Trials }
+{}
+
+/// Lines of each command, and what they ask for.
+pub fn meanings()
+    ensures { Meanings }
+{}
+
+/// Words that are no line.
+pub fn no_lines()
+    ensures { NoLines }
 {}

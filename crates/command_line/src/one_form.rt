@@ -40,7 +40,8 @@ fn push_options(
     options: &[OptionName],
     words: &[String],
 ) -> Result<(), AllocError>
-    ensures { OnOk result (texts line.new.items ≡ texts line.old.items ++ options_given options.now (pieces options.now (texts words.now))) }
+    ensures { OnOk result (texts line.new.items ≡ texts line.old.items
+        ++ options_given options.now (pieces options.now (texts words.now))) }
 {
     for option in options {
         let value = value_text(*option, Pieces::of(options, words));
@@ -56,7 +57,8 @@ fn push_files(
     options: &[OptionName],
     words: &[String],
 ) -> Result<(), AllocError>
-    ensures { OnOk result (texts line.new.items ≡ texts line.old.items ++ files_given count (pieces options.now (texts words.now))) }
+    ensures { OnOk result (texts line.new.items ≡ texts line.old.items
+        ++ files_given count (pieces options.now (texts words.now))) }
 {
     for i in 0..count {
         let name = file(i, Pieces::of(options, words));
@@ -71,7 +73,8 @@ pub fn one_form(
     command: CommandName,
     words: &[String],
 ) -> Result<Vec<String>, AllocError>
-    ensures { IfOk result (λ line. texts line.items ≡ one_form command (pieces_of command (texts words.now))) }
+    ensures { IfOk result (λ line.
+        texts line.items ≡ one_form command (pieces_of command (texts words.now))) }
 {
     let form = command.form();
     let mut line = Vec::new(alloc);

@@ -2,9 +2,8 @@
 ghost use Rattle.std.specs.Prelude.{◌≡◌, List, ℕ, false, IfOk, IfErr, map, string_bytes};
 ghost use Rattle.clap.specs.Words.{app_of, new_rule, rule_of, rows_of, found_of, kind_of};
 ghost use Rattle.command_line.specs.Words.{texts};
-ghost use Rattle.command_line.specs.Table.{text_of};
 ghost use Rattle.command_line.specs.Pieces.{Piece};
-ghost use Rattle.command_line.specs.OneForm.{option_rule, with_rules, app_for, one_form, Shows};
+ghost use Rattle.command_line.specs.OneForm.{option_rule, option_rules, with_rules, app_for, one_form, Shows};
 
 use crate::table::{CommandName, Form, OptionName};
 use clap::error::ErrorKind;
@@ -23,7 +22,8 @@ fn with_options<'a>(
     mut app: Command<'a>,
     options: &[OptionName],
 ) -> Result<Command<'a>, AllocError>
-    ensures { IfOk result (λ new. app_of new ≡ with_rules (app_of app.entry) (map (λ option. option_rule (text_of option)) options.now)) }
+    ensures { IfOk result (λ new.
+        app_of new ≡ with_rules (app_of app.entry) (option_rules options.now)) }
 {
     for option in options {
         app = app.arg(option_arg(alloc, option.text()))?;
@@ -36,7 +36,8 @@ fn with_files<'a>(
     mut app: Command<'a>,
     files: &'a [&'a str],
 ) -> Result<Command<'a>, AllocError>
-    ensures { IfOk result (λ new. app_of new ≡ with_rules (app_of app.entry) (map (λ name. new_rule name.now) files.entry.now)) }
+    ensures { IfOk result (λ new. app_of new
+        ≡ with_rules (app_of app.entry) (map (λ name. new_rule name.now) files.entry.now)) }
 {
     for name in files {
         app = app.arg(Arg::new(alloc, *name))?;
@@ -45,7 +46,8 @@ fn with_files<'a>(
 }
 
 fn app<'a>(alloc: Global, form: Form<'a>) -> Result<Command<'a>, AllocError>
-    ensures { IfOk result (λ app. app_of app ≡ app_for form.entry.word.now (map (λ name. name.now) form.entry.files.now) form.entry.options.now) }
+    ensures { IfOk result (λ app. app_of app ≡ app_for form.entry.word.now
+        (map (λ name. name.now) form.entry.files.now) form.entry.options.now) }
 {
     let app = Command::new(alloc, form.word);
     let app = with_options(alloc, app, form.options)?;
@@ -58,8 +60,10 @@ pub fn parsed<'a>(
     command: CommandName,
     line: &'a [String],
 ) -> Result<ArgMatches<'a>, Error>
-    ensures shows { (pieces : List Piece) → texts line.entry.now ≡ one_form command pieces → IfOk result (λ m. Shows command pieces (rows_of (found_of m))) }
-    ensures memory { (pieces : List Piece) → texts line.entry.now ≡ one_form command pieces → IfErr result (λ e. kind_of e ≡ ErrorKind.OutOfMemory) }
+    ensures shows { (pieces : List Piece) → texts line.entry.now ≡ one_form command pieces
+        → IfOk result (λ m. Shows command pieces (rows_of (found_of m))) }
+    ensures memory { (pieces : List Piece) → texts line.entry.now ≡ one_form command pieces
+        → IfErr result (λ e. kind_of e ≡ ErrorKind.OutOfMemory) }
 {
     app(alloc, command.form())?.try_get_matches_from(line)
 }

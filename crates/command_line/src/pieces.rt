@@ -12,7 +12,9 @@ use std::slice::Iter;
 /// A file, or an option with its value.
 #[derive(Clone, Copy)]
 pub enum Piece<'w> {
+    /// The name of a file.
     File(&'w str),
+    /// An option, and the text of its value.
     Given(OptionName, &'w str),
     /// A word that has no place in a line.
     Stray,
@@ -80,18 +82,21 @@ fn value_piece<'w>(option: OptionName, word: &'w str) -> Piece<'w>
 }
 
 impl<'w> Piece<'w> {
+    /// Whether it is a file.
     pub fn is_file(self) -> bool
         ensures { result ≡ is_file (piece self.entry) }
     {
         self.file().is_some()
     }
 
+    /// Whether it is this option with a value.
     pub fn gives(self, option: OptionName) -> bool
         ensures { result ≡ gives option (piece self.entry) }
     {
         self.value(option).is_some()
     }
 
+    /// The name of the file, if it is one.
     pub fn file(self) -> Option<&'w str>
         ensures { option_map (λ name. name.now) result ≡ file_in (piece self.entry) }
     {
@@ -101,6 +106,7 @@ impl<'w> Piece<'w> {
         }
     }
 
+    /// The text of the value, if it is this option.
     pub fn value(self, option: OptionName) -> Option<&'w str>
         ensures { option_map (λ value. value.now) result ≡ value_in option (piece self.entry) }
     {
@@ -141,7 +147,8 @@ impl<'w> Model for Pieces<'w> {
     ghost view = { λ s. pieces_left s.only_files s.options.now (texts (iter_rest s.words)) };
 
     // They can be counted.
-    ghost invariant = { λ s. length (pieces_left s.only_files s.options.now (texts (iter_rest s.words))) < 2 ^ 64 };
+    ghost invariant = { λ s.
+        length (pieces_left s.only_files s.options.now (texts (iter_rest s.words))) < 2 ^ 64 };
 }
 
 impl<'w> Pieces<'w> {

@@ -1,42 +1,64 @@
 // The commands and the options: a line for each.
 ghost use Rattle.std.specs.Prelude.{◌≡◌, map};
 ghost use Rattle.command_line.specs.Table.{form_of, text_of, kind_of, is_needed, default_of};
+ghost use Rattle.command_line.specs.declared.table.ValueKind.TheVariants.{Number};
 
 use crate::limits::{
     DEFAULT_BALLOTS, DEFAULT_CANDIDATES, DEFAULT_FLOOR, DEFAULT_GAMMA, DEFAULT_LIMIT,
-    DEFAULT_NODES, DEFAULT_WORKERS, MOST_FLOOR, MOST_NODES, MOST_TRIAL_NUMBER, MOST_WORKERS,
+    DEFAULT_NODES, DEFAULT_WORKERS, MOST_FLOOR, MOST_NODES, MOST_TRIAL_NUMBER,
 };
 use irv_base::{
     FEWEST_CANDIDATES, GREATEST_GAMMA, GREATEST_LIMIT, MOST_CANDIDATES, MOST_DRAWS, MOST_RECORDS,
+    MOST_WORKERS,
 };
 
 /// The commands that there are.
 #[derive(Clone, Copy, Debug, PartialEq, Eq)]
 pub enum CommandName {
+    /// `search`: the assertions that confirm a winner.
     Search,
+    /// `tabulate`: the rounds of a contest.
     Tabulate,
+    /// `check`: whether an assertion file holds.
     Check,
+    /// `sample`: the cards that a seed draws.
     Sample,
+    /// `plan`: how many draws a clean audit takes.
     Plan,
+    /// `open`: the session of an audit before its first round.
     Open,
+    /// `audit`: the session with a round more.
     Audit,
+    /// `report`: what a session says.
     Report,
+    /// `trial`: what a search of a drawn contest comes to.
     Trial,
 }
 
 /// The options that there are.
 #[derive(Clone, Copy, Debug, PartialEq, Eq)]
 pub enum OptionName {
+    /// The id of a contest.
     Contest,
+    /// How many threads search.
     Workers,
+    /// The most suffixes that a race may expand for one piece, or that may count for one candidate.
     Nodes,
+    /// The least margin of a search, in votes.
     Floor,
+    /// The seed of the draws.
     Seed,
+    /// How many draws, counted from the first of the audit.
     Draws,
+    /// The risk limit, in millionths.
     Limit,
+    /// The gamma, in thousandths.
     Gamma,
+    /// The number that a trial is drawn from.
     Number,
+    /// How many candidates a trial has.
     Candidates,
+    /// How many ballots a trial has.
     Ballots,
 }
 
@@ -49,8 +71,11 @@ pub enum ValueKind {
     Seed,
     /// A number within these limits. A line may leave it out where there is a number for that case.
     Number {
+        /// The least number.
         least: u32,
+        /// The greatest number.
         most: u32,
+        /// The number of a line that doesn't give one. Without it a line has to give one.
         default: Option<u32>,
     },
 }
@@ -58,11 +83,15 @@ pub enum ValueKind {
 /// What a line of a command has: its word, its files in order, and the options that it may have.
 #[derive(Clone, Copy)]
 pub struct Form<'f> {
+    /// The command's word.
     pub word: &'f str,
+    /// The names of its files, in their order on a line.
     pub files: &'f [&'f str],
+    /// The options that a line may have, in any order.
     pub options: &'f [OptionName],
 }
 
+/// All commands.
 pub const COMMANDS: [CommandName; 9] = [
     CommandName::Search,
     CommandName::Tabulate,
@@ -75,90 +104,110 @@ pub const COMMANDS: [CommandName; 9] = [
     CommandName::Trial,
 ];
 
+/// The name of a ballot file among the files of a line.
 pub const BALLOTS: &str = "ballots";
 
+/// The name of an assertion file.
 pub const ASSERTIONS: &str = "assertions";
 
+/// The name of a manifest.
 pub const MANIFEST: &str = "manifest";
 
+/// The name of a session file.
 pub const SESSION: &str = "session";
 
+/// The name of a file of seen cards.
 pub const SEEN: &str = "seen";
 
+const SEARCH_OPTIONS: [OptionName; 4] = [
+    OptionName::Contest,
+    OptionName::Workers,
+    OptionName::Nodes,
+    OptionName::Floor,
+];
+
+const OPEN_OPTIONS: [OptionName; 5] = [
+    OptionName::Seed,
+    OptionName::Contest,
+    OptionName::Limit,
+    OptionName::Gamma,
+    OptionName::Nodes,
+];
+
+const TRIAL_OPTIONS: [OptionName; 5] = [
+    OptionName::Number,
+    OptionName::Candidates,
+    OptionName::Ballots,
+    OptionName::Workers,
+    OptionName::Nodes,
+];
+
+impl<'f> Form<'f> {
+    fn of(word: &'f str, files: &'f [&'f str], options: &'f [OptionName]) -> Form<'f>
+        ensures word { result.word.now ≡ word.entry.now }
+        ensures files { map (λ name. name.now) result.files.now
+            ≡ map (λ name. name.now) files.entry.now }
+        ensures options { result.options.now ≡ options.entry.now }
+    {
+        Form {
+            word,
+            files,
+            options,
+        }
+    }
+}
+
 impl CommandName {
+    /// What a line of the command has: a row of the table of commands.
     pub fn form<'f>(self) -> Form<'f>
         ensures word { result.word.now ≡ (form_of self).word }
         ensures files { map (λ name. name.now) result.files.now ≡ (form_of self).files }
         ensures options { result.options.now ≡ (form_of self).options }
     {
         match self {
-            CommandName::Search => Form {
-                word: "search",
-                files: &[BALLOTS],
-                options: &[
-                    OptionName::Contest,
-                    OptionName::Workers,
-                    OptionName::Nodes,
-                    OptionName::Floor,
-                ],
-            },
-            CommandName::Tabulate => Form {
-                word: "tabulate",
-                files: &[BALLOTS],
-                options: &[OptionName::Contest],
-            },
-            CommandName::Check => Form {
-                word: "check",
-                files: &[BALLOTS, ASSERTIONS],
-                options: &[OptionName::Contest, OptionName::Nodes],
-            },
-            CommandName::Sample => Form {
-                word: "sample",
-                files: &[MANIFEST],
-                options: &[OptionName::Seed, OptionName::Draws],
-            },
-            CommandName::Plan => Form {
-                word: "plan",
-                files: &[MANIFEST, ASSERTIONS],
-                options: &[OptionName::Limit, OptionName::Gamma],
-            },
-            CommandName::Open => Form {
-                word: "open",
-                files: &[BALLOTS, MANIFEST, ASSERTIONS],
-                options: &[
-                    OptionName::Seed,
-                    OptionName::Contest,
-                    OptionName::Limit,
-                    OptionName::Gamma,
-                    OptionName::Nodes,
-                ],
-            },
-            CommandName::Audit => Form {
-                word: "audit",
-                files: &[SESSION, BALLOTS, MANIFEST, ASSERTIONS, SEEN],
-                options: &[OptionName::Draws, OptionName::Nodes],
-            },
-            CommandName::Report => Form {
-                word: "report",
-                files: &[SESSION],
-                options: &[],
-            },
-            CommandName::Trial => Form {
-                word: "trial",
-                files: &[],
-                options: &[
-                    OptionName::Number,
-                    OptionName::Candidates,
-                    OptionName::Ballots,
-                    OptionName::Workers,
-                    OptionName::Nodes,
-                ],
-            },
+            CommandName::Search => Form::of("search", &[BALLOTS], &SEARCH_OPTIONS),
+            CommandName::Tabulate => Form::of("tabulate", &[BALLOTS], &[OptionName::Contest]),
+            CommandName::Check => Form::of(
+                "check",
+                &[BALLOTS, ASSERTIONS],
+                &[OptionName::Contest, OptionName::Nodes],
+            ),
+            CommandName::Sample => {
+                Form::of(
+                    "sample",
+                    &[MANIFEST],
+                    &[OptionName::Seed, OptionName::Draws],
+                )
+            }
+            CommandName::Plan => Form::of(
+                "plan",
+                &[MANIFEST, ASSERTIONS],
+                &[OptionName::Limit, OptionName::Gamma],
+            ),
+            CommandName::Open => Form::of("open", &[BALLOTS, MANIFEST, ASSERTIONS], &OPEN_OPTIONS),
+            CommandName::Audit => Form::of(
+                "audit",
+                &[SESSION, BALLOTS, MANIFEST, ASSERTIONS, SEEN],
+                &[OptionName::Draws, OptionName::Nodes],
+            ),
+            CommandName::Report => Form::of("report", &[SESSION], &[]),
+            CommandName::Trial => Form::of("trial", &[], &TRIAL_OPTIONS),
         }
     }
 }
 
+fn number(least: u32, most: u32, default: Option<u32>) -> ValueKind
+    ensures { result ≡ Number least most default }
+{
+    ValueKind::Number {
+        least,
+        most,
+        default,
+    }
+}
+
 impl OptionName {
+    /// The option's name, without the hyphens.
     pub fn text<'t>(self) -> &'t str
         ensures { result.now ≡ text_of self }
     {
@@ -177,57 +226,24 @@ impl OptionName {
         }
     }
 
+    /// What its value may be: a row of the table of options.
     pub fn kind(self) -> ValueKind
         ensures { result ≡ kind_of self }
     {
         match self {
             OptionName::Contest => ValueKind::Id,
-            OptionName::Workers => ValueKind::Number {
-                least: 1,
-                most: MOST_WORKERS,
-                default: Some(DEFAULT_WORKERS),
-            },
-            OptionName::Nodes => ValueKind::Number {
-                least: 1,
-                most: MOST_NODES,
-                default: Some(DEFAULT_NODES),
-            },
-            OptionName::Floor => ValueKind::Number {
-                least: 1,
-                most: MOST_FLOOR,
-                default: Some(DEFAULT_FLOOR),
-            },
+            OptionName::Workers => number(1, MOST_WORKERS, Some(DEFAULT_WORKERS)),
+            OptionName::Nodes => number(1, MOST_NODES, Some(DEFAULT_NODES)),
+            OptionName::Floor => number(1, MOST_FLOOR, Some(DEFAULT_FLOOR)),
             OptionName::Seed => ValueKind::Seed,
-            OptionName::Draws => ValueKind::Number {
-                least: 1,
-                most: MOST_DRAWS,
-                default: None,
-            },
-            OptionName::Limit => ValueKind::Number {
-                least: 1,
-                most: GREATEST_LIMIT,
-                default: Some(DEFAULT_LIMIT),
-            },
-            OptionName::Gamma => ValueKind::Number {
-                least: 1,
-                most: GREATEST_GAMMA,
-                default: Some(DEFAULT_GAMMA),
-            },
-            OptionName::Number => ValueKind::Number {
-                least: 0,
-                most: MOST_TRIAL_NUMBER,
-                default: None,
-            },
-            OptionName::Candidates => ValueKind::Number {
-                least: FEWEST_CANDIDATES,
-                most: MOST_CANDIDATES,
-                default: Some(DEFAULT_CANDIDATES),
-            },
-            OptionName::Ballots => ValueKind::Number {
-                least: 1,
-                most: MOST_RECORDS,
-                default: Some(DEFAULT_BALLOTS),
-            },
+            OptionName::Draws => number(1, MOST_DRAWS, None),
+            OptionName::Limit => number(1, GREATEST_LIMIT, Some(DEFAULT_LIMIT)),
+            OptionName::Gamma => number(1, GREATEST_GAMMA, Some(DEFAULT_GAMMA)),
+            OptionName::Number => number(0, MOST_TRIAL_NUMBER, None),
+            OptionName::Candidates => {
+                number(FEWEST_CANDIDATES, MOST_CANDIDATES, Some(DEFAULT_CANDIDATES))
+            }
+            OptionName::Ballots => number(1, MOST_RECORDS, Some(DEFAULT_BALLOTS)),
         }
     }
 }

@@ -1,5 +1,6 @@
-//! Worked examples, computed by the checker: numbers on both sides of their limits.
-ghost use Rattle.std.specs.Prelude.{◌≡◌, [], Some, None, codes};
+//! Worked examples, computed by the checker: numbers, fields and records on both sides of their rules.
+ghost use Rattle.std.specs.Prelude.{◌≡◌, [], ◌∷◌, ◌++◌, Some, None, codes};
+ghost use Rattle.csv_rows.specs.Fields.{byte_order_mark, numbered, trimmed, without_mark};
 ghost use Rattle.csv_rows.specs.Numbers.{number_of};
 
 /// Up to ten digits are a number, leading zeros among them; eleven aren't, nor is a sign.
@@ -9,4 +10,28 @@ pub fn numbers()
     ensures most { number_of (codes "9999999999") ≡ Some 9999999999 }
     ensures none { number_of [] ≡ None }
     ensures sign { number_of (codes "+1") ≡ None }
+    ensures letter { number_of (codes "1a") ≡ None }
+{}
+
+/// Spaces and tabs round a field are taken off, and those within it aren't; no other byte is a blank.
+pub fn fields()
+    ensures spaces { trimmed (codes "  a b ") ≡ codes "a b" }
+    ensures tabs { trimmed (0x09 ∷ 0x61 ∷ 0x09 ∷ 0x62 ∷ 0x09 ∷ []) ≡ 0x61 ∷ 0x09 ∷ 0x62 ∷ [] }
+    ensures blank { trimmed (0x20 ∷ 0x09 ∷ 0x20 ∷ []) ≡ [] }
+    ensures line_ends { trimmed (0x0D ∷ 0x0A ∷ []) ≡ 0x0D ∷ 0x0A ∷ [] }
+{}
+
+/// A record of one field that is blank is passed over. One of two fields has a number, even if both are blank.
+pub fn records()
+    ensures blank { numbered ((codes " " ∷ []) ∷ (codes " a " ∷ []) ∷ []) ≡ (codes "a" ∷ []) ∷ [] }
+    ensures two_fields { numbered ((codes " " ∷ codes " " ∷ []) ∷ []) ≡ ([] ∷ [] ∷ []) ∷ [] }
+    ensures last { numbered ((codes "a" ∷ []) ∷ ([] ∷ []) ∷ []) ≡ (codes "a" ∷ []) ∷ [] }
+{}
+
+/// One byte order mark is taken off, and only at the front.
+pub fn marks()
+    ensures one { without_mark (byte_order_mark ++ codes "1") ≡ codes "1" }
+    ensures two { without_mark (byte_order_mark ++ byte_order_mark) ≡ byte_order_mark }
+    ensures behind { without_mark (codes "1" ++ byte_order_mark) ≡ codes "1" ++ byte_order_mark }
+    ensures cut_off { without_mark (0xEF ∷ 0xBB ∷ []) ≡ 0xEF ∷ 0xBB ∷ [] }
 {}

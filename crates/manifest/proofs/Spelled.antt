@@ -198,8 +198,8 @@ empty-end : (batches : List Fields) (rule : MRule) (at : ℕ) → at_end (map ro
 empty-end [] rule at h = let (r, a) = refusal-parts M6 rule 1 at h in (refl, r, a)
 empty-end (row ∷ batches) rule at h = absurd cc
 
-first-is : (batches : List Fields) (broken : AreBroken [] batches) (rule : MRule) → rule ≡ broken.rule → IsFirstBroken batches broken.k rule
-first-is batches broken rule e = record { row = broken.row; there = broken.there; broken = broken.broken ∙ ap Some (sym e); earlier = broken.earlier }
+first-is : (batches : List Fields) (broken : AreBroken [] batches) (rule : MRule) → rule ≡ broken.rule → IsFirstBroken broken_rule batches broken.k rule
+first-is batches broken rule e = record { row = broken.row; there = broken.there; breaks = broken.broken ∙ ap Some (sym e); earlier = broken.earlier }
 
 is-refused : (rows : List Fields) (rule : MRule) (at : ℕ) → manifest_in rows ≡ Err (record { rule = rule; at = at }) → IsRefusedIn rows rule at
 is-refused [] rule at h = refusal-parts M1 rule 1 at h
@@ -213,16 +213,16 @@ is-refused (header ∷ batches) rule at h = elim (cases_Bool (is_header header))
   ]
 ]
 
-one-first : (batches : List Fields) (broken : AreBroken [] batches) (k : ℕ) (rule : MRule) → IsFirstBroken batches k rule → (broken.k ≡ k) × (broken.rule ≡ rule)
+one-first : (batches : List Fields) (broken : AreBroken [] batches) (k : ℕ) (rule : MRule) → IsFirstBroken broken_rule batches k rule → (broken.k ≡ k) × (broken.rule ≡ rule)
 one-first batches broken k rule first = elim (cases_Bool (nat_lt k broken.k)) [
-  | inl less ↦ absurd (let e = sym (broken.earlier k first.row (ltb-true k broken.k less) first.there) ∙ first.broken in cc)
+  | inl less ↦ absurd (let e = sym (broken.earlier k first.row (ltb-true k broken.k less) first.there) ∙ first.breaks in cc)
   | inr more ↦ elim (cases_Bool (nat_lt broken.k k)) [
     | inl less ↦ absurd (let e = sym (first.earlier broken.k broken.row (ltb-true broken.k k less) broken.there) ∙ broken.broken in cc)
     | inr none ↦
         let same : broken.k ≡ k = omega (arith, ltb-false k broken.k more, ltb-false broken.k k none) in
         let rows = sym broken.there ∙ ap (slice_get batches) same ∙ first.there in
         let row : broken.row ≡ first.row = cc in
-        let rules = sym broken.broken ∙ ap (λ r. broken_rule (take broken.k batches) r) row ∙ ap (λ j. broken_rule (take j batches) first.row) same ∙ first.broken in
+        let rules = sym broken.broken ∙ ap (λ r. broken_rule (take broken.k batches) r) row ∙ ap (λ j. broken_rule (take j batches) first.row) same ∙ first.breaks in
         (same, cc)
   ]
 ]
@@ -237,7 +237,7 @@ refused-is (header ∷ batches) rule at h = elim h [
   | inr some ↦ elim some [
     | inl empty ↦ behind_header header batches empty.0 ∙ ap (batches_after [] [] 2) empty.1 ∙ refusal-of rule M6 at 1 empty.2 empty.3
     | inr first ↦ behind_header header batches first.0 ∙ elim (walked [] batches none_yet) [
-      | inl fine ↦ absurd (let e = sym (fine.none first.1 first.3.row first.3.there) ∙ first.3.broken in cc)
+      | inl fine ↦ absurd (let e = sym (fine.none first.1 first.3.row first.3.there) ∙ first.3.breaks in cc)
       | inr broken ↦
           let (place, same) = one-first batches broken first.1 rule first.3 in
           broken.is ∙ refusal-of rule broken.rule at (broken.k + 2) (sym same) (first.2 ∙ ap (λ k. k + 2) (sym place))

@@ -24,7 +24,7 @@ pub record Spells (rows : List Fields) (batches : Batches) : Type 0 where
 
 -- ---- what is broken
 
--- the number that is written so; 0, which is no number of cards, where none is
+-- the number that is written so; 0, which counts nothing, where none is
 abbrev pub number_or_0 : Option ℕ → ℕ
 number_or_0 None = 0
 number_or_0 (Some n) = n
@@ -50,13 +50,15 @@ broken_rule before (id ∷ number ∷ []) =
     else Some M5) else Some M3)
 broken_rule before (id ∷ number ∷ next ∷ rest) = Some M2
 
--- of the batches' records the one at place k breaks this rule first, and none before it breaks any
-pub record IsFirstBroken (batches : List Fields) (k : ℕ) (rule : MRule) : Type 0 where
+-- of these rows the one at place k breaks this rule, and none before it breaks any; broken is the rule that one breaks behind others
+pub record IsFirstBroken
+    {Rule : Type 0} (broken : List Fields → Fields → Option Rule) (rows : List Fields) (k : ℕ) (rule : Rule)
+    : Type 0 where
   pub row : Fields
-  pub there : slice_get batches k ≡ Some row
-  pub broken : broken_rule (take k batches) row ≡ Some rule
-  pub earlier : (j : ℕ) (other : Fields) → j < k → slice_get batches j ≡ Some other →
-      broken_rule (take j batches) other ≡ None
+  pub there : slice_get rows k ≡ Some row
+  pub breaks : broken (take k rows) row ≡ Some rule
+  pub earlier : (j : ℕ) (other : Fields) → j < k → slice_get rows j ≡ Some other →
+      broken (take j rows) other ≡ None
 
 -- there is no header, or there is no batch, or a batch's record breaks a rule; the first batch's record has number 2
 abbrev pub IsRefusedIn : List Fields → MRule → ℕ → Type 0
@@ -64,7 +66,7 @@ IsRefusedIn [] rule at = (rule ≡ M1) × (at ≡ 1)
 IsRefusedIn (header ∷ batches) rule at =
     ((is_header header ≡ false) × (rule ≡ M1) × (at ≡ 1))
     ⊎ ((is_header header ≡ true) × (batches ≡ []) × (rule ≡ M6) × (at ≡ 1))
-    ⊎ ((is_header header ≡ true) × (k : ℕ) × (at ≡ k + 2) × IsFirstBroken batches k rule)
+    ⊎ ((is_header header ≡ true) × (k : ℕ) × (at ≡ k + 2) × IsFirstBroken broken_rule batches k rule)
 
 -- ---- the laws
 

@@ -1,8 +1,8 @@
 //! Worked examples, computed by the checker: what is on both sides of each limit of a manifest.
-ghost use Rattle.std.specs.Prelude.{◌≡◌, ◌+◌, [], ◌∷◌, Some, None, true, false, codes, replicate};
-ghost use Rattle.manifest.specs.Cards.{is_batch_id, is_count};
+ghost use Rattle.std.specs.Prelude.{◌≡◌, ◌+◌, [], ◌∷◌, Some, None, true, false, codes, map, replicate};
+ghost use Rattle.manifest.specs.Cards.{card_id, cards_of, is_batch_id, is_count, place_of};
 ghost use Rattle.manifest.specs.Spelling.{broken_rule};
-ghost use Rattle.manifest.specs.declared.fault.MRule.TheVariants.{M5};
+ghost use Rattle.manifest.specs.declared.fault.MRule.TheVariants.{M2, M3, M4, M5};
 
 /// A batch's id has up to 56 bytes.
 pub fn batch_ids()
@@ -25,4 +25,38 @@ pub fn all_cards()
         (codes "b" ∷ codes "1000000" ∷ []) ≡ None }
     ensures over { broken_rule (replicate 10 (codes "a" ∷ codes "1000000" ∷ []))
         (codes "b" ∷ codes "1" ∷ []) ≡ Some M5 }
+{}
+
+/// The cards of each batch count from 1, batch after batch, and so do their ids.
+pub fn card_ids()
+    ensures { map card_id
+        (cards_of (record { ids = codes "a" ∷ codes "b_1" ∷ []; counts = 2 ∷ 1 ∷ [] }))
+        ≡ codes "a_1" ∷ codes "a_2" ∷ codes "b_1_1" ∷ [] }
+{}
+
+/// The places of cards count from 1. A number of a card has no leading zero, is at least 1, and is at most that of its batch.
+pub fn places()
+    ensures first { place_of (cards_of (record { ids = codes "a" ∷ []; counts = 2 ∷ [] }))
+        (codes "a_1") ≡ Some 1 }
+    ensures last { place_of (cards_of (record { ids = codes "a" ∷ []; counts = 2 ∷ [] }))
+        (codes "a_2") ≡ Some 2 }
+    ensures none { place_of (cards_of (record { ids = codes "a" ∷ []; counts = 2 ∷ [] }))
+        (codes "a_0") ≡ None }
+    ensures over { place_of (cards_of (record { ids = codes "a" ∷ []; counts = 2 ∷ [] }))
+        (codes "a_3") ≡ None }
+    ensures leading_zero { place_of (cards_of (record { ids = codes "a" ∷ []; counts = 2 ∷ [] }))
+        (codes "a_01") ≡ None }
+    ensures hyphen { place_of (cards_of (record { ids = codes "a" ∷ []; counts = 2 ∷ [] }))
+        (codes "a-1") ≡ None }
+{}
+
+/// A record of a batch breaks M2 by its fields, then M4 by its id, then M3 by its number, and only then M5.
+pub fn rules()
+    ensures fields { broken_rule [] (codes "" ∷ codes "0" ∷ codes "" ∷ []) ≡ Some M2 }
+    ensures id { broken_rule [] (codes "" ∷ codes "0" ∷ []) ≡ Some M4 }
+    ensures repeated { broken_rule
+        ((codes "a" ∷ codes "1" ∷ []) ∷ (codes "b" ∷ codes "1" ∷ []) ∷ [])
+        (codes "a" ∷ codes "0" ∷ []) ≡ Some M4 }
+    ensures number { broken_rule (replicate 10 (codes "a" ∷ codes "1000000" ∷ []))
+        (codes "b" ∷ codes "1000001" ∷ []) ≡ Some M3 }
 {}

@@ -3,7 +3,6 @@ use Rattle.command_line.proofs.laws.limits.Goals as goal
 
 pub returns : goal.returns
 returns c = record {
-  workers = refl;
   default_workers = refl;
   nodes = refl;
   default_nodes = refl;

@@ -1,0 +1,26 @@
+use Rattle.std.proofs.Common.{refl}
+use Rattle.command_line.proofs.laws.meanings.Goals as goal
+
+pub returns : goal.returns
+returns c = record {
+  tabulate = refl;
+  tabulate_left_out = refl;
+  search = refl;
+  search_left_out = refl;
+  check = refl;
+  check_left_out = refl;
+  sample = refl;
+  plan = refl;
+  plan_left_out = refl;
+  open_all = refl;
+  open_left_out = refl;
+  audit = refl;
+  audit_left_out = refl;
+  report = refl;
+  trial = refl;
+  trial_left_out = refl;
+  two_words = refl;
+  after_dashes = refl;
+  equals_in_a_value = refl;
+  hyphen_in_a_value = refl;
+}

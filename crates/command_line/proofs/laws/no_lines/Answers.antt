@@ -1,0 +1,16 @@
+use Rattle.std.proofs.Common.{refl}
+use Rattle.command_line.proofs.laws.no_lines.Goals as goal
+
+pub returns : goal.returns
+returns c = record {
+  part_of_a_word = refl;
+  longer_word = refl;
+  part_of_an_option = refl;
+  option_of_another_command = refl;
+  hyphen_alone = refl;
+  file_without_name = refl;
+  hyphen_as_value = refl;
+  value_left_empty = refl;
+  file_too_many = refl;
+  no_command = refl;
+}

@@ -1,5 +1,5 @@
 -- Sums over sets, by halves: the sets without the last candidate, and those with it.
-use Rattle.std.proofs.Common.{◌≡◌, ◌==◌, ℕ, zero, suc, ◌+◌, ◌-◌, ◌*◌, ◌/◌, ◌%◌, ◌^◌, ◌<◌, ◌≤◌, Bool, true, false, cond, not, ◌&&◌, bit_or, List, [], ◌∷◌, ◌++◌, length, map, get_or, set, sum_by, refl, sym, ap, ap₂, subst, arith, mod-eq_of_lt, pow_pos, div-lt_iff_lt-mul, length-append, ◌∙◌}
+use Rattle.std.proofs.Common.{◌≡◌, ◌==◌, ℕ, zero, suc, ◌+◌, ◌-◌, ◌*◌, ◌/◌, ◌%◌, ◌^◌, ◌<◌, ◌≤◌, Bool, true, false, cond, not, ◌&&◌, bit_or, List, [], ◌∷◌, ◌++◌, length, map, get_or, set, sum_by, refl, sym, ap, ap₂, arith, mod-eq_of_lt, pow_pos, div-lt_iff_lt-mul, length-append, ◌∙◌}
 use Rattle.std.specs.List.{range_with_len}
 use Rattle.std.specs.Int.Bits.{and_zero_r}
 use Rattle.std.proofs.lemmas.List.{map-append, get_or_append_left, get_or-append_right}
@@ -88,7 +88,7 @@ module _ (n : ℕ) (without having : List ℕ) (w : length without ≡ 2 ^ n) (h
       ∙ omega arith
 
 -- ---- bounds
-misses-empty : (other : ℕ) → misses 0 other ≡ true
+pub misses-empty : (other : ℕ) → misses 0 other ≡ true
 misses-empty other = ap (λ x. x == 0) (and_zero_r other)
 
 at-empty : (table : List ℕ) (i : ℕ) → at 0 table i ≡ get_or table i 0
@@ -118,7 +118,7 @@ long-sums table = length-map-range_with_len (λ s. apart s table) 0 (length tabl
 pub sum-at : (table : List ℕ) (i : ℕ) → i < length table → get_or (sums_of table) i 0 ≡ apart i table
 sum-at table i l = get_or-map-range_with_len (λ s. apart s table) 0 (length table) i i 0 (omega (arith, l)) (omega arith)
 
-map-shift : (f : ℕ → ℕ) (a m k : ℕ) → map f (range_with_len (a + m) k) ≡ map (λ s. f (s + m)) (range_with_len a k)
+pub map-shift : (f : ℕ → ℕ) (a m k : ℕ) → map f (range_with_len (a + m) k) ≡ map (λ s. f (s + m)) (range_with_len a k)
 map-shift f a m zero = refl
 map-shift f a m (suc k) = ap (λ xs. f (a + m) ∷ xs) (ap (λ x. map f (range_with_len x k)) (omega arith) ∙ map-shift f (a + 1) m k)
 
@@ -147,35 +147,5 @@ module _ (n : ℕ) (without having : List ℕ) (w : length without ≡ 2 ^ n) (h
       ∙ ap (map f) (sym (range-split 0 (2 ^ n) (2 ^ n)))
       ∙ ap (λ k. map f (candidates k)) (sym wide)
 
--- ---- a table that is split
-pub record AreHalves (n m : ℕ) (table without having : List ℕ) : Type 0 where
-  pub first : length without ≡ 2 ^ (n - 1)
-  pub second : length having ≡ 2 ^ (n - 1)
-  pub parts : table ≡ without ++ having
-  pub few : (apart 0 without ≤ m) × (apart 0 having ≤ m)
-  pub all : apart 0 (without ++ having) ≤ m
-
 pub size : (k : ℕ) → k < 64 → 1 * 2 ^ k % 2 ^ 64 ≡ 2 ^ k
 size k l = let small : 1 * 2 ^ k < 2 ^ 64 = omega (arith, pow_below k 64 l) in mod-eq_of_lt small ∙ omega arith
-
-pub halved : (n m : ℕ) (table without having : List ℕ) → n < 64 → (n ≡ 0 → ⊥) → length table ≡ 2 ^ n → apart 0 table ≤ m →
-    table ≡ without ++ having → length without ≡ 1 * 2 ^ (n - 1) % 2 ^ 64 → length having + 1 * 2 ^ (n - 1) % 2 ^ 64 ≡ length table → AreHalves n m table without having
-halved n m table without having room some long fit parts front back = record {
-  first = first;
-  second = second;
-  parts = parts;
-  few = half-fits (n - 1) without having first second m all;
-  all = all;
-}
-  where
-    mid : 1 * 2 ^ (n - 1) % 2 ^ 64 ≡ 2 ^ (n - 1)
-    mid = size (n - 1) (omega (arith, room))
-
-    first : length without ≡ 2 ^ (n - 1)
-    first = front ∙ mid
-
-    second : length having ≡ 2 ^ (n - 1)
-    second = omega (arith, back, mid, long, twice n some)
-
-    all : apart 0 (without ++ having) ≤ m
-    all = subst (λ t. apart 0 t ≤ m) parts fit

@@ -69,15 +69,15 @@ missed_ahead w seen (d ∷ rest) l m = go (d == l) (d == w) refl (λ n. missed_a
 pub misses-none : (set : ℕ) → misses set 0 ≡ true
 misses-none set = ap (λ x. x == 0) (and_zero_l set)
 
-pub missed_first : (ranking : List ℕ) (w : ℕ) → All (λ c. c < 32) ranking → is_missed everyone (before ranking w) ≡ is_first ranking w
-missed_first [] w h = refl
-missed_first (d ∷ rest) w h = go (d == w) where
-  below : d < 32
+pub missed_first : (n : ℕ) (ranking : List ℕ) (w : ℕ) → All (λ c. c < n) ranking → is_missed (everyone n) (before ranking w) ≡ is_first ranking w
+missed_first n [] w h = refl
+missed_first n (d ∷ rest) w h = go (d == w) where
+  below : d < n
   below = h 0 d (omega arith)
 
-  go : (b : Bool) → is_missed everyone (cond b (Some 0) (before_after (bit_or 0 (2 ^ d)) rest w)) ≡ b
-  go true = misses-none everyone
-  go false = missed-not everyone (bit_or 0 (2 ^ d)) rest w (misses-member everyone 0 d (eq-eqb (bit_at everyone d) 1 (bit_at_ones 32 d below)))
+  go : (b : Bool) → is_missed (everyone n) (cond b (Some 0) (before_after (bit_or 0 (2 ^ d)) rest w)) ≡ b
+  go true = misses-none (everyone n)
+  go false = missed-not (everyone n) (bit_or 0 (2 ^ d)) rest w (misses-member (everyone n) 0 d (eq-eqb (bit_at (everyone n) d) 1 (bit_at_ones n d below)))
 
 -- ---- those outside
 pub outside : (set : ℕ) (ranking : List ℕ) (c : ℕ) → has set c ≡ false → is_some_of (top ranking set) c ≡ false

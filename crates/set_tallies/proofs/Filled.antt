@@ -1,6 +1,7 @@
--- What the entries of all candidates say of the records.
-use Rattle.std.proofs.Common.{◌≡◌, ℕ, suc, zero, ◌+◌, ◌%◌, ◌<◌, ◌≤◌, ◌^◌, Bool, true, false, cond, if◌then◌else◌, inl, inr, Option, Some, None, IfSome, List, [], ◌∷◌, ◌++◌, All, length, map, get_or, replicate, count_by, IsPermutation, refl, sym, ap, ap₂, subst, arith, mod-lt, length-append, ◌∙◌}
+-- What a bag says of the records.
+use Rattle.std.proofs.Common.{◌≡◌, ℕ, suc, zero, ◌+◌, ◌%◌, ◌<◌, ◌≤◌, ◌^◌, Bool, true, false, cond, if◌then◌else◌, inl, inr, Option, Some, None, IfSome, List, [], ◌∷◌, ◌++◌, All, length, map, get_or, replicate, count_by, IsPermutation, pow_pos, refl, sym, ap, ap₂, subst, arith, mod-lt, length-append, ◌∙◌}
 use Rattle.std.specs.List.{range_with_len}
+use Rattle.std.proofs.Math.Pow.{pow-lt}
 use Rattle.std.proofs.lemmas.Bool.{cases_lt}
 use Rattle.std.proofs.lemmas.List.{get_or_push, get_or_append_left, get_or_default, get_or-map, length-map, length-replicate, get_or-replicate}
 use Rattle.std.proofs.lemmas.List.FromFn.{get_or-map-range_with_len, length-map-range_with_len}
@@ -8,11 +9,14 @@ use Rattle.std.proofs.lemmas.List.Sums.{sum_by-cons}
 use Rattle.std.proofs.lemmas.List.Sorted.{sum_by-IsPermutation, length_permutation}
 use Rattle.irv_base.specs.Candidates.{candidates, has}
 use Rattle.irv_base.specs.Records.{top, is_some_of, tally, is_first, is_ahead}
-use Rattle.set_tallies.specs.Bags.{Kept, IsOf, is_before, Counts, AreFilledFrom, IsTable, missing, total, entries_of, everyone, tallies}
-use Rattle.set_tallies.specs.Befores.{before, is_missed, Counted}
+use Rattle.set_tallies.specs.Bags.{Kept, IsOf, AreEntries, votes_at, all_votes, Counts, AreFilledFrom, IsTable, missing, total, everyone, tallies}
+use Rattle.set_tallies.specs.Befores.{before, is_missed, has_missed, AllCounted, Counted}
 use Rattle.set_tallies.specs.Rows.{votes_of, IsRow, AreRows, AreTallies}
 use Rattle.set_tallies.specs.declared.entry.Entry.{Entry}
+use Rattle.set_tallies.specs.Sums.{AreSums, sum_at}
 use Rattle.set_tallies.specs.declared.rows.Row.{Row}
+use Rattle.set_tallies.specs.declared.rows.TheConstants.{MOST_ROWS}
+use Rattle.set_tallies.specs.declared.sums.Sums.{Sums}
 use Rattle.set_tallies.proofs.Befores.{missed_top, missed_ahead, missed_first, misses-none, outside}
 
 -- ---- the same count by another test
@@ -28,9 +32,6 @@ count-none p [] h = refl
 count-none p (x ∷ xs) h = sum_by-cons (λ y. cond (p y) 1 0) x xs ∙ ap₂ (λ b n. cond b 1 0 + n) (h x) (count-none p xs h)
 
 -- ---- the entries of each candidate
-abbrev pub AllCounted : ℕ → List (List Entry) → List (List ℕ) → Type 0
-AllCounted n lists records = (c : ℕ) → c < length lists → Counted (get_or lists c []) records n c
-
 pub counted-push : (n : ℕ) (lists : List (List Entry)) (entries : List Entry) (records : List (List ℕ)) (k : ℕ) → length lists ≡ k → AllCounted n lists records → Counted entries records n k → AllCounted n (lists ++ entries ∷ []) records
 counted-push n lists entries records k long h last c l =
     elim (cases_lt c (length lists)) [
@@ -41,28 +42,48 @@ counted-push n lists entries records k long h last c l =
           subst (λ es. Counted es records n c) (sym (get_or_push lists entries [] c (long ∙ at))) (subst (Counted entries records n) at last)
     ]
 
-pub bag-of : (n : ℕ) (lists : List (List Entry)) (records : List (List ℕ)) → n ≤ 32 → length lists ≡ n → All (All (λ c. c < n)) records → AllCounted n lists records →
-    IsOf (record { n = n; records = length records; entries = lists }) records
-bag-of n lists records room long below h = record {
-  all = refl;
-  tallies = λ set c l inside. (h c (omega (arith, long, l))).missing set ∙ count-same (λ r. is_missed set (before r c)) (λ r. is_some_of (top r set) c) records (λ k d w. missed_top set 0 (get_or records k d) c (misses-none set) inside);
-  firsts = λ w l. (h w (omega (arith, long, l))).missing everyone ∙ count-same (λ r. is_missed everyone (before r w)) (λ r. is_first r w) records (λ k d m. missed_first (get_or records k d) w (λ j e i. let b = below k d m j e i in omega (arith, b, room)));
-  ahead = λ l w k. (h l (omega (arith, long, k))).missing (2 ^ w) ∙ count-same (λ r. is_missed (2 ^ w) (before r l)) (λ r. is_ahead r l w) records (λ k d m. missed_ahead w 0 (get_or records k d) l (misses-none (2 ^ w)));
+pub lists-say : (n : ℕ) (lists : List (List Entry)) (records : List (List ℕ)) → length lists ≡ n → AllCounted n lists records → (set c : ℕ) → c < n → missing set (get_or lists c []) ≡ count_by (has_missed set c) records
+lists-say n lists records long h set c l = (h c (omega (arith, long, l))).missing set
+
+pub are-entries : (n : ℕ) (lists : List (List Entry)) (records : List (List ℕ)) → length lists ≡ n → AllCounted n lists records → AreEntries n (length records) lists
+are-entries n lists records long h = record {
+  one_each = long;
+  few = λ k d l. subst (λ es. total es ≤ length records) (get_or_default lists k [] d l) (h k l).few;
+  before = λ c l. (h c (omega (arith, long, l))).before;
 }
 
-pub lists-few : (n : ℕ) (lists : List (List Entry)) (records : List (List ℕ)) → AllCounted n lists records → All (λ es. total es ≤ length records) lists
-lists-few n lists records h k d l = subst (λ es. total es ≤ length records) (get_or_default lists k [] d l) (h k l).few
+pub fewer : (n few most : ℕ) (lists : List (List Entry)) → few ≤ most → AreEntries n few lists → AreEntries n most lists
+fewer n few most lists le h = record {
+  one_each = h.one_each;
+  few = λ k d l. omega (arith, h.few k d l, le);
+  before = h.before;
+}
 
-pub lists-before : (n : ℕ) (lists : List (List Entry)) (records : List (List ℕ)) → length lists ≡ n → AllCounted n lists records → (c : ℕ) → c < n → All (λ entry. is_before n c entry.before ≡ true) (get_or lists c [])
-lists-before n lists records long h c l = (h c (omega (arith, long, l))).before
+-- ---- what the numbers of a bag say
+pub votes-read : (n : ℕ) (f : ℕ → ℕ → ℕ) (set c : ℕ) → set < 2 ^ n → c < n → get_or (get_or (all_votes n f) set []) c 0 ≡ f set c
+votes-read n f set c s l =
+    ap (λ xs. get_or xs c 0) (get_or-map-range_with_len (λ t. map (f t) (candidates n)) 0 (2 ^ n) set set [] s (omega arith))
+    ∙ get_or-map-range_with_len (f set) 0 n c c 0 l (omega arith)
+
+pub bag-of : (n : ℕ) (votes : ℕ → ℕ → ℕ) (records : List (List ℕ)) → All (All (λ c. c < n)) records → ((set c : ℕ) → set < 2 ^ n → c < n → votes set c ≡ count_by (has_missed set c) records) →
+    IsOf (record { n = n; records = length records; votes = all_votes n votes }) records
+bag-of n votes records below says = record {
+  all = refl;
+  tallies = λ set c s l inside. h set c s l ∙ count-same (λ r. is_missed set (before r c)) (λ r. is_some_of (top r set) c) records (λ k d w. missed_top set 0 (get_or records k d) c (misses-none set) inside);
+  firsts = λ w l. h (everyone n) w (omega (arith, pow_pos n)) l ∙ count-same (λ r. is_missed (everyone n) (before r w)) (λ r. is_first r w) records (λ k d m. missed_first n (get_or records k d) w (below k d m));
+  ahead = λ l w k m. h (2 ^ w) l (pow-lt m) k ∙ count-same (λ r. is_missed (2 ^ w) (before r l)) (λ r. is_ahead r l w) records (λ j d i. missed_ahead w 0 (get_or records j d) l (misses-none (2 ^ w)));
+}
+  where
+    h : (set c : ℕ) → set < 2 ^ n → c < n → get_or (get_or (all_votes n votes) set []) c 0 ≡ count_by (has_missed set c) records
+    h set c s l = votes-read n votes set c s l ∙ says set c s l
 
 -- ---- in another order
 pub order_is_free : (bag : Kept) (records others : List (List ℕ)) → IsPermutation records others → IsOf bag records → IsOf bag others
 order_is_free bag records others p h = record {
   all = h.all ∙ sym (length_permutation records others p);
-  tallies = λ set c l inside. h.tallies set c l inside ∙ same (λ r. is_some_of (top r set) c);
+  tallies = λ set c s l inside. h.tallies set c s l inside ∙ same (λ r. is_some_of (top r set) c);
   firsts = λ w l. h.firsts w l ∙ same (λ r. is_first r w);
-  ahead = λ l w k. h.ahead l w k ∙ same (λ r. is_ahead r l w);
+  ahead = λ l w k m. h.ahead l w k m ∙ same (λ r. is_ahead r l w);
 }
   where
     same : (q : List ℕ → Bool) → count_by q records ≡ count_by q others
@@ -89,15 +110,21 @@ pub map-same : {X : Type 0} (f g : ℕ → X) (a n : ℕ) → ((c : ℕ) → c <
 map-same f g a zero h = refl
 map-same f g a (suc n) h = ap₂ (λ x xs. x ∷ xs) (h a (omega arith)) (map-same f g (a + 1) n (λ c l. h c (omega arith)))
 
-pub row-tallies : (bag : Kept) (records : List (List ℕ)) (set : ℕ) → IsOf bag records → votes_of bag set ≡ tallies records bag.n set
-row-tallies bag records set h = map-same (λ c. if has set c then missing set (entries_of bag c) else 0) (tally records set) 0 bag.n (λ c l. go c (omega arith) (has set c) refl)
+pub row-tallies : (bag : Kept) (records : List (List ℕ)) (set : ℕ) → set < 2 ^ bag.n → IsOf bag records → votes_of bag set ≡ tallies records bag.n set
+row-tallies bag records set below h = map-same (λ c. if has set c then votes_at bag set c else 0) (tally records set) 0 bag.n (λ c l. go c (omega arith) (has set c) refl)
   where
-    go : (c : ℕ) → c < bag.n → (b : Bool) → has set c ≡ b → cond b (missing set (entries_of bag c)) 0 ≡ tally records set c
-    go c l true e = h.tallies set c l e
+    go : (c : ℕ) → c < bag.n → (b : Bool) → has set c ≡ b → cond b (votes_at bag set c) 0 ≡ tally records set c
+    go c l true e = h.tallies set c below l e
     go c l false e = tally-outside records set c e
 
 pub row-long : (bag : Kept) (set : ℕ) → length (votes_of bag set) ≡ bag.n
-row-long bag set = length-map-range_with_len (λ c. if has set c then missing set (entries_of bag c) else 0) 0 bag.n
+row-long bag set = length-map-range_with_len (λ c. if has set c then votes_at bag set c else 0) 0 bag.n
+
+-- the row that is read from sums
+pub summed-row : (bag : Kept) (sums : Sums) (set : ℕ) → set < 2 ^ bag.n → AreSums bag sums → map (λ c. if has set c then sum_at sums set c else 0) (candidates sums.n) ≡ votes_of bag set
+summed-row bag sums set below made =
+    ap (λ n. map (λ c. if has set c then sum_at sums set c else 0) (candidates n)) made.table.same
+    ∙ map-same (λ c. if has set c then sum_at sums set c else 0) (λ c. if has set c then votes_at bag set c else 0) 0 bag.n (λ c l. ap (λ v. if has set c then v else 0) (made.says set c below (omega (arith, l))))
 
 -- the row that stands at the place of its set
 pub row-kept : (bag : Kept) (places : List (Option Row)) (row : Row) (set : ℕ) → 0 < length places → AreRows bag places → row.set ≡ set → get_or places (set % length places) None ≡ Some row → row.votes.items ≡ votes_of bag set
@@ -105,11 +132,12 @@ row-kept bag places row set some rows own there =
     subst (λ place. IfSome place (IsRow bag)) there (rows (set % length places) None (mod-lt set some)) ∙ ap (votes_of bag) own
 
 -- no row is kept
-pub are-tallies : (bag : Kept) (counts : Counts) (n : ℕ) (places : List (Option Row)) → 0 < n → places ≡ replicate n None → AreFilledFrom bag counts → AreTallies bag counts places None
-are-tallies bag counts n places some empty filled = record {
+pub are-tallies : (bag : Kept) (counts : Counts) (n : ℕ) (places : List (Option Row)) → 0 < n → n ≤ MOST_ROWS → places ≡ replicate n None → AreFilledFrom bag counts → AreTallies bag counts places None
+are-tallies bag counts n places some few empty filled = record {
   filled = filled;
   sums = tt;
   some = omega (arith, ap length empty, long, some);
+  few = omega (arith, ap length empty, long, few);
   rows = subst (AreRows bag) (sym empty) (λ k d l. subst (λ place. IfSome place (IsRow bag)) (sym (get_or-replicate n k none d (omega (arith, long, l)))) tt);
 }
   where
@@ -122,33 +150,33 @@ are-tallies bag counts n places some empty filled = record {
 -- ---- the two numbers of NEB's margin
 pub record Filled (bag : Kept) (counts : Counts) : Type 0 where
   pub same : counts.n ≡ bag.n
-  pub firsts : counts.firsts ≡ map (λ w. missing everyone (entries_of bag w)) (candidates counts.n)
-  pub ahead : counts.ahead ≡ map (λ c. map (λ w. missing (2 ^ w) (entries_of bag c)) (candidates counts.n)) (candidates counts.n)
+  pub firsts : counts.firsts ≡ map (λ w. votes_at bag (everyone bag.n) w) (candidates counts.n)
+  pub ahead : counts.ahead ≡ map (λ c. map (λ w. votes_at bag (2 ^ w) c) (candidates counts.n)) (candidates counts.n)
 
 pub filled-from : (bag : Kept) (counts : Counts) → Filled bag counts → AreFilledFrom bag counts
 filled-from bag counts f = record {
   same = f.same;
   own = λ records h. record {
-    firsts = λ w l. ap (λ xs. get_or xs w 0) f.firsts ∙ get_or-map-range_with_len (λ w. missing everyone (entries_of bag w)) 0 counts.n w w 0 l (omega arith) ∙ h.firsts w (omega (arith, f.same, l));
+    firsts = λ w l. ap (λ xs. get_or xs w 0) f.firsts ∙ get_or-map-range_with_len (λ w. votes_at bag (everyone bag.n) w) 0 counts.n w w 0 l (omega arith) ∙ h.firsts w (omega (arith, f.same, l));
     ahead = λ c w k l.
         ap (λ xs. get_or (get_or xs c []) w 0) f.ahead
-        ∙ ap (λ xs. get_or xs w 0) (get_or-map-range_with_len (λ c. map (λ w. missing (2 ^ w) (entries_of bag c)) (candidates counts.n)) 0 counts.n c c [] k (omega arith))
-        ∙ get_or-map-range_with_len (λ w. missing (2 ^ w) (entries_of bag c)) 0 counts.n w w 0 l (omega arith) ∙ h.ahead c w (omega (arith, f.same, k));
+        ∙ ap (λ xs. get_or xs w 0) (get_or-map-range_with_len (λ c. map (λ w. votes_at bag (2 ^ w) c) (candidates counts.n)) 0 counts.n c c [] k (omega arith))
+        ∙ get_or-map-range_with_len (λ w. votes_at bag (2 ^ w) c) 0 counts.n w w 0 l (omega arith) ∙ h.ahead c w (omega (arith, f.same, k)) (omega (arith, f.same, l));
   };
 }
 
 pub table-of : (bag : Kept) (counts : Counts) → counts.n ≤ 32 → Filled bag counts → IsTable counts
 table-of bag counts room f = record {
   room = room;
-  long = ap length f.firsts ∙ length-map-range_with_len (λ w. missing everyone (entries_of bag w)) 0 counts.n;
-  wide = ap length f.ahead ∙ length-map-range_with_len (λ c. map (λ w. missing (2 ^ w) (entries_of bag c)) (candidates counts.n)) 0 counts.n;
+  long = ap length f.firsts ∙ length-map-range_with_len (λ w. votes_at bag (everyone bag.n) w) 0 counts.n;
+  wide = ap length f.ahead ∙ length-map-range_with_len (λ c. map (λ w. votes_at bag (2 ^ w) c) (candidates counts.n)) 0 counts.n;
   square = subst (All (λ row. length row ≡ counts.n)) (sym f.ahead) (rows counts.n);
 }
   where
     row : ℕ → List ℕ
-    row c = map (λ w. missing (2 ^ w) (entries_of bag c)) (candidates counts.n)
+    row c = map (λ w. votes_at bag (2 ^ w) c) (candidates counts.n)
 
     rows : (n : ℕ) → All (λ row. length row ≡ counts.n) (map row (candidates n))
     rows n k d l =
         let within : k < n = subst (λ m. k < m) (length-map-range_with_len row 0 n) l in
-        ap length (get_or-map-range_with_len row 0 n k k d within (omega arith)) ∙ length-map-range_with_len (λ w. missing (2 ^ w) (entries_of bag k)) 0 counts.n
+        ap length (get_or-map-range_with_len row 0 n k k d within (omega arith)) ∙ length-map-range_with_len (λ w. votes_at bag (2 ^ w) k) 0 counts.n

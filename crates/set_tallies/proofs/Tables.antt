@@ -1,59 +1,16 @@
--- The table of a candidate: filled from the entries, and read.
-use Rattle.std.proofs.Common.{◌≡◌, ℕ, ◌+◌, ◌-◌, ◌^◌, ◌<◌, ◌≤◌, Bool, true, false, cond, List, [], ◌∷◌, ◌++◌, All, length, take, drop, get_or, set, replicate, sum_by, inl, inr, refl, sym, ap, subst, arith, length-append, ◌∙◌}
-use Rattle.std.proofs.lemmas.Bool.{cases_lt, eqb-false}
-use Rattle.std.proofs.lemmas.List.{get_or-set_same, get_or-set_other, length-set, get_or-replicate, length-replicate, get_or_push, get_or_append_left, take_at}
+-- The numbers of a table: those that ballots add, and the sums.
+use Rattle.std.proofs.Common.{◌≡◌, ◌==◌, ℕ, ◌+◌, ◌*◌, ◌^◌, ◌<◌, ◌≤◌, Bool, true, false, cond, ◌&&◌, ◌||◌, bit_or, eqb-true, not, IsTrue, Some, List, [], ◌∷◌, ◌++◌, length, take, drop, get_or, ◌⊎◌, inl, inr, refl, sym, ap, ap₂, arith, ◌∙◌, eq-eqb}
+use Rattle.std.proofs.lemmas.Bool.{cases_Bool, both_ways, eqb-false, and_parts}
+use Rattle.std.proofs.lemmas.List.{take_at}
 use Rattle.std.proofs.lemmas.List.Sums.{sum_by_more, sum_by-le-sum_by}
-use Rattle.irv_base.specs.Candidates.{candidates, has}
-use Rattle.set_tallies.specs.Bags.{Kept, is_before, entries_of, misses, missing, total}
-use Rattle.set_tallies.specs.Sums.{IsTableOf, apart, sums_of, among_others}
+use Rattle.irv_base.specs.Candidates.{has, is_in, is_distinct}
+use Rattle.irv_base.proofs.Bits.{has-with}
+use Rattle.set_tallies.specs.Bags.{misses, missing, total}
+use Rattle.set_tallies.specs.Befores.{before_after, is_missed, has_missed}
+use Rattle.set_tallies.specs.Sums.{column, apart, sums_of}
 use Rattle.set_tallies.specs.declared.entry.Entry.{Entry}
-use Rattle.set_tallies.proofs.Apart.{at, sum-at, long-sums, place-le}
-use Rattle.set_tallies.proofs.Masks.{misses-among, among-none, among-below}
-use Rattle.set_tallies.proofs.Runs.{votes-within, is-below}
-use Rattle.set_tallies.proofs.Totals.{total-more, total-none}
-
--- ---- one number more
-pub apart-more : (s : ℕ) (table : List ℕ) (k v : ℕ) → k < length table → apart s (set table k (get_or table k 0 + v)) ≡ apart s table + cond (misses s k) v 0
-apart-more s table k v l =
-    let new : List ℕ = set table k (get_or table k 0 + v) in
-    let long : length new ≡ length table = length-set table k (get_or table k 0 + v) in
-    ap (λ n. sum_by (at s new) (candidates n)) long
-    ∙ total-more (at s table) (at s new) k (cond (misses s k) v 0) 0 (length table) (omega arith) (omega (arith, l))
-    (ap (λ x. cond (misses s k) x 0) (get_or-set_same table k (get_or table k 0 + v) 0 l) ∙ apiece (misses s k) (get_or table k 0))
-    (λ i n. let ne = eqb-false i k n in ap (λ x. cond (misses s i) x 0) (get_or-set_other table k i (get_or table k 0 + v) 0 ne))
-  where
-    apiece : (b : Bool) (x : ℕ) → cond b (x + v) 0 ≡ cond b x 0 + cond b v 0
-    apiece true x = refl
-    apiece false x = refl
-
-pub apart-zeros : (s n : ℕ) → apart s (replicate n 0) ≡ 0
-apart-zeros s n =
-    total-none (at s zeros) 0 (length zeros) (λ i a l. nothing (misses s i) (get_or zeros i 0) (get_or-replicate n i nought nought (omega (arith, l, long))))
-  where
-    nought : ℕ
-    nought = 0
-
-    zeros : List ℕ
-    zeros = replicate n 0
-
-    long : length zeros ≡ n
-    long = length-replicate n nought
-
-    nothing : (b : Bool) (v : ℕ) → v ≡ 0 → cond b v 0 ≡ 0
-    nothing true v e = e
-    nothing false v e = refl
-
--- ---- one entry more
-abbrev pub Says : ℕ → List ℕ → List Entry → Type 0
-Says c counts entries = (set : ℕ) → apart (among_others c set) counts ≡ missing set entries
-
-pub says-more : (c : ℕ) (counts : List ℕ) (entries : List Entry) (i : ℕ) (e : Entry) → i < length entries → e ≡ get_or entries i e → has e.before c ≡ false → among_others c e.before < length counts →
-    Says c counts (take i entries) → Says c (set counts (among_others c e.before) (get_or counts (among_others c e.before) 0 + e.count)) (take (i + 1) entries)
-says-more c counts entries i e l there out below h s =
-    let votes : Entry → ℕ = λ x. cond (misses s x.before) x.count 0 in
-    let more : missing s (take (i + 1) entries) ≡ missing s (take i entries) + votes e = sum_by_more votes entries i e l ∙ ap (λ x. missing s (take i entries) + votes x) (sym there) in
-    let same : cond (misses (among_others c s) (among_others c e.before)) e.count 0 ≡ votes e = ap (λ b. cond b e.count 0) (misses-among c s e.before out) in
-    omega (arith, apart-more (among_others c s) counts (among_others c e.before) e.count below, h s, more, same)
+use Rattle.set_tallies.proofs.Apart.{sum-at}
+use Rattle.set_tallies.proofs.Columns.{column-at, column-long}
 
 pub missing-le : (set : ℕ) (entries : List Entry) → missing set entries ≤ total entries
 missing-le set entries = sum_by-le-sum_by (λ e. cond (misses set e.before) e.count 0) (λ e. e.count) entries (λ e. part (misses set e.before) e.count)
@@ -62,41 +19,72 @@ missing-le set entries = sum_by-le-sum_by (λ e. cond (misses set e.before) e.co
     part true n = omega arith
     part false n = omega arith
 
--- all that the numbers sum up to
-pub all-apart : (c : ℕ) (counts : List ℕ) (entries : List Entry) → Says c counts entries → apart 0 counts ≡ missing 0 entries
-all-apart c counts entries h = ap (λ s. apart s counts) (sym (among-none c)) ∙ h 0
-
--- one number and the count of the next entry are within the total
-pub sum-fits : (c : ℕ) (counts : List ℕ) (entries : List Entry) (i : ℕ) (d : Entry) (place : ℕ) → place < length counts → i < length entries → Says c counts (take i entries) →
-    get_or counts place 0 + (get_or entries i d).count ≤ total entries
-sum-fits c counts entries i d place within l h = omega (arith, place-le counts place within, all-apart c counts (take i entries) h, votes-within 0 entries i d l)
-
-pub place-within : (n c : ℕ) (counts : List ℕ) (entries : List Entry) (i : ℕ) (d : Entry) (place : ℕ) → c < n → length counts ≡ 2 ^ (n - 1) → All (λ entry. is_before n c entry.before ≡ true) entries →
-    i < length entries → place ≡ among_others c (get_or entries i d).before → place < length counts
-place-within n c counts entries i d place own long before l at =
-    omega (arith, at, long, among-below n c (get_or entries i d).before own (is-below n c (get_or entries i d).before (before i d l)))
-
--- ---- the sums of the numbers
 -- a vector whose numbers were all written
 pub all-written : (n : ℕ) (new items : List ℕ) → length new ≡ n → take n (new ++ drop (length new) items) ≡ new
 all-written n new items long = take_at new (drop (length new) items) n long
 
-pub table-of : (n c : ℕ) (entries : List Entry) (counts table : List ℕ) → c < n → length counts ≡ 2 ^ (n - 1) → Says c counts entries → table ≡ sums_of counts → IsTableOf n c entries table
-table-of n c entries counts table l long says made = record {
-  long = ap length made ∙ long-sums counts ∙ long;
-  says = λ s m. ap (λ t. get_or t (among_others c s) 0) made ∙ sum-at counts (among_others c s) (omega (arith, long, among-below n c s l m)) ∙ says s;
-}
+-- what is read from the sums
+pub says-sum : (n : ℕ) (table sums : List ℕ) (s c : ℕ) → s < 2 ^ n → column n n sums c ≡ sums_of (column n n table c) → get_or sums (s * n + c) 0 ≡ apart s (column n n table c)
+says-sum n table sums s c l made =
+    sym (column-at n n sums c s l) ∙ ap (λ xs. get_or xs s 0) made ∙ sum-at (column n n table c) s (omega (arith, l, column-long n n table c))
 
--- ---- the tables of all candidates
-abbrev pub AreTables : Kept → List (List ℕ) → Type 0
-AreTables bag tables = (c : ℕ) → c < length tables → IsTableOf bag.n c (entries_of bag c) (get_or tables c [])
+-- ---- along a ranking
 
-pub tables-push : (bag : Kept) (tables : List (List ℕ)) (table : List ℕ) (n : ℕ) → length tables ≡ n → AreTables bag tables → IsTableOf bag.n n (entries_of bag n) table → AreTables bag (tables ++ table ∷ [])
-tables-push bag tables table n long h last c l =
-    elim (cases_lt c (length tables)) [
-      | inl k ↦ subst (IsTableOf bag.n c (entries_of bag c)) (sym (get_or_append_left tables (table ∷ []) [] c k)) (h c k)
-      | inr g ↦
-          let wide : length (tables ++ table ∷ []) ≡ length tables + 1 = length-append tables (table ∷ []) in
-          let here : n ≡ c = omega (arith, wide, long, g, l) in
-          subst (IsTableOf bag.n c (entries_of bag c)) (sym (get_or_push tables table [] c (long ∙ here))) (subst (λ d. IsTableOf bag.n d (entries_of bag d) table) here last)
-    ]
+-- a ballot is still to be counted for c, who is among the rest
+abbrev pub left : ℕ → ℕ → List ℕ → ℕ → ℕ
+left set seen rest c = cond (has seen c) 0 (cond (is_missed set (before_after seen rest c)) 1 0)
+
+pub left-first : (set : ℕ) (ranking : List ℕ) (c : ℕ) → has 0 c ≡ false → left set 0 ranking c ≡ cond (has_missed set c ranking) 1 0
+left-first set ranking c out = ap (λ b. cond b 0 (cond (has_missed set c ranking) 1 0)) out
+
+pub left-none : (set seen c : ℕ) → left set seen [] c ≡ 0
+left-none set seen c = go (has seen c) where
+  none : ℕ
+  none = 0
+
+  go : (b : Bool) → cond b none none ≡ none
+  go true = refl
+  go false = refl
+
+pub left-next : (set seen d : ℕ) (rest : List ℕ) (c : ℕ) → has seen d ≡ false → left set seen (d ∷ rest) c ≡ cond (c == d && misses set seen) 1 0 + left set (bit_or seen (2 ^ d)) rest c
+left-next set seen d rest c out = go (has seen c) refl (c == d) refl (d == c) refl where
+  after : (b t : Bool) → has seen c ≡ b → (c == d) ≡ t → has (bit_or seen (2 ^ d)) c ≡ (b || t)
+  after b t e f = has-with seen d c ∙ ap₂ (λ x y. x || y) e f
+
+  go : (b : Bool) → has seen c ≡ b → (t : Bool) → (c == d) ≡ t → (u : Bool) → (d == c) ≡ u →
+      cond b 0 (cond (is_missed set (cond u (Some seen) (before_after (bit_or seen (2 ^ d)) rest c))) 1 0) ≡ cond (t && misses set seen) 1 0 + left set (bit_or seen (2 ^ d)) rest c
+  go true e true f u g = absurd (both_ways (has seen c) (ap (has seen) (eqb-true c d f) ∙ out) e)
+  go true e false f u g = sym (ap (λ x. 0 + cond x 0 (cond (is_missed set (before_after (bit_or seen (2 ^ d)) rest c)) 1 0)) (after true false e f))
+  go false e true f true g = sym (ap (λ x. cond (misses set seen) 1 0 + cond x 0 (cond (is_missed set (before_after (bit_or seen (2 ^ d)) rest c)) 1 0)) (after false true e f) ∙ omega arith)
+  go false e true f false g = absurd (eqb-false d c g (sym (eqb-true c d f)))
+  go false e false f true g = absurd (eqb-false c d f (sym (eqb-true d c g)))
+  go false e false f false g = sym (ap (λ x. 0 + cond x 0 (cond (is_missed set (before_after (bit_or seen (2 ^ d)) rest c)) 1 0)) (after false false e f) ∙ omega arith)
+
+-- those of the rest haven't been seen
+pub unseen-next : (seen d : ℕ) (rest : List ℕ) → IsTrue (is_distinct (d ∷ rest)) → ((e : ℕ) → is_in (d ∷ rest) e ≡ true → has seen e ≡ false) → (e : ℕ) → is_in rest e ≡ true → has (bit_or seen (2 ^ d)) e ≡ false
+unseen-next seen d rest apart h e there = has-with seen d e ∙ ap₂ (λ x y. x || y) (h e (either (d == e) there)) (other (cases_Bool (e == d)))
+  where
+    either : (b : Bool) → is_in rest e ≡ true → (b || is_in rest e) ≡ true
+    either true t = refl
+    either false t = t
+
+    negated : (b : Bool) → not b ≡ true → b ≡ false
+    negated true t = sym t
+    negated false t = refl
+
+    other : ((e == d) ≡ true) ⊎ ((e == d) ≡ false) → (e == d) ≡ false
+    other (inl t) = absurd (both_ways (is_in rest d) (negated (is_in rest d) (and_parts (not (is_in rest d)) (is_distinct rest) apart).0) (ap (is_in rest) (sym (eqb-true e d t)) ∙ there))
+    other (inr f) = f
+
+pub unseen-first : (seen d : ℕ) (rest : List ℕ) → ((e : ℕ) → is_in (d ∷ rest) e ≡ true → has seen e ≡ false) → has seen d ≡ false
+unseen-first seen d rest h = h d (ap (λ b. b || is_in rest d) (eq-eqb d d refl))
+
+-- ---- one entry more
+pub one-more : (entries : List Entry) (i : ℕ) (e : Entry) → i < length entries → e ≡ get_or entries i e → (s : ℕ) → missing s (take (i + 1) entries) ≡ missing s (take i entries) + cond (misses s e.before) e.count 0
+one-more entries i e l at s =
+    let votes : Entry → ℕ = λ x. cond (misses s x.before) x.count 0 in
+    sum_by_more votes entries i e l ∙ ap (λ x. missing s (take i entries) + votes x) (sym at)
+
+pub added : (b : Bool) (was now old more : ℕ) (m : Bool) → now ≡ old + cond b was 0 → cond (b && m) more 0 + now ≡ old + cond b (was + cond m more 0) 0
+added true was now old more m e = omega (arith, e)
+added false was now old more m e = omega (arith, e)

@@ -1,5 +1,5 @@
--- What is kept of the records of a contest, and what it has to say of them. Of each candidate a bag keeps the sets of those who
--- stand before it on a ballot, each with the number of such ballots.
+-- What is kept of the records of a contest, and what it has to say of them: how many ballots have a candidate with nobody of a set
+-- before.
 use Rattle.std.specs.Prelude.{◌≡◌, ℕ, ◌<◌, ◌≤◌, ◌-◌, ◌^◌, Bool, true, not, ◌&&◌, ◌==◌, nat_lt, if◌then◌else◌, List, [], length, map, sum_by, count_by, get_or, All, bit_and}
 use Rattle.irv_base.specs.Candidates.{candidates, has}
 use Rattle.irv_base.specs.Records.{tally, is_first, is_ahead}
@@ -11,50 +11,59 @@ pub record Kept : Type 0 where
   pub n : ℕ
   -- how many records there are
   pub records : ℕ
-  -- the entries of each candidate
-  pub entries : List (List Entry)
+  -- of each set and each candidate: how many ballots have the candidate with nobody of the set before
+  pub votes : List (List ℕ)
 
--- no candidate is in both sets
-abbrev pub misses : ℕ → ℕ → Bool
-misses set other = bit_and other set == 0
+abbrev pub votes_at : Kept → ℕ → ℕ → ℕ
+votes_at bag set c = get_or (get_or bag.votes set []) c 0
 
--- how many ballots have nobody of the set before the candidate
-abbrev pub missing : ℕ → List Entry → ℕ
-missing set entries = sum_by (λ e. if misses set e.before then e.count else 0) entries
+-- what a function gives for each set of n candidates, and each candidate
+abbrev pub all_votes : ℕ → (ℕ → ℕ → ℕ) → List (List ℕ)
+all_votes n votes = map (λ set. map (votes set) (candidates n)) (candidates (2 ^ n))
 
-abbrev pub total : List Entry → ℕ
-total entries = sum_by (λ e. e.count) entries
-
-abbrev pub entries_of : Kept → ℕ → List Entry
-entries_of bag c = get_or bag.entries c []
-
--- the set of all candidates for whom there is room
-abbrev pub everyone : ℕ
-everyone = 2 ^ ROOM - 1
+-- the set of all n candidates
+abbrev pub everyone : ℕ → ℕ
+everyone n = 2 ^ n - 1
 
 -- the bag is one of these records, whatever their order: it has their number, their tallies, and the two numbers of NEB's margin
 pub record IsOf (bag : Kept) (records : List (List ℕ)) : Type 0 where
   pub all : bag.records ≡ length records
-  pub tallies : (set c : ℕ) → c < bag.n → has set c ≡ true → missing set (entries_of bag c) ≡ tally records set c
-  pub firsts : (w : ℕ) → w < bag.n → missing everyone (entries_of bag w) ≡ count_by (λ ranking. is_first ranking w) records
-  pub ahead : (l w : ℕ) → l < bag.n → missing (2 ^ w) (entries_of bag l) ≡ count_by (λ ranking. is_ahead ranking l w) records
-
--- of n candidates those may stand before the candidate c
-abbrev pub is_before : ℕ → ℕ → ℕ → Bool
-is_before n c set = nat_lt set (2 ^ n) && not (has set c)
+  pub tallies : (set c : ℕ) → set < 2 ^ bag.n → c < bag.n → has set c ≡ true → votes_at bag set c ≡ tally records set c
+  pub firsts : (w : ℕ) → w < bag.n → votes_at bag (everyone bag.n) w ≡ count_by (λ ranking. is_first ranking w) records
+  pub ahead : (l w : ℕ) → l < bag.n → w < bag.n → votes_at bag (2 ^ w) l ≡ count_by (λ ranking. is_ahead ranking l w) records
 
 -- what every bag keeps
 pub record IsKept (bag : Kept) : Type 0 where
   pub fewest : FEWEST_CANDIDATES ≤ bag.n
   pub room : bag.n ≤ ROOM
   pub most : bag.records ≤ MOST_RECORDS
-  pub one_each : length bag.entries ≡ bag.n
-  pub few : All (λ entries. total entries ≤ bag.records) bag.entries
-  pub before : (c : ℕ) → c < bag.n → All (λ entry. is_before bag.n c entry.before ≡ true) (entries_of bag c)
 
 -- the tallies of a set: one for each candidate, 0 for those outside
 abbrev pub tallies : List (List ℕ) → ℕ → ℕ → List ℕ
 tallies records n set = map (tally records set) (candidates n)
+
+-- ---- entries: the sets of those who stand before a candidate, each with the number of such ballots
+
+-- no candidate is in both sets
+abbrev pub misses : ℕ → ℕ → Bool
+misses set other = bit_and other set == 0
+
+-- how many ballots have the candidate with nobody of the set before
+abbrev pub missing : ℕ → List Entry → ℕ
+missing set entries = sum_by (λ e. if misses set e.before then e.count else 0) entries
+
+abbrev pub total : List Entry → ℕ
+total entries = sum_by (λ e. e.count) entries
+
+-- of n candidates those may stand before the candidate c
+abbrev pub is_before : ℕ → ℕ → ℕ → Bool
+is_before n c set = nat_lt set (2 ^ n) && not (has set c)
+
+-- the entries of each of n candidates
+pub record AreEntries (n records : ℕ) (lists : List (List Entry)) : Type 0 where
+  pub one_each : length lists ≡ n
+  pub few : All (λ entries. total entries ≤ records) lists
+  pub before : (c : ℕ) → c < n → All (λ entry. is_before n c entry.before ≡ true) (get_or lists c [])
 
 -- ---- the two numbers of NEB's margin, for all candidates
 

@@ -56,3 +56,7 @@ pub record Counted (entries : List Entry) (records : List (List ℕ)) (n c : ℕ
   pub missing : (set : ℕ) → missing set entries ≡ count_by (has_missed set c) records
   pub few : total entries ≤ length records
   pub before : All (λ entry. is_before n c entry.before ≡ true) entries
+
+-- the lists are the entries of the n candidates
+abbrev pub AllCounted : ℕ → List (List Entry) → List (List ℕ) → Type 0
+AllCounted n lists records = (c : ℕ) → c < length lists → Counted (get_or lists c []) records n c

@@ -1,14 +1,16 @@
 -- The rows of tallies that are kept, so that those of a set are counted once. The row of a set stands at the place of the set's number
 -- modulo the number of places, over what stood there.
-use Rattle.std.specs.Prelude.{◌≡◌, ℕ, ◌<◌, Option, IfSome, List, length, map, if◌then◌else◌, All}
+use Rattle.std.specs.Prelude.{◌≡◌, ℕ, ◌<◌, ◌≤◌, Option, IfSome, List, length, map, if◌then◌else◌, All}
 use Rattle.irv_base.specs.Candidates.{candidates, has}
-use Rattle.set_tallies.specs.Bags.{Kept, Counts, AreFilledFrom, entries_of, missing}
+use Rattle.set_tallies.specs.Bags.{Kept, Counts, AreFilledFrom, votes_at}
 use Rattle.set_tallies.specs.Sums.{AreSums}
 use Rattle.set_tallies.specs.declared.rows.Row.{Row}
+use Rattle.set_tallies.specs.declared.rows.TheConstants.{MOST_ROWS}
+use Rattle.set_tallies.specs.declared.sums.Sums.{Sums}
 
--- the tallies of a set, as a bag's entries have them
+-- the tallies of a set, as a bag has them
 abbrev pub votes_of : Kept → ℕ → List ℕ
-votes_of bag set = map (λ c. if has set c then missing set (entries_of bag c) else 0) (candidates bag.n)
+votes_of bag set = map (λ c. if has set c then votes_at bag set c else 0) (candidates bag.n)
 
 -- the row is that of its set
 abbrev pub IsRow : Kept → Row → Type 0
@@ -19,8 +21,9 @@ abbrev pub AreRows : Kept → List (Option Row) → Type 0
 AreRows bag places = All (λ place. IfSome place (IsRow bag)) places
 
 -- what tallies keep
-pub record AreTallies (bag : Kept) (counts : Counts) (places : List (Option Row)) (made : Option (List (List ℕ))) : Type 0 where
+pub record AreTallies (bag : Kept) (counts : Counts) (places : List (Option Row)) (made : Option Sums) : Type 0 where
   pub filled : AreFilledFrom bag counts
   pub sums : IfSome made (AreSums bag)
   pub some : 0 < length places
+  pub few : length places ≤ MOST_ROWS
   pub rows : AreRows bag places

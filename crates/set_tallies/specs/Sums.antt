@@ -1,27 +1,45 @@
--- Sums over all sets at once: on how many ballots nobody of a set stands before a candidate, for each set. A table has a number at the
--- place of each set's number.
-use Rattle.std.specs.Prelude.{◌≡◌, ℕ, ◌+◌, ◌-◌, ◌*◌, ◌/◌, ◌%◌, ◌<◌, ◌^◌, List, [], length, map, sum_by, slice_index, get_or, if◌then◌else◌}
+-- A table has a number for each set of candidates and each candidate, set by set, the candidates side by side: that of the set and
+-- the candidate c of n stands at the place set * n + c. First it says how many ballots have just that set before c, then, summed,
+-- how many have c with nobody of it before.
+use Rattle.std.specs.Prelude.{◌≡◌, ℕ, ◌+◌, ◌*◌, ◌<◌, ◌≤◌, ◌^◌, List, [], length, map, sum_by, slice_index, get_or, if◌then◌else◌}
 use Rattle.irv_base.specs.Candidates.{candidates}
-use Rattle.set_tallies.specs.Bags.{Kept, entries_of, misses, missing}
-use Rattle.set_tallies.specs.declared.entry.Entry.{Entry}
+use Rattle.set_tallies.specs.Bags.{Kept, AreEntries, votes_at, misses, missing}
+use Rattle.set_tallies.specs.declared.sums.TheConstants.{MOST_SUMMED}
+use Rattle.set_tallies.specs.declared.sums.Sums.{Sums}
+use Rattle.set_tallies.specs.declared.bag.Votes.{Votes}
+use Rattle.set_tallies.specs.declared.bag.Votes.TheVariants.{Summed, Listed}
 
--- the sum of what stands in the table at the places of those sets that have nobody of this set
+-- the numbers of c of n, those of the sets of the first k candidates
+abbrev pub column : ℕ → ℕ → List ℕ → ℕ → List ℕ
+column n k table c = map (λ set. slice_index table (set * n + c)) (candidates (2 ^ k))
+
+-- the sum of what stands in the column at the places of those sets that have nobody of this set
 abbrev pub apart : ℕ → List ℕ → ℕ
-apart set table = sum_by (λ other. if misses set other then slice_index table other else 0) (candidates (length table))
+apart set numbers = sum_by (λ other. if misses set other then slice_index numbers other else 0) (candidates (length numbers))
 
 abbrev pub sums_of : List ℕ → List ℕ
-sums_of table = map (λ set. apart set table) (candidates (length table))
+sums_of numbers = map (λ set. apart set numbers) (candidates (length numbers))
 
--- the number of a set among the sets of all candidates but c: its members above c move down by one
-abbrev pub among_others : ℕ → ℕ → ℕ
-among_others c set = set / 2 ^ (c + 1) * 2 ^ c + set % 2 ^ c
+-- a table of n candidates
+pub record IsSummed (n : ℕ) (sums : Sums) : Type 0 where
+  pub same : sums.n ≡ n
+  pub few : n ≤ MOST_SUMMED
+  pub long : length sums.table.items ≡ n * 2 ^ n
 
--- the table says of each set of n candidates how many ballots have nobody of it before c, who has these entries
-pub record IsTableOf (n c : ℕ) (entries : List Entry) (table : List ℕ) : Type 0 where
-  pub long : length table ≡ 2 ^ (n - 1)
-  pub says : (set : ℕ) → set < 2 ^ n → slice_index table (among_others c set) ≡ missing set entries
+abbrev pub sum_at : Sums → ℕ → ℕ → ℕ
+sum_at sums set c = slice_index sums.table.items (set * sums.n + c)
 
--- a table for each candidate
-pub record AreSums (bag : Kept) (tables : List (List ℕ)) : Type 0 where
-  pub one_each : length tables ≡ bag.n
-  pub own : (c : ℕ) → c < bag.n → IsTableOf bag.n c (entries_of bag c) (get_or tables c [])
+-- the table has what the bag says
+pub record AreSums (bag : Kept) (sums : Sums) : Type 0 where
+  pub table : IsSummed bag.n sums
+  pub says : (set c : ℕ) → set < 2 ^ bag.n → c < bag.n → sum_at sums set c ≡ votes_at bag set c
+
+-- ---- the two forms of a bag
+
+abbrev pub votes_in : Votes → ℕ → ℕ → ℕ
+votes_in (Summed sums) set c = sum_at sums set c
+votes_in (Listed lists) set c = missing set (get_or (map (λ v. v.items) lists.items) c [])
+
+abbrev pub AreHeld : ℕ → ℕ → Votes → Type 0
+AreHeld n records (Summed sums) = IsSummed n sums
+AreHeld n records (Listed lists) = AreEntries n records (map (λ v. v.items) lists.items)

@@ -2,12 +2,10 @@
 ghost use Rattle.std.specs.Prelude.{◌≡◌, ℕ, ◌<◌, ◌≤◌, ◌^◌, List, [], map, count_by, get_or, IfOk};
 ghost use Rattle.irv_base.specs.Candidates.{candidates};
 ghost use Rattle.irv_base.specs.Records.{is_first, is_ahead};
-ghost use Rattle.irv_base.specs.declared.limits.TheConstants.{ROOM, MOST_RECORDS};
-ghost use Rattle.set_tallies.specs.Bags.{AreOf, AreFilledFrom, missing, total};
+ghost use Rattle.irv_base.specs.declared.limits.TheConstants.{ROOM};
+ghost use Rattle.set_tallies.specs.Bags.{AreOf, AreFilledFrom, everyone, votes_at};
 
 use crate::bag::Bag;
-use crate::count::missing;
-use crate::entry::Entry;
 use irv_base::{Candidate, Memory};
 use std::alloc::Global;
 use std::marker::Model;
@@ -40,16 +38,23 @@ impl Model for Ahead {
     }) };
 }
 
-// On how many ballots the candidate with these entries is ahead of each other one.
-fn row(alloc: Global, entries: &[Entry], n: u32) -> Result<Vec<u32>, Memory>
-    requires room { n ≤ ROOM }
-    requires few { total entries.now ≤ MOST_RECORDS }
+// The number of the set of all `n` candidates.
+fn everyone(n: u32) -> u32
+    requires { n ≤ ROOM }
+    ensures { result ≡ everyone n }
+{
+    ((1u64 << n) - 1) as u32
+}
+
+// On how many ballots the candidate is ahead of each other one.
+fn row(alloc: Global, bag: &Bag, c: Candidate) -> Result<Vec<u32>, Memory>
+    requires { c < bag.now.n }
     ensures { IfOk result (λ row.
-        row.items ≡ map (λ w. missing (2 ^ w) entries.now) (candidates n)) }
+        row.items ≡ map (λ w. votes_at bag.now (2 ^ w) c) (candidates bag.now.n)) }
 {
     let mut row = Vec::new(alloc);
-    for w in 0..n {
-        row.push(missing(entries, 1 << w))?;
+    for w in 0..bag.candidates() {
+        row.push(bag.votes(c, 1 << w))?;
     }
     Ok(row)
 }
@@ -63,9 +68,9 @@ impl Ahead {
         let mut firsts = Vec::new(alloc);
         let mut ahead = Vec::new(alloc);
         for c in 0..n {
-            let entries = bag.entries(Candidate(c as u8));
-            firsts.push(missing(entries, u32::MAX))?;
-            ahead.push(row(alloc, entries, n)?)?;
+            let c = Candidate(c as u8);
+            firsts.push(bag.votes(c, everyone(n)))?;
+            ahead.push(row(alloc, bag, c)?)?;
         }
         Ok(Ahead { n, firsts, ahead })
     }

@@ -1,44 +1,88 @@
 // The records of a contest.
-ghost use Rattle.std.specs.Prelude.{◌≡◌, ℕ, ◌<◌, ◌≤◌, true, List, length, All, IfOk};
+ghost use Rattle.std.specs.Prelude.{◌≡◌, ℕ, ◌<◌, ◌≤◌, ◌^◌, IsTrue, map, length, All, IfOk, List};
 ghost use Rattle.irv_base.specs.declared.limits.TheConstants.{FEWEST_CANDIDATES, ROOM, MOST_RECORDS};
-ghost use Rattle.set_tallies.specs.Bags.{IsOf, is_before, entries_of, total};
+ghost use Rattle.set_tallies.specs.Bags.{IsOf, votes_at};
+ghost use Rattle.set_tallies.specs.Befores.{AllCounted};
+ghost use Rattle.set_tallies.specs.Sums.{AreHeld, votes_in};
+ghost use Rattle.set_tallies.specs.declared.sums.TheConstants.{MOST_SUMMED};
 
-use crate::count::entries_of;
+use crate::count::{entries_of, missing};
 use crate::distinct::Distinct;
 use crate::entry::Entry;
+use crate::sums::{MOST_SUMMED, Sums};
 use irv_base::{Candidate, Memory, Ranking};
 use std::alloc::Global;
 use std::marker::Model;
 
+/// So many candidates have sums whatever the number of the records.
+pub const ALWAYS_SUMMED: u32 = 12;
+
+/// More candidates have sums where each record has at most so many sets of candidates.
+pub const SETS_A_RECORD: u64 = 16;
+
+/// What is kept of the records: the sums over all sets, or of each candidate the different sets of those who stand before it on
+/// a ballot, each with the number of such ballots.
+#[derive(Drop)]
+pub enum Votes {
+    /// The sums over all sets.
+    Summed(Sums),
+    /// The entries of each candidate.
+    Listed(Vec<Vec<Entry>>),
+}
+
 /// The records of a contest, whatever their order.
 ///
-/// Of each candidate it keeps the different sets of those who stand before it on a ballot, each with the number of such
-/// ballots: on a ballot a candidate is the first of a set exactly where it is in the set and the ballot has it with nobody
-/// of the set before it.
+/// It knows of each set of candidates and each candidate how many ballots have the candidate with nobody of the set before: on a
+/// ballot a candidate is the first of a set exactly where it is in the set and the ballot has it with nobody of the set before it.
 #[derive(Drop)]
 pub struct Bag {
     n: u32,
     records: u32,
-    entries: Vec<Vec<Entry>>,
+    votes: Votes,
 }
 
 impl Model for Bag {
-    ghost use Rattle.std.specs.Prelude.{map};
-    ghost use Rattle.set_tallies.specs.Bags.{Kept, IsKept};
+    ghost use Rattle.set_tallies.specs.Bags.{Kept, IsKept, all_votes};
+    ghost use Rattle.set_tallies.specs.Sums.{AreHeld, votes_in};
 
     ghost Value = { Kept };
 
-    ghost view = { λ b. record {
-      n = b.n;
-      records = b.records;
-      entries = map (λ v. v.items) b.entries.items;
-    } };
+    ghost view = { λ b. record { n = b.n; records = b.records; votes = all_votes b.n (votes_in b.votes) } };
 
-    ghost invariant = { λ b. IsKept (record {
-      n = b.n;
-      records = b.records;
-      entries = map (λ v. v.items) b.entries.items;
-    }) };
+    ghost invariant = { λ b. IsKept (record { n = b.n; records = b.records; votes = all_votes b.n (votes_in b.votes) })
+        × AreHeld b.n b.records b.votes };
+}
+
+// Whether a table of sums takes about what the records take to count, or little.
+fn has_sums(n: u32, records: usize) -> bool
+    requires { n ≤ ROOM }
+    ensures { IsTrue result → n ≤ MOST_SUMMED }
+{
+    n <= MOST_SUMMED
+        && (n <= ALWAYS_SUMMED || 1u64 << n <= SETS_A_RECORD.saturating_mul(records as u64))
+}
+
+// The entries of each candidate.
+fn lists_of(alloc: Global, n: u32, rankings: &[Ranking]) -> Result<Vec<Vec<Entry>>, Memory>
+    requires room { n ≤ ROOM }
+    requires most { length rankings.now ≤ MOST_RECORDS }
+    requires below { All (λ ranking. All (λ c. c < n) ranking) rankings.now }
+    ensures long { IfOk result (λ lists. length lists.items ≡ n) }
+    ensures counted { IfOk result (λ lists.
+        AllCounted n (map (λ v. v.items) lists.items) rankings.now) }
+{
+    let distinct = Distinct::of(alloc, rankings)?;
+    let mut lists = Vec::with_capacity(alloc, n as usize)?;
+    for c in 0..n {
+        let own = entries_of(
+            alloc,
+            distinct.rankings.as_slice(),
+            &distinct.counts,
+            Candidate(c as u8),
+        )?;
+        lists.push(own)?;
+    }
+    Ok(lists)
 }
 
 impl Bag {
@@ -51,22 +95,13 @@ impl Bag {
         ensures candidates { IfOk result (λ bag. bag.n ≡ n) }
         ensures records { IfOk result (λ bag. IsOf bag rankings.now) }
     {
-        let distinct = Distinct::of(alloc, rankings)?;
-        let mut entries = Vec::with_capacity(alloc, n as usize)?;
-        for c in 0..n {
-            let own = entries_of(
-                alloc,
-                distinct.rankings.as_slice(),
-                &distinct.counts,
-                Candidate(c as u8),
-            )?;
-            entries.push(own)?;
-        }
-        Ok(Bag {
-            n,
-            records: rankings.len() as u32,
-            entries,
-        })
+        let records = rankings.len() as u32;
+        let votes = if has_sums(n, rankings.len()) {
+            Votes::Summed(Sums::of(alloc, n, rankings)?)
+        } else {
+            Votes::Listed(lists_of(alloc, n, rankings)?)
+        };
+        Ok(Bag { n, records, votes })
     }
 
     /// How many candidates there are.
@@ -87,12 +122,24 @@ impl Bag {
         self.records
     }
 
-    pub(crate) fn entries(&self, c: Candidate) -> &[Entry]
-        requires { c < self.now.n }
-        ensures same { result.now ≡ entries_of self.now c }
-        ensures few { total result.now ≤ MOST_RECORDS }
-        ensures before { All (λ entry. is_before self.now.n c entry.before ≡ true) result.now }
+    /// What the bag keeps of the records.
+    pub(crate) fn kept(&self) -> &Votes
+        ensures same { (set c : ℕ) → set < 2 ^ self.now.n → c < self.now.n
+            → votes_in result.now set c ≡ votes_at self.now set c }
+        ensures held { AreHeld self.now.n MOST_RECORDS result.now }
     {
-        self.entries[c.index()].as_slice()
+        &self.votes
+    }
+
+    /// How many ballots have `c` with nobody of the set with this number before.
+    pub(crate) fn votes(&self, c: Candidate, set: u32) -> u32
+        requires candidate { c < self.now.n }
+        requires below { set < 2 ^ self.now.n }
+        ensures { result ≡ votes_at self.now set c }
+    {
+        match &self.votes {
+            Votes::Summed(sums) => sums.at(c, set),
+            Votes::Listed(lists) => missing(&lists[c.index()], set),
+        }
     }
 }

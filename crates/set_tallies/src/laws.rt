@@ -1,6 +1,7 @@
 //! The law of a bag, and the limits as equations. They have no code.
 ghost use Rattle.std.specs.Prelude.{◌≡◌};
 ghost use Rattle.set_tallies.specs.Laws.{OrderIsFree};
+ghost use Rattle.set_tallies.specs.declared.bag.TheConstants.{ALWAYS_SUMMED, SETS_A_RECORD};
 ghost use Rattle.set_tallies.specs.declared.rows.TheConstants.{MOST_ROWS};
 ghost use Rattle.set_tallies.specs.declared.sums.TheConstants.{MOST_SUMMED};
 
@@ -13,4 +14,6 @@ pub fn order_is_free()
 pub fn limits()
     ensures rows { MOST_ROWS ≡ 262144 }
     ensures summed { MOST_SUMMED ≡ 20 }
+    ensures always_summed { ALWAYS_SUMMED ≡ 12 }
+    ensures sets_a_record { SETS_A_RECORD ≡ 16 }
 {}

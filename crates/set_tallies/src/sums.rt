@@ -1,20 +1,83 @@
-// How many ballots have nobody of a set before a candidate, for all sets at once.
-ghost use Rattle.std.specs.Prelude.{◌≡◌, ℕ, ◌<◌, ◌≤◌, ◌+◌, ◌-◌, ◌^◌, true, [], All, IfOk, length, slice_index, get_or, map};
+// How many ballots have a candidate with nobody of a set before, for all sets and candidates at once.
+ghost use Rattle.std.specs.Prelude.{◌≡◌, ℕ, ◌<◌, ◌≤◌, ◌+◌, ◌*◌, ◌-◌, ◌^◌, ◌==◌, ◌&&◌, true, [], All, IfOk, length, slice_index, get_or, map, count_by, if◌then◌else◌};
 ghost use Rattle.irv_base.specs.Candidates.{candidates, has};
 ghost use Rattle.irv_base.specs.declared.limits.TheConstants.{MOST_RECORDS};
-ghost use Rattle.set_tallies.specs.Bags.{is_before, entries_of, missing, total};
-ghost use Rattle.set_tallies.specs.Sums.{IsTableOf, AreSums, apart, sums_of, among_others};
+ghost use Rattle.set_tallies.specs.Bags.{AreEntries, is_before, misses, missing, total};
+ghost use Rattle.set_tallies.specs.Befores.{has_missed};
+ghost use Rattle.set_tallies.specs.Sums.{IsSummed, column, apart, sums_of, sum_at};
 
-use crate::bag::Bag;
 use crate::entry::Entry;
-use irv_base::{Candidate, Memory};
+use irv_base::{CandSet, Candidate, Memory, Ranking};
 use std::alloc::Global;
-use std::marker::Model;
 
 /// The most candidates for whom the sums over all sets are made.
 pub const MOST_SUMMED: u32 = 20;
 
-// The sums of both, and then the first.
+/// A number for each set of `n` candidates and each candidate, the candidates side by side: how many ballots have the
+/// candidate with nobody of the set before.
+#[derive(Drop)]
+pub struct Sums {
+    pub n: u32,
+    pub table: Vec<u32>,
+}
+
+// The place of the number of the set and the candidate.
+fn place(n: u32, set: u32, c: Candidate) -> usize
+    requires { n ≤ MOST_SUMMED }
+    ensures { result ≡ set * n + c }
+{
+    set as usize * n as usize + c.index()
+}
+
+// Counts so many ballots more that have just this set before the candidate.
+fn add(table: &mut [u32], n: u32, set: u32, c: Candidate, count: u32)
+    requires few { n ≤ MOST_SUMMED }
+    requires long { length table.old ≡ n * 2 ^ n }
+    requires set { set < 2 ^ n }
+    requires candidate { c < n }
+    requires fit { apart 0 (column n n table.old c) + count ≤ MOST_RECORDS }
+    ensures long { length table.new ≡ n * 2 ^ n }
+    ensures more { (s d : ℕ) → d < n → apart s (column n n table.new d)
+        ≡ apart s (column n n table.old d) + (if d == c && misses s set then count else 0) }
+{
+    table[place(n, set, c)] += count;
+}
+
+// Counts a ballot.
+fn count(table: &mut [u32], n: u32, ranking: &Ranking)
+    requires few { n ≤ MOST_SUMMED }
+    requires long { length table.old ≡ n * 2 ^ n }
+    requires below { All (λ c. c < n) ranking.now }
+    requires fit { (c : ℕ) → c < n → apart 0 (column n n table.old c) < MOST_RECORDS }
+    ensures long { length table.new ≡ n * 2 ^ n }
+    ensures more { (s c : ℕ) → c < n → apart s (column n n table.new c)
+        ≡ apart s (column n n table.old c) + (if has_missed s c ranking.now then 1 else 0) }
+{
+    let mut seen = 0u32;
+    for d in ranking.candidates() {
+        add(table, n, seen, *d, 1);
+        seen |= 1 << d.index();
+    }
+}
+
+// Counts the ballots of the entries of `c`.
+fn add_entries(table: &mut [u32], n: u32, c: Candidate, entries: &[Entry])
+    requires few { n ≤ MOST_SUMMED }
+    requires long { length table.old ≡ n * 2 ^ n }
+    requires candidate { c < n }
+    requires before { All (λ entry. is_before n c entry.before ≡ true) entries.now }
+    requires none { apart 0 (column n n table.old c) ≡ 0 }
+    requires most { total entries.now ≤ MOST_RECORDS }
+    ensures long { length table.new ≡ n * 2 ^ n }
+    ensures more { (s d : ℕ) → d < n → apart s (column n n table.new d)
+        ≡ apart s (column n n table.old d) + (if d == c then missing s entries.now else 0) }
+{
+    for entry in entries {
+        add(table, n, entry.before, c, entry.count);
+    }
+}
+
+// Puts the sums of the two halves in place of the one, and what the one had in place of the other.
 fn add_halves(without: &mut [u32], having: &mut [u32])
     requires same { length without.old ≡ length having.old }
     requires fit { (i : ℕ) → i < length without.old
@@ -31,96 +94,95 @@ fn add_halves(without: &mut [u32], having: &mut [u32])
     }
 }
 
-// Turns the numbers of sets of `n` candidates into their sums over the sets that have nobody of a set.
-fn sum_apart(table: &mut [u32], n: u32)
-    requires long { length table.old ≡ 2 ^ n }
-    requires few { n ≤ MOST_SUMMED }
-    requires fit { apart 0 table.old ≤ MOST_RECORDS }
-    ensures { table.new ≡ sums_of table.old }
+// Turns the numbers of the sets of the first `k` candidates into their sums over the sets that have nobody of a set, for each of
+// `n` candidates.
+fn sum_apart(table: &mut [u32], n: u32, k: u32)
+    requires some { 1 ≤ n }
+    requires long { length table.old ≡ n * 2 ^ k }
+    requires few { (n ≤ MOST_SUMMED) × (k ≤ MOST_SUMMED) }
+    requires fit { (c : ℕ) → c < n → apart 0 (column n k table.old c) ≤ MOST_RECORDS }
+    ensures long { length table.new ≡ n * 2 ^ k }
+    ensures sums { (c : ℕ) → c < n → column n k table.new c ≡ sums_of (column n k table.old c) }
 {
-    if n == 0 {
+    if k == 0 {
         return;
     }
-    let (without, having) = table.split_at_mut(1 << (n - 1));
-    sum_apart(without, n - 1);
-    sum_apart(having, n - 1);
+    let (without, having) = table.split_at_mut((n as usize) << (k - 1));
+    sum_apart(without, n, k - 1);
+    sum_apart(having, n, k - 1);
     add_halves(without, having);
 }
 
-// The number of a set among the sets of all candidates but `c`.
-fn among_others(c: Candidate, set: u32) -> u32
-    ensures { result ≡ among_others c set }
+// A table of zeros.
+fn zeros(alloc: Global, n: u32) -> Result<Vec<u32>, Memory>
+    requires { n ≤ MOST_SUMMED }
+    ensures long { IfOk result (λ table. length table.items ≡ n * 2 ^ n) }
+    ensures zeros { IfOk result (λ table.
+        (s c : ℕ) → c < n → apart s (column n n table.items c) ≡ 0) }
 {
-    (set >> c.0 >> 1 << c.0) + set % (1 << c.0)
-}
-
-// How many ballots have just a set before the candidate with these entries, at the place of the set among those of the others.
-fn counts(alloc: Global, entries: &[Entry], c: Candidate, n: u32) -> Result<Vec<u32>, Memory>
-    requires candidate { c < n }
-    requires few { n ≤ MOST_SUMMED }
-    requires before { All (λ entry. is_before n c entry.before ≡ true) entries.now }
-    requires most { total entries.now ≤ MOST_RECORDS }
-    ensures long { IfOk result (λ counts. length counts.items ≡ 2 ^ (n - 1)) }
-    ensures says { IfOk result (λ counts.
-        (set : ℕ) → apart (among_others c set) counts.items ≡ missing set entries.now) }
-{
-    let mut counts = vec![in alloc; 0; 1 << (n - 1)]?;
-    for entry in entries {
-        counts[among_others(c, entry.before) as usize] += entry.count;
-    }
-    Ok(counts)
-}
-
-// The table of the candidate `c` with these entries.
-fn table(alloc: Global, entries: &[Entry], c: Candidate, n: u32) -> Result<Vec<u32>, Memory>
-    requires candidate { c < n }
-    requires few { n ≤ MOST_SUMMED }
-    requires before { All (λ entry. is_before n c entry.before ≡ true) entries.now }
-    requires most { total entries.now ≤ MOST_RECORDS }
-    ensures { IfOk result (λ table. IsTableOf n c entries.now table.items) }
-{
-    let mut table = counts(alloc, entries, c, n)?;
-    sum_apart(&mut table, n - 1);
-    Ok(table)
-}
-
-/// For each candidate and each set, how many ballots have nobody of the set before the candidate.
-///
-/// To a contract these are lists of numbers, one for each candidate.
-#[derive(Drop)]
-pub struct Sums {
-    tables: Vec<Vec<u32>>,
-}
-
-impl Model for Sums {
-    ghost use Rattle.std.specs.Prelude.{ℕ, List, map};
-
-    ghost Value = { List (List ℕ) };
-
-    ghost view = { λ s. map (λ v. v.items) s.tables.items };
+    Ok(vec![in alloc; 0; (n as usize) << n]?)
 }
 
 impl Sums {
-    /// Those of the bag.
-    pub fn of(alloc: Global, bag: &Bag) -> Result<Sums, Memory>
-        requires { bag.now.n ≤ MOST_SUMMED }
-        ensures { IfOk result (AreSums bag.now) }
+    /// The sums over the ballots with these rankings.
+    pub fn of(alloc: Global, n: u32, rankings: &[Ranking]) -> Result<Sums, Memory>
+        requires some { 1 ≤ n }
+        requires few { n ≤ MOST_SUMMED }
+        requires most { length rankings.now ≤ MOST_RECORDS }
+        requires below { All (λ ranking. All (λ c. c < n) ranking) rankings.now }
+        ensures table { IfOk result (IsSummed n) }
+        ensures says { IfOk result (λ sums. (set c : ℕ) → set < 2 ^ n → c < n
+            → sum_at sums set c ≡ count_by (has_missed set c) rankings.now) }
     {
-        let n = bag.candidates();
-        let mut tables = Vec::with_capacity(alloc, n as usize)?;
-        for c in 0..n {
-            let c = Candidate(c as u8);
-            tables.push(table(alloc, bag.entries(c), c, n)?)?;
+        let mut table = zeros(alloc, n)?;
+        for ranking in rankings {
+            count(&mut table, n, ranking);
         }
-        Ok(Sums { tables })
+        sum_apart(&mut table, n, n);
+        Ok(Sums { n, table })
     }
 
-    /// On how many ballots nobody of the set with this number stands before `c`.
-    pub fn at(&self, c: Candidate, set: u32) -> u32
-        requires candidate { c < length self.now }
-        requires below { among_others c set < length (get_or self.now c []) }
-        ensures { result ≡ slice_index (get_or self.now c []) (among_others c set) }
+    /// The sums over the ballots of which each candidate has such entries.
+    pub fn of_entries(alloc: Global, n: u32, lists: &[Vec<Entry>]) -> Result<Sums, Memory>
+        requires some { 1 ≤ n }
+        requires few { n ≤ MOST_SUMMED }
+        requires entries { AreEntries n MOST_RECORDS (map (λ v. v.items) lists.now) }
+        ensures table { IfOk result (IsSummed n) }
+        ensures says { IfOk result (λ sums. (set c : ℕ) → set < 2 ^ n → c < n
+            → sum_at sums set c ≡ missing set (get_or (map (λ v. v.items) lists.now) c [])) }
     {
-        self.tables[c.index()][among_others(c, set) as usize]
+        let mut table = zeros(alloc, n)?;
+        for c in 0..n {
+            let c = Candidate(c as u8);
+            add_entries(&mut table, n, c, &lists[c.index()]);
+        }
+        sum_apart(&mut table, n, n);
+        Ok(Sums { n, table })
+    }
+
+    /// How many ballots have `c` with nobody of the set with this number before.
+    pub fn at(&self, c: Candidate, set: u32) -> u32
+        requires table { IsSummed self.now.n self.now }
+        requires candidate { c < self.now.n }
+        requires below { set < 2 ^ self.now.n }
+        ensures { result ≡ sum_at self.now set c }
+    {
+        self.table[place(self.n, set, c)]
+    }
+
+    /// The tallies of the set.
+    pub fn row(&self, alloc: Global, s: CandSet) -> Result<Vec<u32>, Memory>
+        requires table { IsSummed self.now.n self.now }
+        requires below { s < 2 ^ self.now.n }
+        ensures { IfOk result (λ row. row.items
+            ≡ map (λ c. if has s c then sum_at self.now s c else 0) (candidates self.now.n)) }
+    {
+        let set = s.number();
+        let mut row = Vec::with_capacity(alloc, self.n as usize)?;
+        for c in 0..self.n {
+            let c = Candidate(c as u8);
+            row.push(if s.has(c) { self.at(c, set) } else { 0 })?;
+        }
+        Ok(row)
     }
 }

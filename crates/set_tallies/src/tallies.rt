@@ -1,15 +1,15 @@
 // The tallies of sets of candidates.
-ghost use Rattle.std.specs.Prelude.{◌≡◌, ℕ, ◌<◌, ◌≤◌, ◌^◌, List, length, map, if◌then◌else◌, min, IfOk, IfSome};
+ghost use Rattle.std.specs.Prelude.{◌≡◌, ℕ, ◌<◌, ◌≤◌, ◌^◌, List, length, map, if◌then◌else◌, IfOk, IfSome};
 ghost use Rattle.irv_base.specs.Candidates.{candidates, has};
 ghost use Rattle.irv_base.specs.declared.limits.TheConstants.{FEWEST_CANDIDATES, ROOM, MOST_RECORDS};
-ghost use Rattle.set_tallies.specs.Bags.{IsOf, AreFilledFrom, entries_of, missing, tallies};
+ghost use Rattle.set_tallies.specs.Bags.{IsOf, AreFilledFrom, tallies};
 ghost use Rattle.set_tallies.specs.Rows.{votes_of};
 ghost use Rattle.set_tallies.specs.Sums.{AreSums};
 ghost use Rattle.set_tallies.specs.declared.rows.TheConstants.{MOST_ROWS};
 
 use crate::ahead::Ahead;
-use crate::bag::Bag;
-use crate::count::missing;
+use crate::bag::{Bag, Votes};
+use crate::entry::Entry;
 use crate::rows::{MOST_ROWS, Row, keep, kept, places};
 use crate::sums::{MOST_SUMMED, Sums};
 use irv_base::{CandSet, Candidate, Memory};
@@ -21,9 +21,9 @@ const ENTRIES_A_SUM: u64 = 4;
 
 /// The tallies of the sets of candidates, over the records of a bag.
 ///
-/// A row that was counted is kept until another set's takes its place. Once counting rows has taken as long as making the sums over all
-/// sets, these are made, and rows are read from them. To a contract the tallies are what they are made from, the bag and the two
-/// numbers of NEB's margin.
+/// Where the bag has the sums over all sets, rows are read from them. Else a row that was counted is kept until another set's takes its
+/// place, and once counting rows has taken as long as making the sums, these are made. To a contract the tallies are what they are made
+/// from, the bag and the two numbers of NEB's margin.
 #[derive(Drop)]
 pub struct Tallies<'b> {
     alloc: Global,
@@ -46,46 +46,36 @@ impl<'b> Model for Tallies<'b> {
     ghost invariant = { λ t. AreTallies t.bag.now t.ahead.now t.rows.items t.sums };
 }
 
-fn votes(bag: &Bag, sums: &Option<Sums>, s: CandSet, set: u32, c: Candidate) -> u32
-    requires candidate { c < bag.now.n }
-    requires below { set < 2 ^ bag.now.n }
-    requires sums { IfSome sums.now (AreSums bag.now) }
-    ensures { result ≡ (if has s c then missing set (entries_of bag.now c) else 0) }
+// The sums over all sets, where the bag has them or they are made.
+fn sums_in<'t>(bag: &'t Bag, made: &'t Option<Sums>) -> Option<&'t Sums>
+    requires { IfSome made.now (AreSums bag.now) }
+    ensures { IfSome result (λ sums. AreSums bag.now sums.now) }
 {
-    if !s.has(c) {
-        return 0;
-    }
-    match sums {
-        Some(sums) => sums.at(c, set),
-        None => missing(bag.entries(c), set),
+    match bag.kept() {
+        Votes::Summed(sums) => Some(sums),
+        Votes::Listed(_lists) => made.as_ref(),
     }
 }
 
-// The tallies of the set `s`, from the sums where they are made, and else counted. `set` is its number.
-fn row_of(
-    alloc: Global,
-    bag: &Bag,
-    sums: &Option<Sums>,
-    s: CandSet,
-    set: u32,
-) -> Result<Vec<u32>, Memory>
+// The tallies of the set `s`, counted. `set` is its number.
+fn row_of(alloc: Global, bag: &Bag, s: CandSet, set: u32) -> Result<Vec<u32>, Memory>
     requires same { set ≡ s }
     requires below { s < 2 ^ bag.now.n }
-    requires sums { IfSome sums.now (AreSums bag.now) }
     ensures { IfOk result (λ row. row.items ≡ votes_of bag.now set) }
 {
     let mut row = Vec::with_capacity(alloc, bag.candidates() as usize)?;
     for c in 0..bag.candidates() {
-        row.push(votes(bag, sums, s, set, Candidate(c as u8)))?;
+        let c = Candidate(c as u8);
+        row.push(if s.has(c) { bag.votes(c, set) } else { 0 })?;
     }
     Ok(row)
 }
 
-// How many entries are looked at where a row of all candidates is counted.
-fn entries_in(bag: &Bag) -> u64 {
+// How many entries there are in all.
+fn entries_in(lists: &[Vec<Entry>]) -> u64 {
     let mut entries = 0u64;
-    for c in 0..bag.candidates() {
-        entries = entries.saturating_add(bag.entries(Candidate(c as u8)).len() as u64);
+    for list in lists {
+        entries = entries.saturating_add(list.len() as u64);
     }
     entries
 }
@@ -103,24 +93,30 @@ fn note(alloc: Global, bag: &Bag, sums: &mut Option<Sums>, patience: &mut u64)
     requires { IfSome sums.old (AreSums bag.now) }
     ensures { IfSome sums.new (AreSums bag.now) }
 {
-    if *patience == 0 || bag.candidates() > MOST_SUMMED {
+    let n = bag.candidates();
+    if *patience == 0 || n > MOST_SUMMED {
         return;
     }
-    *patience = patience.saturating_sub(entries_in(bag));
-    if *patience == 0 {
-        match Sums::of(alloc, bag) {
-            Ok(made) => *sums = Some(made),
-            Err(_memory) => {}
+    match bag.kept() {
+        Votes::Summed(_sums) => {}
+        Votes::Listed(lists) => {
+            *patience = patience.saturating_sub(entries_in(lists));
+            if *patience == 0 {
+                *sums = Sums::of_entries(alloc, n, lists).ok();
+            }
         }
     }
 }
 
-// A place for each set of `n` candidates, as far as places go.
-fn places_for(n: u32) -> usize
-    requires { n ≤ ROOM }
-    ensures { result ≡ min (2 ^ n) MOST_ROWS }
+// A place for each set of candidates, as far as places go. One will do where rows are read from sums.
+fn places_for(bag: &Bag) -> usize
+    ensures some { 1 ≤ result }
+    ensures most { result ≤ MOST_ROWS }
 {
-    MOST_ROWS.min(1 << n)
+    match bag.kept() {
+        Votes::Summed(_sums) => 1,
+        Votes::Listed(_lists) => MOST_ROWS.min(1 << bag.candidates()),
+    }
 }
 
 impl<'b> Tallies<'b> {
@@ -130,7 +126,7 @@ impl<'b> Tallies<'b> {
         ensures bag { IfOk result (λ t. t.bag ≡ bag.now) }
         ensures counts { IfOk result (λ t. t.counts ≡ ahead.now) }
     {
-        let rows = places(alloc, places_for(bag.candidates()))?;
+        let rows = places(alloc, places_for(bag))?;
         Ok(Tallies {
             alloc,
             bag,
@@ -175,15 +171,15 @@ impl<'b> Tallies<'b> {
         ensures one_each { IfOk result (λ row. length row.items ≡ self.old.bag.n) }
         ensures same { self.new ≡ self.old }
     {
-        let set = s.number();
-        if self.sums.is_some() {
-            let row = row_of(self.alloc, self.bag, &self.sums, s, set)?;
+        if let Some(sums) = sums_in(self.bag, &self.sums) {
+            let row = sums.row(self.alloc, s)?;
             return Ok(row);
         }
+        let set = s.number();
         if let Some(row) = kept(&self.rows, set) {
             return Ok(Vec::from_slice(self.alloc, &row.votes)?);
         }
-        let votes = row_of(self.alloc, self.bag, &self.sums, s, set)?;
+        let votes = row_of(self.alloc, self.bag, s, set)?;
         let answer = Vec::from_slice(self.alloc, &votes)?;
         keep(&mut self.rows, Row { set, votes });
         note(self.alloc, self.bag, &mut self.sums, &mut self.patience);

@@ -61,7 +61,8 @@ const THREE: Candidate = Candidate(3);
 const FOUR: Candidate = Candidate(4);
 
 fn ballots() -> [Ranking; 10]
-    ensures { All (λ ranking. All (λ c. c < 5) ranking) result }
+    ensures five { All (λ ranking. All (λ c. c < 5) ranking) result }
+    ensures thirteen { All (λ ranking. All (λ c. c < 13) ranking) result }
 {
     [
         Ranking::of(&[ZERO, ONE, TWO]),
@@ -79,7 +80,7 @@ fn ballots() -> [Ranking; 10]
 
 fn set_numbered(number: u32) -> CandSet {
     let mut set = CandSet::empty();
-    for c in 0..5u8 {
+    for c in 0..13u8 {
         if (number >> c) & 1 == 1 {
             set = set.with(Candidate(c));
         }
@@ -96,7 +97,7 @@ fn votes_of_five(tallies: &mut Tallies, set: CandSet) -> Option<Vec<u32>>
     tallies.tally(set).ok()
 }
 
-// After some of the sets the sums are made.
+// Five candidates have sums from the start.
 #[test]
 fn rows_say_what_the_ballots_say(rt: HostRuntime) {
     let rankings = ballots();
@@ -105,6 +106,34 @@ fn rows_say_what_the_ballots_say(rt: HostRuntime) {
     for number in 1..32 {
         let set = set_numbered(number);
         let row = votes_of_five(&mut tallies, set).expect(&rt, "row");
+        for (c, votes) in row.iter().enumerate() {
+            let first = rankings
+                .iter()
+                .filter(|r| r.first_in(set).is_some_and(|d| d.index() == c))
+                .count();
+            assert_eq!(rt; *votes as usize, first, "candidate {c} of {number}");
+        }
+    }
+}
+
+fn votes_of_thirteen(tallies: &mut Tallies, set: CandSet) -> Option<Vec<u32>>
+    ensures { tallies.new ≡ tallies.old }
+{
+    if tallies.candidates() != 13 || set.number() >= 8192 {
+        return None;
+    }
+    tallies.tally(set).ok()
+}
+
+// Thirteen candidates with ten ballots have entries. When nearly all rows were counted, the sums are made for the last ones.
+#[test]
+fn late_sums_say_what_the_ballots_say(rt: HostRuntime) {
+    let rankings = ballots();
+    let counted = Counted::of(rt.alloc(), 13, rankings.as_slice()).expect(&rt, "counted");
+    let mut tallies = counted.tallies().expect(&rt, "tallies");
+    for number in 1..8192 {
+        let set = set_numbered(number);
+        let row = votes_of_thirteen(&mut tallies, set).expect(&rt, "row");
         for (c, votes) in row.iter().enumerate() {
             let first = rankings
                 .iter()

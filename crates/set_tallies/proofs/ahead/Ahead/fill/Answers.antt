@@ -1,11 +1,16 @@
-use Rattle.std.proofs.Common.{rules, ◌≡◌, ◌++◌, ◌∷◌, [], ◌^◌, map, true, sym, ap, ap₂, arith, ◌∙◌}
+use Rattle.std.proofs.Common.{rules, ◌≡◌, ◌++◌, ◌∷◌, [], ◌^◌, map, true, sym, ap, ap₂, pow_pos, arith, ◌∙◌}
 use Rattle.std.specs.Result.{is_ok}
 use Rattle.std.proofs.lemmas.List.{map-append}
 use Rattle.std.proofs.lemmas.List.FromFn.{map-range_with_len_more}
 use Rattle.irv_base.specs.Candidates.{candidates}
-use Rattle.set_tallies.specs.Bags.{missing, everyone, entries_of}
+use Rattle.set_tallies.specs.Bags.{votes_at, everyone}
 use Rattle.set_tallies.proofs.Filled.{filled-from, table-of}
 use Rattle.set_tallies.proofs.ahead.Ahead.fill.Goals as goal
+
+pub votes-requires-clause-below : goal.votes-requires-clause-below
+votes-requires-clause-below c =
+    let n = c.candidates-n.ensures.same in
+    omega (arith, c.everyone.ensures, ap (λ k. 2 ^ k) n, pow_pos c.candidates-n.result)
 
 pub loop-c-preserved : goal.loop-c-preserved
 loop-c-preserved c =
@@ -16,12 +21,12 @@ loop-c-preserved c =
     let bag = c.args.bag.now in
     record {
       firsts = items
-          ∙ ap₂ (λ xs x. xs ++ x ∷ []) c.loop-c.invariant.firsts (c.missing.ensures ∙ ap (missing everyone) c.entries-entries.ensures.same)
-          ∙ sym (map-range_with_len_more (λ w. missing everyone (entries_of bag w)) 0 c.loop-c.c c.loop-c.c (omega arith));
+          ∙ ap₂ (λ xs x. xs ++ x ∷ []) c.loop-c.invariant.firsts (c.votes.ensures ∙ ap (λ s. votes_at bag s c.loop-c.c) (c.everyone.ensures ∙ ap everyone c.candidates-n.ensures.same))
+          ∙ sym (map-range_with_len_more (λ w. votes_at bag (everyone bag.n) w) 0 c.loop-c.c c.loop-c.c (omega arith));
       ahead = ap (map (λ v. v.items)) items'
           ∙ map-append (λ v. v.items) c.loop-c.ahead.items (c.in_ok-row.field-0 ∷ [])
-          ∙ ap₂ (λ xs x. xs ++ x ∷ []) c.loop-c.invariant.ahead (c.in_ok-row.ensures ∙ ap (λ es. map (λ w. missing (2 ^ w) es) (candidates c.candidates-n.result)) c.entries-entries.ensures.same)
-          ∙ sym (map-range_with_len_more (λ d. map (λ w. missing (2 ^ w) (entries_of bag d)) (candidates c.candidates-n.result)) 0 c.loop-c.c c.loop-c.c (omega arith));
+          ∙ ap₂ (λ xs x. xs ++ x ∷ []) c.loop-c.invariant.ahead c.in_ok-row.ensures
+          ∙ sym (map-range_with_len_more (λ d. map (λ w. votes_at bag (2 ^ w) d) (candidates bag.n)) 0 c.loop-c.c c.loop-c.c (omega arith));
     }
 
 pub invariant_of-result : goal.invariant_of-result
@@ -30,7 +35,7 @@ invariant_of-result c =
     table-of c.args.bag.now _ (omega (arith, c.candidates-n.ensures.room)) (record {
       same = c.candidates-n.ensures.same;
       firsts = rw whole at c.loop-c.invariant.firsts;
-      ahead = rw whole at c.loop-c.invariant.ahead;
+      ahead = c.loop-c.invariant.ahead ∙ ap₂ (λ m k. map (λ d. map (λ w. votes_at c.args.bag.now (2 ^ w) d) (candidates m)) (candidates k)) (sym c.candidates-n.ensures.same) whole;
     })
 
 pub returns : goal.returns
@@ -39,5 +44,5 @@ returns c =
     filled-from c.args.bag.now _ (record {
       same = c.candidates-n.ensures.same;
       firsts = rw whole at c.loop-c.invariant.firsts;
-      ahead = rw whole at c.loop-c.invariant.ahead;
+      ahead = c.loop-c.invariant.ahead ∙ ap₂ (λ m k. map (λ d. map (λ w. votes_at c.args.bag.now (2 ^ w) d) (candidates m)) (candidates k)) (sym c.candidates-n.ensures.same) whole;
     })

@@ -1,45 +1,23 @@
-use Rattle.std.proofs.Common.{rules, ◌≡◌, ◌∷◌, [], length, map, true, sym, ap, subst, arith, length-append, ◌∙◌}
-use Rattle.std.specs.Result.{is_ok}
-use Rattle.std.proofs.lemmas.List.{map-append, length-map}
-use Rattle.set_tallies.specs.Befores.{AreOfFirst, Counted}
-use Rattle.set_tallies.proofs.Filled.{AllCounted, bag-of, counted-push, lists-few, lists-before}
-use Rattle.set_tallies.proofs.Runs.{counted-from}
+use Rattle.std.proofs.Common.{◌≡◌, ◌<◌, ◌^◌, ℕ, length, map, count_by, ◌∙◌}
+use Rattle.std.proofs.lemmas.List.{length-map}
+use Rattle.set_tallies.specs.Befores.{has_missed}
+use Rattle.set_tallies.specs.Sums.{AreHeld, votes_in}
+use Rattle.set_tallies.proofs.Filled.{bag-of, lists-say, are-entries}
 use Rattle.set_tallies.proofs.bag.Bag.of.Goals as goal
-
-pub loop-c-preserved : goal.loop-c-preserved
-loop-c-preserved c =
-    let lists = map (λ v. v.items) c.loop-c.entries.items in
-    let keys = c.in_ok-distinct.distinct.rankings.keys in
-    let counts = c.in_ok-distinct.distinct.counts.items in
-    let own = c.in_ok-own.own.items in
-    let good : is_ok c.push.result ≡ true = search rules in
-    let items = rw good at c.push.ensures.items in
-    let of : AreOfFirst (length keys) c.loop-c.c keys counts own =
-    subst (λ ks. AreOfFirst (length ks) c.loop-c.c ks counts own) c.as_slice.ensures.keys
-    (subst (λ ns. AreOfFirst (length c.as_slice.result.now) c.loop-c.c c.as_slice.result.now ns own) c.deref.ensures.value c.in_ok-own.ensures) in
-    let last : Counted own c.args.rankings.now c.args.n c.loop-c.c =
-    counted-from c.args.n c.loop-c.c keys counts c.args.rankings.now own c.in_ok-distinct.ensures.counted (c.in_ok-distinct.ensures.nobody_else c.args.n c.requires.below) of in
-    record {
-      long = ap length items ∙ length-append c.loop-c.entries.items (c.in_ok-own.own ∷ []) ∙ omega (arith, c.loop-c.invariant.long);
-      counted = subst (λ es. AllCounted c.args.n es c.args.rankings.now) (sym (ap (map (λ v. v.items)) items ∙ map-append (λ v. v.items) c.loop-c.entries.items (c.in_ok-own.own ∷ [])))
-          (counted-push c.args.n lists own c.args.rankings.now c.loop-c.c (length-map c.loop-c.entries.items (λ v. v.items) ∙ c.loop-c.invariant.long) c.loop-c.invariant.counted last);
-    }
+use Rattle.set_tallies.proofs.bag.Bag.of.Goals.{then-has_sums+in_ok-of, else-has_sums+in_ok-lists_of}
 
 pub invariant_of-result : goal.invariant_of-result
 invariant_of-result c =
-    let wide = length-map c.loop-c.entries.items (λ v. v.items) in
-    let lists = map (λ v. v.items) c.loop-c.entries.items in
-    let all : length lists ≡ c.args.n = omega (arith, wide, c.loop-c.invariant.long, c.loop-c-test.false, c.loop-c.auto.c-end) in
-    record {
-      fewest = c.requires.fewest;
-      room = c.requires.room;
-      most = c.requires.most;
-      one_each = all;
-      few = lists-few c.args.n lists c.args.rankings.now c.loop-c.invariant.counted;
-      before = lists-before c.args.n lists c.args.rankings.now all c.loop-c.invariant.counted;
-    }
+    let held : AreHeld c.args.n (length c.args.rankings.now) c.if-has_sums.votes = elim c.if-has_sums.branch [
+      | then-has_sums+in_ok-of w ↦ rw w.votes-is w.in_ok-of.ensures.table
+      | else-has_sums+in_ok-lists_of w ↦ rw w.votes-is (are-entries c.args.n (map (λ v. v.items) w.in_ok-lists_of.field-0.items) c.args.rankings.now (length-map w.in_ok-lists_of.field-0.items (λ v. v.items) ∙ w.in_ok-lists_of.ensures.long) w.in_ok-lists_of.ensures.counted)
+    ] in
+    (record { fewest = c.requires.fewest; room = c.requires.room; most = c.requires.most }, held)
 
 pub returns-clause-records : goal.returns-clause-records
 returns-clause-records c =
-    bag-of c.args.n (map (λ v. v.items) c.loop-c.entries.items) c.args.rankings.now c.requires.room
-    (omega (arith, c.loop-c.invariant.long, length-map c.loop-c.entries.items (λ v. v.items), c.loop-c-test.false, c.loop-c.auto.c-end)) c.requires.below c.loop-c.invariant.counted
+    let says : (set d : ℕ) → set < 2 ^ c.args.n → d < c.args.n → votes_in c.if-has_sums.votes set d ≡ count_by (has_missed set d) c.args.rankings.now = elim c.if-has_sums.branch [
+      | then-has_sums+in_ok-of w ↦ rw w.votes-is w.in_ok-of.ensures.says
+      | else-has_sums+in_ok-lists_of w ↦ rw w.votes-is (λ set d s l. lists-say c.args.n (map (λ v. v.items) w.in_ok-lists_of.field-0.items) c.args.rankings.now (length-map w.in_ok-lists_of.field-0.items (λ v. v.items) ∙ w.in_ok-lists_of.ensures.long) w.in_ok-lists_of.ensures.counted set d l)
+    ] in
+    bag-of c.args.n (votes_in c.if-has_sums.votes) c.args.rankings.now c.requires.below says

@@ -8,7 +8,7 @@ use Rattle.irv_base.proofs.Members.{Member, candidate-member, contains-from_memb
 use Rattle.assertions.specs.Certificate.{certificate_order}
 use Rattle.assertions.specs.Hardness.{best_margin}
 use Rattle.assertions.specs.Suffixes.{alternative_orders, orders_ending}
-use Rattle.assertions.proofs.Greatest.{least-member, least_is}
+use Rattle.irv_base.proofs.Least.{least-member, least_is}
 
 from_not_all : (p : ℕ → Bool) (xs : List ℕ) → list_all p xs ≡ false → (x : ℕ) × Member x xs × (p x ≡ false)
 from_not_all p [] h = cc
@@ -18,7 +18,8 @@ from_not_all p (x ∷ xs) h =
       | inr r ↦ let (y, m, f) = from_not_all p xs r in (y, there m, f)
     ]
 
-some_ending : (n k : ℕ) (t : List ℕ) → k + length t ≡ n → (order : List ℕ) × Member order (orders_ending n k t)
+-- each suffix is that of some order
+pub some_ending : (n k : ℕ) (t : List ℕ) → k + length t ≡ n → (order : List ℕ) × Member order (orders_ending n k t)
 some_ending n zero t long = (t, here)
 some_ending n (suc k) t long =
     let (c, m, f) = from_not_all (is_in t) (candidates n) (false_from_ne_true (list_all (is_in t) (candidates n)) full) in

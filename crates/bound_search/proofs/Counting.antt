@@ -8,15 +8,14 @@ use Rattle.irv_base.specs.Orders.{is_order, EndsIn}
 use Rattle.irv_base.proofs.Members.{Member, here, there, member_cases, member-append_left, member-append_right, member-append_cases, from_filter, contains-from_member, member-from_contains}
 use Rattle.irv_base.proofs.Distinct.{none, distinct-range}
 use Rattle.irv_base.proofs.Orders.{order_facts}
-use Rattle.assertions.specs.Suffixes.{is_suffix, suffixes_ending, parts_ending}
+use Rattle.assertions.specs.Suffixes.{is_suffix, suffixes_ending}
 use Rattle.assertions.specs.Hardness.{low}
 use Rattle.assertions.proofs.Endings.{Suffix, suffix_facts}
 use Rattle.assertions.proofs.Enumerated.{suffix_test, from_suffixes_ending, suffixes_ending-member}
-use Rattle.assertions.proofs.Listings.{parts_ending_are}
 use Rattle.set_tallies.specs.Bags.{Kept, IsOf}
 use Rattle.suffix_tree.specs.declared.scored.Scored.{Scored}
 use Rattle.bound_search.specs.Places.{EndsInOne, is_same, ends_in}
-use Rattle.bound_search.specs.Fronts.{Frontier, IsPart, IsOpen, IsAfter, IsFront, IsClosed, IsLeft, AreBelow}
+use Rattle.bound_search.specs.Fronts.{Frontier, IsPart, IsOpen, IsAfter, IsFront, IsClosed, AreBelow}
 use Rattle.bound_search.specs.Race.{is_part_below, parts_below, suffixes_of}
 use Rattle.bound_search.proofs.Endings.{low_in, same-self, ends-self, same-from, one_place, distinct-filter, order_is_suffix}
 use Rattle.bound_search.proofs.Keeping.{open_low}

@@ -1,5 +1,5 @@
 -- The pieces: how their list grows, and that each alternative order ends in one.
-use Rattle.std.proofs.Common.{◌≡◌, ◌≢◌, ℕ, zero, suc, ◌+◌, ◌<◌, ◌≤◌, ◌==◌, Bool, true, false, not, cond, List, [], ◌∷◌, ◌++◌, map, filter, flat_map, length, Contains, Some, slice_get, inl, inr, refl, sym, ap, subst, arith, append-nil, append_assoc, length-append, ◌∙◌}
+use Rattle.std.proofs.Common.{◌≡◌, ◌≢◌, ℕ, zero, suc, ◌+◌, ◌<◌, ◌==◌, Bool, true, false, not, cond, List, [], ◌∷◌, ◌++◌, map, filter, flat_map, length, Some, slice_get, refl, sym, ap, subst, arith, append-nil, append_assoc, ◌∙◌}
 use Rattle.std.proofs.lemmas.Bool.{eqb-false, ne_eqb, not-true, not_from_false}
 use Rattle.std.proofs.lemmas.List.{map-append, map_push}
 use Rattle.std.proofs.lemmas.List.Elements.{filter-append}
@@ -7,7 +7,7 @@ use Rattle.std.proofs.lemmas.Grind.{flat_map-append}
 use Rattle.irv_base.specs.Candidates.{candidates, all_but}
 use Rattle.irv_base.specs.Orders.{is_order, EndsIn, Elects}
 use Rattle.irv_base.proofs.Distinct.{Distinct, distinct-rest, distinct-head}
-use Rattle.irv_base.proofs.Members.{Member, here, there, member-append_right, member-filter, member-flat_map, member-map, from_filter, from_flat_map, from_map, from_candidates, candidate-member, contains-from_member, member-from_contains}
+use Rattle.irv_base.proofs.Members.{Member, here, there, member-append_right, member-filter, member-flat_map, member-map, from_filter, from_flat_map, from_map, from_candidates, candidate-member}
 use Rattle.irv_base.proofs.Orders.{Order, order_facts, last_split}
 use Rattle.irv_base.proofs.Ranges.{candidates-more}
 use Rattle.suffix_tree.specs.Suffixes.{Suffix, with_front}

@@ -1,13 +1,13 @@
 -- The work of a piece is no more than the suffixes that elect its last candidate.
-use Rattle.std.proofs.Common.{◌≡◌, ◌≢◌, inl, inr, ℕ, ◌+◌, ◌-◌, ◌<◌, ◌≤◌, Bool, true, false, not, ◌==◌, min, nat_lt, List, [], ◌∷◌, ◌++◌, filter, map, length, count_by, refl, sym, ap, subst, arith, ltb-true, append_assoc, ◌∙◌}
+use Rattle.std.proofs.Common.{◌≡◌, ◌≢◌, inl, inr, ℕ, ◌+◌, ◌-◌, ◌<◌, ◌≤◌, Bool, true, false, not, ◌==◌, min, nat_lt, List, [], ◌∷◌, ◌++◌, filter, map, length, count_by, refl, sym, subst, arith, ltb-true, append_assoc, ◌∙◌}
 use Rattle.std.proofs.lemmas.Bool.{and_parts, eqb-false, not-true}
 use Rattle.std.proofs.lemmas.List.Sums.{length-filter, count_by-le-length}
 use Rattle.irv_base.specs.Candidates.{candidates, all_but, is_in}
 use Rattle.irv_base.specs.Orders.{EndsIn}
 use Rattle.irv_base.proofs.Members.{Member, member_cases, member_nil, from_filter, from_map, from_candidates, out-from_none, member-from_contains}
 use Rattle.assertions.specs.Suffixes.{is_suffix, parts_ending}
-use Rattle.assertions.specs.Hardness.{low, first_bound, greatest}
-use Rattle.assertions.proofs.Endings.{Suffix, suffix_facts, one_alone}
+use Rattle.assertions.specs.Hardness.{low, first_bound}
+use Rattle.assertions.proofs.Endings.{suffix_facts, one_alone}
 use Rattle.assertions.proofs.Enumerated.{suffix_test, child, from_suffixes_ending}
 use Rattle.assertions.proofs.Greatest.{greatest-le}
 use Rattle.assertions.proofs.Listings.{parts_ending_are}

@@ -1,9 +1,9 @@
 -- The ends of the workers, put together one by one.
-use Rattle.std.proofs.Common.{◌≡◌, ◌⊎◌, inl, inr, ℕ, ◌+◌, ◌<◌, ◌≤◌, true, false, List, [], ◌∷◌, ◌++◌, map, sum_by, length, get_or, drop, add-one, min, All, Option, None, Some, refl, sym, ap, subst, arith, append-nil, ◌∙◌}
+use Rattle.std.proofs.Common.{◌≡◌, ◌⊎◌, inl, inr, ℕ, ◌+◌, ◌<◌, ◌≤◌, true, false, List, [], ◌∷◌, ◌++◌, map, sum_by, length, get_or, drop, add-one, min, All, Option, None, Some, refl, sym, ap, ap₂, subst, arith, append-nil, ◌∙◌}
 use Rattle.std.specs.Option.{MatchOption, option_map_or}
 use Rattle.std.proofs.Math.Seq.{drop-cons}
 use Rattle.std.proofs.lemmas.List.{map_push, map-append, length_push}
-use Rattle.std.proofs.lemmas.List.Elements.{All-push, All-append, All-weaker, All-same, All-head, All-nil, All-pop, All-contains}
+use Rattle.std.proofs.lemmas.List.Elements.{All-head, All-push, All-append, All-weaker, All-same, All-nil, All-pop, All-contains}
 use Rattle.std.proofs.lemmas.Grind.{flat_map-append}
 use Rattle.irv_base.specs.Candidates.{is_in}
 use Rattle.irv_base.proofs.Members.{contains-from_member}
@@ -15,7 +15,7 @@ use Rattle.shared_witness.specs.Race.{Seated, SharedRace, views_of}
 use Rattle.shared_witness.proofs.Lists.{least-push, least-first}
 use Rattle.suffix_tree.specs.Suffixes.{Suffix}
 use Rattle.bound_search.specs.Race.{IsPaced, AreReportsOf}
-use Rattle.bound_search.specs.Reached.{IsFoundIn, IsBestFound, IsEntry, IsCostly, IsDoneWith, IsWorkerEnd}
+use Rattle.bound_search.specs.Reached.{IsFoundIn, IsBestFound, IsEntry, IsCostly, IsDoneWith, IsWorkerEnd, left_open}
 use Rattle.bound_search.specs.Team.{WorkerRan, TeamRan, IsClosedUnder, IsEntryOfOne, IsJoined, first_of}
 use Rattle.bound_search.specs.declared.ends.Best.{Best}
 use Rattle.bound_search.specs.declared.ends.PieceEnd.{PieceEnd}
@@ -93,9 +93,9 @@ module _ (bag : Kept) (nodes : ℕ) (tails : List Suffix) (race : SharedRace) (s
   still_closed : (p : PieceEnd) → IsClosedUnder bag j.seats.items p → IsClosedUnder bag k.seats.items p
   still_closed p h bound all = h bound (seats_before bound all).0
 
-  now_closed : e.spent.items ≡ [] → (p : PieceEnd) → IsDoneWith bag w.seat.view e.spent.items p → IsClosedUnder bag k.seats.items p
+  now_closed : e.spent.items ≡ [] → (p : PieceEnd) → IsDoneWith bag w.seat.view (left_open e) p → IsClosedUnder bag k.seats.items p
   now_closed none p (inl (closed, at)) bound all = closed_lower bag w.seat.view.seen bound p.tail.list p.expanded (seats_before bound all).1 at
-  now_closed none p (inr left) bound all = let no : false ≡ true = ap (λ xs. is_in xs p.piece) (sym none) ∙ left in cc
+  now_closed none p (inr left) bound all = let no : false ≡ true = ap₂ (λ xs ys. is_in (xs ++ ys) p.piece) (sym none) (sym (end.cause none)) ∙ left in cc
 
   spent_now : MatchOption k.spent (All (IsClosedUnder bag k.seats.items) k.ends.items) (IsCostly bag first nodes tails)
   spent_now = subst (λ o. MatchOption o closed (IsCostly bag first nodes tails)) (sym spent) (go j.spent was.spent e.spent.items refl) where
@@ -109,7 +109,7 @@ module _ (bag : Kept) (nodes : ℕ) (tails : List Suffix) (race : SharedRace) (s
         subst (All (IsClosedUnder bag k.seats.items)) (sym ends)
         (All-append (IsClosedUnder bag k.seats.items) j.ends.items e.ends.items
         (All-weaker (IsClosedUnder bag j.seats.items) (IsClosedUnder bag k.seats.items) still_closed j.ends.items all)
-        (All-weaker (IsDoneWith bag w.seat.view e.spent.items) (IsClosedUnder bag k.seats.items) (now_closed is) e.ends.items end.done_with))
+        (All-weaker (IsDoneWith bag w.seat.view (left_open e)) (IsClosedUnder bag k.seats.items) (now_closed is) e.ends.items end.done_with))
 
   pub join_more : IsJoined bag nodes tails race start k
   join_more = record {

@@ -13,7 +13,7 @@ use Rattle.irv_base.specs.Orders.{is_order, EndsIn, Elects}
 use Rattle.irv_base.proofs.Members.{Member, here, there, member-append_right, member-map, contains-from_member, member-from_contains}
 use Rattle.irv_base.proofs.Orders.{order_facts}
 use Rattle.assertions.specs.Suffixes.{IsAlternative}
-use Rattle.assertions.specs.Hardness.{low, best_margin, first_bound}
+use Rattle.assertions.specs.Hardness.{low, best_margin, first_bound, start_order}
 use Rattle.assertions.proofs.Alternatives.{best-le, best_is}
 use Rattle.assertions.proofs.Endings.{from_alternative, alternative-member}
 use Rattle.assertions.proofs.Greatest.{greatest-member}
@@ -30,8 +30,9 @@ use Rattle.std.proofs.Math.Seq.{take-append_seam}
 use Rattle.bound_search.proofs.Turns.{if_ok}
 use Rattle.bound_search.specs.Reached.{IsWorkerEnd}
 use Rattle.bound_search.specs.Team.{HasFewEnds, WorkerRan, TeamRan, IsClosedUnder, IsEntryOfOne, IsJoined}
-use Rattle.bound_search.specs.Raced.{IsClosedEntry, IsRaced}
+use Rattle.bound_search.specs.Raced.{IsStart, IsClosedEntry, IsRaced}
 use Rattle.bound_search.specs.declared.run.Raced.{Raced}
+use Rattle.bound_search.specs.declared.start.Start.{Start}
 use Rattle.shared_witness.specs.View.{highest}
 use Rattle.bound_search.specs.declared.team.Worker.{Worker}
 use Rattle.bound_search.specs.declared.limits.TheConstants.{MOST_PIECES}
@@ -129,20 +130,16 @@ some_pieces bag winner first tails two reached tails_is =
 pub of_contest : (bag : Kept) (winner : ℕ) (tails : List Suffix) → tails ≡ tails_are bag.n winner → All (λ t. t.n ≡ bag.n) tails
 of_contest bag winner tails is = All-same (λ (t : Suffix). t.n ≡ bag.n) tails (tails_are bag.n winner) is (All-map (λ (t : Suffix). t.n ≡ bag.n) (piece_of bag.n) (pieces bag.n winner) (λ k d inside. refl))
 
--- the race is over the pieces of this winner, and begins with an order that elects another candidate
-pub record IsCutFor (bag : Kept) (winner : ℕ) (first : Best) (tails : List Suffix) : Type 0 where
-  pub two : 1 < bag.n
-  pub tails_is : tails ≡ tails_are bag.n winner
-  pub reached : IsReached bag winner first
-
-pub cut_for : (bag : Kept) (tallies moved : Source) (winner n : ℕ) (first : Best) (tails : List Suffix) → tallies.bag ≡ bag → moved ≡ tallies → n ≡ moved.bag.n → FEWEST_CANDIDATES ≤ n → IsReached tallies.bag winner first →
-    tails ≡ tails_are n winner → IsCutFor bag winner first tails
-cut_for bag tallies moved winner n first tails same kept n_is fewest reached tails_is =
+pub start_for : (bag : Kept) (tab : Tabulated) (tallies moved : Source) (n : ℕ) (start : Start) → tallies.bag ≡ bag → moved ≡ tallies → n ≡ moved.bag.n → FEWEST_CANDIDATES ≤ n → IsReached tallies.bag tab.winner start.first →
+    start.first.order ≡ start_order tab.order → start.tails.items ≡ tails_are n tab.winner → IsStart bag tab start
+start_for bag tab tallies moved n start same kept n_is fewest reached order tails_is =
     let all : n ≡ bag.n = n_is ∙ ap (λ (s : Source). s.bag.n) kept ∙ ap (λ (b : Kept). b.n) same in
+    let own : IsReached bag tab.winner start.first = subst (λ b. IsReached b tab.winner start.first) same reached in
     record {
       two = omega (arith, all, fewest);
-      tails_is = tails_is ∙ ap (λ m. tails_are m winner) all;
-      reached = subst (λ b. IsReached b winner first) same reached;
+      tails = tails_is ∙ ap (λ m. tails_are m tab.winner) all;
+      reached = own;
+      first = λ records of. sym (own.hardness records of) ∙ ap (low bag.n records) order;
     }
 
 -- the start order, or one that was found

@@ -1,16 +1,15 @@
 -- What the turns of one piece come to.
-use Rattle.std.proofs.Common.{◌≡◌, inl, inr, ℕ, ◌+◌, ◌<◌, ◌≤◌, true, nat_lt, List, [], ◌∷◌, ◌++◌, length, min, All, get_or, refl, sym, ap, subst, arith, le_trans, length-append, lt-ltb, ltb-true, ◌∙◌}
+use Rattle.std.proofs.Common.{◌≡◌, inl, inr, ℕ, ◌+◌, ◌<◌, ◌≤◌, true, nat_lt, List, [], ◌++◌, length, min, All, get_or, sym, ap, subst, arith, le_trans, length-append, lt-ltb, ltb-true, ◌∙◌}
 use Rattle.std.proofs.lemmas.Bool.{and_from, and_parts, cases_lt}
 use Rattle.std.proofs.lemmas.List.{nil_from_length}
 use Rattle.std.proofs.lemmas.List.Elements.{All-append, All-nil}
-use Rattle.irv_base.specs.Orders.{is_order, EndsIn}
 use Rattle.assertions.specs.Suffixes.{is_suffix}
 use Rattle.assertions.specs.Hardness.{low}
 use Rattle.assertions.proofs.Tallies.{count_by-le}
 use Rattle.set_tallies.specs.Bags.{Kept, Source, IsOf}
 use Rattle.suffix_tree.specs.Suffixes.{Suffix}
 use Rattle.bound_search.specs.Fronts.{Frontier, IsAfter, IsFront, IsWithin, HasGrown, Grows, IsFound, IsTurn}
-use Rattle.bound_search.specs.Reached.{IsLeastOf, IsClosedAt, IsOverBudget, IsInWork}
+use Rattle.bound_search.specs.Reached.{IsClosedAt, IsOverBudget, IsInWork}
 use Rattle.bound_search.specs.Race.{is_part_below, parts_below, suffixes_of, value_of}
 use Rattle.bound_search.specs.declared.limits.TheConstants.{MOST_EXPANDED}
 use Rattle.bound_search.specs.declared.turn.Turn.{Turn}

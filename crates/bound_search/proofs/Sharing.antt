@@ -1,9 +1,8 @@
 -- The share of one worker, piece by piece.
-use Rattle.std.proofs.Common.{◌≡◌, ◌≢◌, inl, inr, ℕ, ◌+◌, ◌-◌, ◌*◌, ◌<◌, ◌≤◌, ◌==◌, Bool, true, false, not, cond, nat_lt, List, [], ◌∷◌, ◌++◌, map, sum_by, length, min, All, Contains, Option, None, Some, slice_get, if◌then◌else◌, refl, sym, ap, subst, arith, ◌∙◌}
-use Rattle.std.specs.Option.{MatchOption, option_or}
+use Rattle.std.proofs.Common.{◌≡◌, ◌⊎◌, inl, inr, ℕ, ◌+◌, ◌*◌, ◌≤◌, ◌==◌, Bool, true, false, not, cond, List, [], ◌∷◌, ◌++◌, sum_by, All, Contains, Option, None, Some, slice_get, if◌then◌else◌, refl, sym, ap, subst, arith, ◌∙◌}
+use Rattle.std.specs.Option.{option_or}
 use Rattle.std.proofs.lemmas.Option.{slice_get_within, get_or_from_slice_get}
-use Rattle.std.proofs.lemmas.Bool.{cases_eq, eq-eqb, ne_eqb, cases_Bool, or_left, or_right}
-use Rattle.std.proofs.lemmas.List.{map_push, length_push}
+use Rattle.std.proofs.lemmas.Bool.{cases_eq, eq-eqb, ne_eqb, or_left, or_right}
 use Rattle.std.proofs.lemmas.List.Elements.{All-push, All-weaker}
 use Rattle.std.proofs.lemmas.List.Folds.{list_any-append}
 use Rattle.std.proofs.lemmas.List.Sums.{sum_by_push}
@@ -14,10 +13,9 @@ use Rattle.shared_witness.specs.View.{highest}
 use Rattle.shared_witness.specs.Moment.{times}
 use Rattle.shared_witness.proofs.Lists.{times-push, times_none}
 use Rattle.suffix_tree.specs.Suffixes.{Suffix}
-use Rattle.bound_search.specs.Reached.{IsClosedAt, IsOverBudget, IsNewest, IsPieceSearched, IsFoundIn, IsBestFound, IsEntry, IsCostly, IsDoneWith, IsWorkerEnd}
+use Rattle.bound_search.specs.Reached.{IsNewest, IsPieceSearched, IsBestFound, IsEntry, IsCostly, IsDoneWith}
 use Rattle.bound_search.specs.declared.ends.Best.{Best}
 use Rattle.bound_search.specs.declared.ends.PieceEnd.{PieceEnd}
-use Rattle.bound_search.specs.declared.ends.WorkerEnd.{WorkerEnd}
 use Rattle.bound_search.specs.declared.piece.Searched.{Searched}
 use Rattle.bound_search.specs.declared.limits.TheConstants.{MOST_EXPANDED}
 use Rattle.bound_search.proofs.Racing.{closed_lower}
@@ -56,7 +54,7 @@ noted false closed spent n p = omega (arith, times-push spent n p)
 -- ---- a piece more
 
 module _ (bag : Kept) (first nodes worker : ℕ) (tails : List Suffix) (piece : ℕ) (tail : Suffix) (v t w : View) (spent noted_now : List ℕ) (s : Searched)
-    (inside : slice_get tails piece ≡ Some tail) (take : t ≡ record v { taken = v.taken ++ piece ∷ [] }) (did : IsPieceSearched bag first nodes piece tail.list t w s)
+    (inside : slice_get tails piece ≡ Some tail) (take : t ≡ record v { taken = v.taken ++ piece ∷ [] }) (skipped : Bool) (did : IsPieceSearched bag first nodes piece tail.list skipped t w s)
     (notes : noted_now ≡ (if s.closed then spent else spent ++ piece ∷ [])) where
   abbrev entry : PieceEnd
   entry = record { piece = piece; tail = tail; worker = worker; expanded = s.expanded }
@@ -106,11 +104,13 @@ module _ (bag : Kept) (first nodes worker : ℕ) (tails : List Suffix) (piece : 
   pub done_now : (ends : List PieceEnd) → All (IsDoneWith bag v spent) ends → All (IsDoneWith bag w noted_now) (ends ++ entry ∷ [])
   done_now ends all = All-push (IsDoneWith bag w noted_now) ends entry (All-weaker (IsDoneWith bag v spent) (IsDoneWith bag w noted_now) still_done ends all) this_done
 
-  pub costly_now : All (IsCostly bag first nodes tails) spent → All (IsCostly bag first nodes tails) noted_now
-  costly_now all = subst (All (IsCostly bag first nodes tails)) (sym notes) (go s.closed refl) where
-    go : (b : Bool) → s.closed ≡ b → All (IsCostly bag first nodes tails) (if b then spent else spent ++ piece ∷ [])
-    go true e = all
-    go false e = All-push (IsCostly bag first nodes tails) spent piece all (tail, inside, did.over e)
+  -- a piece that is spent now wasn't skipped
+  pub costly_now : (before after : List ℕ) → (before ≡ [] → skipped ≡ false) → (after ≡ before) ⊎ ((s.closed ≡ false) × (before ≡ []) × (after ≡ piece ∷ [])) →
+      All (IsCostly bag first nodes tails) before → All (IsCostly bag first nodes tails) after
+  costly_now before after none_skipped (inl same) all = subst (All (IsCostly bag first nodes tails)) (sym same) all
+  costly_now before after none_skipped (inr (left, none, is)) all =
+      subst (All (IsCostly bag first nodes tails)) (sym is)
+      (All-push (IsCostly bag first nodes tails) [] piece (subst (All (IsCostly bag first nodes tails)) none all) (tail, inside, did.over left (none_skipped none)))
 
   pub paced_now : (ends : List PieceEnd) (looks : ℕ) → sum_by (λ p. p.expanded) ends ≤ MOST_EXPANDED * looks → sum_by (λ p. p.expanded) (ends ++ entry ∷ []) ≤ MOST_EXPANDED * (looks + s.looks)
   paced_now ends looks paced = let more = sum_by_push (λ (p : PieceEnd). p.expanded) ends entry in let le = did.paced in omega (arith, more, le, paced)

@@ -10,7 +10,6 @@ use Rattle.suffix_tree.proofs.Tails.{suffix-short}
 use Rattle.bound_search.specs.Places.{EndsInOne}
 use Rattle.bound_search.specs.Fronts.{Frontier, IsOpen, IsAfter, IsFront, IsWithin, IsFirstOf, AreFirstEach, none_expanded, one_expanded, one_found, HasGrown, Grows, IsFound, IsLeft}
 use Rattle.bound_search.specs.Sifted.{IsExpanded, IsTaken, IsFirst}
-use Rattle.irv_base.specs.Orders.{EndsIn}
 use Rattle.set_tallies.specs.Bags.{IsOf}
 use Rattle.assertions.specs.Suffixes.{comes_before}
 use Rattle.bound_search.proofs.Counting.{orders_stay_open}

@@ -1,15 +1,25 @@
--- What a race over given pieces came to.
-use Rattle.std.specs.Prelude.{◌≡◌, ◌⊎◌, ℕ, ◌≤◌, List, All, length, map}
+-- What a race starts from, and what a race over given pieces came to.
+use Rattle.std.specs.Prelude.{◌≡◌, ◌⊎◌, ℕ, ◌<◌, ◌≤◌, List, All, length, map}
 use Rattle.std.specs.Option.{MatchOption}
-use Rattle.set_tallies.specs.Bags.{Kept}
+use Rattle.assertions.specs.Hardness.{first_bound}
+use Rattle.irv_tabulator.specs.declared.tabulated.Tabulated.{Tabulated}
+use Rattle.set_tallies.specs.Bags.{Kept, IsOf}
 use Rattle.shared_witness.specs.Moment.{EachOnce}
 use Rattle.suffix_tree.specs.Suffixes.{Suffix}
-use Rattle.bound_search.specs.Race.{IsPaced, AreReportsOf}
-use Rattle.bound_search.specs.Reached.{IsFoundIn, IsClosedAt, IsCostly}
+use Rattle.bound_search.specs.Race.{IsPaced, AreReportsOf, piece_of, pieces}
+use Rattle.bound_search.specs.Reached.{IsFoundIn, IsReached, IsClosedAt, IsCostly}
 use Rattle.bound_search.specs.Team.{IsEntryOfOne}
 use Rattle.bound_search.specs.declared.ends.Best.{Best}
 use Rattle.bound_search.specs.declared.ends.PieceEnd.{PieceEnd}
 use Rattle.bound_search.specs.declared.run.Raced.{Raced}
+use Rattle.bound_search.specs.declared.start.Start.{Start}
+
+-- all pieces, and an order that elects another candidate than the winner, of the hardness that the work of a piece is counted by
+pub record IsStart (bag : Kept) (tab : Tabulated) (start : Start) : Type 0 where
+  pub two : 1 < bag.n
+  pub tails : start.tails.items ≡ map (piece_of bag.n) (pieces bag.n tab.winner)
+  pub reached : IsReached bag tab.winner start.first
+  pub first : (records : List (List ℕ)) → IsOf bag records → start.first.margin ≡ first_bound bag.n records tab.order
 
 -- the piece of the entry is closed under the bound
 abbrev pub IsClosedEntry : Kept → ℕ → PieceEnd → Type 0

@@ -1,5 +1,5 @@
 -- What a worker found in a piece and in its share of a race, by the views of its seat before and after.
-use Rattle.std.specs.Prelude.{◌≡◌, ◌⊎◌, ℕ, ◌+◌, ◌*◌, ◌<◌, ◌≤◌, if◌then◌else◌, false, List, [], ◌∷◌, ◌++◌, length, map, sum_by, All, Contains, Option, Some, slice_get, IsTrue}
+use Rattle.std.specs.Prelude.{◌≡◌, ◌⊎◌, ℕ, ◌+◌, ◌*◌, ◌<◌, ◌≤◌, if◌then◌else◌, Bool, false, List, [], ◌∷◌, ◌++◌, length, map, sum_by, All, Contains, Option, Some, slice_get, IsTrue, ⊤}
 use Rattle.std.specs.Option.{MatchOption}
 use Rattle.irv_base.specs.Candidates.{is_in}
 use Rattle.irv_base.specs.Orders.{is_order, EndsIn}
@@ -51,8 +51,8 @@ IsInWork bag first piece expanded = (records : List (List ℕ)) → IsOf bag rec
 abbrev pub IsNewest : Kept → List ℕ → ℕ → ℕ → Option Best → Type 0
 IsNewest bag piece before posted found = MatchOption found (posted ≡ before) (λ b. IsFound bag piece b.order b.margin × (b.margin ≡ posted) × (posted < before))
 
--- a piece was searched, from the one view to the other
-pub record IsPieceSearched (bag : Kept) (first nodes number : ℕ) (piece : List ℕ) (old new : View) (s : Searched) : Type 0 where
+-- a piece was searched, or skipped, from the one view to the other
+pub record IsPieceSearched (bag : Kept) (first nodes number : ℕ) (piece : List ℕ) (skipped : Bool) (old new : View) (s : Searched) : Type 0 where
   pub taken : new.taken ≡ old.taken
   pub ends : new.ends ≡ old.ends
   pub closed : new.closed ≡ (if s.closed then old.closed ++ number ∷ [] else old.closed)
@@ -65,7 +65,7 @@ pub record IsPieceSearched (bag : Kept) (first nodes number : ℕ) (piece : List
   pub few_looks : s.looks + new.seen ≤ old.seen + nodes + 2
   pub most : IsInWork bag first piece s.expanded
   pub searched : IsTrue s.closed → IsClosedAt bag new.seen piece s.expanded
-  pub over : s.closed ≡ false → IsOverBudget bag first nodes piece
+  pub over : s.closed ≡ false → skipped ≡ false → IsOverBudget bag first nodes piece
 
 -- ---- the share of a worker
 
@@ -90,9 +90,13 @@ pub record IsEntry (bag : Kept) (first nodes worker : ℕ) (tails : List Suffix)
 abbrev pub IsCostly : Kept → ℕ → ℕ → List Suffix → ℕ → Type 0
 IsCostly bag first nodes tails number = (tail : Suffix) × (slice_get tails number ≡ Some tail) × IsOverBudget bag first nodes tail.list
 
+-- the pieces that a worker left open
+abbrev pub left_open : WorkerEnd → List ℕ
+left_open e = e.spent.items ++ e.skipped.items
+
 -- the piece is closed, or was left open
 abbrev pub IsDoneWith : Kept → View → List ℕ → PieceEnd → Type 0
-IsDoneWith bag v spent p = (IsTrue (is_in v.closed p.piece) × IsClosedAt bag v.seen p.tail.list p.expanded) ⊎ IsTrue (is_in spent p.piece)
+IsDoneWith bag v left p = (IsTrue (is_in v.closed p.piece) × IsClosedAt bag v.seen p.tail.list p.expanded) ⊎ IsTrue (is_in left p.piece)
 
 -- what a worker came to, by the view of its seat
 pub record IsWorkerEnd (bag : Kept) (first nodes worker : ℕ) (tails : List Suffix) (v : View) (e : WorkerEnd) : Type 0 where
@@ -102,9 +106,11 @@ pub record IsWorkerEnd (bag : Kept) (first nodes worker : ℕ) (tails : List Suf
   pub few : length v.taken ≤ length tails
   -- no piece was taken twice, and each is closed or was left open
   pub once : (p : ℕ) → times v.taken p ≤ 1
-  pub spent : (p : ℕ) → times v.taken p ≡ times v.closed p + times e.spent.items p
+  pub spent : (p : ℕ) → times v.taken p ≡ times v.closed p + times (left_open e) p
   pub entries : All (IsEntry bag first nodes worker tails) e.ends.items
-  pub done_with : All (IsDoneWith bag v e.spent.items) e.ends.items
+  pub done_with : All (IsDoneWith bag v (left_open e)) e.ends.items
   pub costly : All (IsCostly bag first nodes tails) e.spent.items
+  -- none is skipped before one is spent
+  pub cause : e.spent.items ≡ [] → e.skipped.items ≡ []
   pub paced : sum_by (λ p. p.expanded) e.ends.items ≤ MOST_EXPANDED * e.looks
   pub best : IsBestFound bag tails v.posted e.best

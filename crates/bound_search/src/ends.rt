@@ -15,14 +15,14 @@ pub struct Best {
     pub margin: u32,
 }
 
-/// How the search of a piece ended.
+/// How it ended with a piece.
 #[derive(Clone, Copy)]
 pub struct PieceEnd {
     /// The number of the piece.
     pub piece: u32,
     /// The suffix that the orders of the piece end in.
     pub tail: Tail,
-    /// The number of the worker that searched it.
+    /// The number of the worker that took it.
     pub worker: u32,
     /// How many suffixes of the piece were expanded.
     pub expanded: u32,
@@ -37,6 +37,8 @@ pub struct WorkerEnd {
     pub ends: Vec<PieceEnd>,
     /// The numbers of those that it couldn't search to the end within the budget.
     pub spent: Vec<u32>,
+    /// The numbers of those that it skipped, once one was spent.
+    pub skipped: Vec<u32>,
     /// How often it looked at the bound.
     pub looks: u64,
 }

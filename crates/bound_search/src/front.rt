@@ -33,7 +33,13 @@ impl Model for Front {
 
     ghost Value = { Frontier };
 
-    ghost view = { λ f. record { piece = f.piece; suffixes = heap_items f.suffixes; bound = f.bound; least = f.least; expanded = f.expanded } };
+    ghost view = { λ f. record {
+      piece = f.piece;
+      suffixes = heap_items f.suffixes;
+      bound = f.bound;
+      least = f.least;
+      expanded = f.expanded;
+    } };
 
     ghost invariant = { λ f. IsHeap first_is_greatest (heap_items f.suffixes) };
 }
@@ -49,7 +55,8 @@ pub enum Look {
 impl Front {
     /// The suffix alone, open. It is what `score` gives of its tail; all turns are over the tallies that it was scored with.
     pub fn new(alloc: Global, start: Scored) -> Result<Front, Memory>
-        ensures front { IfOk result (λ f. (bag : Kept) → start.tail.n ≡ bag.n → IsScoredOver bag start → IsFront bag f) }
+        ensures front { IfOk result (λ f. (bag : Kept) → start.tail.n ≡ bag.n
+            → IsScoredOver bag start → IsFront bag f) }
         ensures piece { IfOk result (λ f. f.piece ≡ start.tail) }
         ensures alone { IfOk result (λ f. f.suffixes ≡ start ∷ []) }
         ensures unbounded { IfOk result (λ f. f.bound ≡ u32.MAX) }

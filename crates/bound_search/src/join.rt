@@ -28,7 +28,8 @@ pub(crate) struct Joined {
 
 // The less hard of the two.
 fn better(best: Best, found: Option<Best>) -> Best
-    ensures margin { result.margin ≡ option_map_or (λ b. min b.margin best.margin) found best.margin }
+    ensures margin { result.margin
+        ≡ option_map_or (λ b. min b.margin best.margin) found best.margin }
     ensures one { (result ≡ best) ⊎ (found ≡ Some result) }
 {
     match found {
@@ -68,7 +69,8 @@ fn report_of(end: &WorkerEnd) -> Report
 pub(crate) fn join(alloc: Global, team: Vec<Worker>, start: Best) -> Result<Joined, Memory>
     requires few { All HasFewEnds team.items }
     ensures seats { IfOk result (λ j. j.seats.items ≡ map (λ w. w.seat) team.items) }
-    ensures joined { IfOk result (λ j. (bag : Kept) (nodes : ℕ) (tails : List Suffix) (race : SharedRace)
+    ensures joined { IfOk result (λ j.
+        (bag : Kept) (nodes : ℕ) (tails : List Suffix) (race : SharedRace)
         → TeamRan bag nodes tails race team.items → IsJoined bag nodes tails race start j) }
 {
     let mut seats = Vec::with_capacity(alloc, team.len())?;

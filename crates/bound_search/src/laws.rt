@@ -1,4 +1,6 @@
 // The laws of a front: each holds of every value that it names, and has no code.
+ghost use Rattle.std.specs.Prelude.{◌≡◌};
+ghost use Rattle.bound_search.specs.declared.limits.TheConstants.{MOST_EXPANDED, MOST_PIECES};
 ghost use Rattle.bound_search.specs.Laws.{OrdersStayOpen, ClosedAbove, MostExpanded, LeastExpanded};
 
 /// Each order of the piece below the bound and below the least margin found ends in an open suffix.
@@ -19,4 +21,10 @@ pub fn most_expanded()
 /// Where no open suffix is below the bound, no fewer were expanded than there are below it and below the least margin found.
 pub fn least_expanded()
     ensures { LeastExpanded }
+{}
+
+/// The numbers of the limits.
+pub fn limits()
+    ensures expanded { MOST_EXPANDED ≡ 64 }
+    ensures pieces { MOST_PIECES ≡ 1024 }
 {}

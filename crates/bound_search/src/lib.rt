@@ -20,7 +20,7 @@ mod turn;
 
 pub use ends::{Best, PieceEnd, RaceEnd, RaceFault, Report, WorkerEnd};
 pub use front::Front;
-pub use limits::{MOST_EXPANDED, MOST_PIECES, MOST_WORKERS};
+pub use limits::{MOST_EXPANDED, MOST_PIECES};
 pub use pieces::tails_of;
 pub use search::race;
 pub use share::work;

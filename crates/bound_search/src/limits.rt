@@ -5,6 +5,3 @@ pub const MOST_EXPANDED: u32 = 64;
 
 /// The most pieces of a race: as many as there are pairs of candidates.
 pub const MOST_PIECES: u32 = 1024;
-
-/// The most workers of a race.
-pub const MOST_WORKERS: u32 = 8;

@@ -1,5 +1,5 @@
 // The search of one piece by one worker.
-ghost use Rattle.std.specs.Prelude.{◌≡◌, ◌≤◌, ◌<◌, IfOk, IsTrue, not};
+ghost use Rattle.std.specs.Prelude.{◌≡◌, ◌≤◌, ◌<◌, IfOk, IsTrue, false, not};
 ghost use Rattle.irv_base.specs.Candidates.{is_in};
 ghost use Rattle.shared_witness.specs.View.{highest};
 ghost use Rattle.bound_search.specs.Reached.{IsPieceSearched};
@@ -27,6 +27,23 @@ pub struct Searched {
     pub closed: bool,
 }
 
+impl Searched {
+    /// What a piece comes to that is skipped.
+    pub(crate) fn skipped() -> Searched
+        ensures found { result.found ≡ None }
+        ensures expanded { result.expanded ≡ 0 }
+        ensures looks { result.looks ≡ 0 }
+        ensures closed { result.closed ≡ false }
+    {
+        Searched {
+            found: None,
+            expanded: 0,
+            looks: 0,
+            closed: false,
+        }
+    }
+}
+
 /// Searches a piece that the seat took, turn by turn, each under the bound as it is then, and posts each order that is found.
 pub(crate) fn search<L: Ledger>(
     alloc: Global,
@@ -47,7 +64,8 @@ pub(crate) fn search<L: Ledger>(
     requires open_piece { IsTrue (not (is_in seat.old.view.closed piece)) }
     requires seen { (seat.old.view.seen ≤ seat.old.view.posted) × (seat.old.view.posted ≤ highest) }
     ensures race { seat.new.race ≡ race.now.id }
-    ensures searched { IfOk result (IsPieceSearched tallies.old.bag race.now.terms.first nodes piece tail.now.list seat.old.view seat.new.view) }
+    ensures searched { IfOk result (IsPieceSearched tallies.old.bag race.now.terms.first nodes
+        piece tail.now.list false seat.old.view seat.new.view) }
     ensures same { tallies.new ≡ tallies.old }
 {
     let mut steps = Steps::<L>::new(blank);

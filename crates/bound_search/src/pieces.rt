@@ -30,7 +30,8 @@ pub fn tails_of(alloc: Global, n: u32, winner: Candidate) -> Result<Vec<Tail>, M
 fn add_pieces(tails: &mut Vec<Tail>, n: u32, last: Candidate) -> Result<(), Memory>
     requires room { n ≤ ROOM }
     requires below { last < n }
-    ensures added { OnOk result (tails.new.items ≡ tails.old.items ++ map (piece_of n) (pieces_electing n last)) }
+    ensures added { OnOk result (tails.new.items
+        ≡ tails.old.items ++ map (piece_of n) (pieces_electing n last)) }
     ensures few { OnOk result (length tails.new.items ≤ length tails.old.items + n) }
 {
     let own = u32::from(last.0);

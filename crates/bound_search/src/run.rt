@@ -1,7 +1,8 @@
 // A race over given pieces, run to its end.
 ghost use Rattle.std.specs.Prelude.{◌≡◌, ◌≤◌, All, IfOk, length};
 ghost use Rattle.bound_search.specs.Raced.{IsRaced};
-ghost use Rattle.bound_search.specs.declared.limits.TheConstants.{MOST_PIECES, MOST_WORKERS};
+ghost use Rattle.irv_base.specs.declared.limits.TheConstants.{MOST_WORKERS};
+ghost use Rattle.bound_search.specs.declared.limits.TheConstants.{MOST_PIECES};
 
 use crate::ends::{Best, PieceEnd, Report};
 use crate::join::{Joined, join};

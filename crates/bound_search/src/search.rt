@@ -3,13 +3,12 @@ ghost use Rattle.std.specs.Prelude.{◌≡◌, ◌≤◌, ◌<◌, ◌∷◌, []
 ghost use Rattle.irv_base.specs.Orders.{is_order, Elects};
 ghost use Rattle.bound_search.specs.Race.{IsBestOver, ArePiecesOver, AreReportsOf, IsSpentOver, IsPaced};
 ghost use Rattle.bound_search.specs.declared.ends.RaceFault.TheVariants.{Spent};
-ghost use Rattle.bound_search.specs.declared.limits.TheConstants.{MOST_WORKERS};
+ghost use Rattle.irv_base.specs.declared.limits.TheConstants.{MOST_WORKERS};
 
 use crate::ends::{Best, RaceEnd, RaceFault};
 use crate::join::in_order;
-use crate::pieces::tails_of;
 use crate::run::{Raced, run_race};
-use crate::start::start;
+use crate::start::{Start, start_of};
 use desk::Gate;
 use irv_tabulator::Tabulated;
 use set_tallies::Counted;
@@ -19,7 +18,8 @@ use suffix_tree::Tail;
 // The race is spent on this piece, of two candidates.
 fn spent_on(tail: &Tail, best: Best) -> RaceFault
     requires { length tail.now.list ≡ 2 }
-    ensures { (other last : ℕ) → tail.now.list ≡ other ∷ last ∷ [] → result ≡ Spent last best.margin best.order }
+    ensures { (other last : ℕ) → tail.now.list ≡ other ∷ last ∷ []
+        → result ≡ Spent last best.margin best.order }
 {
     RaceFault::Spent {
         last: tail.list()[1],
@@ -55,9 +55,7 @@ pub fn race<R: AllocGlobal + Threads + Sync, G: Gate + Sync>(
     ensures spent { IfErr result (IsSpentOver counted.now.bag tab.now nodes) }
 {
     let alloc = rt.alloc();
-    let mut tallies = counted.tallies()?;
-    let first = start(tab, &mut tallies)?;
-    let tails = tails_of(alloc, tallies.candidates(), tab.winner)?;
+    let Start { first, tails } = start_of(alloc, counted, tab)?;
     let Raced {
         ends,
         reports,

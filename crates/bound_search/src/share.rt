@@ -1,11 +1,13 @@
 // The share of one worker.
-ghost use Rattle.std.specs.Prelude.{◌≡◌, ◌≤◌, ◌++◌, ◌∷◌, [], All, IfOk, OnOk, length, if◌then◌else◌};
+ghost use Rattle.std.specs.Prelude.{◌≡◌, ◌⊎◌, ◌≤◌, ◌++◌, ◌∷◌, [], All, false, IfOk, OnOk, IsTrue, length, not, if◌then◌else◌};
+ghost use Rattle.irv_base.specs.Candidates.{is_in};
+ghost use Rattle.shared_witness.specs.View.{highest};
 ghost use Rattle.shared_witness.specs.Race.{new_seat};
-ghost use Rattle.bound_search.specs.Reached.{IsWorkerEnd};
+ghost use Rattle.bound_search.specs.Reached.{IsPieceSearched, IsWorkerEnd};
 ghost use Rattle.bound_search.specs.declared.limits.TheConstants.{MOST_PIECES};
 
 use crate::ends::{PieceEnd, WorkerEnd};
-use crate::piece::search;
+use crate::piece::{Searched, search};
 use desk::Gate;
 use irv_base::Memory;
 use set_tallies::Tallies;
@@ -15,18 +17,72 @@ use std::marker::Brand;
 use std::sync::ledger::Blank;
 use suffix_tree::Tail;
 
-// Notes the piece where it was left open.
-fn note(spent: &mut Vec<u32>, piece: u32, closed: bool) -> Result<(), Memory>
-    ensures { OnOk result (spent.new.items ≡ (if closed then spent.old.items else spent.old.items ++ piece ∷ [])) }
+// Notes the piece where it was left open: as spent where none was before, else as skipped.
+fn note(
+    spent: &mut Vec<u32>,
+    skipped: &mut Vec<u32>,
+    piece: u32,
+    closed: bool,
+) -> Result<(), Memory>
+    requires cause { spent.old.items ≡ [] → skipped.old.items ≡ [] }
+    ensures cause { OnOk result (spent.new.items ≡ [] → skipped.new.items ≡ []) }
+    ensures left { OnOk result (spent.new.items ++ skipped.new.items
+        ≡ (if closed then spent.old.items ++ skipped.old.items
+        else (spent.old.items ++ skipped.old.items) ++ piece ∷ [])) }
+    ensures spent { OnOk result ((spent.new.items ≡ spent.old.items)
+        ⊎ ((closed ≡ false) × (spent.old.items ≡ []) × (spent.new.items ≡ piece ∷ []))) }
 {
-    if !closed {
+    if closed {
+        return Ok(());
+    }
+    if spent.is_empty() {
         spent.push(piece)?;
+    } else {
+        skipped.push(piece)?;
     }
     Ok(())
 }
 
-/// The share of one worker of a race: it takes a piece, searches it, and takes the next, until none is left. Before it
-/// searches a piece the gate is called.
+// Searches the piece, or skips it. To contracts a skipped one was left open.
+fn search_or_skip(
+    alloc: Global,
+    race: &Race,
+    seat: &mut RaceSeat,
+    piece: u32,
+    tail: &Tail,
+    nodes: u32,
+    tallies: &mut Tallies,
+    skip: bool,
+) -> Result<Searched, Memory>
+    requires contest { tail.now.n ≡ tallies.old.bag.n }
+    requires race { seat.old.race ≡ race.now.id }
+    requires taken { IsTrue (is_in seat.old.view.taken piece) }
+    requires open_piece { IsTrue (not (is_in seat.old.view.closed piece)) }
+    requires seen { (seat.old.view.seen ≤ seat.old.view.posted) × (seat.old.view.posted ≤ highest) }
+    ensures race { seat.new.race ≡ race.now.id }
+    ensures searched { IfOk result (IsPieceSearched tallies.old.bag race.now.terms.first nodes
+        piece tail.now.list skip seat.old.view seat.new.view) }
+    ensures same { tallies.new ≡ tallies.old }
+{
+    if skip {
+        return Ok(Searched::skipped());
+    }
+    let searched = search::<Brand>(
+        alloc,
+        Blank::new(1),
+        race,
+        seat,
+        piece,
+        tail,
+        nodes,
+        tallies,
+    )?;
+    Ok(searched)
+}
+
+/// The share of one worker of a race: it takes a piece, searches it, and takes the next, until none is left. Once the budget
+/// of a piece is spent, so is that of the race, and the worker skips what it takes after. For each piece that it takes the gate is
+/// called first.
 ///
 /// `tails` are the pieces of the race in the order of their numbers, each by the suffix that its orders end in. The seat is one
 /// of the race that did nothing yet. Each piece has the whole budget of `nodes` suffixes. The one error is want of memory.
@@ -45,12 +101,14 @@ pub fn work<G: Gate + Sync>(
     requires few { length tails.now ≤ MOST_PIECES }
     requires contest { All (λ tail. tail.n ≡ tallies.old.bag.n) tails.now }
     ensures race { seat.new.race ≡ race.now.id }
-    ensures end { IfOk result (IsWorkerEnd tallies.old.bag race.now.terms.first nodes worker tails.now seat.new.view) }
+    ensures end { IfOk result (IsWorkerEnd tallies.old.bag race.now.terms.first nodes worker
+        tails.now seat.new.view) }
     ensures same { tallies.new ≡ tallies.old }
 {
     let mut best = None;
     let mut ends = Vec::new(alloc);
     let mut spent = Vec::new(alloc);
+    let mut skipped = Vec::new(alloc);
     let mut looks = 0u64;
     for _turn in 0..=tails.len() {
         let piece = race.take(seat);
@@ -59,24 +117,17 @@ pub fn work<G: Gate + Sync>(
                 best,
                 ends,
                 spent,
+                skipped,
                 looks,
             });
         }
         let tail = tails[piece as usize];
         gate.at(worker, piece);
-        let searched = search::<Brand>(
-            alloc,
-            Blank::new(1),
-            race,
-            seat,
-            piece,
-            &tail,
-            nodes,
-            tallies,
-        )?;
+        let is_spent = !spent.is_empty();
+        let searched = search_or_skip(alloc, race, seat, piece, &tail, nodes, tallies, is_spent)?;
         looks += searched.looks;
         best = searched.found.or(best);
-        note(&mut spent, piece, searched.closed)?;
+        note(&mut spent, &mut skipped, piece, searched.closed)?;
         ends.push(PieceEnd {
             piece,
             tail,

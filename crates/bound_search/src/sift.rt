@@ -32,9 +32,11 @@ pub struct Sifted {
 /// Prunes what the bound rules out, and sets the least whole order apart.
 pub fn sift(alloc: Global, children: Vec<Scored>, bound: u32) -> Result<Sifted, Memory>
     ensures heap { IfOk result (λ s. IsHeap first_is_greatest (heap_items s.fresh)) }
-    ensures each { IfOk result (λ s. (x : Scored) → Contains children.items x → IsPlaced bound (heap_items s.fresh) s.found x) }
+    ensures each { IfOk result (λ s. (x : Scored) → Contains children.items x
+        → IsPlaced bound (heap_items s.fresh) s.found x) }
     ensures stays { IfOk result (λ s. All (IsOpenChild children.items bound) (heap_items s.fresh)) }
-    ensures counts { IfOk result (λ s. (p : Scored → Bool) → count_by p (heap_items s.fresh) ≤ count_by p children.items) }
+    ensures counts { IfOk result (λ s. (p : Scored → Bool)
+        → count_by p (heap_items s.fresh) ≤ count_by p children.items) }
     ensures found { IfOk result (λ s. IfSome s.found (IsFoundChild children.items bound)) }
 {
     let mut rest = children;
@@ -61,7 +63,8 @@ pub fn replace_first(
     requires old_heap { IsHeap first_is_greatest (heap_items suffixes.old) }
     requires fresh_heap { IsHeap first_is_greatest (heap_items fresh) }
     ensures heap { IsHeap first_is_greatest (heap_items suffixes.new) }
-    ensures ok { OnOk result (Replaced (heap_items suffixes.old) (heap_items fresh) (heap_items suffixes.new)) }
+    ensures ok { OnOk result (Replaced (heap_items suffixes.old)
+        (heap_items fresh) (heap_items suffixes.new)) }
     ensures err { OnErr result (heap_items suffixes.new ≡ heap_items suffixes.old) }
 {
     let mut others = fresh;

@@ -1,15 +1,28 @@
-// The order that a race starts from: the tabulated one with its last two candidates exchanged.
-ghost use Rattle.std.specs.Prelude.{◌≡◌, ◌≤◌, IfOk, IsTrue};
+// What a race starts from: the tabulated order with its last two candidates exchanged, and the pieces.
+ghost use Rattle.std.specs.Prelude.{◌≡◌, ◌≤◌, IfOk, IsTrue, length};
 ghost use Rattle.irv_base.specs.declared.limits.TheConstants.{FEWEST_CANDIDATES, ROOM};
 ghost use Rattle.irv_base.specs.Orders.{is_order, Elects};
 ghost use Rattle.assertions.specs.Hardness.{start_order};
+ghost use Rattle.bound_search.specs.Raced.{IsStart};
 ghost use Rattle.bound_search.specs.Reached.{IsReached};
+ghost use Rattle.bound_search.specs.declared.limits.TheConstants.{MOST_PIECES};
 
 use crate::ends::Best;
+use crate::pieces::tails_of;
 use irv_base::{Memory, Order};
 use irv_tabulator::Tabulated;
-use set_tallies::Tallies;
+use set_tallies::{Counted, Tallies};
+use std::alloc::Global;
 use suffix_tree::{Tail, score};
+
+/// What a race starts from.
+#[derive(Drop)]
+pub(crate) struct Start {
+    /// An order that elects another candidate than the winner.
+    pub first: Best,
+    /// The pieces in the order of their numbers, each by the suffix that its orders end in.
+    pub tails: Vec<Tail>,
+}
 
 // The order with its last two candidates exchanged.
 fn start_tail(n: u32, order: &Order) -> Tail
@@ -29,8 +42,8 @@ fn start_tail(n: u32, order: &Order) -> Tail
     tail
 }
 
-/// The order that the search starts from, with its hardness.
-pub fn start(tab: &Tabulated, tallies: &mut Tallies) -> Result<Best, Memory>
+/// The order that a race starts from, with its hardness.
+pub fn first_order(tab: &Tabulated, tallies: &mut Tallies) -> Result<Best, Memory>
     requires order { IsTrue (is_order tallies.old.bag.n tab.now.order) }
     requires winner { Elects tab.now.order tab.now.winner }
     ensures order { IfOk result (λ best. best.order ≡ start_order tab.now.order) }
@@ -46,4 +59,17 @@ pub fn start(tab: &Tabulated, tallies: &mut Tallies) -> Result<Best, Memory>
         }),
         None => unreachable!(),
     }
+}
+
+/// What the race over these records starts from.
+pub(crate) fn start_of(alloc: Global, counted: &Counted, tab: &Tabulated) -> Result<Start, Memory>
+    requires order { IsTrue (is_order counted.now.bag.n tab.now.order) }
+    requires winner { Elects tab.now.order tab.now.winner }
+    ensures start { IfOk result (IsStart counted.now.bag tab.now) }
+    ensures few { IfOk result (λ start. length start.tails.items ≤ MOST_PIECES) }
+{
+    let mut tallies = counted.tallies()?;
+    let first = first_order(tab, &mut tallies)?;
+    let tails = tails_of(alloc, tallies.candidates(), tab.winner)?;
+    Ok(Start { first, tails })
 }

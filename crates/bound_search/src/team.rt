@@ -3,7 +3,7 @@ ghost use Rattle.std.specs.Prelude.{◌≡◌, ◌≤◌, ◌<◌, All, IfOk, le
 ghost use Rattle.shared_witness.specs.Race.{new_seat};
 ghost use Rattle.bound_search.specs.Reached.{IsWorkerEnd};
 ghost use Rattle.bound_search.specs.Team.{waiting, IsCut, WorkerWaits, WorkerRan, TeamRan};
-ghost use Rattle.bound_search.specs.declared.limits.TheConstants.{MOST_WORKERS};
+ghost use Rattle.irv_base.specs.declared.limits.TheConstants.{MOST_WORKERS};
 
 use crate::ends::WorkerEnd;
 use crate::share::work;
@@ -51,7 +51,8 @@ fn share<G: Gate + Sync>(
     requires seat { seat.old ≡ new_seat race.now }
     requires cut { IsCut counted.now.bag tails.now race.now }
     ensures race { seat.new.race ≡ race.now.id }
-    ensures end { IfOk result (IsWorkerEnd counted.now.bag race.now.terms.first nodes worker tails.now seat.new.view) }
+    ensures end { IfOk result (IsWorkerEnd counted.now.bag race.now.terms.first nodes worker
+        tails.now seat.new.view) }
 {
     let mut tallies = counted.tallies()?;
     work(alloc, race, seat, worker, tails, nodes, &mut tallies, gate)
@@ -80,8 +81,10 @@ pub(crate) fn run_team<R: Threads + Sync, G: Gate + Sync>(
         team,
         team.len(),
         &|i, worker: &mut Worker|
-            requires { (i < race.now.terms.workers) × (race.now.terms.workers ≤ MOST_WORKERS) × WorkerWaits race.now worker.now × IsCut counted.now.bag tails.now race.now }
-            ensures { WorkerRan counted.entry.now.bag nodes tails.entry.now race.entry.now i worker.exit.now }
+            requires { (i < race.now.terms.workers) × (race.now.terms.workers ≤ MOST_WORKERS)
+                × WorkerWaits race.now worker.now × IsCut counted.now.bag tails.now race.now }
+            ensures { WorkerRan counted.entry.now.bag nodes tails.entry.now race.entry.now i
+                worker.exit.now }
         {
             worker.end = share(
                 alloc,

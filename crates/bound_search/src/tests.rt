@@ -1,7 +1,7 @@
 // Contests that were counted by hand, turns of a front of one suffix, and workers that a gate holds up.
 ghost use Rattle.std.specs.Prelude.{◌≡◌, ◌<◌, ◌≤◌, All, length};
 ghost use Rattle.irv_base.specs.declared.limits.TheConstants.{FEWEST_CANDIDATES, ROOM, MOST_RECORDS};
-ghost use Rattle.bound_search.specs.declared.limits.TheConstants.{MOST_WORKERS};
+ghost use Rattle.irv_base.specs.declared.limits.TheConstants.{MOST_WORKERS};
 
 use super::*;
 use desk::{Gate, NoGate};
@@ -224,8 +224,8 @@ fn took_all(end: &WorkerEnd) -> bool {
         && end.ends[3].expanded == 0
 }
 
-// One worker over the only seat of a race.
-fn alone(alloc: Global, nodes: u32) -> Result<bool, Memory> {
+// The end of one worker over the only seat of a race, and the bound at the end.
+fn alone(alloc: Global, nodes: u32) -> Result<(WorkerEnd, u32), Memory> {
     let rankings = twelve();
     let counted = Counted::of(alloc, 3, rankings.as_slice())?;
     let mut tallies = counted.tallies()?;
@@ -242,15 +242,25 @@ fn alone(alloc: Global, nodes: u32) -> Result<bool, Memory> {
         &NoGate,
     )?;
     let bound = race.finish(seats);
-    Ok(bound == 1 && took_all(&end))
+    Ok((end, bound))
 }
 
 #[test]
 fn one_worker_takes_all(rt: HostRuntime) {
-    let plenty = alone(rt.alloc(), 100_000).expect(&rt, "memory");
-    assert!(rt; plenty);
-    let few = alone(rt.alloc(), 1).expect(&rt, "memory");
-    assert!(rt; few);
+    for nodes in [100_000, 1] {
+        let (end, bound) = alone(rt.alloc(), nodes).expect(&rt, "memory");
+        assert!(rt; bound == 1 && took_all(&end));
+    }
+}
+
+// Two looks for each of the pieces that close at once, one for the spent one, none for the last.
+#[test]
+fn skips_what_comes_after_a_spent_piece(rt: HostRuntime) {
+    let (end, bound) = alone(rt.alloc(), 0).expect(&rt, "memory");
+    assert!(rt; bound == 2);
+    assert!(rt; end.spent.as_slice() == [2].as_slice());
+    assert!(rt; end.skipped.as_slice() == [3].as_slice());
+    assert!(rt; end.looks == 5);
 }
 
 // The first turn of the front of candidate 1 alone.

@@ -83,8 +83,10 @@ impl Front {
         ensures grows { Grows tallies.old.bag bound self.old self.new }
         ensures most { self.new.expanded ≤ self.old.expanded + MOST_EXPANDED }
         ensures within { self.new.expanded ≤ self.old.expanded + left }
-        ensures counted { OnOk result (steps.new + self.old.expanded ≡ steps.old + self.new.expanded) }
-        ensures few_steps { (steps.new ≤ steps.old + MOST_EXPANDED) × (steps.new ≤ steps.old + left) }
+        ensures counted { OnOk result (steps.new + self.old.expanded
+            ≡ steps.old + self.new.expanded) }
+        ensures few_steps { (steps.new ≤ steps.old + MOST_EXPANDED)
+            × (steps.new ≤ steps.old + left) }
         ensures turn { IfOk result (IsTurn tallies.old.bag left self.old self.new) }
         ensures refused { OnErr result (self.new.least ≡ self.old.least) }
         ensures same { tallies.new ≡ tallies.old }

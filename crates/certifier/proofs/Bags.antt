@@ -22,11 +22,11 @@ map-same f g (x ∷ xs) h = ap₂ (λ y ys. y ∷ ys) (h x here) (map-same f g x
 module _ (bag : Kept) (records others : List (List ℕ)) (a : IsOf bag records) (b : IsOf bag others) where
   for-same : (x : Assertion) → is_proper bag.n x ≡ true → votes_for records x ≡ votes_for others x
   for-same (Neb w l) h = let p = pair_facts bag.n w l h in sym (a.firsts w p.winner) ∙ b.firsts w p.winner
-  for-same (Nen w l rest) h = let p = nen_facts bag.n w l rest h in sym (a.tallies rest w p.pair.winner p.has_winner) ∙ b.tallies rest w p.pair.winner p.has_winner
+  for-same (Nen w l rest) h = let p = nen_facts bag.n w l rest h in sym (a.tallies rest w p.small p.pair.winner p.has_winner) ∙ b.tallies rest w p.small p.pair.winner p.has_winner
 
   against-same : (x : Assertion) → is_proper bag.n x ≡ true → votes_against records x ≡ votes_against others x
-  against-same (Neb w l) h = let p = pair_facts bag.n w l h in sym (a.ahead l w p.loser) ∙ b.ahead l w p.loser
-  against-same (Nen w l rest) h = let p = nen_facts bag.n w l rest h in sym (a.tallies rest l p.pair.loser p.has_loser) ∙ b.tallies rest l p.pair.loser p.has_loser
+  against-same (Neb w l) h = let p = pair_facts bag.n w l h in sym (a.ahead l w p.loser p.winner) ∙ b.ahead l w p.loser p.winner
+  against-same (Nen w l rest) h = let p = nen_facts bag.n w l rest h in sym (a.tallies rest l p.small p.pair.loser p.has_loser) ∙ b.tallies rest l p.small p.pair.loser p.has_loser
 
   refuters-same : (s : List ℕ) → true_refuters bag.n records s ≡ true_refuters bag.n others s
   refuters-same s =

@@ -6,7 +6,7 @@ use Rattle.irv_base.specs.declared.memory.Memory.{Memory}
 use Rattle.set_tallies.specs.Bags.{Kept}
 use Rattle.certifier.specs.declared.gather.Task.{Task}
 use Rattle.certifier.specs.declared.part.Part.{Part}
-use Rattle.certifier.specs.Pieces.{IsTask, IsNext}
+use Rattle.certifier.specs.OneCandidate.{IsTask, IsNext}
 use Rattle.certifier.specs.Parts.{IsOwn, IsOver, IsPart, IsBefore, HasPart, AreParts, is_dealt, is_any, in_either}
 use Rattle.certifier.proofs.Claiming.{left_or, right_or, from_or}
 use Rattle.certifier.proofs.Parting.{part-none, part-same, part-next}

@@ -12,7 +12,7 @@ use Rattle.certifier.specs.declared.walk.WalkEnd.TheVariants.{Counted, Found}
 use Rattle.certifier.specs.Gathered.{gathered, with_all}
 use Rattle.certifier.specs.Walks.{IsWalk, OnCounted, ends_in}
 use Rattle.certifier.specs.Certified.{IsSpent}
-use Rattle.certifier.specs.Pieces.{IsTask, cover_walk, order_walk, IsGone, stop_of, IsNextEnd, IsNextWithin, IsNextOver, IsNext}
+use Rattle.certifier.specs.OneCandidate.{IsTask, cover_walk, order_walk, IsGone, stop_of, IsNextEnd, IsNextWithin, IsNextOver, IsNext}
 use Rattle.certifier.specs.Parts.{IsOwn, AreClaims, IsOver, IsEndOf, IsPart, in_either, is_any, IsBefore, candidate_of, order_of, spent_by, spent_at, lesser, first_end}
 use Rattle.certifier.proofs.Agreement.{order}
 use Rattle.certifier.proofs.Claiming.{left_or, right_or, from_or, claims-none, claims-same, claims-more, claims-join}

@@ -16,7 +16,7 @@ use Rattle.suffix_walk.proofs.Scans.{scan_from, scan-start, scan-winner, scan-ot
 use Rattle.certifier.specs.declared.gather.Task.{Task}
 use Rattle.certifier.specs.Walks.{is_under}
 use Rattle.certifier.specs.Certified.{IsWithin, IsSpent}
-use Rattle.certifier.specs.Pieces.{IsTask, cover_walk, order_walk, IsGone}
+use Rattle.certifier.specs.OneCandidate.{IsTask, cover_walk, order_walk, IsGone}
 use Rattle.certifier.proofs.Budgets.{none-over, first-over, earlier-within, other-member, reached, spent_is, order_is, covers_are, orders_are}
 
 -- a scan goes on to a candidate where the walks of all before it are gone through

@@ -1,6 +1,6 @@
 pub mod Gathered
 pub mod Walks
-pub mod Pieces
+pub mod OneCandidate
 pub mod Parts
 pub mod Certified
 pub mod Laws

@@ -10,7 +10,7 @@ use Rattle.set_tallies.specs.Bags.{Kept, IsOf}
 use Rattle.suffix_walk.specs.Kept.{all_ending}
 use Rattle.suffix_walk.specs.declared.walk.Stop.TheVariants as stopped
 use Rattle.certifier.specs.Walks.{ends_in}
-use Rattle.certifier.specs.Pieces.{IsTask, cover_walk, order_walk, IsGone, stop_of}
+use Rattle.certifier.specs.OneCandidate.{IsTask, cover_walk, order_walk, IsGone, stop_of}
 use Rattle.certifier.specs.declared.gather.Task.{Task}
 use Rattle.certifier.specs.declared.part.OrderEnd.{OrderEnd}
 use Rattle.certifier.specs.declared.part.Part.{Part}

@@ -5,7 +5,7 @@ ghost use Rattle.set_tallies.specs.Bags.{IsOf};
 ghost use Rattle.irv_tabulator.specs.Results.{IsTabulation};
 ghost use Rattle.certifier.specs.Certified.{IsCertified, IsFault};
 ghost use Rattle.certifier.specs.Gathered.{claim_at};
-ghost use Rattle.certifier.specs.declared.limits.TheConstants.{MOST_WORKERS};
+ghost use Rattle.irv_base.specs.declared.limits.TheConstants.{MOST_WORKERS};
 
 use crate::fault::CertFault;
 use crate::gather::Task;
@@ -61,8 +61,8 @@ pub fn certify<R: AllocGlobal + Threads + Sync>(
     counted: &Counted,
     tab: &Tabulated,
     best: u32,
-    nodes: u32,
     workers: u32,
+    nodes: u32,
 ) -> Result<Certificate, CertFault>
     requires tabulated { (records : List (List ℕ)) → IsOf counted.now.bag records
         → IsTabulation counted.now.bag.n records tab.now }

@@ -2,7 +2,7 @@
 ghost use Rattle.std.specs.Prelude.{◌≡◌, ◌<◌, ◌≤◌, ◌+◌, ◌∷◌, [], ℕ, List, IfOk};
 ghost use Rattle.set_tallies.specs.Bags.{IsOf};
 ghost use Rattle.certifier.specs.Walks.{CanWalk};
-ghost use Rattle.certifier.specs.Pieces.{IsTask, IsCovered, IsNextEnd, order_walk, IsNext};
+ghost use Rattle.certifier.specs.OneCandidate.{IsTask, IsCovered, IsNextEnd, order_walk, IsNext};
 ghost use Rattle.certifier.specs.Parts.{IsPartOfSeveral, is_dealt};
 
 use crate::fault::CertFault;
@@ -15,9 +15,10 @@ use std::alloc::Global;
 use std::collections::BTreeMap;
 use suffix_tree::{Scored, Tail, score};
 
-/// Among whom, and how far, it is looked for the certificate.
+/// What a certificate is looked for with: the winner of the contest, and how far the walks go.
 #[derive(Clone, Copy)]
 pub struct Task {
+    /// The winner of the contest: the walks are those of the other candidates.
     pub winner: Candidate,
     /// The best margin, in votes.
     pub best: u32,
@@ -25,14 +26,17 @@ pub struct Task {
     pub nodes: u32,
 }
 
-/// Which candidates are a worker's: those that its number is left of, when they are divided by the number of workers.
+/// Which candidates are dealt to a worker: those of which its number is left when they are divided by the number of workers.
 #[derive(Clone, Copy)]
-pub struct Share {
+pub struct Dealt {
+    /// The number of the worker, from 0.
     pub number: u32,
+    /// How many workers there are.
     pub workers: u32,
 }
 
-// The walk for the assertions of the certificate; whether it is over the budget.
+// The walk for the assertions of the certificate, through the suffixes that end in `last`: puts them among the claims, or says
+// that it is over the budget.
 fn cover(
     alone: &Scored,
     last: Candidate,
@@ -43,7 +47,8 @@ fn cover(
     requires ready { CanWalk tallies.old.bag task.now.best alone.now }
     requires alone { alone.now.tail.list ≡ last ∷ [] }
     ensures covered { (records : List (List ℕ)) → IsOf tallies.old.bag records
-        → IfOk result (IsCovered tallies.old.bag.n records task.now last claims.old.entries claims.new.entries) }
+        → IfOk result (IsCovered tallies.old.bag.n records task.now last
+        claims.old.entries claims.new.entries) }
     ensures same { tallies.new ≡ tallies.old }
 {
     let reach = Reach {
@@ -73,7 +78,8 @@ fn next_end(
     requires ready { CanWalk tallies.old.bag (task.now.best + 1) alone.now }
     requires alone { alone.now.tail.list ≡ last ∷ [] }
     ensures end { (records : List (List ℕ)) → IsOf tallies.old.bag records
-        → IfOk result (λ end. IsNextEnd last earlier end (order_walk tallies.old.bag.n records task.now last)) }
+        → IfOk result (λ end. IsNextEnd last earlier end
+        (order_walk tallies.old.bag.n records task.now last)) }
     ensures same { tallies.new ≡ tallies.old }
 {
     if earlier.is_some() {
@@ -101,8 +107,8 @@ fn next_end(
     }
 }
 
-// Goes on to the suffixes that end in the next candidate.
-fn gather_piece(
+// The part with what is found among the suffixes that end in one more candidate.
+fn gather_candidate(
     alloc: Global,
     last: Candidate,
     task: &Task,
@@ -135,7 +141,7 @@ fn gather_piece(
     })
 }
 
-impl Share {
+impl Dealt {
     fn has(&self, c: u32) -> bool
         requires { 1 ≤ self.now.workers }
         ensures { result ≡ is_dealt self.now.workers self.now.number c }
@@ -144,18 +150,19 @@ impl Share {
     }
 }
 
-/// What is found among the suffixes that end in the candidates of the share, up to the first whose walk for the assertions
+/// What is found among the suffixes that end in the candidates that are dealt to a worker, up to the first whose walk for the assertions
 /// is over the budget.
 pub fn gather(
     alloc: Global,
     task: &Task,
-    share: &Share,
+    dealt: &Dealt,
     tallies: &mut Tallies,
 ) -> Result<Part, Memory>
-    requires { 1 ≤ share.now.workers }
+    requires { 1 ≤ dealt.now.workers }
     ensures part { (records : List (List ℕ)) → IsOf tallies.old.bag records
         → IsTask tallies.old.bag.n records task.now
-        → IfOk result (IsPartOfSeveral tallies.old.bag.n records task.now (is_dealt share.now.workers share.now.number)) }
+        → IfOk result (IsPartOfSeveral tallies.old.bag.n records task.now
+        (is_dealt dealt.now.workers dealt.now.number)) }
     ensures same { tallies.new ≡ tallies.old }
 {
     let mut part = Part::new(alloc);
@@ -164,8 +171,8 @@ pub fn gather(
             return Ok(part);
         }
         let last = Candidate(c as u8);
-        if share.has(c) && last != task.winner {
-            part = gather_piece(alloc, last, task, part, tallies)?;
+        if dealt.has(c) && last != task.winner {
+            part = gather_candidate(alloc, last, task, part, tallies)?;
         }
     }
     Ok(part)

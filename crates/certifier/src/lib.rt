@@ -6,7 +6,6 @@ mod certificate;
 mod fault;
 mod gather;
 pub mod laws;
-mod limits;
 mod part;
 mod team;
 #[cfg(test)]
@@ -15,4 +14,3 @@ mod walk;
 
 pub use certificate::{Certificate, certify};
 pub use fault::CertFault;
-pub use limits::MOST_WORKERS;

@@ -91,7 +91,8 @@ impl Part {
 
     /// What was found in the one part or in the other.
     pub fn join(self, other: Part) -> Result<Part, Memory>
-        ensures { IfOk result (λ joined. (n : ℕ) (records : List (List ℕ)) (task : Task) (own its : ℕ → Bool)
+        ensures { IfOk result (λ joined.
+            (n : ℕ) (records : List (List ℕ)) (task : Task) (own its : ℕ → Bool)
             → IsPart n records task own self → IsPart n records task its other
             → IsPart n records task (in_either own its) joined) }
     {

@@ -1,12 +1,12 @@
 // The workers, each in a thread.
 ghost use Rattle.std.specs.Prelude.{◌≡◌, ◌<◌, ◌≤◌, ℕ, List, IfOk, length};
 ghost use Rattle.set_tallies.specs.Bags.{Kept, IsOf};
-ghost use Rattle.certifier.specs.Pieces.{IsTask};
+ghost use Rattle.certifier.specs.OneCandidate.{IsTask};
 ghost use Rattle.certifier.specs.Parts.{IsPartOfSeveral, HasPart, AreParts, is_any};
-ghost use Rattle.certifier.specs.declared.limits.TheConstants.{MOST_WORKERS};
+ghost use Rattle.irv_base.specs.declared.limits.TheConstants.{MOST_WORKERS};
 ghost use Rattle.certifier.specs.declared.gather.Task.{Task as TheTask};
 
-use crate::gather::{Share, Task, gather};
+use crate::gather::{Dealt, Task, gather};
 use crate::part::Part;
 use irv_base::Memory;
 use set_tallies::Counted;
@@ -14,7 +14,7 @@ use std::alloc::Global;
 use std::thread;
 use std::thread::Threads;
 
-/// A place for the part of each worker. Before it is done it holds an `Err`.
+// A place for the part of each worker. It holds an `Err` before the worker is done.
 fn places(alloc: Global, workers: u32) -> Result<Vec<Result<Part, Memory>>, Memory>
     ensures { IfOk result (λ places. length places.items ≡ workers) }
 {
@@ -37,7 +37,7 @@ fn part_of(
     ensures { HasPart counted.now.bag task.now workers number result }
 {
     let mut tallies = counted.tallies()?;
-    gather(alloc, task, &Share { number, workers }, &mut tallies)
+    gather(alloc, task, &Dealt { number, workers }, &mut tallies)
 }
 
 // Lets each worker find its part.
@@ -67,7 +67,8 @@ fn run<R: Threads + Sync>(
 
 // The parts of all workers, put together.
 fn joined(alloc: Global, parts: Vec<Result<Part, Memory>>) -> Result<Part, Memory>
-    ensures { IfOk result (λ all. (bag : Kept) (task : TheTask) (workers : ℕ) (records : List (List ℕ))
+    ensures { IfOk result (λ all.
+        (bag : Kept) (task : TheTask) (workers : ℕ) (records : List (List ℕ))
         → length parts.items ≡ workers → AreParts bag task workers parts.items → IsOf bag records
         → IsTask bag.n records task → 1 ≤ workers → IsPartOfSeveral bag.n records task is_any all) }
 {

@@ -7,7 +7,7 @@ ghost use Rattle.assertions.specs.Hardness.{low, best_margin};
 
 use super::*;
 use assertions::{Assertion, Claim};
-use irv_base::{CandSet, Candidate, Ranking};
+use irv_base::{CandSet, Candidate, MOST_WORKERS, Ranking};
 use irv_tabulator::tabulate;
 use set_tallies::Counted;
 use std::thread::Threads;
@@ -46,13 +46,15 @@ fn answer<R: AllocGlobal + Threads + Sync>(
     requires room { n ≤ ROOM }
     requires most { length rankings.now ≤ MOST_RECORDS }
     requires below { All (λ ranking. All (λ c. c < n) ranking) rankings.now }
-    requires best { (order : List ℕ) (winner : ℕ) → IsTrue (is_order n order) → IsTrue (is_tabulated rankings.now order) → Elects order winner → best ≡ best_margin n winner (low n rankings.now) }
+    requires best { (order : List ℕ) (winner : ℕ) → IsTrue (is_order n order)
+        → IsTrue (is_tabulated rankings.now order) → Elects order winner
+        → best ≡ best_margin n winner (low n rankings.now) }
     requires workers { (1 ≤ workers) × (workers ≤ MOST_WORKERS) }
 {
     let counted = Counted::of(rt.alloc(), n, rankings)?;
     let mut tallies = counted.tallies()?;
     match tabulate(rt.alloc(), &mut tallies) {
-        Ok(tab) => certify(rt, &counted, &tab, best, nodes, workers),
+        Ok(tab) => certify(rt, &counted, &tab, best, workers, nodes),
         Err(_) => Err(CertFault::Memory),
     }
 }

@@ -34,7 +34,8 @@ pub enum WalkEnd {
 // Puts the refuter of the suffix, with its margin, among the claims.
 fn put(claims: &mut BTreeMap<Assertion, u32>, s: &Scored) -> Result<(), Memory>
     ensures { OnOk result (claims.new.entries
-        ≡ with_score ⟦<Assertion as Ord>⟧.cmp claims.old.entries (record { low = s.now.low; by = s.now.by })) }
+        ≡ with_score ⟦<Assertion as Ord>⟧.cmp claims.old.entries
+        (record { low = s.now.low; by = s.now.by })) }
 {
     if let Some(by) = s.by {
         claims.insert(by, s.low)?;

@@ -1,4 +1,4 @@
-use Rattle.std.proofs.Common.{◌≡◌, ◌≢◌, ◌==◌, ◌+◌, true, false, inl, inr, List, drop, map, get_or, sym, ap, arith, ◌∙◌}
+use Rattle.std.proofs.Common.{◌==◌, ◌+◌, inl, inr, List, drop, map, sym, ap, ◌∙◌}
 use Rattle.std.proofs.lemmas.Bool.{or_cases, eqb-true}
 use Rattle.irv_base.specs.Candidates.{is_in}
 use Rattle.bound_search.specs.declared.ends.PieceEnd.{PieceEnd}

@@ -1,4 +1,4 @@
-use Rattle.std.proofs.Common.{◌∷◌, [], ◌≡◌, ◌+◌, ◌-◌, ◌<◌, ◌≤◌, ◌++◌, List, ℕ, false, true, None, Some, refl, sym, ap, subst, arith, ◌∙◌}
+use Rattle.std.proofs.Common.{◌∷◌, [], ◌≡◌, ◌-◌, ◌<◌, ◌++◌, List, ℕ, true, sym, ap, subst, arith, ◌∙◌}
 use Rattle.assertions.specs.Suffixes.{is_suffix}
 use Rattle.shared_witness.specs.declared.view.View.{View}
 use Rattle.suffix_tree.specs.Suffixes.{Suffix}
@@ -53,7 +53,7 @@ returns-in-Closed-clause-searched g c =
       few_looks = omega (arith, seen, closing, looked, low.1, inv.few_looks, inv.within);
       most = subst (λ k. IsInWork bag first tail.list k) (sym expanded) (subst (λ p. IsInWork bag first p new.expanded) list (under_most bag first new under));
       searched = λ e. subst (λ k. IsClosedAt bag w.seen tail.list k) (sym expanded) (subst (λ p. IsClosedAt bag w.seen p new.expanded) list closed_at);
-      over = λ e. cc;
+      over = λ e searched. cc;
     }
 
 pub turns-smaller-in-Found : goal.turns-smaller-in-Found
@@ -194,5 +194,5 @@ returns-in-Spent-clause-searched g c =
       few_looks = omega (arith, seen, low.1, inv.few_looks, inv.within);
       most = subst (λ k. IsInWork bag first tail.list k) (sym expanded) (subst (λ p. IsInWork bag first p new.expanded) list (under_most bag first new under));
       searched = λ e. cc;
-      over = λ e. subst (IsOverBudget bag first c.args.nodes) list spent;
+      over = λ e searched. subst (IsOverBudget bag first c.args.nodes) list spent;
     }

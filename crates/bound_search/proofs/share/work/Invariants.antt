@@ -1,12 +1,9 @@
-use Rattle.std.proofs.Common.{◌≡◌, ◌+◌, ◌*◌, ◌≤◌, ℕ, All, length, map, sum_by}
+use Rattle.std.proofs.Common.{◌≡◌, ◌++◌, [], ◌+◌, ◌*◌, ◌≤◌, ℕ, All, length, map, sum_by}
 use Rattle.shared_witness.specs.View.{highest}
 use Rattle.shared_witness.specs.Moment.{times}
 use Rattle.bound_search.specs.Reached.{IsEntry, IsDoneWith, IsCostly, IsBestFound}
 use Rattle.bound_search.specs.declared.limits.TheConstants.{MOST_EXPANDED}
 use Rattle.bound_search.proofs.share.work.Given as goal
-
-abbrev pub ghosts-search : goal.ghosts-search
-ghosts-search g a = record { name = a.blank.name; parts = a.blank.parts }
 
 abbrev pub invariant-loop-turn : goal.invariant-loop-turn
 invariant-loop-turn g l = record {
@@ -18,10 +15,11 @@ invariant-loop-turn g l = record {
   few_looks : l.looks ≤ 17179869184 * l._turn;
   took : map (λ p. p.piece) l.ends.items ≡ l.seat.view.taken;
   once : (p : ℕ) → times l.seat.view.taken p ≤ 1;
-  left : (p : ℕ) → times l.seat.view.taken p ≡ times l.seat.view.closed p + times l.spent.items p;
+  left : (p : ℕ) → times l.seat.view.taken p ≡ times l.seat.view.closed p + times (l.spent.items ++ l.skipped.items) p;
   entries : All (IsEntry l.fn.tallies.bag l.race.terms.first l.nodes l.worker l.tails) l.ends.items;
-  done_with : All (IsDoneWith l.fn.tallies.bag l.seat.view l.spent.items) l.ends.items;
+  done_with : All (IsDoneWith l.fn.tallies.bag l.seat.view (l.spent.items ++ l.skipped.items)) l.ends.items;
   costly : All (IsCostly l.fn.tallies.bag l.race.terms.first l.nodes l.tails) l.spent.items;
+  cause : l.spent.items ≡ [] → l.skipped.items ≡ [];
   paced : sum_by (λ p. p.expanded) l.ends.items ≤ MOST_EXPANDED * l.looks;
   between : l.seat.view.seen ≤ l.seat.view.posted;
   high : l.seat.view.posted ≤ highest;

@@ -2,7 +2,7 @@ use Rattle.std.proofs.Common.{◌≡◌, Some, refl, sym, ap, subst, ◌∙◌}
 use Rattle.std.specs.Option.{unwrap_or}
 use Rattle.assertions.specs.Hardness.{low}
 use Rattle.certifier.specs.Certified.{IsWithin}
-use Rattle.certifier.specs.Pieces.{IsTask}
+use Rattle.certifier.specs.OneCandidate.{IsTask}
 use Rattle.certifier.specs.declared.gather.Task.{Task}
 use Rattle.certifier.proofs.Tabulations.{winner-below}
 use Rattle.certifier.proofs.Claiming.{claims_are}

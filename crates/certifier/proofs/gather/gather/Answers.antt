@@ -1,7 +1,7 @@
 use Rattle.std.proofs.Common.{◌<◌, ◌+◌, inl, inr, refl, sym, subst, arith, ◌∙◌}
 use Rattle.set_tallies.specs.Bags.{IsOf}
 use Rattle.suffix_walk.proofs.Scans.{differs, agrees}
-use Rattle.certifier.specs.Pieces.{IsNext}
+use Rattle.certifier.specs.OneCandidate.{IsNext}
 use Rattle.certifier.specs.Parts.{IsPart}
 use Rattle.certifier.proofs.Dealing.{dealt_before, deal-none, deal-next, deal-passes, deal-ends, deal-stops}
 use Rattle.certifier.proofs.gather.gather.Goals as goal
@@ -10,31 +10,31 @@ use Rattle.certifier.proofs.gather.gather.Goals.{then-has+then-ne+in_ok-part, el
 pub loop-c-init : goal.loop-c-init
 loop-c-init c = record {
   same = refl;
-  part = λ records h is. deal-none c.args.tallies.now.bag.n records c.args.task.now c.args.share.now.workers c.args.share.now.number c.new-part.result c.new-part.ensures.claims c.new-part.ensures.over c.new-part.ensures.end;
+  part = λ records h is. deal-none c.args.tallies.now.bag.n records c.args.task.now c.args.dealt.now.workers c.args.dealt.now.number c.new-part.result c.new-part.ensures.claims c.new-part.ensures.over c.new-part.ensures.end;
 }
 
 pub loop-c-preserved : goal.loop-c-preserved
 loop-c-preserved c =
     let n = c.args.tallies.now.bag.n in
     let task = c.args.task.now in
-    let share = c.args.share.now in
+    let dealt = c.args.dealt.now in
     let below : c.loop-c.c < n = omega (arith, c.loop-c-test.true, c.candidates-c-end.ensures.same) in
     elim c.if-has.branch [
       | then-has+then-ne+in_ok-part w ↦ record {
-        same = w.tallies-is ∙ w.gather_piece.ensures.same ∙ c.loop-c.invariant.same;
+        same = w.tallies-is ∙ w.gather_candidate.ensures.same ∙ c.loop-c.invariant.same;
         part = λ records h is.
             let next : IsNext c.args.tallies.now.bag.n records c.args.task.now c.loop-c.c c.loop-c.part c.if-has.part =
             subst (λ t. IsNext t.bag.n records task c.loop-c.c c.loop-c.part c.if-has.part) c.loop-c.invariant.same
             (subst (IsNext c.loop-c.tallies.bag.n records task c.loop-c.c c.loop-c.part) (sym w.part-is)
             (w.in_ok-part.ensures.next records (subst (λ t. IsOf t.bag records) (sym c.loop-c.invariant.same) h))) in
-            deal-next n records task share.workers share.number is (omega (arith, c.candidates-c-end.ensures.fewest, c.candidates-c-end.ensures.same)) c.loop-c.c c.loop-c.part c.if-has.part
+            deal-next n records task dealt.workers dealt.number is (omega (arith, c.candidates-c-end.ensures.fewest, c.candidates-c-end.ensures.same)) c.loop-c.c c.loop-c.part c.if-has.part
             below (differs c.loop-c.c task.winner w.ne.result w.ne.ensures w.if-ne.true) (sym c.has.ensures ∙ w.if-has.true) (sym c.is_some.ensures ∙ c.if-is_some.false) (c.loop-c.invariant.part records h is) next;
       }
       | else-has w ↦ record {
         same = w.tallies-is ∙ c.loop-c.invariant.same;
         part = λ records h is.
-            subst (IsPart n records task (dealt_before share.workers share.number (c.loop-c.c + 1))) (sym w.part-is)
-            (deal-passes n records task share.workers share.number c.loop-c.c c.loop-c.part (elim w.else-has.branch [
+            subst (IsPart n records task (dealt_before dealt.workers dealt.number (c.loop-c.c + 1))) (sym w.part-is)
+            (deal-passes n records task dealt.workers dealt.number c.loop-c.c c.loop-c.part (elim w.else-has.branch [
               | else-has-via-then-has+else-ne v ↦ inr (agrees c.loop-c.c task.winner v.ne.result v.ne.ensures v.if-ne.false)
               | else-has-via-else-has v ↦ inl (sym c.has.ensures ∙ v.if-has.false)
             ]) (c.loop-c.invariant.part records h is));
@@ -44,13 +44,13 @@ loop-c-preserved c =
 pub returns-clause-part : goal.returns-clause-part
 returns-clause-part c = λ records h is. (
   omega (arith, c.candidates-c-end.ensures.fewest, c.candidates-c-end.ensures.same),
-  deal-ends c.args.tallies.now.bag.n records c.args.task.now c.args.share.now.workers c.args.share.now.number c.loop-c.c c.loop-c.part
+  deal-ends c.args.tallies.now.bag.n records c.args.task.now c.args.dealt.now.workers c.args.dealt.now.number c.loop-c.c c.loop-c.part
       (omega (arith, c.loop-c-test.false, c.candidates-c-end.ensures.same)) (c.loop-c.invariant.part records h is),
 )
 
 pub returns-then-is_some-clause-part : goal.returns-then-is_some-clause-part
 returns-then-is_some-clause-part c = λ records h is. (
   omega (arith, c.candidates-c-end.ensures.fewest, c.candidates-c-end.ensures.same),
-  deal-stops c.args.tallies.now.bag.n records c.args.task.now c.args.share.now.workers c.args.share.now.number c.loop-c.c c.loop-c.part
+  deal-stops c.args.tallies.now.bag.n records c.args.task.now c.args.dealt.now.workers c.args.dealt.now.number c.loop-c.c c.loop-c.part
       (sym c.is_some.ensures ∙ c.if-is_some.true) (c.loop-c.invariant.part records h is),
 )

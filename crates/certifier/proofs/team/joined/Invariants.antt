@@ -2,7 +2,7 @@ use Rattle.std.proofs.Common.{◌≡◌, ◌++◌, ◌<◌, ℕ, List, length}
 use Rattle.std.specs.Vec.Iter.{into_iter_items}
 use Rattle.set_tallies.specs.Bags.{Kept, IsOf}
 use Rattle.certifier.specs.declared.gather.Task.{Task}
-use Rattle.certifier.specs.Pieces.{IsTask}
+use Rattle.certifier.specs.OneCandidate.{IsTask}
 use Rattle.certifier.specs.Parts.{IsPart, AreParts}
 use Rattle.certifier.proofs.Dealing.{dealt_below}
 use Rattle.certifier.proofs.team.joined.Given as goal

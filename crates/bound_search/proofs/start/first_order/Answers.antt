@@ -1,6 +1,6 @@
 use Rattle.std.proofs.Common.{arith, sym, ◌∙◌}
 use Rattle.bound_search.proofs.Starts.{start_reached}
-use Rattle.bound_search.proofs.start.start.Goals as goal
+use Rattle.bound_search.proofs.start.first_order.Goals as goal
 
 pub returns-clause-reached : goal.returns-clause-reached
 returns-clause-reached c =

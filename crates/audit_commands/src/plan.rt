@@ -33,9 +33,10 @@ pub fn answer<D: Desk>(
     requires { IsWithinLimits setting }
     ensures held { D.held desk.new ≡ D.held desk.old }
     ensures later { D.faults desk.old ≤ D.faults desk.new }
-    ensures due { MayOrMemory (ByDesk (D.held desk.old) (Rose (D.faults desk.old) (D.faults desk.new)))
+    ensures due { MayOrMemory
+        (ByDesk (D.held desk.old) (Rose (D.faults desk.old) (D.faults desk.new)))
         (script manifest.now assertions.now setting) (due result) }
-    ensures served { IsAccountedFor (D.served desk.old) (D.served desk.new) (due result).status }
+    ensures served { IsAccountedFor 2 (D.served desk.old) (D.served desk.new) (due result).status }
 {
     let bytes = read_file(alloc, desk, manifest)?;
     match manifest_in(alloc, manifest, &bytes) {
@@ -56,9 +57,10 @@ fn plan_of<D: Desk>(
     requires cards { cards ≤ MOST_CARDS }
     ensures held { D.held desk.new ≡ D.held desk.old }
     ensures later { D.faults desk.old ≤ D.faults desk.new }
-    ensures due { MayOrMemory (ByDesk (D.held desk.old) (Rose (D.faults desk.old) (D.faults desk.new)))
+    ensures due { MayOrMemory
+        (ByDesk (D.held desk.old) (Rose (D.faults desk.old) (D.faults desk.new)))
         (script_of_cards setting cards assertions.now) (due result) }
-    ensures served { IsAccountedFor (D.served desk.old) (D.served desk.new) (due result).status }
+    ensures served { IsAccountedFor 1 (D.served desk.old) (D.served desk.new) (due result).status }
 {
     let bytes = read_file(alloc, desk, assertions)?;
     plan_in(alloc, cards, assertions, &bytes, setting)
@@ -74,7 +76,8 @@ fn plan_in(
 ) -> Result<Answer, Refusal>
     requires limits { IsWithinLimits setting }
     requires cards { cards ≤ MOST_CARDS }
-    ensures { IsOneOrMemory (λ verdict. verdict ≡ plan_in setting cards file.now (assertion_file_of bytes.now)) (due result) }
+    ensures { IsOneOrMemory (λ verdict.
+        verdict ≡ plan_in setting cards file.now (assertion_file_of bytes.now)) (due result) }
 {
     match assertions_in(alloc, file, bytes) {
         Ok(assertions) => plan_over(alloc, cards, file, &assertions, setting),
@@ -91,7 +94,8 @@ fn plan_over(
 ) -> Result<Answer, Refusal>
     requires limits { IsWithinLimits setting }
     requires cards { cards ≤ MOST_CARDS }
-    ensures { IsOneOrMemory (λ verdict. verdict ≡ plan_over setting cards file.now assertions.now) (due result) }
+    ensures { IsOneOrMemory (λ verdict.
+        verdict ≡ plan_over setting cards file.now assertions.now) (due result) }
 {
     if assertions.records() > cards {
         return Err(refuse_at(alloc, file, "F7", 0));

@@ -28,9 +28,10 @@ pub fn answer<D: Desk>(
 ) -> Result<Answer, Refusal>
     ensures held { D.held desk.new ≡ D.held desk.old }
     ensures later { D.faults desk.old ≤ D.faults desk.new }
-    ensures due { MayOrMemory (ByDesk (D.held desk.old) (Rose (D.faults desk.old) (D.faults desk.new)))
+    ensures due { MayOrMemory
+        (ByDesk (D.held desk.old) (Rose (D.faults desk.old) (D.faults desk.new)))
         (script manifest.now seed.now draws) (due result) }
-    ensures served { IsAccountedFor (D.served desk.old) (D.served desk.new) (due result).status }
+    ensures served { IsAccountedFor 1 (D.served desk.old) (D.served desk.new) (due result).status }
 {
     let bytes = read_file(alloc, desk, manifest)?;
     sample_in(alloc, manifest, &bytes, seed, draws)
@@ -44,7 +45,8 @@ fn sample_in(
     seed: &Seed,
     draws: u32,
 ) -> Result<Answer, Refusal>
-    ensures { IsOneOrMemory (λ verdict. verdict ≡ sample_of file.now seed.now draws (manifest_of bytes.now)) (due result) }
+    ensures { IsOneOrMemory (λ verdict.
+        verdict ≡ sample_of file.now seed.now draws (manifest_of bytes.now)) (due result) }
 {
     match manifest_in(alloc, file, bytes) {
         Ok(manifest) => sample(alloc, &manifest, seed, draws),
@@ -53,7 +55,8 @@ fn sample_in(
 }
 
 fn sample(alloc: Global, manifest: &Manifest, seed: &Seed, draws: u32) -> Result<Answer, Refusal>
-    ensures { IsOneOrMemory (λ verdict. verdict ≡ Answered Done (sample_table manifest.now seed.now draws)) (due result) }
+    ensures { IsOneOrMemory (λ verdict.
+        verdict ≡ Answered Done (sample_table manifest.now seed.now draws)) (due result) }
 {
     Ok(Answer {
         kind: AnswerKind::Done,

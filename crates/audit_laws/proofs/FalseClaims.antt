@@ -17,7 +17,7 @@ use Rattle.assertions.proofs.Sums.{assorter-is, assorter-sum}
 use Rattle.assertions.proofs.Tallies.{count_by-le}
 use Rattle.manifest.specs.declared.recorded.Recorded.{Recorded}
 use Rattle.km_risk.specs.Factor.{threshold}
-use Rattle.km_risk.specs.Exact.{is_within}
+use Rattle.km_risk.specs.Exact.{is_within, millionths_in_one}
 use Rattle.km_risk.specs.Reach.{IsSequence, sequences, prefixes, some_prefix}
 use Rattle.km_risk.proofs.Counting.{counting_law}
 use Rattle.km_risk.proofs.LargerDiscrepancies.{within_grows}
@@ -114,7 +114,7 @@ module _ (n winner : ℕ) (claims : List Claim) (recorded : List Recorded) (actu
 
     -- so few sequences ever have an exact risk within the limit
     few : (limit gamma k : ℕ) →
-        count_by (is_ever_within limit gamma) (sequences (range_with_len 1 (length recorded)) k) * 1000000 ≤ limit * length recorded ^ k
+        count_by (is_ever_within limit gamma) (sequences (range_with_len 1 (length recorded)) k) * millionths_in_one ≤ limit * length recorded ^ k
     few limit gamma k =
         let cards = range_with_len 1 (length recorded) in
         let test : List ℕ → Bool = some_prefix (is_within (length recorded) claim.margin gamma limit) in
@@ -125,7 +125,7 @@ module _ (n winner : ℕ) (claims : List Claim) (recorded : List Recorded) (actu
         (rw (reach_law (length recorded) claim.margin gamma limit (map found_discrepancy cards) many k) at reached)
 
     -- and a session that is signed off needs one of them
-    signs : (limit gamma : ℕ) → 1 ≤ gamma → limit < 1000000 → (seen : List Seen) → AreReadings actual seen → (draws : List ℕ) →
+    signs : (limit gamma : ℕ) → 1 ≤ gamma → limit < millionths_in_one → (seen : List Seen) → AreReadings actual seen → (draws : List ℕ) →
         IsSignedOffOn limit gamma (audited claims) recorded seen draws → is_ever_within limit gamma draws ≡ true
     signs limit gamma positive part seen readings draws (session, of', signed) =
         let test : List ℕ → Bool = is_within (length recorded) claim.margin gamma limit in

@@ -12,6 +12,7 @@ use Rattle.cover_checker.specs.Outcomes.{IsWinner}
 use Rattle.manifest.specs.Cards.{Batches, AreBatches, cards_of}
 use Rattle.manifest.specs.Linked.{linked_of, first_without_card}
 use Rattle.manifest.specs.declared.recorded.Recorded.{Recorded}
+use Rattle.km_risk.specs.Exact.{millionths_in_one}
 use Rattle.km_risk.specs.Reach.{IsSequence, sequences}
 use Rattle.assorters.specs.declared.seen.Seen.{Seen}
 use Rattle.audit_rounds.specs.Content.{Content, IsSound, with_round}
@@ -46,7 +47,7 @@ ClaimsRiskLimit =
     (n winner limit gamma draws : ℕ) (claims : List Claim) (recorded : List Recorded) (actual signed : List (List ℕ)) →
     AreAuditable n winner claims recorded → AreTerms limit gamma → MayElectAnother n winner (length recorded) actual →
     AreSignedOff limit gamma claims recorded actual draws signed →
-    length signed * 1000000 ≤ limit * length recorded ^ draws
+    length signed * millionths_in_one ≤ limit * length recorded ^ draws
 
 -- the same as a count of the listed sequences, where what is read of the cards is fixed before anything is drawn
 abbrev pub CountedRiskLimit : Type 0
@@ -54,7 +55,7 @@ CountedRiskLimit =
     (n winner limit gamma draws : ℕ) (claims : List Claim) (recorded : List Recorded) (actual : List (List ℕ)) (seen : List Seen) →
     AreAuditable n winner claims recorded → AreTerms limit gamma → MayElectAnother n winner (length recorded) actual →
     AreReadings actual seen →
-    count_by (is_signed_off_on limit gamma (audited claims) recorded seen) (sequences (range_with_len 1 (length recorded)) draws) * 1000000
+    count_by (is_signed_off_on limit gamma (audited claims) recorded seen) (sequences (range_with_len 1 (length recorded)) draws) * millionths_in_one
     ≤ limit * length recorded ^ draws
 
 -- it holds of the files too, by whichever check it is known that they fit together
@@ -64,7 +65,7 @@ HeldRiskLimit =
     FitTogether batches ballots file → AreTerms limit gamma →
     MayElectAnother (candidate_count file) file.winner (length (cards_of batches)) actual →
     AreSignedOff limit gamma file.claims (linked_of batches ballots) actual n sequences →
-    length sequences * 1000000 ≤ limit * length (cards_of batches) ^ n
+    length sequences * millionths_in_one ≤ limit * length (cards_of batches) ^ n
 
 -- ---- the wrong winner
 

@@ -17,6 +17,7 @@ use Rattle.cover_checker.specs.declared.checked.Checked.TheVariants.{Accepted}
 use Rattle.manifest.specs.Cards.{Batches, AreBatches, cards_of}
 use Rattle.manifest.specs.Linked.{linked_of, first_without_card}
 use Rattle.manifest.specs.declared.recorded.Recorded.{Recorded}
+use Rattle.km_risk.specs.Exact.{millionths_in_one}
 use Rattle.km_risk.specs.Reach.{IsSequence}
 use Rattle.assorters.specs.declared.seen.Seen.{Seen}
 use Rattle.audit_rounds.specs.Readings.{AreReadings}
@@ -39,7 +40,7 @@ pub record ArePublished (nodes : ℕ) (batches : Batches) (ballots : BallotFile)
 
 -- the risk limit in millionths, and gamma in thousandths
 pub record AreTerms (limit gamma : ℕ) : Type 0 where
-  pub below_one : limit < 1000000
+  pub below_one : limit < millionths_in_one
   pub positive : 1 ≤ gamma
 
 -- the actual rankings of the cards, whatever they are: some way of breaking their ties elects another candidate
@@ -81,4 +82,4 @@ RiskLimit =
     AreTerms limit gamma →
     MayElectAnother (candidate_count file) file.winner (length (cards_of batches)) actual →
     AreSignedOff limit gamma file.claims (linked_of batches ballots) actual n sequences →
-    length sequences * 1000000 ≤ limit * length (cards_of batches) ^ n
+    length sequences * millionths_in_one ≤ limit * length (cards_of batches) ^ n

@@ -1,7 +1,7 @@
 -- The laws of sessions.
 use Rattle.std.specs.Prelude.{◌≡◌, ◌↔◌, ℕ, ◌-◌, ◌<◌, ◌≤◌, List, [], map, length, take, slice_index_or, All, Option, IfSome, IsTrue}
 use Rattle.manifest.specs.declared.recorded.Recorded.{Recorded}
-use Rattle.km_risk.specs.Exact.{is_within}
+use Rattle.km_risk.specs.Exact.{is_within, millionths_in_one}
 use Rattle.assorters.specs.declared.seen.Seen.{Seen}
 use Rattle.assorters.specs.declared.seen.Seen.TheVariants.{Missing}
 use Rattle.assorters.specs.Cards.{IsAssorter, discrepancy_of}
@@ -21,7 +21,7 @@ SessionLaw =
 abbrev pub SignedOffLaw : Type 0
 SignedOffLaw =
     (limit gamma : ℕ) (claims : List Audited) (recorded : List Recorded) (seen : List Seen) (draws : List ℕ) (session : Session) →
-    1 ≤ length recorded → 1 ≤ gamma → limit < 1000000 →
+    1 ≤ length recorded → 1 ≤ gamma → limit < millionths_in_one →
     All (λ claim. IsAssorter claim.value) claims → All (λ claim. claim.margin ≤ length recorded) claims →
     IsSessionOf limit gamma claims recorded seen draws session → IsTrue (is_signed_off session) →
     All

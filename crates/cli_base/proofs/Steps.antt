@@ -1,6 +1,6 @@
 -- A command goes on from one file to the next.
-use Rattle.std.proofs.Common.{◌≡◌, ◌∙◌, inl, inr, ℕ, ◌≤◌, max, List, Option, refl, ap, subst, arith}
-use Rattle.desk.specs.Count.{Rose, one_more}
+use Rattle.std.proofs.Common.{◌≡◌, ◌∙◌, inl, inr, ℕ, ◌+◌, ◌≤◌, max, List, Option, refl, ap, subst, arith}
+use Rattle.desk.specs.Count.{Rose, grown, one_more}
 use Rattle.desk.specs.declared.served.Served.{Served}
 use Rattle.desk.specs.Desk.{File}
 use Rattle.cli_base.specs.Accounts.{IsBroken, IsAccountedFor}
@@ -26,8 +26,10 @@ gone_on held h a b c name bytes next due same before after there (inl may) =
 gone_on held h a b c name bytes next due same before after there (inr memory) = inr memory
 
 -- what the desk served of both
-pub accounted_on : (a b c : Served) (status : ℕ) → IsAccountedFor a b 0 → IsAccountedFor b c status → IsAccountedFor a c status
-accounted_on a b c status first rest = record {
+pub accounted_on : {m n : ℕ} (a b c : Served) (status : ℕ) → IsAccountedFor m a b 0 → IsAccountedFor n b c status → IsAccountedFor (m + n) a c status
+accounted_on {m} {n} a b c status first rest = record {
+  begins = let now = first.begins in let later = rest.begins in omega (arith, now, later);
+  all_begun = λ is. let now = first.all_begun refl in let later = rest.all_begun is in omega (arith, now, later);
   missing = λ is. rest.missing is ∙ ap one_more same;
   found = λ no whole. rest.found no whole ∙ same;
   too_long = rest.too_long;

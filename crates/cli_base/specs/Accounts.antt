@@ -1,6 +1,6 @@
 -- What a desk has served over a call, told or not told what it holds.
-use Rattle.std.specs.Prelude.{◌≡◌, ◌≢◌, ◌≤◌, ◌<◌, ◌⊎◌, ℕ, max}
-use Rattle.desk.specs.Count.{one_more}
+use Rattle.std.specs.Prelude.{◌≡◌, ◌≢◌, ◌≤◌, ◌<◌, ◌⊎◌, ◌+◌, ℕ, max}
+use Rattle.desk.specs.Count.{grown, one_more}
 use Rattle.desk.specs.declared.served.Served.{Served}
 use Rattle.cli_base.specs.Script.{limit}
 
@@ -8,8 +8,11 @@ use Rattle.cli_base.specs.Script.{limit}
 abbrev pub IsBroken : ℕ → Type 0
 IsBroken status = (status ≡ 8) ⊎ (status ≡ 9)
 
--- a file is missing exactly where `begin` answered that there is none, and too long exactly where more bytes came than the limit
-pub record IsAccountedFor (before after : Served) (status : ℕ) : Type 0 where
+-- At most so many files are begun, and with status 0 just as many. A file is missing exactly where `begin` answered that there is none,
+-- and too long exactly where more bytes came than the limit.
+pub record IsAccountedFor (files : ℕ) (before after : Served) (status : ℕ) : Type 0 where
+  pub begins : after.begins ≤ before.begins + files
+  pub all_begun : status ≡ 0 → grown before.begins files ≤ after.begins
   pub missing : status ≡ 12 → after.misses ≡ one_more before.misses
   pub found : status ≢ 12 → (IsBroken status → ⊥) → after.misses ≡ before.misses
   pub too_long : status ≡ 11 → limit < after.longest

@@ -17,7 +17,7 @@ pub fn read_file<D: Desk>(alloc: Global, desk: &mut D, file: &str) -> Result<Vec
     ensures held { D.held desk.new ≡ D.held desk.old }
     ensures later { D.faults desk.old ≤ D.faults desk.new }
     ensures read { IsRead (ByDesk (D.held desk.old) (Rose (D.faults desk.old) (D.faults desk.new))) file.now result }
-    ensures served { IsAccountedFor (D.served desk.old) (D.served desk.new) (status_so_far result) }
+    ensures served { IsAccountedFor 1 (D.served desk.old) (D.served desk.new) (status_so_far result) }
 {
     match read_all(alloc, desk, file, MOST_FILE_BYTES) {
         Ok(bytes) => Ok(bytes),

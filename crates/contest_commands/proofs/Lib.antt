@@ -4,7 +4,7 @@ pub mod Searches
 pub mod Tabulations
 mod Findings
 mod FoundThere
-mod Numbered
+mod TrialCandidates
 pub mod Nodes
 pub mod Printed
 pub mod Checks

@@ -16,7 +16,7 @@ use Rattle.contest_commands.specs.Trial.{contest_of, search_of, trial_text, HasL
 use Rattle.contest_commands.specs.Laws.{IsAmongKinds}
 use Rattle.contest_commands.specs.declared.trials.Terms.{Terms}
 use Rattle.contest_commands.proofs.Nodes.{nodes_are_few, spent_above}
-use Rattle.contest_commands.proofs.Numbered.{length-numbered}
+use Rattle.contest_commands.proofs.TrialCandidates.{length-trial_candidates}
 
 -- ---- no margin is below floor 1
 
@@ -28,7 +28,7 @@ positive ballots file two c =
 
 module _ (terms : Terms) (kind : AnswerKind) (fewest : FEWEST_CANDIDATES ≤ terms.candidates) where
   two : 1 < candidate_count (contest_of terms)
-  two = let long = length-numbered terms.candidates in omega (arith, fewest, long)
+  two = let long = length-trial_candidates terms.candidates in omega (arith, fewest, long)
 
   searched_so : IsAmongKinds (Tries terms) kind → IsAmongKinds (Finds (search_of terms) (contest_of terms)) kind
   searched_so (text, inl (other, has, e)) =
@@ -67,7 +67,7 @@ not_spent terms text enough spent =
     let above : terms.nodes < nodes_for (contest_of terms) is.won.order is.winner spent.last =
     spent_above terms.nodes (contest_of terms) spent.last spent.order spent.margin is in
     let same : 2 * factorial (candidate_count (contest_of terms) - 1) ≡ 2 * factorial (terms.candidates - 1) =
-    ap (λ n. 2 * factorial (n - 1)) (length-numbered terms.candidates) in
+    ap (λ n. 2 * factorial (n - 1)) (length-trial_candidates terms.candidates) in
     omega (arith, enough, few, above, same)
 
 pub trial_is_complete : (terms : Terms) (verdict : Verdict) → 2 * factorial (terms.candidates - 1) ≤ terms.nodes → Tries terms verdict → One (HasLines terms) Done verdict ⊎ One (HasTie (contest_of terms)) Tie verdict

@@ -21,12 +21,12 @@ use Rattle.contest_commands.specs.declared.trials.Terms.{Terms}
 -- ---- its contest
 
 -- the ids of n candidates: their numbers, from 1 on
-abbrev pub numbered : ℕ → List Id
-numbered n = map (λ c. decimal (c + 1)) (candidates n)
+abbrev pub trial_candidates : ℕ → List Id
+trial_candidates n = map (λ c. decimal (c + 1)) (candidates n)
 
 -- the records are those that the number draws
 abbrev pub contest_of : Terms → BallotFile
-contest_of terms = contest_with (codes "trial") (numbered terms.candidates) (trial_records terms.number terms.candidates terms.ballots)
+contest_of terms = contest_with (codes "trial") (trial_candidates terms.candidates) (trial_records terms.number terms.candidates terms.ballots)
 
 -- it is searched as that of a ballot file is, at floor 1
 abbrev pub search_of : Terms → SearchTerms

@@ -36,9 +36,10 @@ pub fn answer<D: Desk>(
 ) -> Result<Answer, Refusal>
     ensures held { D.held desk.new ≡ D.held desk.old }
     ensures later { D.faults desk.old ≤ D.faults desk.new }
-    ensures due { MayOrMemory (ByDesk (D.held desk.old) (Rose (D.faults desk.old) (D.faults desk.new)))
+    ensures due { MayOrMemory
+        (ByDesk (D.held desk.old) (Rose (D.faults desk.old) (D.faults desk.new)))
         (script file.now assertions.now (option_copied contest.entry) nodes) (due result) }
-    ensures served { IsAccountedFor (D.served desk.old) (D.served desk.new) (due result).status }
+    ensures served { IsAccountedFor 2 (D.served desk.old) (D.served desk.new) (due result).status }
 {
     let bytes = read_file(alloc, desk, file)?;
     match ballots_in(alloc, file, &bytes, contest) {
@@ -57,9 +58,10 @@ fn check_of<D: Desk>(
 ) -> Result<Answer, Refusal>
     ensures held { D.held desk.new ≡ D.held desk.old }
     ensures later { D.faults desk.old ≤ D.faults desk.new }
-    ensures due { MayOrMemory (ByDesk (D.held desk.old) (Rose (D.faults desk.old) (D.faults desk.new)))
+    ensures due { MayOrMemory
+        (ByDesk (D.held desk.old) (Rose (D.faults desk.old) (D.faults desk.new)))
         (script_of_ballots nodes ballots.now assertions.now) (due result) }
-    ensures served { IsAccountedFor (D.served desk.old) (D.served desk.new) (due result).status }
+    ensures served { IsAccountedFor 1 (D.served desk.old) (D.served desk.new) (due result).status }
 {
     let bytes = read_file(alloc, desk, assertions)?;
     check_in(alloc, ballots, assertions, &bytes, nodes)
@@ -73,7 +75,8 @@ fn check_in(
     bytes: &[u8],
     nodes: u32,
 ) -> Result<Answer, Refusal>
-    ensures { IsOneOrMemory (ChecksIn nodes ballots.now assertions.now (assertion_file_of bytes.now)) (due result) }
+    ensures { IsOneOrMemory
+        (ChecksIn nodes ballots.now assertions.now (assertion_file_of bytes.now)) (due result) }
 {
     match assertions_in(alloc, assertions, bytes) {
         Ok(file) => check(alloc, ballots, &file, nodes),
@@ -159,7 +162,8 @@ fn difference(alloc: Global, text: &str) -> Result<Answer, Refusal>
 
 fn spent(alloc: Global, file: &AssertionFile, last: Candidate) -> Result<Answer, Refusal>
     requires { last < length (file.now).candidates }
-    ensures { IsOneOrMemory (λ verdict. verdict ≡ Answered Spent (spent_at (id_of (file.now).candidates last))) (due result) }
+    ensures { IsOneOrMemory (λ verdict.
+        verdict ≡ Answered Spent (spent_at (id_of (file.now).candidates last))) (due result) }
 {
     let text = spent_at(alloc, id_of(file.candidates(), last))?;
     Ok(Answer {

@@ -72,7 +72,8 @@ pub(crate) fn is_refuted_by(
 ) -> Result<String, Memory>
     requires few { length names.now ≤ ROOM }
     requires proper { IsTrue (is_proper (length names.now) assertion.now) }
-    ensures { IfOk result (λ text. string_bytes text ≡ is_refuted_by (assertion_text names.now assertion.now) margin) }
+    ensures { IfOk result (λ text.
+        string_bytes text ≡ is_refuted_by (assertion_text names.now assertion.now) margin) }
 {
     let assertion = assertion_text(alloc, names, assertion)?;
     Ok(refuted_text(alloc, assertion.as_str(), margin)?)

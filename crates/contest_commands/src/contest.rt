@@ -56,7 +56,8 @@ pub(crate) fn first_tie(
     votes: u32,
 ) -> Result<Answer, Refusal>
     requires { length names.now ≤ ROOM }
-    ensures { IsOneOrMemory (λ verdict. verdict ≡ Answered Tie (tie_text names.now round tied votes)) (due result) }
+    ensures { IsOneOrMemory (λ verdict.
+        verdict ≡ Answered Tie (tie_text names.now round tied votes)) (due result) }
 {
     Ok(Answer {
         kind: AnswerKind::Tie,

@@ -1,6 +1,6 @@
 // What a search finds: tabulation, the race for the best margin, and the certificate of that margin.
 ghost use Rattle.std.specs.Prelude.{◌≡◌, ◌≤◌, IfOk};
-ghost use Rattle.bound_search.specs.declared.limits.TheConstants.{MOST_WORKERS};
+ghost use Rattle.irv_base.specs.declared.limits.TheConstants.{MOST_WORKERS};
 ghost use Rattle.contest_commands.specs.Found.{FoundIn, IsCounted, IsBestOf, IsPrintable, content_of};
 
 use crate::searched::Contest;
@@ -15,10 +15,12 @@ use set_tallies::Counted;
 use std::alloc::Global;
 use std::thread::Threads;
 
-/// What a search finds.
+/// How a search of a contest ends.
 #[derive(Drop)]
 pub(crate) enum Found {
+    /// The assertions that confirm the winner.
     Certificate(AssertionFile),
+    /// In this round, from 1, the candidates in the set share the least tally, in votes.
     Tie {
         round: u32,
         tied: CandSet,
@@ -33,12 +35,13 @@ pub(crate) enum Found {
     },
 }
 
-/// What a search of the contest finds, by so many workers, with so many nodes for each of their pieces.
+/// What a search of the contest finds, by so many workers, with so many nodes for each piece of the race and for each candidate who
+/// didn't win.
 pub(crate) fn find<R: AllocGlobal + Threads + Sync, G: Gate + Sync>(
     rt: &R,
     contest: &Contest<'_>,
-    nodes: u32,
     workers: u32,
+    nodes: u32,
     gate: &G,
 ) -> Result<Found, Memory>
     requires { (1 ≤ workers) × (workers ≤ MOST_WORKERS) }
@@ -48,7 +51,7 @@ pub(crate) fn find<R: AllocGlobal + Threads + Sync, G: Gate + Sync>(
     let counted = Counted::of(alloc, contest.candidates().len() as u32, contest.rankings())?;
     let mut tallies = counted.tallies()?;
     match tabulate(alloc, &mut tallies) {
-        Ok(tabulated) => race_of(rt, contest, &counted, &tabulated, nodes, workers, gate),
+        Ok(tabulated) => race_of(rt, contest, &counted, &tabulated, workers, nodes, gate),
         Err(fault) => match fault {
             TabFault::Tie { round, tied, tally } => Ok(Found::Tie {
                 round,
@@ -66,8 +69,8 @@ fn race_of<R: AllocGlobal + Threads + Sync, G: Gate + Sync>(
     contest: &Contest<'_>,
     counted: &Counted,
     tabulated: &Tabulated,
-    nodes: u32,
     workers: u32,
+    nodes: u32,
     gate: &G,
 ) -> Result<Found, Memory>
     requires workers { (1 ≤ workers) × (workers ≤ MOST_WORKERS) }
@@ -75,7 +78,7 @@ fn race_of<R: AllocGlobal + Threads + Sync, G: Gate + Sync>(
     ensures { IfOk result (FoundIn nodes contest.now) }
 {
     match race(rt, counted, tabulated, workers, nodes, gate) {
-        Ok(end) => certificate_of(rt, contest, counted, tabulated, end, nodes, workers),
+        Ok(end) => certificate_of(rt, contest, counted, tabulated, end, workers, nodes),
         Err(fault) => match fault {
             RaceFault::Spent { last, upper, order } => Ok(Found::Spent {
                 last,
@@ -94,8 +97,8 @@ fn certificate_of<R: AllocGlobal + Threads + Sync>(
     counted: &Counted,
     tabulated: &Tabulated,
     end: RaceEnd,
-    nodes: u32,
     workers: u32,
+    nodes: u32,
 ) -> Result<Found, Memory>
     requires workers { (1 ≤ workers) × (workers ≤ MOST_WORKERS) }
     requires counted { IsCounted contest.now counted.now.bag tabulated.now }
@@ -103,7 +106,7 @@ fn certificate_of<R: AllocGlobal + Threads + Sync>(
     ensures { IfOk result (FoundIn nodes contest.now) }
 {
     let RaceEnd { margin, order, .. } = end;
-    match certify(rt, counted, tabulated, margin, nodes, workers) {
+    match certify(rt, counted, tabulated, margin, workers, nodes) {
         Ok(certificate) => {
             let file = file_of(rt.alloc(), contest, tabulated.winner, certificate)?;
             Ok(Found::Certificate(file))
@@ -119,7 +122,7 @@ fn certificate_of<R: AllocGlobal + Threads + Sync>(
     }
 }
 
-// The assertion file that says what the certificate does.
+// The assertion file of the contest, with the certificate's claims, margin and order.
 fn file_of(
     alloc: Global,
     contest: &Contest<'_>,

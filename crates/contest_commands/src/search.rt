@@ -7,7 +7,7 @@ ghost use Rattle.cli_base.specs.Script.{ByDesk, MayOrMemory};
 ghost use Rattle.contest_commands.specs.Search.{Finds, FindsIn, script};
 ghost use Rattle.contest_commands.specs.Found.{FoundIn, IsFoundIn};
 ghost use Rattle.cli_base.specs.Due.{due, IsOneOrMemory};
-ghost use Rattle.bound_search.specs.declared.limits.TheConstants.{MOST_WORKERS};
+ghost use Rattle.irv_base.specs.declared.limits.TheConstants.{MOST_WORKERS};
 
 use crate::contest::{ballots_in, first_tie};
 use crate::found::{Found, find};
@@ -24,7 +24,9 @@ use std::thread::Threads;
 /// What a search may spend on each piece of the race and on each candidate who didn't win, and the margin from which on it answers.
 #[derive(Clone, Copy)]
 pub struct Terms {
+    /// How many suffixes may be expanded for one piece, or count for one candidate.
     pub nodes: u32,
+    /// The least margin, in votes, that isn't answered by a full count.
     pub floor: u32,
 }
 
@@ -41,9 +43,10 @@ pub fn answer<R: AllocGlobal + Threads + Sync, D: Desk, G: Gate + Sync>(
     requires workers { (1 ≤ workers) × (workers ≤ MOST_WORKERS) }
     ensures held { D.held desk.new ≡ D.held desk.old }
     ensures later { D.faults desk.old ≤ D.faults desk.new }
-    ensures due { MayOrMemory (ByDesk (D.held desk.old) (Rose (D.faults desk.old) (D.faults desk.new)))
+    ensures due { MayOrMemory
+        (ByDesk (D.held desk.old) (Rose (D.faults desk.old) (D.faults desk.new)))
         (script file.now (option_copied contest.entry) terms) (due result) }
-    ensures served { IsAccountedFor (D.served desk.old) (D.served desk.new) (due result).status }
+    ensures served { IsAccountedFor 1 (D.served desk.old) (D.served desk.new) (due result).status }
 {
     let bytes = read_file(rt.alloc(), desk, file)?;
     search_in(rt, file, &bytes, contest, terms, workers, gate)
@@ -60,7 +63,8 @@ fn search_in<R: AllocGlobal + Threads + Sync, G: Gate + Sync>(
     gate: &G,
 ) -> Result<Answer, Refusal>
     requires { (1 ≤ workers) × (workers ≤ MOST_WORKERS) }
-    ensures { IsOneOrMemory (FindsIn terms file.now (ballots_of bytes.now (option_copied contest.entry))) (due result) }
+    ensures { IsOneOrMemory
+        (FindsIn terms file.now (ballots_of bytes.now (option_copied contest.entry))) (due result) }
 {
     match ballots_in(rt.alloc(), file, bytes, contest) {
         Ok(ballots) => search(rt, &ballots, terms, workers, gate),
@@ -72,14 +76,14 @@ fn search_in<R: AllocGlobal + Threads + Sync, G: Gate + Sync>(
 fn find_in<R: AllocGlobal + Threads + Sync, G: Gate + Sync>(
     rt: &R,
     ballots: &Ballots,
-    nodes: u32,
     workers: u32,
+    nodes: u32,
     gate: &G,
 ) -> Result<Found, Memory>
     requires { (1 ≤ workers) × (workers ≤ MOST_WORKERS) }
     ensures { IfOk result (FoundIn nodes ballots.now) }
 {
-    find(rt, &Contest::of(ballots), nodes, workers, gate)
+    find(rt, &Contest::of(ballots), workers, nodes, gate)
 }
 
 fn search<R: AllocGlobal + Threads + Sync, G: Gate + Sync>(
@@ -94,7 +98,7 @@ fn search<R: AllocGlobal + Threads + Sync, G: Gate + Sync>(
 {
     let alloc = rt.alloc();
     let names = ballots.candidates();
-    let found = find_in(rt, ballots, terms.nodes, workers, gate)?;
+    let found = find_in(rt, ballots, workers, terms.nodes, gate)?;
     match found {
         Found::Certificate(file) => certificate(alloc, ballots, &file, terms),
         Found::Tie { round, tied, votes } => first_tie(alloc, names, round, tied, votes),

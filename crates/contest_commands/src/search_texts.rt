@@ -20,7 +20,8 @@ pub(crate) fn spent(
 ) -> Result<Vec<u8>, Memory>
     requires candidate { last < length names.now }
     requires order { IsTrue (is_order (length names.now) order.now) }
-    ensures { IfOk result (λ text. text.items ≡ spent_lines (id_of names.now last) (order_text names.now order.now) margin) }
+    ensures { IfOk result (λ text. text.items
+        ≡ spent_lines (id_of names.now last) (order_text names.now order.now) margin) }
 {
     let order = order_text(alloc, names, order)?;
     let text = spent_lines(alloc, id_of(names, last), order.as_str(), margin)?;

@@ -27,14 +27,16 @@ impl<'a> Model for Contest<'a> {
 
     ghost view = { λ c. contest_with c.id.now c.candidates.now c.rankings.now };
 
-    ghost invariant = { λ c. IsWithinLimits (contest_with c.id.now c.candidates.now c.rankings.now) };
+    ghost invariant = { λ c.
+        IsWithinLimits (contest_with c.id.now c.candidates.now c.rankings.now) };
 }
 
 impl<'a> Contest<'a> {
+    /// The contest with this id, with candidates of these ids, from whom each of the rankings chooses.
     pub(crate) fn new(id: &'a Name, candidates: &'a [Name], rankings: &'a [Ranking]) -> Contest<'a>
         requires candidates { AreCandidates candidates.now }
         requires few { length rankings.now ≤ MOST_RECORDS }
-        requires below { All (λ ranking. All (λ c. c < length candidates.now) ranking) rankings.now }
+        requires below { All (All (λ c. c < length candidates.now)) rankings.now }
         ensures { result ≡ contest_with id.now candidates.now rankings.now }
     {
         Contest {
@@ -44,13 +46,14 @@ impl<'a> Contest<'a> {
         }
     }
 
-    /// That of a ballot file.
+    /// The contest that a ballot file is about.
     pub(crate) fn of(ballots: &'a Ballots) -> Contest<'a>
         ensures { result ≡ searched ballots.now }
     {
         Contest::new(ballots.contest(), ballots.candidates(), ballots.rankings())
     }
 
+    /// The id of the contest.
     pub(crate) fn id(&self) -> &'a Name
         ensures { result.now ≡ self.now.contest }
     {
@@ -67,10 +70,11 @@ impl<'a> Contest<'a> {
         self.candidates
     }
 
+    /// The rankings of the records, each of candidates by their places in the list.
     pub(crate) fn rankings(&self) -> &'a [Ranking]
         ensures same { result.now ≡ self.now.rankings }
         ensures few { length self.now.rankings ≤ MOST_RECORDS }
-        ensures below { All (λ ranking. All (λ c. c < length self.now.candidates) ranking) self.now.rankings }
+        ensures below { All (All (λ c. c < length self.now.candidates)) self.now.rankings }
     {
         self.rankings
     }

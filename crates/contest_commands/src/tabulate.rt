@@ -28,9 +28,10 @@ pub fn answer<D: Desk>(
 ) -> Result<Answer, Refusal>
     ensures held { D.held desk.new ≡ D.held desk.old }
     ensures later { D.faults desk.old ≤ D.faults desk.new }
-    ensures due { MayOrMemory (ByDesk (D.held desk.old) (Rose (D.faults desk.old) (D.faults desk.new)))
+    ensures due { MayOrMemory
+        (ByDesk (D.held desk.old) (Rose (D.faults desk.old) (D.faults desk.new)))
         (script file.now (option_copied contest.entry)) (due result) }
-    ensures served { IsAccountedFor (D.served desk.old) (D.served desk.new) (due result).status }
+    ensures served { IsAccountedFor 1 (D.served desk.old) (D.served desk.new) (due result).status }
 {
     let bytes = read_file(alloc, desk, file)?;
     tabulate_in(alloc, file, &bytes, contest)
@@ -43,7 +44,8 @@ fn tabulate_in(
     bytes: &[u8],
     contest: Option<&Name>,
 ) -> Result<Answer, Refusal>
-    ensures { IsOneOrMemory (TabulatesIn file.now (ballots_of bytes.now (option_copied contest.entry))) (due result) }
+    ensures { IsOneOrMemory
+        (TabulatesIn file.now (ballots_of bytes.now (option_copied contest.entry))) (due result) }
 {
     match ballots_in(alloc, file, bytes, contest) {
         Ok(ballots) => tabulate_all(alloc, &ballots),

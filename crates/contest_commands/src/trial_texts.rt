@@ -2,7 +2,7 @@
 ghost use Rattle.std.specs.Prelude.{◌≡◌, ◌≤◌, IfOk, codes, string_bytes};
 ghost use Rattle.std.specs.Fmt.{decimal};
 ghost use Rattle.irv_base.specs.declared.limits.TheConstants.{MOST_CANDIDATES};
-ghost use Rattle.contest_commands.specs.Trial.{found_lines, numbered, records_lines, trial_text};
+ghost use Rattle.contest_commands.specs.Trial.{found_lines, trial_candidates, records_lines, trial_text};
 
 use assertion_file::{AssertionFile, id_of};
 use irv_base::{Memory, Name};
@@ -17,9 +17,9 @@ pub(crate) fn contest_id() -> Name
 }
 
 /// The ids of `n` candidates: their numbers, from 1 on.
-pub(crate) fn numbered(alloc: Global, n: u32) -> Result<Vec<Name>, Memory>
+pub(crate) fn trial_candidates(alloc: Global, n: u32) -> Result<Vec<Name>, Memory>
     requires { n ≤ MOST_CANDIDATES }
-    ensures { IfOk result (λ names. names.items ≡ numbered n) }
+    ensures { IfOk result (λ names. names.items ≡ trial_candidates n) }
 {
     let mut names = Vec::with_capacity(alloc, n as usize)?;
     for c in 0..n {
@@ -79,7 +79,8 @@ fn found_lines(
     assertions: usize,
     order: &str,
 ) -> Result<String, AllocError>
-    ensures { IfOk result (λ text. string_bytes text ≡ found_lines winner.now margin assertions order.now) }
+    ensures { IfOk result (λ text. string_bytes text
+        ≡ found_lines winner.now margin assertions order.now) }
 {
     format!(in alloc; "winner {winner}\nmargin {margin}\nassertions {assertions}\norder {order}\n")
 }

@@ -1,16 +1,16 @@
 // `trial`: the assertions that confirm the winner of a contest whose records a number draws, in a few lines.
 ghost use Rattle.std.specs.Prelude.{◌≡◌, ◌≤◌, length, IfOk};
 ghost use Rattle.irv_base.specs.declared.limits.TheConstants.{FEWEST_CANDIDATES, MOST_CANDIDATES, MOST_RECORDS};
-ghost use Rattle.bound_search.specs.declared.limits.TheConstants.{MOST_WORKERS};
+ghost use Rattle.irv_base.specs.declared.limits.TheConstants.{MOST_WORKERS};
 ghost use Rattle.cli_base.specs.Due.{due, IsOneOrMemory};
 ghost use Rattle.contest_commands.specs.Found.{FoundIn};
-ghost use Rattle.contest_commands.specs.Trial.{contest_of, numbered, Tries};
+ghost use Rattle.contest_commands.specs.Trial.{contest_of, trial_candidates, Tries};
 
 use crate::contest::first_tie;
 use crate::found::{Found, find};
 use crate::search_texts::spent;
 use crate::searched::Contest;
-use crate::trial_texts::{contest_id, lines, numbered};
+use crate::trial_texts::{contest_id, lines, trial_candidates};
 use cli_base::{Answer, AnswerKind, Refusal};
 use desk::Gate;
 use irv_base::{Memory, Name};
@@ -22,9 +22,13 @@ use trial::trial_records;
 /// piece of the race and on each candidate who didn't win.
 #[derive(Clone, Copy)]
 pub struct Terms {
+    /// The number that draws the records.
     pub number: u32,
+    /// How many candidates the contest has.
     pub candidates: u32,
+    /// How many records are drawn.
     pub ballots: u32,
+    /// How many suffixes may be expanded for one piece, or count for one candidate.
     pub nodes: u32,
 }
 
@@ -36,11 +40,12 @@ pub fn answer<R: AllocGlobal + Threads + Sync, G: Gate + Sync>(
     gate: &G,
 ) -> Result<Answer, Refusal>
     requires workers { (1 ≤ workers) × (workers ≤ MOST_WORKERS) }
-    requires candidates { (FEWEST_CANDIDATES ≤ terms.candidates) × (terms.candidates ≤ MOST_CANDIDATES) }
+    requires candidates { (FEWEST_CANDIDATES ≤ terms.candidates)
+        × (terms.candidates ≤ MOST_CANDIDATES) }
     requires ballots { terms.ballots ≤ MOST_RECORDS }
     ensures { IsOneOrMemory (Tries terms) (due result) }
 {
-    let names = numbered(rt.alloc(), terms.candidates)?;
+    let names = trial_candidates(rt.alloc(), terms.candidates)?;
     let found = find_in(rt, &names, terms, workers, gate)?;
     told(rt.alloc(), &names, terms, found)
 }
@@ -54,9 +59,10 @@ fn find_in<R: AllocGlobal + Threads + Sync, G: Gate + Sync>(
     gate: &G,
 ) -> Result<Found, Memory>
     requires workers { (1 ≤ workers) × (workers ≤ MOST_WORKERS) }
-    requires candidates { (FEWEST_CANDIDATES ≤ terms.candidates) × (terms.candidates ≤ MOST_CANDIDATES) }
+    requires candidates { (FEWEST_CANDIDATES ≤ terms.candidates)
+        × (terms.candidates ≤ MOST_CANDIDATES) }
     requires ballots { terms.ballots ≤ MOST_RECORDS }
-    requires names { names.now ≡ numbered terms.candidates }
+    requires names { names.now ≡ trial_candidates terms.candidates }
     ensures { IfOk result (FoundIn terms.nodes (contest_of terms)) }
 {
     let id = contest_id();
@@ -64,8 +70,8 @@ fn find_in<R: AllocGlobal + Threads + Sync, G: Gate + Sync>(
     find(
         rt,
         &Contest::new(&id, names, &records),
-        terms.nodes,
         workers,
+        terms.nodes,
         gate,
     )
 }
@@ -73,7 +79,7 @@ fn find_in<R: AllocGlobal + Threads + Sync, G: Gate + Sync>(
 // What is told of what the search found.
 fn told(alloc: Global, names: &[Name], terms: Terms, found: Found) -> Result<Answer, Refusal>
     requires candidates { terms.candidates ≤ MOST_CANDIDATES }
-    requires names { names.now ≡ numbered terms.candidates }
+    requires names { names.now ≡ trial_candidates terms.candidates }
     requires found { FoundIn terms.nodes (contest_of terms) found }
     ensures { IsOneOrMemory (Tries terms) (due result) }
 {

@@ -44,7 +44,7 @@ fault-only session seen (Some (NoRecord card k)) = tt
 fault-only session seen (Some (Changed round claim expected found)) = tt
 fault-only session seen (Some Memory) = tt
 
-facts-only : (name : List ℕ) (session : Content) (cards : ℕ) (file : FileContent) → IfSome (without_facts name session cards file) IsRefusal
+pub facts-only : (name : List ℕ) (session : Content) (cards : ℕ) (file : FileContent) → IfSome (without_facts name session cards file) IsRefusal
 facts-only name session cards file = by (has_facts session cards file) where
   by : (b : Bool) → IfSome (if b then None else Some (other_facts name)) IsRefusal
   by true = tt

@@ -8,7 +8,7 @@ use Rattle.cover_checker.specs.Findings.{Answer}
 use Rattle.cover_checker.specs.declared.checked.Checked.TheVariants.{OtherContest, OtherWinner, OtherMargin, Stands, NotLeast, NotAlternative, Harder, Accepted}
 use Rattle.cover_checker.specs.declared.checked.CheckFault.TheVariants.{Tie as TieFound, Spent as SpentAt, Memory}
 use Rattle.cover_checker.proofs.OneAnswer.{answer_is_one}
-use Rattle.cli_base.specs.Outcome.{Verdict, Answered, outcome, status_of, out_of_memory}
+use Rattle.cli_base.specs.Outcome.{Outcome, Verdict, Answered, outcome, status_of, out_of_memory}
 use Rattle.cli_base.specs.Due.{due, due_refusal, IsOneOrMemory}
 use Rattle.cli_base.specs.declared.outcome.Answer.{Answer as Said}
 use Rattle.cli_base.specs.declared.outcome.AnswerKind.{AnswerKind}
@@ -19,7 +19,8 @@ use Rattle.cli_base.specs.declared.outcome.RefusalKind.TheVariants.{Input, ReadF
 use Rattle.cli_base.proofs.Scripts.{some_is}
 use Rattle.cli_base.proofs.Statuses.{status_in, same_kind, of_no_kind}
 use Rattle.contest_commands.specs.Check.{Checks, verdict_on}
-use Rattle.session_commands.specs.Accepted.{is_accepted}
+use Rattle.cli_base.specs.Script.{Ends, MayOrMemory, Readings, Script}
+use Rattle.session_commands.specs.Accepted.{if_accepted, is_accepted, on_if}
 use Rattle.session_commands.proofs.Acceptance.{decided}
 
 -- the kind of an answer
@@ -97,3 +98,10 @@ module _ (nodes : ℕ) (ballots : BallotFile) (file : Content) where
       let (text, e) = told_kind file answer v told in
       never_refused refusal (kind_on answer) (ap status_in ends ∙ ap (λ v. status_in (outcome v)) e)
   memory_alone refusal (inr memory) = memory
+
+  -- a script goes on where a check accepts the file, and ends with what a check says where it doesn't
+  pub accepted_on : (readings : Readings) (next : Script) (due : Outcome) → is_accepted nodes ballots file ≡ true → MayOrMemory readings next due → MayOrMemory readings (if_accepted nodes ballots file next) due
+  accepted_on readings next due yes may = subst (λ b. MayOrMemory readings (on_if b next (Ends (Checks nodes ballots file))) due) (sym yes) may
+
+  pub checked_on : (readings : Readings) (next : Script) (due : Outcome) → is_accepted nodes ballots file ≡ false → IsOneOrMemory (Checks nodes ballots file) due → MayOrMemory readings (if_accepted nodes ballots file next) due
+  checked_on readings next due no one = subst (λ b. MayOrMemory readings (on_if b next (Ends (Checks nodes ballots file))) due) (sym no) one

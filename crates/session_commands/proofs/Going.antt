@@ -1,5 +1,5 @@
 -- A command goes on with what a file says, or stops.
-use Rattle.std.proofs.Common.{◌≡◌, inl, inr, ℕ, ◌≤◌, List, Option, None, Some, IfSome, Result, Ok, Err, refl, sym, ap, subst, ◌∙◌, arith}
+use Rattle.std.proofs.Common.{◌≡◌, ◌⊎◌, inl, inr, ℕ, ◌+◌, ◌≤◌, List, Option, None, Some, IfSome, Result, Ok, Err, refl, sym, ap, subst, ◌∙◌, arith}
 use Rattle.std.specs.Prelude.{⊤}
 use Rattle.desk.specs.Count.{Rose}
 use Rattle.desk.specs.Desk.{File}
@@ -45,8 +45,10 @@ judged_stopped readings judged next refusal (inr memory) = inr memory
 
 -- ---- what the desk served
 
-accounted_as : (a b : Served) (status : ℕ) → (status ≡ 12 → ⊥) → (status ≡ 11 → ⊥) → IsAccountedFor a b 0 → IsAccountedFor a b status
+accounted_as : {n : ℕ} (a b : Served) (status : ℕ) → (status ≡ 12 → ⊥) → (status ≡ 11 → ⊥) → IsAccountedFor n a b 0 → IsAccountedFor n a b status
 accounted_as a b status no_miss no_length first = record {
+  begins = first.begins;
+  all_begun = λ is. first.all_begun refl;
   missing = λ is. absurd (no_miss is);
   found = λ no whole. first.found (λ e. omega (arith, e)) unbroken;
   too_long = λ is. absurd (no_length is);
@@ -59,13 +61,26 @@ accounted_as a b status no_miss no_length first = record {
     unbroken broken = omega (arith, broken)
 
 -- a command that ends with a verdict reads nothing more
-pub ended_accounted : (a b : Served) (verdicts : Verdict → Type 0) (due : Outcome) → IsOneOrMemory verdicts due → IsAccountedFor a b 0 → IsAccountedFor a b due.status
+pub ended_accounted : {n : ℕ} (a b : Served) (verdicts : Verdict → Type 0) (due : Outcome) → IsOneOrMemory verdicts due → IsAccountedFor n a b 0 → IsAccountedFor n a b due.status
 ended_accounted a b verdicts due (inl (Answered kind text, h, is)) first =
     accounted_as a b due.status (λ e. of_no_kind 12 refl kind (sym (ap status_in is) ∙ e)) (λ e. of_no_kind 11 refl kind (sym (ap status_in is) ∙ e)) first
 ended_accounted a b verdicts due (inl (Refused name text, h, is)) first =
     accounted_as a b due.status (λ e. differ 2 12 (sym (ap status_in is) ∙ e) refl) (λ e. differ 2 11 (sym (ap status_in is) ∙ e) refl) first
 ended_accounted a b verdicts due (inr memory) first =
     accounted_as a b due.status (λ e. differ 9 12 (sym (ap status_in memory) ∙ e) refl) (λ e. differ 9 11 (sym (ap status_in memory) ∙ e) refl) first
+
+-- of a command that isn't done, more files might have been begun
+pub raised : (rest n : ℕ) (a b : Served) (status : ℕ) → (status ≡ 0 → ⊥) → IsAccountedFor n a b status → IsAccountedFor (rest + n) a b status
+raised rest n a b status not_done so_far = record {
+  begins = let now = so_far.begins in omega (arith, now);
+  all_begun = λ is. absurd (not_done is);
+  missing = so_far.missing;
+  found = so_far.found;
+  too_long = so_far.too_long;
+  over = so_far.over;
+  short = so_far.short;
+  within = so_far.within;
+}
 
 -- ---- one end
 
@@ -103,3 +118,20 @@ unless-only (Some verdict) judged refusal only = refusal
 pub then-only : {A B : Type 0} (first : Result A Verdict) (next : A → Result B Verdict) → OnlyRefuses first → ((value : A) → OnlyRefuses (next value)) → OnlyRefuses (then_judged first next)
 then-only (Ok value) next only each = each value
 then-only (Err verdict) next only each = only
+
+-- ---- what the desk served of a file that is refused
+
+early : (rest : ℕ) (a b : Served) (status : ℕ) → (status ≡ 2) ⊎ (status ≡ 9) → IsAccountedFor 1 a b 0 → IsAccountedFor (rest + 1) a b status
+early rest a b status stopped first =
+    raised rest 1 a b status (λ is. omega (arith, is, stopped)) (accounted_as a b status (λ e. omega (arith, e, stopped)) (λ e. omega (arith, e, stopped)) first)
+
+refusal-status : (verdict : Verdict) (status : ℕ) → IsRefusal verdict → status ≡ status_in (outcome verdict) → status ≡ 2
+refusal-status (Answered kind text) status is e = absurd is
+refusal-status (Refused name text) status is e = e
+
+-- it stops the command, and the rest of its files isn't begun
+pub stopped_accounted : {A : Type 0} (rest : ℕ) (a b : Served) (judged : Result A Verdict) (refusal : Stop) → OnlyRefuses judged → IsStopped judged refusal → IsAccountedFor 1 a b 0 →
+    IsAccountedFor (rest + 1) a b (due_refusal refusal).status
+stopped_accounted rest a b judged refusal only (inl (verdict, is, due)) first =
+    early rest a b _ (inl (refusal-status verdict _ (subst OnlyRefuses is only) (ap status_in due))) first
+stopped_accounted rest a b judged refusal only (inr memory) first = early rest a b _ (inr (ap status_in memory)) first

@@ -1,5 +1,5 @@
 // Whether a check accepts an assertion file.
-ghost use Rattle.std.specs.Prelude.{◌≡◌, Ok, is_none, IfOk, IfErr, IfSome};
+ghost use Rattle.std.specs.Prelude.{◌≡◌, ◌≢◌, Ok, is_none, IfOk, IfErr, IfSome};
 ghost use Rattle.cli_base.specs.Due.{due, due_refusal, IsOneOrMemory};
 ghost use Rattle.cli_base.specs.Outcome.{out_of_memory};
 ghost use Rattle.contest_commands.specs.Check.{Checks};
@@ -22,6 +22,8 @@ pub(crate) fn unless_accepted(
         is_accepted nodes ballots.now file.now ≡ is_none found) }
     ensures other { IfOk result (λ found. IfSome found (λ answer.
         IsOneOrMemory (Checks nodes ballots.now file.now) (due (Ok answer)))) }
+    ensures not_done { IfOk result (λ found. IfSome found (λ answer.
+        (due (Ok answer)).status ≢ 0)) }
     ensures memory { IfErr result (λ refusal. due_refusal refusal ≡ out_of_memory) }
 {
     let answer = check(alloc, ballots, file, nodes)?;

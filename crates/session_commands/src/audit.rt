@@ -8,7 +8,7 @@ ghost use Rattle.cli_base.specs.Accounts.{IsAccountedFor};
 ghost use Rattle.cli_base.specs.Due.{due, IsOneOrMemory};
 ghost use Rattle.cli_base.specs.Script.{ByDesk, MayOrMemory};
 ghost use Rattle.session_commands.specs.Inputs.{has_facts};
-ghost use Rattle.session_commands.specs.Audit.{GoesOn, MayGoOn, after_assertions, after_ballots, after_check, after_facts, after_manifest, after_session, asked_by, script};
+ghost use Rattle.session_commands.specs.Audit.{GoesOn, MayGoOn, after_ballots, after_facts, after_manifest, after_session, asked_by, script};
 
 use crate::accepted::unless_accepted;
 use crate::inputs::{Cards, same_facts};
@@ -28,14 +28,19 @@ use std::alloc::Global;
 /// The files of an audit, by their names.
 #[derive(Clone, Copy)]
 pub struct Files<'a> {
+    /// What is kept of the audit between its rounds.
     pub session: &'a str,
+    /// The records of the contest.
     pub ballots: &'a str,
+    /// The cards, batch by batch.
     pub manifest: &'a str,
+    /// The assertions of the contest's winner.
     pub assertions: &'a str,
+    /// What is seen of the cards that are drawn.
     pub seen: &'a str,
 }
 
-/// The session with one round more, up to so many draws in all.
+/// The session with one round more, up to so many draws in all, where a check of the assertions within so many nodes accepts them.
 pub fn answer<D: Desk>(
     alloc: Global,
     desk: &mut D,
@@ -47,21 +52,20 @@ pub fn answer<D: Desk>(
     requires most { draws ≤ MOST_DRAWS }
     ensures held { D.held desk.new ≡ D.held desk.old }
     ensures later { D.faults desk.old ≤ D.faults desk.new }
-    ensures due { MayOrMemory (ByDesk (D.held desk.old) (Rose (D.faults desk.old) (D.faults desk.new)))
+    ensures due { MayOrMemory
+        (ByDesk (D.held desk.old) (Rose (D.faults desk.old) (D.faults desk.new)))
         (script files.entry.session.now files.entry.ballots.now files.entry.manifest.now
         files.entry.assertions.now files.entry.seen.now draws nodes) (due result) }
-    ensures served { IsAccountedFor (D.served desk.old) (D.served desk.new) (due result).status }
+    ensures served { IsAccountedFor 5 (D.served desk.old) (D.served desk.new) (due result).status }
 {
     let task = Task {
         files,
         draws,
         nodes,
     };
-    let bytes = read_file(alloc, desk, task.files.session)?;
-    match session_to_go_on(alloc, &task, &bytes) {
-        Ok(session) => after_session(alloc, desk, &task, session),
-        Err(refusal) => Err(refusal),
-    }
+    let bytes = read_file(alloc, desk, files.session)?;
+    let session = session_to_go_on(alloc, &task, &bytes)?;
+    after_session(alloc, desk, &task, session)
 }
 
 // The ballots of the session's contest are read.
@@ -74,15 +78,14 @@ fn after_session<D: Desk>(
     requires { MayGoOn (asked_by task.now) session }
     ensures held { D.held desk.new ≡ D.held desk.old }
     ensures later { D.faults desk.old ≤ D.faults desk.new }
-    ensures due { MayOrMemory (ByDesk (D.held desk.old) (Rose (D.faults desk.old) (D.faults desk.new)))
+    ensures due { MayOrMemory
+        (ByDesk (D.held desk.old) (Rose (D.faults desk.old) (D.faults desk.new)))
         (after_session (asked_by task.now) session) (due result) }
-    ensures served { IsAccountedFor (D.served desk.old) (D.served desk.new) (due result).status }
+    ensures served { IsAccountedFor 4 (D.served desk.old) (D.served desk.new) (due result).status }
 {
     let bytes = read_file(alloc, desk, task.files.ballots)?;
-    match same_ballots(alloc, task, &session, &bytes) {
-        Ok(ballots) => after_ballots(alloc, desk, task, session, &ballots),
-        Err(refusal) => Err(refusal),
-    }
+    let ballots = same_ballots(alloc, task, &session, &bytes)?;
+    after_ballots(alloc, desk, task, session, &ballots)
 }
 
 // The manifest is read, in which each ballot has a card.
@@ -96,18 +99,17 @@ fn after_ballots<D: Desk>(
     requires { MayGoOn (asked_by task.now) session }
     ensures held { D.held desk.new ≡ D.held desk.old }
     ensures later { D.faults desk.old ≤ D.faults desk.new }
-    ensures due { MayOrMemory (ByDesk (D.held desk.old) (Rose (D.faults desk.old) (D.faults desk.new)))
+    ensures due { MayOrMemory
+        (ByDesk (D.held desk.old) (Rose (D.faults desk.old) (D.faults desk.new)))
         (after_ballots (asked_by task.now) session ballots.now) (due result) }
-    ensures served { IsAccountedFor (D.served desk.old) (D.served desk.new) (due result).status }
+    ensures served { IsAccountedFor 3 (D.served desk.old) (D.served desk.new) (due result).status }
 {
     let bytes = read_file(alloc, desk, task.files.manifest)?;
-    match same_manifest(alloc, task, &session, ballots, &bytes) {
-        Ok(cards) => after_manifest(alloc, desk, task, session, ballots, &cards),
-        Err(refusal) => Err(refusal),
-    }
+    let cards = same_manifest(alloc, task, &session, ballots, &bytes)?;
+    after_manifest(alloc, desk, task, session, ballots, &cards)
 }
 
-// The assertions are read.
+// The assertions are read. A check has to accept them, and the session to be one of these cards and assertions.
 fn after_manifest<D: Desk>(
     alloc: Global,
     desk: &mut D,
@@ -120,64 +122,24 @@ fn after_manifest<D: Desk>(
     requires linked { cards.now.linked ≡ linked_of cards.now.manifest ballots.now }
     ensures held { D.held desk.new ≡ D.held desk.old }
     ensures later { D.faults desk.old ≤ D.faults desk.new }
-    ensures due { MayOrMemory (ByDesk (D.held desk.old) (Rose (D.faults desk.old) (D.faults desk.new)))
+    ensures due { MayOrMemory
+        (ByDesk (D.held desk.old) (Rose (D.faults desk.old) (D.faults desk.new)))
         (after_manifest (asked_by task.now) session ballots.now cards.now.manifest) (due result) }
-    ensures served { IsAccountedFor (D.served desk.old) (D.served desk.new) (due result).status }
+    ensures served { IsAccountedFor 2 (D.served desk.old) (D.served desk.new) (due result).status }
 {
     let bytes = read_file(alloc, desk, task.files.assertions)?;
-    match same_assertions(alloc, task, &session, &bytes) {
-        Ok(file) => after_assertions(alloc, desk, task, session, ballots, cards, &file),
-        Err(refusal) => Err(refusal),
+    let file = same_assertions(alloc, task, &session, &bytes)?;
+    if let Some(answer) = unless_accepted(alloc, ballots, &file, task.nodes)? {
+        return Ok(answer);
     }
-}
-
-// The assertions are checked.
-fn after_assertions<D: Desk>(
-    alloc: Global,
-    desk: &mut D,
-    task: &Task<'_>,
-    session: Session,
-    ballots: &Ballots,
-    cards: &Cards,
-    file: &AssertionFile,
-) -> Result<Answer, Refusal>
-    requires may { MayGoOn (asked_by task.now) session }
-    requires linked { cards.now.linked ≡ linked_of cards.now.manifest ballots.now }
-    ensures held { D.held desk.new ≡ D.held desk.old }
-    ensures later { D.faults desk.old ≤ D.faults desk.new }
-    ensures due { MayOrMemory (ByDesk (D.held desk.old) (Rose (D.faults desk.old) (D.faults desk.new)))
-        (after_assertions (asked_by task.now) session ballots.now cards.now.manifest file.now) (due result) }
-    ensures served { IsAccountedFor (D.served desk.old) (D.served desk.new) (due result).status }
-{
-    match unless_accepted(alloc, ballots, file, task.nodes)? {
-        Some(answer) => Ok(answer),
-        None => after_check(alloc, desk, task, session, ballots, cards, file),
-    }
-}
-
-// The session has to be one of the inputs.
-fn after_check<D: Desk>(
-    alloc: Global,
-    desk: &mut D,
-    task: &Task<'_>,
-    session: Session,
-    ballots: &Ballots,
-    cards: &Cards,
-    file: &AssertionFile,
-) -> Result<Answer, Refusal>
-    requires may { MayGoOn (asked_by task.now) session }
-    requires linked { cards.now.linked ≡ linked_of cards.now.manifest ballots.now }
-    ensures held { D.held desk.new ≡ D.held desk.old }
-    ensures later { D.faults desk.old ≤ D.faults desk.new }
-    ensures due { MayOrMemory (ByDesk (D.held desk.old) (Rose (D.faults desk.old) (D.faults desk.new)))
-        (after_check (asked_by task.now) session ballots.now cards.now.manifest file.now) (due result) }
-    ensures served { IsAccountedFor (D.served desk.old) (D.served desk.new) (due result).status }
-{
-    let all = cards.manifest.cards();
-    match same_facts(alloc, task.files.session, &session, all, file) {
-        Ok(()) => after_facts(alloc, desk, task, session, ballots, cards, file),
-        Err(refusal) => Err(refusal),
-    }
+    same_facts(
+        alloc,
+        task.files.session,
+        &session,
+        cards.manifest.cards(),
+        &file,
+    )?;
+    after_facts(alloc, desk, task, session, ballots, cards, &file)
 }
 
 // What is seen of the cards is read, and the session goes on.
@@ -195,19 +157,19 @@ fn after_facts<D: Desk>(
     requires facts { IsTrue (has_facts session (length (cards_of cards.now.manifest)) file.now) }
     ensures held { D.held desk.new ≡ D.held desk.old }
     ensures later { D.faults desk.old ≤ D.faults desk.new }
-    ensures due { MayOrMemory (ByDesk (D.held desk.old) (Rose (D.faults desk.old) (D.faults desk.new)))
-        (after_facts (asked_by task.now) session ballots.now cards.now.manifest file.now) (due result) }
-    ensures served { IsAccountedFor (D.served desk.old) (D.served desk.new) (due result).status }
+    ensures due { MayOrMemory
+        (ByDesk (D.held desk.old) (Rose (D.faults desk.old) (D.faults desk.new)))
+        (after_facts (asked_by task.now) session ballots.now cards.now.manifest file.now)
+        (due result) }
+    ensures served { IsAccountedFor 1 (D.served desk.old) (D.served desk.new) (due result).status }
 {
     let name = task.files.seen;
     let bytes = read_file(alloc, desk, name)?;
-    match seen_in(alloc, name, &cards.manifest, file.candidates(), &bytes) {
-        Ok(seen) => go_on(alloc, task, session, ballots, cards, file, &seen),
-        Err(refusal) => Err(refusal),
-    }
+    let seen = seen_in(alloc, name, &cards.manifest, file.candidates(), &bytes)?;
+    go_on(alloc, task, session, ballots, cards, file, &seen)
 }
 
-// By what is seen of the cards.
+// The session with a round more, by what is seen of the cards.
 fn go_on(
     alloc: Global,
     task: &Task<'_>,
@@ -220,11 +182,10 @@ fn go_on(
     requires may { MayGoOn (asked_by task.now) session }
     requires linked { cards.now.linked ≡ linked_of cards.now.manifest ballots.now }
     requires facts { IsTrue (has_facts session (length (cards_of cards.now.manifest)) file.now) }
-    ensures { IsOneOrMemory (GoesOn (asked_by task.now) session file.now
-        (record { recorded = linked_of cards.now.manifest ballots.now; entries = seen.now })) (due result) }
+    ensures { let recorded = linked_of cards.now.manifest ballots.now in
+        IsOneOrMemory (GoesOn (asked_by task.now) session file.now
+        (record { recorded = recorded; entries = seen.now })) (due result) }
 {
-    match next_session(alloc, task, session, &cards.linked, file, seen) {
-        Ok(session) => answered(alloc, &session),
-        Err(refusal) => Err(refusal),
-    }
+    let session = next_session(alloc, task, session, &cards.linked, file, seen)?;
+    answered(alloc, &session)
 }

@@ -16,7 +16,9 @@ use std::alloc::Global;
 /// The cards of a manifest, with what is recorded of each.
 #[derive(Drop)]
 pub(crate) struct Cards {
+    /// Its batches.
     pub manifest: Manifest,
+    /// What is recorded of each card, by its number.
     pub linked: Linked,
 }
 
@@ -36,16 +38,12 @@ pub(crate) fn cards_for(
     ensures refused { IfErr result
         (IsStopped (cards_for file.now ballots.now manifest.now bytes.now)) }
 {
-    match manifest_in(alloc, manifest, bytes) {
-        Ok(batches) => match linked_to(alloc, file, ballots, &batches) {
-            Ok(linked) => Ok(Cards {
-                manifest: batches,
-                linked,
-            }),
-            Err(refusal) => Err(refusal),
-        },
-        Err(refusal) => Err(refusal),
-    }
+    let batches = manifest_in(alloc, manifest, bytes)?;
+    let linked = linked_to(alloc, file, ballots, &batches)?;
+    Ok(Cards {
+        manifest: batches,
+        linked,
+    })
 }
 
 // What is recorded of the cards of a manifest.
@@ -67,7 +65,8 @@ fn linked_to(
     }
 }
 
-// The digests are compared file by file, so that those of the session are taken here.
+// Whether the session has so many cards, and the contest and the margins of the assertion file. The digests are compared file by
+// file, so that those of the session are taken here.
 fn has_facts(session: &Session, cards: u32, file: &AssertionFile) -> bool
     ensures { result ≡ has_facts session.now cards file.now }
 {

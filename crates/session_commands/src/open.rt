@@ -1,12 +1,11 @@
 // `open BALLOTS MANIFEST ASSERTIONS`: the session of an audit before its first round.
-ghost use Rattle.std.specs.Prelude.{◌≡◌, ◌≤◌, None, option_copied, IsTrue};
+ghost use Rattle.std.specs.Prelude.{◌≡◌, ◌≤◌, None, option_copied};
 ghost use Rattle.desk.specs.Count.{Rose};
 ghost use Rattle.manifest.specs.Linked.{first_without_card};
 ghost use Rattle.cli_base.specs.Accounts.{IsAccountedFor};
 ghost use Rattle.cli_base.specs.Due.{due, IsOneOrMemory};
 ghost use Rattle.cli_base.specs.Script.{ByDesk, MayOrMemory};
-ghost use Rattle.session_commands.specs.Accepted.{is_accepted};
-ghost use Rattle.session_commands.specs.Open.{IsWithinLimits, Opens, after_ballots, after_manifest, all_digests, opened, script};
+ghost use Rattle.session_commands.specs.Open.{IsWithinLimits, Opens, after_ballots, after_manifest, all_digests, script};
 
 use crate::accepted::unless_accepted;
 use crate::digests::digest_of;
@@ -23,13 +22,16 @@ use sampler::Seed;
 use session_text::print_session;
 use std::alloc::Global;
 
-/// What an audit is opened with: the seed of the draws, the risk limit in millionths, gamma in thousandths, and how many nodes a
-/// check may take.
+/// What an audit is opened with.
 #[derive(Clone, Copy)]
 pub struct Terms {
+    /// The seed of the draws.
     pub seed: Seed,
+    /// The risk limit, in millionths.
     pub limit: u32,
+    /// The factor of the Kaplan-Markov risk, in thousandths.
     pub gamma: u32,
+    /// How many suffixes a check of the assertions may count for one candidate.
     pub nodes: u32,
 }
 
@@ -40,7 +42,7 @@ struct Earlier {
     manifest: [u8; 32],
 }
 
-// With that of the assertion file.
+// The digests of all files, with that of the assertion file.
 fn all_digests(earlier: &Earlier, assertions: &[u8]) -> Digests
     ensures { result ≡ all_digests earlier.now assertions.now }
 {
@@ -64,24 +66,18 @@ pub fn answer<D: Desk>(
     requires { IsWithinLimits terms.now }
     ensures held { D.held desk.new ≡ D.held desk.old }
     ensures later { D.faults desk.old ≤ D.faults desk.new }
-    ensures due { MayOrMemory (ByDesk (D.held desk.old) (Rose (D.faults desk.old) (D.faults desk.new)))
-        (script ballots.now manifest.now assertions.now (option_copied contest.entry) terms.now) (due result) }
-    ensures served { IsAccountedFor (D.served desk.old) (D.served desk.new) (due result).status }
+    ensures due { MayOrMemory
+        (ByDesk (D.held desk.old) (Rose (D.faults desk.old) (D.faults desk.new)))
+        (script ballots.now manifest.now assertions.now (option_copied contest.entry) terms.now)
+        (due result) }
+    ensures served { IsAccountedFor 3 (D.served desk.old) (D.served desk.new) (due result).status }
 {
     let bytes = read_file(alloc, desk, ballots)?;
-    match ballots_in(alloc, ballots, &bytes, contest) {
-        Ok(file) => after_ballots(
-            alloc,
-            desk,
-            ballots,
-            manifest,
-            assertions,
-            terms,
-            &file,
-            digest_of(&bytes),
-        ),
-        Err(refusal) => Err(refusal),
-    }
+    let file = ballots_in(alloc, ballots, &bytes, contest)?;
+    let digest = digest_of(&bytes);
+    after_ballots(
+        alloc, desk, ballots, manifest, assertions, terms, &file, digest,
+    )
 }
 
 // Once the ballots are read, of a file with this name and digest.
@@ -98,29 +94,27 @@ fn after_ballots<D: Desk>(
     requires { IsWithinLimits terms.now }
     ensures held { D.held desk.new ≡ D.held desk.old }
     ensures later { D.faults desk.old ≤ D.faults desk.new }
-    ensures due { MayOrMemory (ByDesk (D.held desk.old) (Rose (D.faults desk.old) (D.faults desk.new)))
-        (after_ballots ballots.now manifest.now assertions.now terms.now file.now digest) (due result) }
-    ensures served { IsAccountedFor (D.served desk.old) (D.served desk.new) (due result).status }
+    ensures due { MayOrMemory
+        (ByDesk (D.held desk.old) (Rose (D.faults desk.old) (D.faults desk.new)))
+        (after_ballots ballots.now manifest.now assertions.now terms.now file.now digest)
+        (due result) }
+    ensures served { IsAccountedFor 2 (D.served desk.old) (D.served desk.new) (due result).status }
 {
     let bytes = read_file(alloc, desk, manifest)?;
-    match cards_for(alloc, ballots, file, manifest, &bytes) {
-        Ok(cards) => {
-            let earlier = Earlier {
-                ballots: digest,
-                manifest: digest_of(&bytes),
-            };
-            after_manifest(
-                alloc,
-                desk,
-                assertions,
-                terms,
-                file,
-                &cards.manifest,
-                &earlier,
-            )
-        }
-        Err(refusal) => Err(refusal),
-    }
+    let cards = cards_for(alloc, ballots, file, manifest, &bytes)?;
+    let earlier = Earlier {
+        ballots: digest,
+        manifest: digest_of(&bytes),
+    };
+    after_manifest(
+        alloc,
+        desk,
+        assertions,
+        terms,
+        file,
+        &cards.manifest,
+        &earlier,
+    )
 }
 
 // Once the ballots have their cards.
@@ -137,25 +131,19 @@ fn after_manifest<D: Desk>(
     requires linked { first_without_card manifest.now ballots.now ≡ None }
     ensures held { D.held desk.new ≡ D.held desk.old }
     ensures later { D.faults desk.old ≤ D.faults desk.new }
-    ensures due { MayOrMemory (ByDesk (D.held desk.old) (Rose (D.faults desk.old) (D.faults desk.new)))
-        (after_manifest assertions.now terms.now ballots.now manifest.now earlier.now) (due result) }
-    ensures served { IsAccountedFor (D.served desk.old) (D.served desk.new) (due result).status }
+    ensures due { MayOrMemory
+        (ByDesk (D.held desk.old) (Rose (D.faults desk.old) (D.faults desk.new)))
+        (after_manifest assertions.now terms.now ballots.now manifest.now earlier.now)
+        (due result) }
+    ensures served { IsAccountedFor 1 (D.served desk.old) (D.served desk.new) (due result).status }
 {
     let bytes = read_file(alloc, desk, assertions)?;
-    match assertions_in(alloc, assertions, &bytes) {
-        Ok(file) => open(
-            alloc,
-            terms,
-            ballots,
-            manifest,
-            &file,
-            all_digests(earlier, &bytes),
-        ),
-        Err(refusal) => Err(refusal),
-    }
+    let file = assertions_in(alloc, assertions, &bytes)?;
+    let digests = all_digests(earlier, &bytes);
+    open(alloc, terms, ballots, manifest, &file, digests)
 }
 
-// The session, where a check accepts the file.
+// The session of these inputs, where a check accepts the file.
 fn open(
     alloc: Global,
     terms: &Terms,
@@ -169,27 +157,9 @@ fn open(
     ensures { IsOneOrMemory (Opens terms.now ballots.now manifest.now file.now digests)
         (due result) }
 {
-    match unless_accepted(alloc, ballots, file, terms.nodes)? {
-        Some(answer) => Ok(answer),
-        None => begin(alloc, terms, ballots, manifest, file, digests),
+    if let Some(answer) = unless_accepted(alloc, ballots, file, terms.nodes)? {
+        return Ok(answer);
     }
-}
-
-// The session of a file that is accepted.
-fn begin(
-    alloc: Global,
-    terms: &Terms,
-    ballots: &Ballots,
-    manifest: &Manifest,
-    file: &AssertionFile,
-    digests: Digests,
-) -> Result<Answer, Refusal>
-    requires limits { IsWithinLimits terms.now }
-    requires linked { first_without_card manifest.now ballots.now ≡ None }
-    requires accepted { IsTrue (is_accepted terms.now.nodes ballots.now file.now) }
-    ensures { IsOneOrMemory (λ verdict. verdict ≡ opened terms.now manifest.now file.now digests)
-        (due result) }
-{
     let _ids = ballots.ids();
     let _margin = file.margin();
     let _claims = file.claims();

@@ -24,10 +24,8 @@ pub(crate) fn same_ballots(
     ensures { IsJudged (same_ballots (asked_by task.now) session.now bytes.now) result }
 {
     let name = task.files.ballots;
-    match same_digest(alloc, name, &session.digests().ballots, bytes) {
-        Ok(()) => ballots_in(alloc, name, bytes, Some(session.contest())),
-        Err(refusal) => Err(refusal),
-    }
+    same_digest(alloc, name, &session.digests().ballots, bytes)?;
+    ballots_in(alloc, name, bytes, Some(session.contest()))
 }
 
 /// The cards of the ballots.
@@ -45,10 +43,8 @@ pub(crate) fn same_manifest(
         (IsStopped (same_manifest (asked_by task.now) session.now ballots.now bytes.now)) }
 {
     let name = task.files.manifest;
-    match same_digest(alloc, name, &session.digests().manifest, bytes) {
-        Ok(()) => cards_for(alloc, task.files.ballots, ballots, name, bytes),
-        Err(refusal) => Err(refusal),
-    }
+    same_digest(alloc, name, &session.digests().manifest, bytes)?;
+    cards_for(alloc, task.files.ballots, ballots, name, bytes)
 }
 
 /// The assertions.
@@ -61,8 +57,6 @@ pub(crate) fn same_assertions(
     ensures { IsJudged (same_assertions (asked_by task.now) session.now bytes.now) result }
 {
     let name = task.files.assertions;
-    match same_digest(alloc, name, &session.digests().assertions, bytes) {
-        Ok(()) => assertions_in(alloc, name, bytes),
-        Err(refusal) => Err(refusal),
-    }
+    same_digest(alloc, name, &session.digests().assertions, bytes)?;
+    assertions_in(alloc, name, bytes)
 }

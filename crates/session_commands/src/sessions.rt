@@ -46,14 +46,11 @@ pub(crate) fn session_to_go_on(
     ensures read { IsJudged (session_to_go_on (asked_by task.now) bytes.now) result }
     ensures fewer { IfOk result (MayGoOn (asked_by task.now)) }
 {
-    match session_in(alloc, task.files.session, bytes) {
-        Ok(session) => {
-            let had = last_draws(&session);
-            if task.draws <= had {
-                return Err(refuse_for(alloc, task.files.session, had_text(alloc, had)));
-            }
-            Ok(session)
-        }
-        Err(refusal) => Err(refusal),
+    let name = task.files.session;
+    let session = session_in(alloc, name, bytes)?;
+    let had = last_draws(&session);
+    if task.draws <= had {
+        return Err(refuse_for(alloc, name, had_text(alloc, had)));
     }
+    Ok(session)
 }

@@ -17,15 +17,14 @@ use std::alloc::Global;
 pub fn answer<D: Desk>(alloc: Global, desk: &mut D, session: &str) -> Result<Answer, Refusal>
     ensures held { D.held desk.new ≡ D.held desk.old }
     ensures later { D.faults desk.old ≤ D.faults desk.new }
-    ensures due { MayOrMemory (ByDesk (D.held desk.old) (Rose (D.faults desk.old) (D.faults desk.new)))
+    ensures due { MayOrMemory
+        (ByDesk (D.held desk.old) (Rose (D.faults desk.old) (D.faults desk.new)))
         (script session.now) (due result) }
-    ensures served { IsAccountedFor (D.served desk.old) (D.served desk.new) (due result).status }
+    ensures served { IsAccountedFor 1 (D.served desk.old) (D.served desk.new) (due result).status }
 {
     let bytes = read_file(alloc, desk, session)?;
-    match session_in(alloc, session, &bytes) {
-        Ok(session) => report(alloc, &session),
-        Err(refusal) => Err(refusal),
-    }
+    let session = session_in(alloc, session, &bytes)?;
+    report(alloc, &session)
 }
 
 fn report(alloc: Global, session: &Session) -> Result<Answer, Refusal>

@@ -32,9 +32,9 @@ pub fn margins()
 
 /// Digits of either case; a letter that is no digit, and two digits too few.
 pub fn digests()
-    ensures either_case { digest (string (codes "2c2C2c2C2c2C2c2C2c2C2c2C2c2C2c2C2c2C2c2C2c2C2c2C2c2C2c2C2c2C2c2C")) ≡ Some (replicate 32 0x2C) }
-    ensures letter { digest (string (codes "2c2c2c2c2c2c2c2c2c2c2c2c2c2c2c2c2c2c2c2c2c2c2c2c2c2c2c2c2c2c2c2g")) ≡ None }
-    ensures too_few { digest (string (codes "2c2c2c2c2c2c2c2c2c2c2c2c2c2c2c2c2c2c2c2c2c2c2c2c2c2c2c2c2c2c2c")) ≡ None }
+    ensures either_case { digest (string examples.of_either_case) ≡ Some (replicate 32 0x2C) }
+    ensures letter { digest (string examples.with_a_letter) ≡ None }
+    ensures too_few { digest (string examples.two_too_few) ≡ None }
 {}
 
 /// The members in another order, and a further one.

@@ -1,83 +1,77 @@
 // The lists of a session: each of their elements is of one kind.
-ghost use Rattle.std.specs.Prelude.{◌≡◌, Some, map, IfOk, IfErr};
+ghost use Rattle.std.specs.Prelude.{◌≡◌, Option, Some, map, IfOk, IfErr};
+ghost use Rattle.serde_json.specs.Data.{Data};
 ghost use Rattle.serde_json.specs.View.{view};
 ghost use Rattle.assertion_file.specs.Stated.{number};
 ghost use Rattle.session_file.specs.Faults.{Refuses};
 ghost use Rattle.session_file.specs.Stated.{counts, each, risk, round};
 
-use crate::{SessionFault, members};
+use crate::SessionFault;
+use crate::members::{self, entry_in};
 use audit_rounds::DoneRound;
 use km_risk::Counts;
 use serde_json::Value;
 use std::alloc::Global;
 
-/// The numbers that the values are.
-pub fn numbers(alloc: Global, values: &[Value]) -> Result<Vec<u32>, SessionFault>
-    ensures read { IfOk result (λ read. each number (map view values.now) ≡ Some read.items) }
-    ensures refused { IfErr result (Refuses (each number (map view values.now))) }
-{
-    let mut read = Vec::new(alloc);
-    for value in values {
-        let Some(number) = members::number(value) else {
+/// What the values of a list may state: all of them are of this kind.
+pub trait Stated: Sized {
+    /// What a value states, if it is of this kind.
+    ghost kind: { Data → Option Self };
+
+    /// What the value states.
+    fn stated(alloc: Global, value: &Value) -> Result<Self, SessionFault>
+        ensures read { IfOk result (λ read. kind (view value.now) ≡ Some read) }
+        ensures refused { IfErr result (Refuses (kind (view value.now))) };
+}
+
+// A margin.
+impl Stated for u32 {
+    ghost kind = { number };
+
+    fn stated(_alloc: Global, value: &Value) -> Result<u32, SessionFault> {
+        members::number(value).ok_or(SessionFault::Refused)
+    }
+}
+
+// A risk.
+impl Stated for u64 {
+    ghost kind = { risk };
+
+    fn stated(_alloc: Global, value: &Value) -> Result<u64, SessionFault> {
+        members::risk(value).ok_or(SessionFault::Refused)
+    }
+}
+
+impl Stated for Counts {
+    ghost kind = { counts };
+
+    fn stated(_alloc: Global, value: &Value) -> Result<Counts, SessionFault> {
+        members::counts(value).ok_or(SessionFault::Refused)
+    }
+}
+
+impl Stated for DoneRound {
+    ghost kind = { round };
+
+    fn stated(alloc: Global, value: &Value) -> Result<DoneRound, SessionFault> {
+        let Some(entry) = entry_in(value) else {
             return Err(SessionFault::Refused);
         };
-        read.push(number)?;
+        let counts = list(alloc, entry.counts)?;
+        let risks = list(alloc, entry.risks)?;
+        Ok(DoneRound::new(entry.draws, counts, risks))
     }
-    Ok(read)
 }
 
-// The risks that the values are.
-fn risks(alloc: Global, values: &[Value]) -> Result<Vec<u64>, SessionFault>
-    ensures read { IfOk result (λ read. each risk (map view values.now) ≡ Some read.items) }
-    ensures refused { IfErr result (Refuses (each risk (map view values.now))) }
+/// What the values state, each of them.
+pub fn list<T: Stated + Drop>(alloc: Global, values: &[Value]) -> Result<Vec<T>, SessionFault>
+    ensures read { IfOk result (λ read. each T.kind (map view values.now) ≡ Some read.items) }
+    ensures refused { IfErr result (Refuses (each T.kind (map view values.now))) }
 {
     let mut read = Vec::new(alloc);
     for value in values {
-        let Some(risk) = members::risk(value) else {
-            return Err(SessionFault::Refused);
-        };
-        read.push(risk)?;
-    }
-    Ok(read)
-}
-
-// The counts that the values are.
-fn counts(alloc: Global, values: &[Value]) -> Result<Vec<Counts>, SessionFault>
-    ensures read { IfOk result (λ read. each counts (map view values.now) ≡ Some read.items) }
-    ensures refused { IfErr result (Refuses (each counts (map view values.now))) }
-{
-    let mut read = Vec::new(alloc);
-    for value in values {
-        let Some(counts) = members::counts(value) else {
-            return Err(SessionFault::Refused);
-        };
-        read.push(counts)?;
-    }
-    Ok(read)
-}
-
-// The round that the value is.
-fn round(alloc: Global, value: &Value) -> Result<DoneRound, SessionFault>
-    ensures read { IfOk result (λ read. round (view value.now) ≡ Some read) }
-    ensures refused { IfErr result (Refuses (round (view value.now))) }
-{
-    let Some(entry) = members::entry_in(value) else {
-        return Err(SessionFault::Refused);
-    };
-    let counts = counts(alloc, entry.counts)?;
-    let risks = risks(alloc, entry.risks)?;
-    Ok(DoneRound::new(entry.draws, counts, risks))
-}
-
-/// The rounds that the values are.
-pub fn rounds(alloc: Global, values: &[Value]) -> Result<Vec<DoneRound>, SessionFault>
-    ensures read { IfOk result (λ read. each round (map view values.now) ≡ Some read.items) }
-    ensures refused { IfErr result (Refuses (each round (map view values.now))) }
-{
-    let mut read = Vec::new(alloc);
-    for value in values {
-        let round = round(alloc, value)?;
-        read.push(round)?;
+        let one = T::stated(alloc, value)?;
+        read.push(one)?;
     }
     Ok(read)
 }

@@ -6,7 +6,7 @@ ghost use Rattle.session_file.specs.Reading.{content_of, content_with, kept, ses
 ghost use Rattle.session_file.specs.Views.{stated_heading};
 
 use crate::SessionFault;
-use crate::lists::{numbers, rounds};
+use crate::lists::list;
 use crate::members::{Heading, heading_in};
 use crate::sound::{are_limits, are_margins, are_rounds};
 use audit_rounds::{DoneRound, Session, signed_off};
@@ -60,8 +60,8 @@ fn content_of(alloc: Global, value: &Value) -> Result<Session, SessionFault>
     let Some(heading) = heading_in(value) else {
         return Err(SessionFault::Refused);
     };
-    let margins = numbers(alloc, heading.margins)?;
-    let rounds = rounds(alloc, heading.rounds)?;
+    let margins = list(alloc, heading.margins)?;
+    let rounds = list(alloc, heading.rounds)?;
     let Some(session) = kept(&heading, margins, rounds) else {
         return Err(SessionFault::Refused);
     };

@@ -1,6 +1,6 @@
 use Rattle.std.proofs.Common.{ap, ◌∙◌}
 use Rattle.irv_base.specs.Names.{is_name}
-use Rattle.contest_commands.proofs.Numbered.{decimal_is_name, read_some}
+use Rattle.contest_commands.proofs.TrialCandidates.{decimal_is_name, read_some}
 use Rattle.contest_commands.proofs.trial_texts.numeral.Goals as goal
 
 pub unwrap-requires : goal.unwrap-requires

@@ -1,4 +1,4 @@
-use Rattle.contest_commands.proofs.Numbered.{named_are_candidates, below_named}
+use Rattle.contest_commands.proofs.TrialCandidates.{named_are_candidates, below_named}
 use Rattle.contest_commands.proofs.trials.find_in.Goals as goal
 
 pub new-requires-clause-candidates : goal.new-requires-clause-candidates

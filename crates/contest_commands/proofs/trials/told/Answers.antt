@@ -9,12 +9,12 @@ use Rattle.contest_commands.specs.Found.{FoundIn}
 use Rattle.contest_commands.specs.Search.{HasSpent, spent_lines}
 use Rattle.contest_commands.specs.Trial.{contest_of, search_of, HasLines, Tries}
 use Rattle.contest_commands.proofs.Contests.{tie_told}
-use Rattle.contest_commands.proofs.Numbered.{length-numbered}
+use Rattle.contest_commands.proofs.TrialCandidates.{length-trial_candidates}
 use Rattle.contest_commands.proofs.trials.told.Goals as goal
 
 pub first_tie-requires : goal.first_tie-requires
 first_tie-requires c =
-    let long = ap length c.requires.names ∙ length-numbered c.args.terms.candidates in
+    let long = ap length c.requires.names ∙ length-trial_candidates c.args.terms.candidates in
     let most = c.requires.candidates in
     omega (arith, long, most)
 

@@ -5,8 +5,8 @@ use Rattle.session_commands.specs.Report.{reported, session_in}
 use Rattle.session_commands.proofs.Going.{read_last}
 use Rattle.session_commands.proofs.tell.answer.Goals as goal
 
-pub returns-in-Ok-clause-due : goal.returns-in-Ok-clause-due
-returns-in-Ok-clause-due g c =
+pub returns-clause-due : goal.returns-clause-due
+returns-clause-due g c =
     let name = c.args.session.now in
     read_last _ _ _ name c.in_ok-bytes.bytes.items (session_in name) (λ bytes content. ends (reported content)) c.in_ok-bytes.ensures.read _ (due c.report.result)
-    (ap (session_in name) (sym c.deref.ensures.value) ∙ c.in-Ok.ensures) c.report.ensures
+    (ap (session_in name) (sym c.deref.ensures.value) ∙ c.in_ok-session.ensures) c.report.ensures

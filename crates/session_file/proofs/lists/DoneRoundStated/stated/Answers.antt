@@ -4,7 +4,7 @@ use Rattle.std.proofs.lemmas.Result.{err_from_is_err_and}
 use Rattle.serde_json.specs.View.{view}
 use Rattle.session_file.specs.Views.{stated_entry}
 use Rattle.session_file.proofs.Rounds.{a_round, no_counts, no_entry, no_risks}
-use Rattle.session_file.proofs.lists.round.Goals as goal
+use Rattle.session_file.proofs.lists.DoneRoundStated.stated.Goals as goal
 
 pub returns-in_default-clause-refused : goal.returns-in_default-clause-refused
 returns-in_default-clause-refused c = no_entry (view c.args.value.now) (sym c.entry_in.ensures ∙ ap (option_map stated_entry) c.in_default.is)

@@ -11,7 +11,7 @@ use Rattle.irv_base.specs.Names.{Id, is_among, is_name, is_name_byte, is_same, h
 use Rattle.irv_base.specs.declared.limits.TheConstants.{FEWEST_CANDIDATES, MOST_CANDIDATES, MOST_NAME_BYTES}
 use Rattle.csv_rows.proofs.Numbers.{AreDigits, own}
 use Rattle.ballot_reader.specs.Ballots.{AreCandidates}
-use Rattle.contest_commands.specs.Trial.{numbered}
+use Rattle.contest_commands.specs.Trial.{trial_candidates}
 
 -- ---- a number in digits is an id
 
@@ -43,11 +43,11 @@ decimal_is_name n small =
 
 -- ---- one more
 
-pub length-numbered : (n : ℕ) → length (numbered n) ≡ n
-length-numbered n = length-map-range_with_len (λ c. decimal (c + 1)) 0 n
+pub length-trial_candidates : (n : ℕ) → length (trial_candidates n) ≡ n
+length-trial_candidates n = length-map-range_with_len (λ c. decimal (c + 1)) 0 n
 
-pub numbered-more : (n : ℕ) → numbered (n + 1) ≡ numbered n ++ decimal (n + 1) ∷ []
-numbered-more n = map-range_with_len_more (λ c. decimal (c + 1)) 0 n n (omega arith)
+pub trial_candidates-more : (n : ℕ) → trial_candidates (n + 1) ≡ trial_candidates n ++ decimal (n + 1) ∷ []
+trial_candidates-more n = map-range_with_len_more (λ c. decimal (c + 1)) 0 n n (omega arith)
 
 -- ---- they differ
 
@@ -73,18 +73,18 @@ differ-from first (suc n) small =
     and_from (not (is_among (from (first + 1) n) (decimal (first + 1)))) (all_differ (from (first + 1) n))
     (ap not (none_among first (first + 1) n (omega arith) (omega (arith, small)))) (differ-from (first + 1) n (omega (arith, small)))
 
-pub numbered_are_candidates : (n : ℕ) → FEWEST_CANDIDATES ≤ n → n ≤ MOST_CANDIDATES → AreCandidates (numbered n)
-numbered_are_candidates n fewest most =
-    let long = length-numbered n in
+pub trial_candidates_are_candidates : (n : ℕ) → FEWEST_CANDIDATES ≤ n → n ≤ MOST_CANDIDATES → AreCandidates (trial_candidates n)
+trial_candidates_are_candidates n fewest most =
+    let long = length-trial_candidates n in
     record { fewest = omega (arith, fewest, long); most = omega (arith, most, long); differ = differ-from 0 n (omega (arith, most)) }
 
-pub named_are_candidates : (n : ℕ) (names : List Id) → names ≡ numbered n → FEWEST_CANDIDATES ≤ n → n ≤ MOST_CANDIDATES → AreCandidates names
-named_are_candidates n names named fewest most = subst AreCandidates (sym named) (numbered_are_candidates n fewest most)
+pub named_are_candidates : (n : ℕ) (names : List Id) → names ≡ trial_candidates n → FEWEST_CANDIDATES ≤ n → n ≤ MOST_CANDIDATES → AreCandidates names
+named_are_candidates n names named fewest most = subst AreCandidates (sym named) (trial_candidates_are_candidates n fewest most)
 
-pub below_named : (n : ℕ) (names : List Id) (records read : List (List ℕ)) → names ≡ numbered n → read ≡ records → All (λ ranking. All (λ c. c < n) ranking) records →
+pub below_named : (n : ℕ) (names : List Id) (records read : List (List ℕ)) → names ≡ trial_candidates n → read ≡ records → All (λ ranking. All (λ c. c < n) ranking) records →
     All (λ ranking. All (λ c. c < length names) ranking) read
 below_named n names records read named same below =
-    let long : n ≡ length names = sym (ap length named ∙ length-numbered n) in
+    let long : n ≡ length names = sym (ap length named ∙ length-trial_candidates n) in
     subst (λ read. All (λ ranking. All (λ c. c < length names) ranking) read) (sym same) (subst (λ m. All (λ ranking. All (λ c. c < m) ranking) records) long below)
 
 -- ---- an id that is read

@@ -1,17 +1,18 @@
 -- The clauses of `run`, each from how the call went.
-use Rattle.std.proofs.Common.{◌≡◌, ◌⊎◌, inl, inr, ⊎_elim, ℕ, List, Option, None, Some, IfSome, false, refl, sym, subst, ◌∙◌, arith}
+use Rattle.std.proofs.Common.{◌≡◌, ◌⊎◌, inl, inr, ⊎_elim, ℕ, List, Option, None, Some, IfSome, false, refl, sym, ap, subst, ◌∙◌, arith}
 use Rattle.std.specs.Prelude.{◌≢◌, is_some}
 use Rattle.desk.specs.Desk.{File}
 use Rattle.assertion_file.specs.Content.{Content}
 use Rattle.assertion_file.specs.Text.{assertion_file_text}
 use Rattle.cli_base.specs.Outcome.{Answered}
-use Rattle.cli_base.specs.Script.{AsHeld, ComesTo, AgreeOn, Same}
+use Rattle.cli_base.specs.Script.{AsHeld, ByDesk, IsDue, ComesTo, AgreeOn, Same}
 use Rattle.cli_base.specs.Ends.{Writing, Took}
 use Rattle.cli_base.specs.Statuses.{IsUndone, IsQuiet, Exactly, ExactlyInBudget, IsNothing, HasAnswer, Statuses}
 use Rattle.cli_base.specs.Story.{Story}
 use Rattle.cli_base.specs.declared.outcome.AnswerKind.{AnswerKind}
 use Rattle.cli_base.specs.declared.outcome.AnswerKind.TheVariants.{Done, Spent, FullCount, Unconfirmed}
 use Rattle.session_commands.specs.Audit.{kind_of}
+use Rattle.cli_base.proofs.Statuses.{status_in}
 use Rattle.cli_base.proofs.Clauses.{statuses_clause, exact_clause, answered_with, undone_is_nine}
 use Rattle.command_line.specs.Line.{command_of, is_line}
 use Rattle.command_line.specs.declared.command.Command.{Command}
@@ -23,7 +24,7 @@ use Rattle.session_text.specs.Text.{session_text}
 use Rattle.raire_cli.specs.Answers.{asked, asked_by, is_open}
 use Rattle.raire_cli.specs.Confirmation.{AsksForSearch, ConfirmsAsked, GivesReason, IsConfirmed, IsReasoned}
 use Rattle.raire_cli.specs.Acceptance.{AsksForCheck, HoldsAsked, IsUpheld}
-use Rattle.raire_cli.specs.Promises.{IsSearchable, IsComplete, IsExactUnlessOpen, HasCause}
+use Rattle.raire_cli.specs.Promises.{IsSearchable, IsComplete, IsTrialComplete, IsExactUnlessOpen, HasCause}
 use Rattle.raire_cli.specs.Audits.{AsksForAudit, GoesOn, IsAudited}
 use Rattle.raire_cli.specs.Enough.{AreEnough, Judging, IsNeverSpent, judging_of}
 use Rattle.raire_cli.specs.Openings.{AsksForOpening, Opens, IsOpened}
@@ -33,7 +34,7 @@ use Rattle.raire_cli.proofs.Enough.{never_spent}
 use Rattle.raire_cli.proofs.Limited.{limited}
 use Rattle.raire_cli.proofs.Opened.{is_opened}
 use Rattle.raire_cli.proofs.EachCommand.{agrees_by, agrees_exactly, counts_in_full}
-use Rattle.raire_cli.proofs.Complete.{not_spent, has_answer}
+use Rattle.raire_cli.proofs.Complete.{not_spent, has_answer, tried}
 use Rattle.raire_cli.proofs.Headline.{confirms_asked, gives_reason}
 
 if_some : {A : Type 0} (o : Option A) (P Q : A → Type 0) → ((x : A) → P x → Q x) → IfSome o P → IfSome o Q
@@ -151,3 +152,15 @@ module _ (words : List (List ℕ)) {held : Option (List File)} {failed : Type 0}
         | inl answer ↦ ⊎_elim (λ zero. inl zero) (λ nine. inr (inr nine)) (settled files ok quiet spent (done.1 answer))
         | inr count ↦ ⊎_elim (λ five. inr (inl five)) (λ nine. inr (inr nine)) (settled files ok quiet spent (full.1 count))
       ]
+
+  -- ---- a trial that can't be spent
+
+  pub complete_trial_clause : IsTrialComplete words failed status out err
+  complete_trial_clause ok quiet = elim story.written [
+    | inl whole ↦ subst (λ s. (s ≡ 0) ⊎ (s ≡ 3) ⊎ (s ≡ 9)) (sym whole.ends) (by story.is_due)
+    | inr cut ↦ absurd (⊎_elim quiet.sink_out quiet.sink_err cut.cause)
+  ]
+    where
+      by : IsDue (ByDesk held failed) (asked words) story.due → (story.due.status ≡ 0) ⊎ (story.due.status ≡ 3) ⊎ (story.due.status ≡ 9)
+      by (inl may) = ⊎_elim (λ zero. inl zero) (λ three. inr (inl three)) (tried words ok (ByDesk held failed) story.due may)
+      by (inr memory) = inr (inr (ap status_in memory))

@@ -1,25 +1,27 @@
--- A search whose budget is large enough isn't spent.
+-- A search or a trial whose budget is large enough isn't spent.
 use Rattle.std.proofs.Common.{◌≡◌, ◌⊎◌, inl, inr, ◌≤◌, ◌<◌, ℕ, List, Some, length, if◌then◌else◌, refl, sym, ◌∙◌, ap, subst, arith, le-leb}
 use Rattle.std.proofs.lemmas.Bool.Decides.{leb_tells}
 use Rattle.desk.specs.Desk.{File, held_bytes}
 use Rattle.ballot_reader.specs.Grammar.{ballots_of}
 use Rattle.assertion_file.specs.Text.{assertion_file_text}
-use Rattle.cli_base.specs.Outcome.{Verdict, Answered}
-use Rattle.cli_base.specs.Script.{Bytes, TooLong, AsHeld, ComesTo, reading_of, limit}
+use Rattle.cli_base.specs.Outcome.{Outcome, Verdict, Answered, outcome}
+use Rattle.cli_base.specs.Script.{Bytes, TooLong, Readings, AsHeld, MayCome, ComesTo, reading_of, limit}
 use Rattle.cli_base.specs.Statuses.{HasAnswer}
 use Rattle.cli_base.specs.declared.outcome.AnswerKind.TheVariants.{Done, Spent, FullCount}
 use Rattle.contest_commands.specs.Contest.{IsOther}
 use Rattle.contest_commands.specs.Search.{certificate_nodes, nodes_for, full_count_text, IsInBudget, HasCertificate, HasSpent, HasFullCount, Finds, FindsIn}
+use Rattle.contest_commands.specs.Trial.{contest_of, search_of, Tries}
 use Rattle.contest_commands.proofs.Contests.{winner-one, same_tabulated}
 use Rattle.contest_commands.proofs.Nodes.{spent_above}
 use Rattle.contest_commands.proofs.ReadBallots.{ballots_fit}
 use Rattle.contest_commands.proofs.Searches.{won-certificate, spent_is}
 use Rattle.cli_base.proofs.Scripts.{some_is}
+use Rattle.cli_base.proofs.Statuses.{status_in}
 use Rattle.raire_cli.specs.Answers.{asked, asked_by}
-use Rattle.raire_cli.specs.Promises.{IsSearchable}
+use Rattle.raire_cli.specs.Promises.{IsSearchable, IsTriable, terms_of}
 use Rattle.raire_cli.proofs.Headline.{terms, search_came}
 
-read_whole : (name : List ℕ) (files : List File) (bytes : List ℕ) → held_bytes name files ≡ Some bytes → length bytes ≤ limit → Bytes bytes ≡ reading_of (held_bytes name files)
+pub read_whole : (name : List ℕ) (files : List File) (bytes : List ℕ) → held_bytes name files ≡ Some bytes → length bytes ≤ limit → Bytes bytes ≡ reading_of (held_bytes name files)
 read_whole name files bytes held short =
     sym (ap reading_of held ∙ ap (λ b. if b then Bytes bytes else TooLong) (le-leb (length bytes) limit short))
 
@@ -81,3 +83,25 @@ module _ (words : List (List ℕ)) (files : List File) (ok : IsSearchable words 
             let has : HasFullCount (terms words files search) ok.ballots text = record { file = file; is = is; budget = budget; floor = lt; shown = refl } in
             inr (text, comes_there (Answered FullCount text) (inr (inr (inr (text, has, refl)))))
       ]
+
+-- ---- a trial
+
+module _ (words : List (List ℕ)) (ok : IsTriable words) where
+  enough_tried : (text : List ℕ) → HasSpent (search_of (terms_of ok.trial)) (contest_of (terms_of ok.trial)) text → ⊥
+  enough_tried text spent =
+      let contest = contest_of (terms_of ok.trial) in
+      let is = spent.is in
+      let enough : nodes_for contest is.won.order is.winner spent.last ≤ ok.trial.nodes = ok.budget is.winner spent.last is.won is.named in
+      let above : ok.trial.nodes < nodes_for contest is.won.order is.winner spent.last =
+      spent_above ok.trial.nodes contest spent.last spent.order spent.margin is in
+      omega (arith, enough, above)
+
+  -- it has its lines, or a tie
+  pub tried : (readings : Readings) (due : Outcome) → MayCome readings (asked words) due → (due.status ≡ 0) ⊎ (due.status ≡ 3)
+  tried readings due may =
+      let (v, tries, is) = subst (λ command. MayCome readings (asked_by command) due) ok.trial.asked may in by v tries is
+    where
+      by : (v : Verdict) → Tries (terms_of ok.trial) v → due ≡ outcome v → (due.status ≡ 0) ⊎ (due.status ≡ 3)
+      by v (inl (text, lines, e)) is = inl (ap status_in (is ∙ ap outcome e))
+      by v (inr (inl (text, tie, e))) is = inr (ap status_in (is ∙ ap outcome e))
+      by v (inr (inr (text, spent, e))) is = absurd (enough_tried text spent)

@@ -13,5 +13,6 @@ mod Clauses
 mod Nodes
 mod Agreement
 mod Ended
+mod PrintedFiles
 mod Unconfirmed
 mod EachStatus

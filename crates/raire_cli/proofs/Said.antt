@@ -1,5 +1,5 @@
 -- What was said of files where a command answers.
-use Rattle.std.proofs.Common.{◌≡◌, inl, inr, ℕ, ◌+◌, ◌<◌, Bool, true, false, if◌then◌else◌, List, [], ◌∷◌, take, Option, None, Some, Result, Ok, Err, refl, sym, ap, ◌∙◌}
+use Rattle.std.proofs.Common.{◌≡◌, inl, inr, ℕ, ◌+◌, ◌<◌, Bool, true, false, if◌then◌else◌, List, [], ◌∷◌, take, Option, None, Some, Result, Ok, Err, refl, sym, ap, subst, ◌∙◌}
 use Rattle.std.specs.Prelude.{ok_or, option_map, find}
 use Rattle.std.specs.List.{range_with_len}
 use Rattle.std.proofs.lemmas.Bool.{cases_Bool}
@@ -17,8 +17,8 @@ use Rattle.audit_session.specs.declared.fault.AdvanceFault.{AdvanceFault}
 use Rattle.audit_session.specs.declared.fault.AdvanceFault.TheVariants.{Smaller, NoRecord, Changed}
 use Rattle.sampler.specs.Draws.{drawn_card}
 use Rattle.seen_file.specs.Seen.{Entry}
-use Rattle.cli_base.specs.Outcome.{Verdict, Answered, Refused}
-use Rattle.cli_base.specs.Script.{Script, Readings, Concludes}
+use Rattle.cli_base.specs.Outcome.{Outcome, Verdict, Answered, Refused}
+use Rattle.cli_base.specs.Script.{Script, Readings, Concludes, May}
 use Rattle.cli_base.specs.declared.outcome.AnswerKind.{AnswerKind}
 use Rattle.session_commands.specs.Judged.{told, unless, then_judged, go_on}
 use Rattle.session_commands.specs.Refusals.{other_digest, other_facts, differs_text, refused_by}
@@ -30,6 +30,11 @@ pub said : {A : Type 0} (readings : Readings) (judged : Result A Verdict) (next 
 said readings (Ok value) next kind text only comes = (value, refl, comes)
 said readings (Err (Answered k t)) next kind text only comes = absurd only
 said readings (Err (Refused name t)) next kind text only comes = absurd (cc comes)
+
+-- what is said is gone on with
+pub going : {A : Type 0} (readings : Readings) (judged : Result A Verdict) (value : A) (next : A → Script) (due : Outcome) → judged ≡ Ok value → May readings (next value) due →
+    May readings (go_on judged next) due
+going readings judged value next due is may = subst (λ j. May readings (go_on j next) due) (sym is) may
 
 pub told_ok : {A Why : Type 0} (words : Why → Verdict) (read : Result A Why) (value : A) → told words read ≡ Ok value → read ≡ Ok value
 told_ok words (Ok v) value is = cc is

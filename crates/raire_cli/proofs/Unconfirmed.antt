@@ -46,6 +46,7 @@ use Rattle.raire_cli.specs.Agreement.{MayBeSpent}
 use Rattle.raire_cli.specs.EachStatus.{EndsWith, IsOfSome}
 use Rattle.raire_cli.proofs.Agreement.{not_spent}
 use Rattle.raire_cli.proofs.Ended.{ends_with}
+use Rattle.raire_cli.proofs.Said.{going}
 
 -- ---- its files
 
@@ -222,9 +223,6 @@ verdict = verdict_of asks (next_session asks session file compared)
 verdict_status : (outcome verdict).status ≡ 10
 unfolding first_words schedule rounds compress hash_after digest_bytes sha256 digits printed_risk
 verdict_status = refl
-
-going : {A : Type 0} (readings : Readings) (judged : Result A Verdict) (value : A) (next : A → Script) (due : Outcome) → judged ≡ Ok value → May readings (next value) due → May readings (go_on judged next) due
-going readings judged value next due is may = subst (λ j. May readings (go_on j next) due) (sym is) may
 
 to_go_on : session_to_go_on asks session_bytes ≡ Ok session
 to_go_on = rw session_read refl

@@ -1,5 +1,5 @@
 -- What the words of a call ask for: a command is the files that it reads, one after the other, and what it comes to.
-use Rattle.std.specs.Prelude.{ℕ, Bool, true, false, List, Option, None, Some}
+use Rattle.std.specs.Prelude.{ℕ, Bool, true, false, List, [], ◌∷◌, length, Option, None, Some}
 use Rattle.cli_base.specs.Script.{Script, Asked, Nothing, Runs}
 use Rattle.command_line.specs.Line.{command_of}
 use Rattle.command_line.specs.declared.command.Command.{Command}
@@ -33,6 +33,26 @@ asked_by (Some command) = Runs (script_of command)
 
 abbrev pub asked : List (List ℕ) → Asked
 asked words = asked_by (command_of words)
+
+-- the files of a command by their names, in the order in which it reads them
+abbrev pub files_of : Command → List (List ℕ)
+files_of (Search ballots contest workers nodes floor) = ballots ∷ []
+files_of (Tabulate ballots contest) = ballots ∷ []
+files_of (Check ballots assertions contest nodes) = ballots ∷ assertions ∷ []
+files_of (Sample manifest seed draws) = manifest ∷ []
+files_of (Plan manifest assertions limit gamma) = manifest ∷ assertions ∷ []
+files_of (Open ballots manifest assertions seed contest limit gamma nodes) = ballots ∷ manifest ∷ assertions ∷ []
+files_of (Audit session ballots manifest assertions seen draws nodes) = session ∷ ballots ∷ manifest ∷ assertions ∷ seen ∷ []
+files_of (Report session) = session ∷ []
+files_of (Trial number candidates ballots workers nodes) = []
+
+-- how many files the words name
+abbrev pub count_of : Option Command → ℕ
+count_of None = 0
+count_of (Some command) = length (files_of command)
+
+abbrev pub file_count : List (List ℕ) → ℕ
+file_count words = count_of (command_of words)
 
 -- a budget may leave open what the command comes to
 abbrev pub is_open : Command → Bool

@@ -7,21 +7,16 @@ use Rattle.audit_rounds.specs.Sessions.{is_signed_off}
 use Rattle.audit_laws.specs.Laws.{AreTrueEntries}
 use Rattle.audit_laws.specs.RiskLimit.{MayBeSignedOff}
 use Rattle.ballot_reader.specs.Ballots.{BallotFile}
-use Rattle.bound_search.specs.declared.limits.TheConstants.{MOST_WORKERS as MOST_OF_A_RACE}
 use Rattle.cli_base.specs.Outcome.{Outcome}
 use Rattle.cli_base.specs.Script.{AsHeld, ByDesk, IsDue, MayCome, SameButBudget}
 use Rattle.command_line.specs.Line.{command_of}
 use Rattle.command_line.specs.declared.command.Command.TheVariants.{Search, Trial}
-use Rattle.command_line.specs.declared.limits.TheConstants.{DEFAULT_NODES, MOST_WORKERS}
+use Rattle.command_line.specs.declared.limits.TheConstants.{DEFAULT_NODES}
 use Rattle.irv_base.specs.Names.{Id}
 use Rattle.raire_cli.specs.Answers.{asked}
 use Rattle.contest_commands.specs.Contest.{candidate_count, IsOther}
 use Rattle.contest_commands.specs.Search.{nodes_for}
 use Rattle.raire_cli.specs.Audits.{GoesOn, cards, drawn}
-
--- A line may ask for as many workers as a race may have.
-abbrev pub WorkersOfARace : Type 0
-WorkersOfARace = MOST_WORKERS ≡ MOST_OF_A_RACE
 
 -- the words ask for a search with so many workers, all else being this
 abbrev pub AskForWorkers : List ℕ → Option Id → ℕ → ℕ → ℕ → List (List ℕ) → Type 0

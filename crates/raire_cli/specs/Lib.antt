@@ -8,3 +8,4 @@ pub mod Promises
 pub mod Laws
 pub mod Agreement
 pub mod EachStatus
+pub mod PrintedFiles

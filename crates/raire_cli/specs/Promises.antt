@@ -7,8 +7,11 @@ use Rattle.cli_base.specs.Ends.{Writing}
 use Rattle.cli_base.specs.Statuses.{IsQuiet, Exactly, IsExact, Statuses}
 use Rattle.command_line.specs.Line.{command_of, is_line}
 use Rattle.command_line.specs.declared.command.Command.{Command}
-use Rattle.contest_commands.specs.Contest.{IsOther}
+use Rattle.command_line.specs.declared.command.Command.TheVariants.{Trial}
+use Rattle.contest_commands.specs.Contest.{IsOther, IsWon}
 use Rattle.contest_commands.specs.Search.{nodes_for}
+use Rattle.contest_commands.specs.Trial.{contest_of}
+use Rattle.contest_commands.specs.declared.trials.Terms.{Terms}
 use Rattle.raire_cli.specs.Answers.{asked, is_open}
 use Rattle.raire_cli.specs.Confirmation.{AsksFor}
 
@@ -25,6 +28,35 @@ pub record IsSearchable (words : List (List ℕ)) (files : List File) : Type 0 w
 abbrev pub IsComplete : Option (List File) → List (List ℕ) → Type 0 → ℕ → Writing → Writing → Type 0
 IsComplete held words failed status out err = IfSome held (λ files. IsSearchable words files → IsQuiet failed out err →
     (status ≡ 0) ⊎ (status ≡ 5) ⊎ (status ≡ 9))
+
+-- the words ask for a trial
+pub record AsksForTrial (words : List (List ℕ)) : Type 0 where
+  pub number : ℕ
+  pub candidates : ℕ
+  pub ballots : ℕ
+  pub workers : ℕ
+  pub nodes : ℕ
+  pub asked : command_of words ≡ Some (Trial number candidates ballots workers nodes)
+
+-- its number, how many candidates and ballots it has, and its nodes
+abbrev pub terms_of : {words : List (List ℕ)} → AsksForTrial words → Terms
+terms_of trial = record {
+  number = trial.number;
+  candidates = trial.candidates;
+  ballots = trial.ballots;
+  nodes = trial.nodes;
+}
+
+-- The words ask for a trial. Where its contest has no tie, the budget has as many nodes as may be needed for each candidate who
+-- didn't win.
+pub record IsTriable (words : List (List ℕ)) : Type 0 where
+  pub trial : AsksForTrial words
+  pub budget : (winner c : ℕ) (won : IsWon (contest_of (terms_of trial)) winner) → IsOther (contest_of (terms_of trial)) winner c →
+      nodes_for (contest_of (terms_of trial)) won.order winner c ≤ trial.nodes
+
+-- Such a trial ends with its lines or with a tie, if memory was found and no count of faults rose.
+abbrev pub IsTrialComplete : List (List ℕ) → Type 0 → ℕ → Writing → Writing → Type 0
+IsTrialComplete words failed status out err = IsTriable words → IsQuiet failed out err → (status ≡ 0) ⊎ (status ≡ 3) ⊎ (status ≡ 9)
 
 -- Of each command but those that search, each answer comes exactly where that is what the files make it.
 abbrev pub IsExactUnlessOpen : Option (List File) → List (List ℕ) → ℕ → Type 0

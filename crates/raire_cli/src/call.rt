@@ -10,12 +10,12 @@ ghost use Rattle.cli_base.specs.Statuses.{IsAnswered, IsForErr};
 ghost use Rattle.cli_base.specs.Story.{Story};
 ghost use Rattle.command_line.specs.Words.{texts};
 ghost use Rattle.raire_cli.specs.Acceptance.{IsUpheld};
-ghost use Rattle.raire_cli.specs.Answers.{asked};
+ghost use Rattle.raire_cli.specs.Answers.{asked, file_count};
 ghost use Rattle.raire_cli.specs.Audits.{IsAudited};
 ghost use Rattle.raire_cli.specs.Confirmation.{IsConfirmed, IsReasoned};
 ghost use Rattle.raire_cli.specs.Enough.{IsNeverSpent};
 ghost use Rattle.raire_cli.specs.Openings.{IsOpened};
-ghost use Rattle.raire_cli.specs.Promises.{IsComplete, IsExactUnlessOpen, HasCause};
+ghost use Rattle.raire_cli.specs.Promises.{IsComplete, IsTrialComplete, IsExactUnlessOpen, HasCause};
 
 use crate::commands::answer_command;
 use cli_base::{Answer, Refusal, deliver};
@@ -58,6 +58,11 @@ pub fn run<R: AllocGlobal + Threads + Sync, D: Desk, O: Sink, E: Sink, G: Gate +
     ensures complete { IsComplete (D.held desk.old) (texts words.now) (Rose (D.faults desk.old) (D.faults desk.new))
         result (writing O.Sink out.old out.new) (writing E.Sink err.old err.new) }
 
+    // A trial ends with its lines or with its first tie, whatever the desk holds, if its budget suffices.
+    ensures complete_trial { IsTrialComplete (texts words.now)
+        (Rose (D.faults desk.old) (D.faults desk.new)) result
+        (writing O.Sink out.old out.new) (writing E.Sink err.old err.new) }
+
     // With enough nodes no check is spent, also where a session is opened or goes on.
     ensures enough { IsNeverSpent (D.held desk.old) (texts words.now) result }
 
@@ -81,8 +86,10 @@ pub fn run<R: AllocGlobal + Threads + Sync, D: Desk, O: Sink, E: Sink, G: Gate +
     // No budget leaves open what another command than a search or a trial comes to.
     ensures exact { IsExactUnlessOpen (D.held desk.old) (texts words.now) result }
 
-    // 11 and 12 come exactly where the desk served so, told or not told what it holds.
-    ensures served { IsAccountedFor (D.served desk.old) (D.served desk.new) result }
+    // 11 and 12 come exactly where the desk served so, told or not told what it holds. At most as many files are begun as the words
+    // name, and with status 0 as many.
+    ensures served { IsAccountedFor (file_count (texts words.now))
+        (D.served desk.old) (D.served desk.new) result }
 
     // 1, 2, 7, 9, 11 and 12 leave `out` as it was.
     ensures kept { IsForErr result → Keeps (O.taken out.old) (O.taken out.new) }
@@ -101,7 +108,8 @@ fn perform<R: AllocGlobal + Threads + Sync, D: Desk, O: Sink, E: Sink, G: Gate +
 ) -> u8
     ensures story { Story (asked (texts words.now)) (D.held desk.old) (Rose (D.faults desk.old) (D.faults desk.new)) result
         (writing O.Sink out.old out.new) (writing E.Sink err.old err.new) }
-    ensures served { IsAccountedFor (D.served desk.old) (D.served desk.new) result }
+    ensures served { IsAccountedFor (file_count (texts words.now))
+        (D.served desk.old) (D.served desk.new) result }
     ensures held { D.held desk.new ≡ D.held desk.old }
 {
     let said = answer(rt, words, desk, gate);
@@ -118,7 +126,8 @@ fn answer<R: AllocGlobal + Threads + Sync, D: Desk, G: Gate + Sync>(
     ensures later { D.faults desk.old ≤ D.faults desk.new }
     ensures due { IsDue (ByDesk (D.held desk.old) (Rose (D.faults desk.old) (D.faults desk.new)))
         (asked (texts words.now)) (due result) }
-    ensures served { IsAccountedFor (D.served desk.old) (D.served desk.new) (due result).status }
+    ensures served { IsAccountedFor (file_count (texts words.now))
+        (D.served desk.old) (D.served desk.new) (due result).status }
 {
     match read(rt.alloc(), words)? {
         Some(command) => answer_command(rt, &command, desk, gate),

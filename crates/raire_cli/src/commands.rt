@@ -1,11 +1,11 @@
 // Where commands are told apart.
-ghost use Rattle.std.specs.Prelude.{◌≡◌, ◌≤◌};
+ghost use Rattle.std.specs.Prelude.{◌≡◌, ◌≤◌, length};
 ghost use Rattle.desk.specs.Count.{Rose};
 ghost use Rattle.cli_base.specs.Accounts.{IsAccountedFor};
 ghost use Rattle.cli_base.specs.Script.{ByDesk, MayOrMemory};
 ghost use Rattle.cli_base.specs.Due.{due};
 ghost use Rattle.command_line.specs.Laws.{IsChecked};
-ghost use Rattle.raire_cli.specs.Answers.{script_of};
+ghost use Rattle.raire_cli.specs.Answers.{files_of, script_of};
 
 use audit_commands::{plan, sample};
 use cli_base::{Answer, Refusal};
@@ -27,7 +27,8 @@ pub(crate) fn answer_command<R: AllocGlobal + Threads + Sync, D: Desk, G: Gate +
     ensures later { D.faults desk.old ≤ D.faults desk.new }
     ensures due { MayOrMemory (ByDesk (D.held desk.old) (Rose (D.faults desk.old) (D.faults desk.new)))
         (script_of command.now) (due result) }
-    ensures served { IsAccountedFor (D.served desk.old) (D.served desk.new) (due result).status }
+    ensures served { IsAccountedFor (length (files_of command.now))
+        (D.served desk.old) (D.served desk.new) (due result).status }
 {
     let alloc = rt.alloc();
     match command {

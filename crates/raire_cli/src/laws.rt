@@ -1,12 +1,8 @@
 //! The laws of the top call: each holds of every value that it names, and has no code.
 ghost use Rattle.raire_cli.specs.Agreement.{SameFilesSameAnswer};
 ghost use Rattle.raire_cli.specs.EachStatus.{EachStatus};
-ghost use Rattle.raire_cli.specs.Laws.{WorkersOfARace, WorkersAskTheSame, WorkersComeToTheSame, TrialsComeToTheSame, DefaultSuffices, SignedOffIsCounted};
-
-/// A line may ask for as many workers as a race may have.
-pub fn workers_of_a_race()
-    ensures { WorkersOfARace }
-{}
+ghost use Rattle.raire_cli.specs.Laws.{WorkersAskTheSame, WorkersComeToTheSame, TrialsComeToTheSame, DefaultSuffices, SignedOffIsCounted};
+ghost use Rattle.raire_cli.specs.PrintedFiles.{PrintedIsAccepted, PrintedIsOpened};
 
 /// What a search may come to, searches that differ from it in their number of workers alone may come to.
 pub fn workers_ask_the_same()
@@ -37,6 +33,18 @@ pub fn signed_off_is_counted()
 /// memory was found, and no search and no trial was spent.
 pub fn same_files_same_answer()
     ensures { SameFilesSameAnswer }
+{}
+
+/// A check of the same ballots with the same nodes accepts what a search printed, where nothing failed and memory was found: two
+/// calls, one after the other.
+pub fn printed_is_accepted()
+    ensures { PrintedIsAccepted }
+{}
+
+/// A session is opened with what a search printed, where the manifest has a card of each ballot, nothing failed and memory was
+/// found.
+pub fn printed_is_opened()
+    ensures { PrintedIsOpened }
 {}
 
 /// Each status comes of some words and files, but 7, 8 and 9, which come of a desk, a sink or memory.

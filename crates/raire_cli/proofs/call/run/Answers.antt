@@ -1,7 +1,7 @@
 -- Each clause follows from the story of the call.
 use Rattle.cli_base.proofs.Clauses.{answered_clause, kept_clause}
 use Rattle.command_line.specs.Words.{texts}
-use Rattle.raire_cli.proofs.Clauses.{headline_clause, full_count_clause, complete_clause, enough_clause, accepted_clause, opened_clause, audited_clause, status_clause, exact_promise}
+use Rattle.raire_cli.proofs.Clauses.{headline_clause, full_count_clause, complete_clause, complete_trial_clause, enough_clause, accepted_clause, opened_clause, audited_clause, status_clause, exact_promise}
 use Rattle.raire_cli.proofs.call.run.Goals as goal
 
 pub returns-clause-headline : goal.returns-clause-headline
@@ -12,6 +12,9 @@ returns-clause-full_count g c = full_count_clause (texts c.args.words.now) c.per
 
 pub returns-clause-complete : goal.returns-clause-complete
 returns-clause-complete g c = complete_clause (texts c.args.words.now) c.perform.ensures.story
+
+pub returns-clause-complete_trial : goal.returns-clause-complete_trial
+returns-clause-complete_trial g c = complete_trial_clause (texts c.args.words.now) c.perform.ensures.story
 
 pub returns-clause-enough : goal.returns-clause-enough
 returns-clause-enough g c = enough_clause (texts c.args.words.now) c.perform.ensures.story

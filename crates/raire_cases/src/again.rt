@@ -1,38 +1,37 @@
 // A session for which memory was wanting is the one that it was, and goes on.
-ghost use Rattle.std.specs.Prelude.{◌≡◌, ◌≤◌, map, length, IfOk, OnErr};
+ghost use Rattle.std.specs.Prelude.{◌≡◌, ◌≤◌, map, length, Err};
 ghost use Rattle.irv_base.specs.declared.limits.TheConstants.{MOST_DRAWS};
-ghost use Rattle.audit_rounds.specs.Content.{with_round};
-ghost use Rattle.audit_rounds.specs.Draws.{round_to};
-ghost use Rattle.audit_rounds.specs.Sessions.{is_signed_off};
-ghost use Rattle.audit_session.specs.Going.{all_seen, audited, drawn_cards};
+ghost use Rattle.audit_session.specs.declared.fault.AdvanceFault.TheVariants.{Memory};
+ghost use Rattle.raire_cases.specs.Going.{GoesOn};
 
+use crate::trying::Trying;
 use assertion_file::AssertionFile;
-use audit_session::{AdvanceFault, SeenCards, Session, advance};
+use audit_session::{AdvanceFault, SeenCards};
 use manifest::Linked;
 use std::alloc::Global;
 
-/// Goes on with a session, and tries it once more where memory was wanting. The round that comes then is that of the session from
-/// before the first trial, and a session that doesn't go on is the one that it was.
+/// Goes on with a session, and tries it once more where memory was wanting. The answer is that of one call, of the session from
+/// before the first try; want of memory is the answer only where both tries had it.
 pub fn go_on(
     alloc: Global,
-    s: &mut Session,
-    l: &Linked,
-    f: &AssertionFile,
+    trying: &mut Trying,
+    linked: &Linked,
+    file: &AssertionFile,
     seen: &SeenCards,
     draws: u32,
 ) -> Result<bool, AdvanceFault>
-    requires cards { s.old.session.cards ≡ length l.now }
-    requires margins { s.old.session.margins ≡ map (λ claim. claim.margin) f.now.claims }
+    requires untried { trying.old.tries ≡ 0 }
+    requires cards { trying.old.session.session.cards ≡ length linked.now }
+    requires margins { trying.old.session.session.margins
+        ≡ map (λ claim. claim.margin) file.now.claims }
     requires some { 1 ≤ draws }
     requires most { draws ≤ MOST_DRAWS }
-    ensures next { IfOk result (λ _. s.new ≡ with_round s.old
-        (round_to s.old.session.gamma (audited f.now.claims) l.now
-        (all_seen seen.now (length l.now)) (drawn_cards s.old.seed (length l.now) draws) draws)) }
-    ensures told { IfOk result (λ done. done ≡ is_signed_off s.new.session) }
-    ensures kept { OnErr result (s.new ≡ s.old) }
+    ensures gone { GoesOn trying.old.session file.now.claims linked.now seen.now draws result
+        trying.new.session }
+    ensures twice { result ≡ Err Memory → trying.new.tries ≡ 2 }
 {
-    match advance(alloc, s, l, f, seen, draws) {
-        Err(AdvanceFault::Memory) => advance(alloc, s, l, f, seen, draws),
-        said => said,
+    match trying.try_once(alloc, linked, file, seen, draws) {
+        Err(AdvanceFault::Memory) => trying.try_once(alloc, linked, file, seen, draws),
+        answer => answer,
     }
 }

@@ -33,11 +33,15 @@ pub const FILES: [File; 14] = [
     },
     File {
         name: "thousand.json",
-        text: "{\"assertions\":[{\"kind\":\"NEB\",\"loser\":\"B\",\"margin\":100,\"winner\":\"A\"}],\"candidates\":[\"A\",\"B\"],\"contest\":\"1\",\"margin\":100,\"order\":[\"A\",\"B\"],\"records\":1000,\"version\":1,\"winner\":\"A\"}\n",
+        text: "\
+        {\"assertions\":[{\"kind\":\"NEB\",\"loser\":\"B\",\"margin\":100,\"winner\":\"A\"}],\"candidates\":[\"A\",\"B\"],\
+        \"contest\":\"1\",\"margin\":100,\"order\":[\"A\",\"B\"],\"records\":1000,\"version\":1,\"winner\":\"A\"}\n",
     },
     File {
         name: "more.json",
-        text: "{\"assertions\":[{\"kind\":\"NEB\",\"loser\":\"B\",\"margin\":100,\"winner\":\"A\"}],\"candidates\":[\"A\",\"B\"],\"contest\":\"1\",\"margin\":100,\"order\":[\"A\",\"B\"],\"records\":1001,\"version\":1,\"winner\":\"A\"}\n",
+        text: "\
+        {\"assertions\":[{\"kind\":\"NEB\",\"loser\":\"B\",\"margin\":100,\"winner\":\"A\"}],\"candidates\":[\"A\",\"B\"],\
+        \"contest\":\"1\",\"margin\":100,\"order\":[\"A\",\"B\"],\"records\":1001,\"version\":1,\"winner\":\"A\"}\n",
     },
     File {
         name: "nothing.json",
@@ -45,7 +49,9 @@ pub const FILES: [File; 14] = [
     },
     File {
         name: "one.json",
-        text: "{\"assertions\":[{\"kind\":\"NEB\",\"loser\":\"B\",\"margin\":1,\"winner\":\"A\"}],\"candidates\":[\"A\",\"B\"],\"contest\":\"1\",\"margin\":1,\"order\":[\"A\",\"B\"],\"records\":1,\"version\":1,\"winner\":\"A\"}\n",
+        text: "\
+        {\"assertions\":[{\"kind\":\"NEB\",\"loser\":\"B\",\"margin\":1,\"winner\":\"A\"}],\"candidates\":[\"A\",\"B\"],\"contest\":\"1\",\
+        \"margin\":1,\"order\":[\"A\",\"B\"],\"records\":1,\"version\":1,\"winner\":\"A\"}\n",
     },
     File {
         name: "twelve.csv",
@@ -57,7 +63,10 @@ pub const FILES: [File; 14] = [
     },
     File {
         name: "mixed.json",
-        text: "{\"assertions\":[{\"kind\":\"NEB\",\"loser\":\"B\",\"margin\":100,\"winner\":\"A\"},{\"kind\":\"NEB\",\"loser\":\"C\",\"margin\":1,\"winner\":\"A\"}],\"candidates\":[\"A\",\"B\",\"C\"],\"contest\":\"1\",\"margin\":1,\"order\":[\"C\",\"B\",\"A\"],\"records\":3000,\"version\":1,\"winner\":\"A\"}\n",
+        text: "\
+        {\"assertions\":[{\"kind\":\"NEB\",\"loser\":\"B\",\"margin\":100,\"winner\":\"A\"},{\"kind\":\"NEB\",\"loser\":\"C\",\"margin\":1,\
+        \"winner\":\"A\"}],\"candidates\":[\"A\",\"B\",\"C\"],\"contest\":\"1\",\"margin\":1,\"order\":[\"C\",\"B\",\"A\"],\
+        \"records\":3000,\"version\":1,\"winner\":\"A\"}\n",
     },
 ];
 

@@ -14,26 +14,34 @@ const CALLS: u32 = 3;
 // Bytes that a narrow sink takes at most of a write.
 const NARROW: usize = 7;
 
-// The words of a call that has an answer, and the files that it reads, first read first.
-const ANSWERED: [(&str, &[&str]); 13] = [
-    ("search row1.raire", &["row1.raire"]),
-    ("search tie.raire", &["tie.raire"]),
-    ("search row1.raire --nodes 1", &["row1.raire"]),
-    ("search row1.raire --floor 2", &["row1.raire"]),
-    ("tabulate row1.raire", &["row1.raire"]),
-    ("check row1.raire row1.json", &["row1.raire", "row1.json"]),
+// A call that has an answer: its words, its status, and the files that it reads, first read first.
+const ANSWERED: [(&str, u8, &[&str]); 14] = [
+    ("search row1.raire", 0, &["row1.raire"]),
+    ("search tie.raire", 3, &["tie.raire"]),
+    ("search row1.raire --nodes 1", 4, &["row1.raire"]),
+    ("search row1.raire --floor 2", 5, &["row1.raire"]),
+    ("trial --number 7 --candidates 4 --ballots 30", 0, &[]),
+    ("tabulate row1.raire", 0, &["row1.raire"]),
+    (
+        "check row1.raire row1.json",
+        0,
+        &["row1.raire", "row1.json"],
+    ),
     (
         "check row1.raire no_neb.json",
+        6,
         &["row1.raire", "no_neb.json"],
     ),
-    ("sample three.csv --seed 2024! --draws 6", &["three.csv"]),
-    ("plan twelve.csv row1.json", &["twelve.csv", "row1.json"]),
+    ("sample three.csv --seed 2024! --draws 6", 0, &["three.csv"]),
+    ("plan twelve.csv row1.json", 0, &["twelve.csv", "row1.json"]),
     (
         "open one_card.raire m.csv one_card.json --seed 2024",
+        0,
         &["one_card.raire", "m.csv", "one_card.json"],
     ),
     (
         "audit opened.json one_card.raire m.csv one_card.json seen.csv --draws 4",
+        10,
         &[
             "opened.json",
             "one_card.raire",
@@ -44,6 +52,7 @@ const ANSWERED: [(&str, &[&str]); 13] = [
     ),
     (
         "audit unconfirmed.json one_card.raire m.csv one_card.json seen.csv --draws 5",
+        0,
         &[
             "unconfirmed.json",
             "one_card.raire",
@@ -52,10 +61,10 @@ const ANSWERED: [(&str, &[&str]); 13] = [
             "seen.csv",
         ],
     ),
-    ("report signed_off.json", &["signed_off.json"]),
+    ("report signed_off.json", 0, &["signed_off.json"]),
 ];
 
-// The words of a call that is refused, the call of the desk that fails, or 0, and its status.
+// A call that is refused: its words, the call of the desk that fails, or 0, and its status.
 const REFUSED: [(&str, u32, u8); 12] = [
     ("", 0, 1),
     ("search", 0, 1),
@@ -84,7 +93,7 @@ const REFUSED: [(&str, u32, u8); 12] = [
 #[test]
 fn each_call_of_the_desk_fails(rt: HostRuntime) -> Result<(), Fail> {
     let alloc = rt.alloc();
-    for (line, files) in ANSWERED {
+    for (line, status, files) in ANSWERED {
         let mut call = 0u32;
         for file in files {
             let said = format!(in alloc; "raire: {file}: read fault\n")?;
@@ -95,6 +104,7 @@ fn each_call_of_the_desk_fails(rt: HostRuntime) -> Result<(), Fail> {
             }
         }
         let own = case_ran(&rt, line, &[], &[])?;
+        assert!(rt; own.status == status, "{line}");
         let ran = case_ran(&rt, line, &[call.saturating_add(1)], &[])?;
         assert!(rt; is_same(&ran, &own), "{line}, after call {call}");
     }
@@ -200,8 +210,9 @@ fn is_prefix(part: &[u8], text: &[u8], taken: usize) -> bool {
 
 #[test]
 fn each_write_of_an_answer_fails(rt: HostRuntime) -> Result<(), Fail> {
-    for (line, _) in ANSWERED {
+    for (line, status, _) in ANSWERED {
         let own = case_ran(&rt, line, &[], &[])?;
+        assert!(rt; own.status == status, "{line}");
         assert!(rt; own.err.is_empty() && !own.out.is_empty(), "{line}");
         assert!(rt; wrong_write(&rt, line, 0, &own)?.is_none(), "{line}");
     }

@@ -1,5 +1,6 @@
 //! Worked cases of the top call, over files and sinks in memory, assertion files of one contest that are checked, devices of which
-//! each call fails in turn, and a comparison with a plain program. Workers that wait for each other. And a session that goes on where memory was wanting.
+//! each call fails in turn, a comparison with a plain program, workers that wait for each other, and a session that is tried again where
+//! memory was wanting.
 #![tactic(auto)]
 
 pub mod again;
@@ -23,3 +24,4 @@ mod session_table;
 mod table;
 #[cfg(test)]
 mod together;
+pub mod trying;

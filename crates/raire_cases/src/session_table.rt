@@ -3,16 +3,27 @@
 use crate::table::{BAD_WORDS, File};
 
 // The session of one card before its first round.
-const OPENED: &str =
-    "{\"assertions\":\"ae97f9d20b8752ebe368d7fbc111d71683ac56e920c45c7b945baa7045d72b2e\",\"ballots\":\"b2461326ededb6d109bceb693f72e5d9b613d18452c4eed4772b701916c96bdf\",\"cards\":1,\"contest\":\"7\",\"gamma\":100,\"limit\":50000,\"manifest\":\"93cc03b4bc437d870c95a76e4ea4dc8314b09c68164e0e5f6bcae09b62d0a14c\",\"margins\":[1],\"rounds\":[],\"seed\":\"2024\",\"signed_off\":false,\"version\":1}\n";
+const OPENED: &str = "\
+    {\"assertions\":\"ae97f9d20b8752ebe368d7fbc111d71683ac56e920c45c7b945baa7045d72b2e\",\
+    \"ballots\":\"b2461326ededb6d109bceb693f72e5d9b613d18452c4eed4772b701916c96bdf\",\"cards\":1,\"contest\":\"7\",\"gamma\":100,\
+    \"limit\":50000,\"manifest\":\"93cc03b4bc437d870c95a76e4ea4dc8314b09c68164e0e5f6bcae09b62d0a14c\",\"margins\":[1],\"rounds\":[],\
+    \"seed\":\"2024\",\"signed_off\":false,\"version\":1}\n";
 
 // After four draws it isn't signed off.
-const UNCONFIRMED: &str =
-    "{\"assertions\":\"ae97f9d20b8752ebe368d7fbc111d71683ac56e920c45c7b945baa7045d72b2e\",\"ballots\":\"b2461326ededb6d109bceb693f72e5d9b613d18452c4eed4772b701916c96bdf\",\"cards\":1,\"contest\":\"7\",\"gamma\":100,\"limit\":50000,\"manifest\":\"93cc03b4bc437d870c95a76e4ea4dc8314b09c68164e0e5f6bcae09b62d0a14c\",\"margins\":[1],\"rounds\":[{\"counts\":[[0,0,4,0,0]],\"draws\":4,\"risks\":[88518543815313162]}],\"seed\":\"2024\",\"signed_off\":false,\"version\":1}\n";
+const UNCONFIRMED: &str = "\
+    {\"assertions\":\"ae97f9d20b8752ebe368d7fbc111d71683ac56e920c45c7b945baa7045d72b2e\",\
+    \"ballots\":\"b2461326ededb6d109bceb693f72e5d9b613d18452c4eed4772b701916c96bdf\",\"cards\":1,\"contest\":\"7\",\"gamma\":100,\
+    \"limit\":50000,\"manifest\":\"93cc03b4bc437d870c95a76e4ea4dc8314b09c68164e0e5f6bcae09b62d0a14c\",\"margins\":[1],\
+    \"rounds\":[{\"counts\":[[0,0,4,0,0]],\"draws\":4,\"risks\":[88518543815313162]}],\"seed\":\"2024\",\"signed_off\":false,\
+    \"version\":1}\n";
 
 // After a fifth it is.
-const SIGNED: &str =
-    "{\"assertions\":\"ae97f9d20b8752ebe368d7fbc111d71683ac56e920c45c7b945baa7045d72b2e\",\"ballots\":\"b2461326ededb6d109bceb693f72e5d9b613d18452c4eed4772b701916c96bdf\",\"cards\":1,\"contest\":\"7\",\"gamma\":100,\"limit\":50000,\"manifest\":\"93cc03b4bc437d870c95a76e4ea4dc8314b09c68164e0e5f6bcae09b62d0a14c\",\"margins\":[1],\"rounds\":[{\"counts\":[[0,0,4,0,0]],\"draws\":4,\"risks\":[88518543815313162]},{\"counts\":[[0,0,5,0,0]],\"draws\":5,\"risks\":[48282842081079907]}],\"seed\":\"2024\",\"signed_off\":true,\"version\":1}\n";
+const SIGNED: &str = "\
+    {\"assertions\":\"ae97f9d20b8752ebe368d7fbc111d71683ac56e920c45c7b945baa7045d72b2e\",\
+    \"ballots\":\"b2461326ededb6d109bceb693f72e5d9b613d18452c4eed4772b701916c96bdf\",\"cards\":1,\"contest\":\"7\",\"gamma\":100,\
+    \"limit\":50000,\"manifest\":\"93cc03b4bc437d870c95a76e4ea4dc8314b09c68164e0e5f6bcae09b62d0a14c\",\"margins\":[1],\
+    \"rounds\":[{\"counts\":[[0,0,4,0,0]],\"draws\":4,\"risks\":[88518543815313162]},{\"counts\":[[0,0,5,0,0]],\"draws\":5,\
+    \"risks\":[48282842081079907]}],\"seed\":\"2024\",\"signed_off\":true,\"version\":1}\n";
 
 pub const FILES: [File; 22] = [
     File {
@@ -21,7 +32,9 @@ pub const FILES: [File; 22] = [
     },
     File {
         name: "one_card.json",
-        text: "{\"assertions\":[{\"kind\":\"NEB\",\"loser\":\"2\",\"margin\":1,\"winner\":\"1\"}],\"candidates\":[\"1\",\"2\"],\"contest\":\"7\",\"margin\":1,\"order\":[\"1\",\"2\"],\"records\":1,\"version\":1,\"winner\":\"1\"}\n",
+        text: "\
+        {\"assertions\":[{\"kind\":\"NEB\",\"loser\":\"2\",\"margin\":1,\"winner\":\"1\"}],\"candidates\":[\"1\",\"2\"],\"contest\":\"7\",\
+        \"margin\":1,\"order\":[\"1\",\"2\"],\"records\":1,\"version\":1,\"winner\":\"1\"}\n",
     },
     File {
         name: "opened.json",
@@ -61,7 +74,9 @@ pub const FILES: [File; 22] = [
     },
     File {
         name: "other_margin.json",
-        text: "{\"assertions\":[{\"kind\":\"NEB\",\"loser\":\"2\",\"margin\":2,\"winner\":\"1\"}],\"candidates\":[\"1\",\"2\"],\"contest\":\"7\",\"margin\":2,\"order\":[\"1\",\"2\"],\"records\":1,\"version\":1,\"winner\":\"1\"}\n",
+        text: "\
+        {\"assertions\":[{\"kind\":\"NEB\",\"loser\":\"2\",\"margin\":2,\"winner\":\"1\"}],\"candidates\":[\"1\",\"2\"],\"contest\":\"7\",\
+        \"margin\":2,\"order\":[\"1\",\"2\"],\"records\":1,\"version\":1,\"winner\":\"1\"}\n",
     },
     File {
         name: "two_cards.csv",
@@ -69,19 +84,34 @@ pub const FILES: [File; 22] = [
     },
     File {
         name: "other_winner.json",
-        text: "{\"assertions\":[{\"kind\":\"NEB\",\"loser\":\"1\",\"margin\":1,\"winner\":\"2\"}],\"candidates\":[\"1\",\"2\"],\"contest\":\"7\",\"margin\":1,\"order\":[\"2\",\"1\"],\"records\":1,\"version\":1,\"winner\":\"2\"}\n",
+        text: "\
+        {\"assertions\":[{\"kind\":\"NEB\",\"loser\":\"1\",\"margin\":1,\"winner\":\"2\"}],\"candidates\":[\"1\",\"2\"],\"contest\":\"7\",\
+        \"margin\":1,\"order\":[\"2\",\"1\"],\"records\":1,\"version\":1,\"winner\":\"2\"}\n",
     },
     File {
         name: "cut_session.json",
-        text: "{\"assertions\":\"ae97f9d20b8752ebe368d7fbc111d71683ac56e920c45c7b945baa7045d72b2e\",\"ballots\":\"b2461326ededb6d109bceb693f72e5d9b613d18452c4eed4772b701916c96bdf\",\"cards\":1,\"contest\":\"7\",\"gamma\":100,\"limit\":50000,\"manifest\":\"93cc03b4bc437d870c95a76e4ea4dc8314b09c68164e0e5f6bcae09b62d0a14c\",\"margins\":[1],\"rounds\":[],\"seed\":\"2024\",\"signed_off\":false,\"version\":",
+        text: "\
+        {\"assertions\":\"ae97f9d20b8752ebe368d7fbc111d71683ac56e920c45c7b945baa7045d72b2e\",\
+        \"ballots\":\"b2461326ededb6d109bceb693f72e5d9b613d18452c4eed4772b701916c96bdf\",\"cards\":1,\"contest\":\"7\",\"gamma\":100,\
+        \"limit\":50000,\"manifest\":\"93cc03b4bc437d870c95a76e4ea4dc8314b09c68164e0e5f6bcae09b62d0a14c\",\"margins\":[1],\"rounds\":[],\
+        \"seed\":\"2024\",\"signed_off\":false,\"version\":",
     },
     File {
         name: "other_risk.json",
-        text: "{\"assertions\":\"ae97f9d20b8752ebe368d7fbc111d71683ac56e920c45c7b945baa7045d72b2e\",\"ballots\":\"b2461326ededb6d109bceb693f72e5d9b613d18452c4eed4772b701916c96bdf\",\"cards\":1,\"contest\":\"7\",\"gamma\":100,\"limit\":50000,\"manifest\":\"93cc03b4bc437d870c95a76e4ea4dc8314b09c68164e0e5f6bcae09b62d0a14c\",\"margins\":[1],\"rounds\":[{\"counts\":[[0,0,4,0,0]],\"draws\":4,\"risks\":[88518543815313161]}],\"seed\":\"2024\",\"signed_off\":false,\"version\":1}\n",
+        text: "\
+        {\"assertions\":\"ae97f9d20b8752ebe368d7fbc111d71683ac56e920c45c7b945baa7045d72b2e\",\
+        \"ballots\":\"b2461326ededb6d109bceb693f72e5d9b613d18452c4eed4772b701916c96bdf\",\"cards\":1,\"contest\":\"7\",\"gamma\":100,\
+        \"limit\":50000,\"manifest\":\"93cc03b4bc437d870c95a76e4ea4dc8314b09c68164e0e5f6bcae09b62d0a14c\",\"margins\":[1],\
+        \"rounds\":[{\"counts\":[[0,0,4,0,0]],\"draws\":4,\"risks\":[88518543815313161]}],\"seed\":\"2024\",\"signed_off\":false,\
+        \"version\":1}\n",
     },
     File {
         name: "other_contest.json",
-        text: "{\"assertions\":\"ae97f9d20b8752ebe368d7fbc111d71683ac56e920c45c7b945baa7045d72b2e\",\"ballots\":\"b2461326ededb6d109bceb693f72e5d9b613d18452c4eed4772b701916c96bdf\",\"cards\":1,\"contest\":\"8\",\"gamma\":100,\"limit\":50000,\"manifest\":\"93cc03b4bc437d870c95a76e4ea4dc8314b09c68164e0e5f6bcae09b62d0a14c\",\"margins\":[1],\"rounds\":[],\"seed\":\"2024\",\"signed_off\":false,\"version\":1}\n",
+        text: "\
+        {\"assertions\":\"ae97f9d20b8752ebe368d7fbc111d71683ac56e920c45c7b945baa7045d72b2e\",\
+        \"ballots\":\"b2461326ededb6d109bceb693f72e5d9b613d18452c4eed4772b701916c96bdf\",\"cards\":1,\"contest\":\"8\",\"gamma\":100,\
+        \"limit\":50000,\"manifest\":\"93cc03b4bc437d870c95a76e4ea4dc8314b09c68164e0e5f6bcae09b62d0a14c\",\"margins\":[1],\"rounds\":[],\
+        \"seed\":\"2024\",\"signed_off\":false,\"version\":1}\n",
     },
     File {
         name: "no_candidate.csv",
@@ -101,7 +131,11 @@ pub const FILES: [File; 22] = [
     },
     File {
         name: "five_cards.json",
-        text: "{\"assertions\":\"ae97f9d20b8752ebe368d7fbc111d71683ac56e920c45c7b945baa7045d72b2e\",\"ballots\":\"b2461326ededb6d109bceb693f72e5d9b613d18452c4eed4772b701916c96bdf\",\"cards\":5,\"contest\":\"7\",\"gamma\":100,\"limit\":50000,\"manifest\":\"93cc03b4bc437d870c95a76e4ea4dc8314b09c68164e0e5f6bcae09b62d0a14c\",\"margins\":[1],\"rounds\":[],\"seed\":\"2024\",\"signed_off\":false,\"version\":1}\n",
+        text: "\
+        {\"assertions\":\"ae97f9d20b8752ebe368d7fbc111d71683ac56e920c45c7b945baa7045d72b2e\",\
+        \"ballots\":\"b2461326ededb6d109bceb693f72e5d9b613d18452c4eed4772b701916c96bdf\",\"cards\":5,\"contest\":\"7\",\"gamma\":100,\
+        \"limit\":50000,\"manifest\":\"93cc03b4bc437d870c95a76e4ea4dc8314b09c68164e0e5f6bcae09b62d0a14c\",\"margins\":[1],\"rounds\":[],\
+        \"seed\":\"2024\",\"signed_off\":false,\"version\":1}\n",
     },
 ];
 
@@ -135,12 +169,23 @@ pub const CASES: [(&str, u8, &str); 43] = [
     (
         "audit signed_off.json one_card.raire m.csv one_card.json seen.csv --draws 6",
         0,
-        "{\"assertions\":\"ae97f9d20b8752ebe368d7fbc111d71683ac56e920c45c7b945baa7045d72b2e\",\"ballots\":\"b2461326ededb6d109bceb693f72e5d9b613d18452c4eed4772b701916c96bdf\",\"cards\":1,\"contest\":\"7\",\"gamma\":100,\"limit\":50000,\"manifest\":\"93cc03b4bc437d870c95a76e4ea4dc8314b09c68164e0e5f6bcae09b62d0a14c\",\"margins\":[1],\"rounds\":[{\"counts\":[[0,0,4,0,0]],\"draws\":4,\"risks\":[88518543815313162]},{\"counts\":[[0,0,5,0,0]],\"draws\":5,\"risks\":[48282842081079907]},{\"counts\":[[0,0,6,0,0]],\"draws\":6,\"risks\":[26336095680589041]}],\"seed\":\"2024\",\"signed_off\":true,\"version\":1}\n",
+        "\
+        {\"assertions\":\"ae97f9d20b8752ebe368d7fbc111d71683ac56e920c45c7b945baa7045d72b2e\",\
+        \"ballots\":\"b2461326ededb6d109bceb693f72e5d9b613d18452c4eed4772b701916c96bdf\",\"cards\":1,\"contest\":\"7\",\"gamma\":100,\
+        \"limit\":50000,\"manifest\":\"93cc03b4bc437d870c95a76e4ea4dc8314b09c68164e0e5f6bcae09b62d0a14c\",\"margins\":[1],\
+        \"rounds\":[{\"counts\":[[0,0,4,0,0]],\"draws\":4,\"risks\":[88518543815313162]},{\"counts\":[[0,0,5,0,0]],\"draws\":5,\
+        \"risks\":[48282842081079907]},{\"counts\":[[0,0,6,0,0]],\"draws\":6,\"risks\":[26336095680589041]}],\"seed\":\"2024\",\
+        \"signed_off\":true,\"version\":1}\n",
     ),
     (
         "audit opened.json one_card.raire m.csv one_card.json missing.csv --draws 5",
         10,
-        "{\"assertions\":\"ae97f9d20b8752ebe368d7fbc111d71683ac56e920c45c7b945baa7045d72b2e\",\"ballots\":\"b2461326ededb6d109bceb693f72e5d9b613d18452c4eed4772b701916c96bdf\",\"cards\":1,\"contest\":\"7\",\"gamma\":100,\"limit\":50000,\"manifest\":\"93cc03b4bc437d870c95a76e4ea4dc8314b09c68164e0e5f6bcae09b62d0a14c\",\"margins\":[1],\"rounds\":[{\"counts\":[[5,0,0,0,0]],\"draws\":5,\"risks\":[1000000000000000000]}],\"seed\":\"2024\",\"signed_off\":false,\"version\":1}\n",
+        "\
+        {\"assertions\":\"ae97f9d20b8752ebe368d7fbc111d71683ac56e920c45c7b945baa7045d72b2e\",\
+        \"ballots\":\"b2461326ededb6d109bceb693f72e5d9b613d18452c4eed4772b701916c96bdf\",\"cards\":1,\"contest\":\"7\",\"gamma\":100,\
+        \"limit\":50000,\"manifest\":\"93cc03b4bc437d870c95a76e4ea4dc8314b09c68164e0e5f6bcae09b62d0a14c\",\"margins\":[1],\
+        \"rounds\":[{\"counts\":[[5,0,0,0,0]],\"draws\":5,\"risks\":[1000000000000000000]}],\"seed\":\"2024\",\"signed_off\":false,\
+        \"version\":1}\n",
     ),
     (
         "audit opened.json one_card.raire m.csv one_card.json none_seen.csv --draws 5",
@@ -296,7 +341,10 @@ pub const CASES: [(&str, u8, &str); 43] = [
     (
         "report signed_off.json",
         0,
-        "contest 7\ncards 1\nlimit 50000\ngamma 100\nseed 2024\nround 1 draws 4\nassertion 1 margin 1 counts 0 0 4 0 0 risk 0.088518543815313162 unconfirmed\nround 2 draws 5\nassertion 1 margin 1 counts 0 0 5 0 0 risk 0.048282842081079907 confirmed\nsigned off yes\n",
+        "\
+        contest 7\ncards 1\nlimit 50000\ngamma 100\nseed 2024\nround 1 draws 4\n\
+        assertion 1 margin 1 counts 0 0 4 0 0 risk 0.088518543815313162 unconfirmed\nround 2 draws 5\n\
+        assertion 1 margin 1 counts 0 0 5 0 0 risk 0.048282842081079907 confirmed\nsigned off yes\n",
     ),
     (
         "report cut_session.json",

@@ -1,13 +1,10 @@
--- The session is as it was before the first trial, so the round of the second one is its own.
-use Rattle.std.proofs.Common.{◌≡◌, length, IfOk, subst}
-use Rattle.audit_rounds.specs.Content.{Content, with_round}
-use Rattle.audit_rounds.specs.Draws.{round_to}
-use Rattle.audit_session.specs.Going.{all_seen, audited, drawn_cards}
+-- The session is as it was before the first try, so the answer to the second one is its own.
+use Rattle.std.proofs.Common.{subst}
+use Rattle.raire_cases.specs.Going.{GoesOn}
 use Rattle.raire_cases.proofs.again.go_on.Goals as goal
 
-pub returns-in-Err-Memory-clause-next : goal.returns-in-Err-Memory-clause-next
-returns-in-Err-Memory-clause-next c =
-    let again = c.advance-in-Err-Memory in
-    subst (λ (s : Content). IfOk again.result (λ _. again.new.s ≡ with_round s (round_to s.session.gamma (audited c.args.f.now.claims) c.args.l.now
-    (all_seen c.args.seen.now (length c.args.l.now)) (drawn_cards s.seed (length c.args.l.now) c.args.draws) c.args.draws))) c.in-Err-Memory.ensures.kept
-    again.ensures.next
+pub returns-in-Err-Memory-clause-gone : goal.returns-in-Err-Memory-clause-gone
+returns-in-Err-Memory-clause-gone c =
+    let again = c.try_once-in-Err-Memory in
+    subst (λ session. GoesOn session c.args.file.now.claims c.args.linked.now c.args.seen.now c.args.draws again.result again.new.self.session) c.in-Err-Memory.ensures.gone.kept
+    again.ensures.gone

@@ -1,0 +1,49 @@
+// A session, with how often it was tried to go on.
+ghost use Rattle.std.specs.Prelude.{◌≡◌, ◌+◌, ◌≤◌, ◌<◌, map, length};
+ghost use Rattle.irv_base.specs.declared.limits.TheConstants.{MOST_DRAWS};
+ghost use Rattle.raire_cases.specs.Going.{GoesOn};
+
+use assertion_file::AssertionFile;
+use audit_session::{AdvanceFault, SeenCards, Session, advance};
+use manifest::Linked;
+use std::alloc::Global;
+
+/// A session, with how often it was tried to go on. Only a try counts.
+#[derive(Drop)]
+pub struct Trying {
+    session: Session,
+    tries: u8,
+}
+
+impl Trying {
+    /// The session, which hasn't been tried.
+    pub fn new(session: Session) -> Trying
+        ensures session { result.session ≡ session }
+        ensures none { result.tries ≡ 0 }
+    {
+        Trying { session, tries: 0 }
+    }
+
+    /// Tries once to go on with the session, up to so many draws in all: a call of `advance`.
+    pub fn try_once(
+        &mut self,
+        alloc: Global,
+        linked: &Linked,
+        file: &AssertionFile,
+        seen: &SeenCards,
+        draws: u32,
+    ) -> Result<bool, AdvanceFault>
+        requires few { self.old.tries < 2 }
+        requires cards { self.old.session.session.cards ≡ length linked.now }
+        requires margins { self.old.session.session.margins
+            ≡ map (λ claim. claim.margin) file.now.claims }
+        requires some { 1 ≤ draws }
+        requires most { draws ≤ MOST_DRAWS }
+        ensures counted { self.new.tries ≡ self.old.tries + 1 }
+        ensures gone { GoesOn self.old.session file.now.claims linked.now seen.now draws result
+            self.new.session }
+    {
+        self.tries += 1;
+        advance(alloc, &mut self.session, linked, file, seen, draws)
+    }
+}

@@ -16,7 +16,7 @@ import tempfile
 import compare
 import plain
 from draws import Draws
-from limits import DEFAULT_NODES, MOST_CANDIDATES, MOST_RECORDS
+from limits import DEFAULT_NODES, MOST_CANDIDATES, MOST_NUMBER, MOST_RECORDS
 
 EXAMPLES = os.path.join(os.path.dirname(os.path.abspath(__file__)), "..", "examples")
 BALLOTS = os.path.join(EXAMPLES, "row1.raire")
@@ -171,7 +171,7 @@ REFUSED = [
     ("records with an exponent", records(b"12e0"), "F2 at 0"),
     ("records below zero", records(b"-1"), "F2 at 0"),
     ("records of minus zero", records(b"-0"), "F2 at 0"),
-    ("records of 2 to the 32", records(b"4294967296"), "F2 at 0"),
+    ("records of a number more", records(b"%d" % (MOST_NUMBER + 1)), "F2 at 0"),
     ("records of 12 and 2 to the 64", records(b"18446744073709551628"), "F2 at 0"),
     ("records as a text", records(b'"12"'), "F2 at 0"),
     ("records that are true", records(b"true"), "F2 at 0"),
@@ -228,6 +228,7 @@ REFUSED = [
     ("a candidate twice in a rest", rest(b'["1","2","2"]'), "F5 at 2"),
     ("no records", records(b"0"), "F6 at 0"),
     ("a record too many", records(b"%d" % (MOST_RECORDS + 1)), "F6 at 0"),
+    ("records of the greatest number that is read", records(b"%d" % MOST_NUMBER), "F6 at 0"),
     ("a margin of 0", put(MARGIN, b'"margin":0,"order"'), "F6 at 0"),
     ("a margin above the records", put(MARGIN, b'"margin":13,"order"'), "F6 at 0"),
     ("the file's members come before its assertions", put(LOSER, b'"loser":"4"', RECORDS, b'"records":0'), "F6 at 0"),

@@ -28,7 +28,8 @@ some_ending n (suc k) t long =
   where
     full : list_all (is_in t) (candidates n) ≡ true → ⊥
     full h =
-        let le : length (candidates n) ≤ length t = distinct-le (candidates n) t (distinct-range 0 n) (λ z m. member-from_in z t (from_list_all (is_in t) m h)) in
+        let le : length (candidates n) ≤ length t = distinct-le (candidates n) t (distinct-range 0 n)
+        (λ z m. member-from_in z t (from_list_all (is_in t) m h)) in
         omega (arith, length-range 0 n)
 
 pub some_alternative : (n winner : ℕ) → winner < n → 1 < n → (order : List ℕ) × Member order (alternative_orders n winner)
@@ -40,8 +41,11 @@ some_alternative n winner below two =
   where
     ending : (c : ℕ) → c < n → c ≢ winner → (order : List ℕ) × Member order (alternative_orders n winner)
     ending c l ne =
-        let (order, m) = some_ending n (n - 1) (c ∷ []) (omega arith) in
-        (order, member-flat_map (λ c. orders_ending n (n - 1) (c ∷ [])) (member-filter (λ c. not (c == winner)) (candidates n) (candidate-member c n l) (not_from_false (c == winner) (ne_eqb c winner ne))) m)
+        let (order, m) = some_ending n (n - 1) (c ∷ []) (omega arith) in (
+          order,
+          member-flat_map (λ c. orders_ending n (n - 1) (c ∷ []))
+              (member-filter (λ c. not (c == winner)) (candidates n) (candidate-member c n l) (not_from_false (c == winner) (ne_eqb c winner ne))) m,
+        )
 
 -- ---- the best margin, over any hardness
 module _ (n winner : ℕ) (hardness : List ℕ → ℕ) where
@@ -53,11 +57,13 @@ module _ (n winner : ℕ) (hardness : List ℕ → ℕ) where
       let (order, m) = some_alternative n winner below two in
       from_best (least_is (member-map hardness m))
     where
-      from_best : Member (best_margin n winner hardness) (map hardness (alternative_orders n winner)) → (order : List ℕ) × Member order (alternative_orders n winner) × (hardness order ≡ best_margin n winner hardness)
+      from_best : Member (best_margin n winner hardness) (map hardness (alternative_orders n winner)) →
+          (order : List ℕ) × Member order (alternative_orders n winner) × (hardness order ≡ best_margin n winner hardness)
       from_best k = from_map hardness (best_margin n winner hardness) (alternative_orders n winner) k
 
   pub order_is : winner < n → 1 < n →
-      (order : List ℕ) × (certificate_order n winner hardness (best_margin n winner hardness) ≡ Some order) × Contains (alternative_orders n winner) order × (hardness order ≡ best_margin n winner hardness)
+      (order : List ℕ) × (certificate_order n winner hardness (best_margin n winner hardness) ≡ Some order) × Contains (alternative_orders n winner) order ×
+      (hardness order ≡ best_margin n winner hardness)
   order_is below two =
       let (order, m, e) = best_is below two in
       let best = best_margin n winner hardness in

@@ -32,7 +32,8 @@ stands_before-chain (a ∷ x) (b ∷ y) (d ∷ z) h k =
     elim (or_cases (nat_lt a b) ((a == b) && stands_before x y) h) [
       | inl l ↦ let l' : a < b = ltb-true a b l in elim (or_cases (nat_lt b d) ((b == d) && stands_before y z) k) [
         | inl g ↦ let g' : b < d = ltb-true b d g in or_left (nat_lt a d) ((a == d) && stands_before x z) (lt-ltb a d (omega arith))
-        | inr g ↦ let e : b ≡ d = eqb-true b d (and_parts (b == d) (stands_before y z) g).0 in or_left (nat_lt a d) ((a == d) && stands_before x z) (lt-ltb a d (omega arith))
+        | inr g ↦ let e : b ≡ d = eqb-true b d (and_parts (b == d) (stands_before y z) g).0 in
+            or_left (nat_lt a d) ((a == d) && stands_before x z) (lt-ltb a d (omega arith))
       ]
       | inr l ↦
           let (p, q) = and_parts (a == b) (stands_before x y) l in
@@ -42,7 +43,8 @@ stands_before-chain (a ∷ x) (b ∷ y) (d ∷ z) h k =
             | inr g ↦
                 let (p', q') = and_parts (b == d) (stands_before y z) g in
                 let e : b ≡ d = eqb-true b d p' in
-                or_right (nat_lt a d) ((a == d) && stands_before x z) (and_from (a == d) (stands_before x z) (eq-eqb a d (omega arith)) (stands_before-chain x y z q q'))
+                or_right (nat_lt a d) ((a == d) && stands_before x z)
+                (and_from (a == d) (stands_before x z) (eq-eqb a d (omega arith)) (stands_before-chain x y z q q'))
           ]
     ]
 
@@ -55,7 +57,8 @@ stands_before-either (a ∷ x) (b ∷ y) h =
       | inl g ↦ inr (or_left (nat_lt b a) ((b == a) && stands_before y x) (lt-ltb b a g))
       | inr le ↦ elim (cases_eq a b) [
         | inl e ↦ elim (cases_Bool (stands_before x y)) [
-          | inl t ↦ absurd (both_ways (stands_before (a ∷ x) (b ∷ y)) h (or_right (nat_lt a b) ((a == b) && stands_before x y) (and_from (a == b) (stands_before x y) (eq-eqb a b e) t)))
+          | inl t ↦ absurd (both_ways (stands_before (a ∷ x) (b ∷ y)) h
+              (or_right (nat_lt a b) ((a == b) && stands_before x y) (and_from (a == b) (stands_before x y) (eq-eqb a b e) t)))
           | inr f ↦ elim (stands_before-either x y f) [
             | inl s ↦ inl (cc)
             | inr s ↦ inr (or_right (nat_lt b a) ((b == a) && stands_before y x) (and_from (b == a) (stands_before y x) (eq-eqb b a (sym e)) s))

@@ -64,7 +64,8 @@ module _ (n winner : ℕ) (records : List (List ℕ)) where
 
   pub certificate-member : (a : Assertion) (s : List ℕ) → Member s ends → refuter n records s ≡ Some a → Member a (certificate_assertions n records winner)
   certificate-member a s m e =
-      member-filter (λ a. list_any (λ suffix. is_some_same (refuter n records suffix) a) ends) (assertions n) (assertion-member n a (from_refuter n records s a e).proper)
+      member-filter (λ a. list_any (λ suffix. is_some_same (refuter n records suffix) a) ends) (assertions n)
+      (assertion-member n a (from_refuter n records s a e).proper)
       (list_any-member (λ suffix. is_some_same (refuter n records suffix) a) m (ap (λ o. is_some_same o a) e ∙ is_same-self a))
 
   gives : (a : Assertion) → Member a (certificate_assertions n records winner) → (s : List ℕ) × Member s ends × Gives n records s a
@@ -82,16 +83,19 @@ module _ (n winner : ℕ) (records : List (List ℕ)) where
       subst (λ x. best ≤ x) (sym g.reached) (is_end-low (low n records) best s (from_end n winner (low n records) best s q))
 
   pub certificate_reaches_best : list_all (λ a. nat_le best (true_margin records a)) (certificate_assertions n records winner) ≡ true
-  certificate_reaches_best = list_all-each (λ a. nat_le best (true_margin records a)) (certificate_assertions n records winner) (λ a m. le-leb best (true_margin records a) (certificate-le a m))
+  certificate_reaches_best = list_all-each (λ a. nat_le best (true_margin records a)) (certificate_assertions n records winner)
+      (λ a m. le-leb best (true_margin records a) (certificate-le a m))
 
-  refuted : 0 < best → (order : List ℕ) → Member order (alternative_orders n winner) → list_any (λ a. refutes a order) (certificate_assertions n records winner) ≡ true
+  refuted : 0 < best → (order : List ℕ) → Member order (alternative_orders n winner) →
+      list_any (λ a. refutes a order) (certificate_assertions n records winner) ≡ true
   refuted positive order m =
       let (h, (c, ne, elects)) = from_alternative n winner order m in
       let o : Order n order = order_facts n order h in
       let (s, k, (before, same)) = alternative-end n winner c (low n records) best order o ne elects (best-le n winner (low n records) order m) in
       let reached : best ≤ low n records s = is_end-low (low n records) best s (from_end n winner (low n records) best s k) in
       let (a, e) = refuter_is n records s (omega arith) in
-      list_any-member (λ a. refutes a order) {x = a} (certificate-member a s k e) (refutes_order a order before s same o.apart (from_refuter n records s a e).refuting)
+      list_any-member (λ a. refutes a order) {x = a} (certificate-member a s k e)
+      (refutes_order a order before s same o.apart (from_refuter n records s a e).refuting)
 
   pub certificate_covers : 0 < best → covers n winner (certificate_assertions n records winner) ≡ true
   certificate_covers positive =
@@ -105,7 +109,8 @@ module _ (n winner : ℕ) (records : List (List ℕ)) where
       let le : true_margin records a ≤ low n records order = low-refuter n records order a (from_list_all (is_proper n) k proper) r in
       (a, contains-from_member k, subst (λ x. true_margin records a ≤ x) e le)
 
-  pub certificate_has_best : winner < n → 1 < n → 0 < best → (a : Assertion) × Contains (certificate_assertions n records winner) a × (true_margin records a ≡ best)
+  pub certificate_has_best : winner < n → 1 < n → 0 < best → (a : Assertion) × Contains (certificate_assertions n records winner) a ×
+      (true_margin records a ≡ best)
   certificate_has_best below two positive =
       let (a, k, le) = none_beats_best (certificate_assertions n records winner) below two certificate_is_proper (certificate_covers positive) in
       let ge = certificate-le a (member-from_contains a (certificate_assertions n records winner) k) in

@@ -30,5 +30,6 @@ cover_count_is n c margin low below inside rise are =
     counted : (s : List ℕ) → Member s below → Member s (filter (λ s. nat_lt (low s) margin) (parts_ending n c))
     counted s m =
         let (proper, elects, short, lt) = (are s).0 (contains-from_member m) in
-        member-filter (λ s. nat_lt (low s) margin) (parts_ending n c) (member-from_contains s (parts_ending n c) ((parts_ending_are n c s inside).1 (proper, elects, short)))
+        member-filter (λ s. nat_lt (low s) margin) (parts_ending n c)
+        (member-from_contains s (parts_ending n c) ((parts_ending_are n c s inside).1 (proper, elects, short)))
         (lt-ltb (low s) margin lt)

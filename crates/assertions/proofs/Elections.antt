@@ -44,8 +44,10 @@ cover_is_sound n winner claims below proper covering records true' order h possi
       | inl e ↦ subst (Elects order) e ends
       | inr ne ↦
           let (a, m, r) = from_covers n winner claims order covering (alternative-member n winner c order h ne ends) in
-          let le : votes_for records a ≤ votes_against records a = possible-not_refuted n records order a (from_list_all (is_proper n) m proper) o.apart o.whole possible r in
-          let lt : votes_against records a < votes_for records a = ltb-true (votes_against records a) (votes_for records a) (from_list_all (is_true records) m true') in
+          let le : votes_for records a ≤ votes_against records a =
+          possible-not_refuted n records order a (from_list_all (is_proper n) m proper) o.apart o.whole possible r in
+          let lt : votes_against records a < votes_for records a =
+          ltb-true (votes_against records a) (votes_for records a) (from_list_all (is_true records) m true') in
           absurd (omega arith)
     ]
 
@@ -83,8 +85,10 @@ unrefuted-possible n records order o easy before (c ∷ rest) same =
 
     below : (d : ℕ) → Member d rest → tally records (set_of (c ∷ rest)) c ≤ tally records (set_of (c ∷ rest)) d
     below d m =
-        let a : is_proper n (Nen c d (set_of (c ∷ rest))) ≡ true = suffix-nen n c d (c ∷ rest) whole' here (there m) (λ e. distinct-head apart' (subst (λ x. Member x rest) (sym e) m)) in
-        let le : tally records (set_of (c ∷ rest)) c - tally records (set_of (c ∷ rest)) d ≤ low n records order = low-refuter n records order (Nen c d (set_of (c ∷ rest))) a (refuted d) in
+        let a : is_proper n (Nen c d (set_of (c ∷ rest))) ≡ true =
+        suffix-nen n c d (c ∷ rest) whole' here (there m) (λ e. distinct-head apart' (subst (λ x. Member x rest) (sym e) m)) in
+        let le : tally records (set_of (c ∷ rest)) c - tally records (set_of (c ∷ rest)) d ≤ low n records order =
+        low-refuter n records order (Nen c d (set_of (c ∷ rest))) a (refuted d) in
         omega (arith, easy)
 
 pub possible_iff_unrefuted : (n : ℕ) (records : List (List ℕ)) (order : List ℕ) → is_order n order ≡ true →
@@ -95,7 +99,8 @@ possible_iff_unrefuted n records order h = (forth, unrefuted) where
       elim (cases_lt 0 (low n records order)) [
         | inl lt ↦
             let (a, g) = low_is n records order lt in
-            let le : votes_for records a ≤ votes_against records a = possible-not_refuted n records order a g.proper (order_facts n order h).apart (order_facts n order h).whole p g.refuting in
+            let le : votes_for records a ≤ votes_against records a =
+            possible-not_refuted n records order a g.proper (order_facts n order h).apart (order_facts n order h).whole p g.refuting in
             let e : votes_for records a - votes_against records a ≡ low n records order = g.reached in
             absurd (omega arith)
         | inr z ↦ omega arith

@@ -20,7 +20,11 @@ suffix_facts n t h =
     record { apart = distinct-from_test t d; below = below-from_test n t below }
 
 pub one_alone : (n c : ℕ) → c < n → Suffix n (c ∷ [])
-one_alone n c l = record { apart = more member_nil none; below = λ z m. elim (member_cases m) [ inl s ↦ subst (λ x. x < n) s l | inr r ↦ absurd (member_nil r) ] }
+one_alone n c l = record {
+  apart = more member_nil none;
+  below = λ z m.
+      elim (member_cases m) [ inl s ↦ subst (λ x. x < n) s l | inr r ↦ absurd (member_nil r) ];
+}
 
 pub record Ending (n : ℕ) (t order : List ℕ) : Type 0 where
   pub long : length order ≡ n
@@ -29,7 +33,8 @@ pub record Ending (n : ℕ) (t order : List ℕ) : Type 0 where
   pub before : List ℕ
   pub split : order ≡ before ++ t
 
-pub from_orders_ending : (n k : ℕ) (t order : List ℕ) → k + length t ≡ n → Distinct t → ((c : ℕ) → Member c t → c < n) → Member order (orders_ending n k t) → Ending n t order
+pub from_orders_ending : (n k : ℕ) (t order : List ℕ) → k + length t ≡ n → Distinct t → ((c : ℕ) → Member c t → c < n) → Member order (orders_ending n k t) →
+    Ending n t order
 from_orders_ending n zero t order long d below m =
     elim (member_cases m) [
       | inl e ↦ record {
@@ -47,7 +52,8 @@ from_orders_ending n (suc k) t order long d below m =
       | inl yes' ↦ absurd (member_nil (rw yes' at k'))
       | inr f ↦
           let m' : Member order (orders_ending n k (c ∷ t)) = rw f at k' in
-          let r = from_orders_ending n k (c ∷ t) order (omega arith) (more (none-from_out f) d) (λ x q. elim (member_cases q) [ inl e ↦ subst (λ z. z < n) e (from_candidates inn) | inr r ↦ below x r ]) m' in
+          let r = from_orders_ending n k (c ∷ t) order (omega arith) (more (none-from_out f) d)
+          (λ x q. elim (member_cases q) [ inl e ↦ subst (λ z. z < n) e (from_candidates inn) | inr r ↦ below x r ]) m' in
           record {
             long = r.long;
             apart = r.apart;
@@ -57,7 +63,8 @@ from_orders_ending n (suc k) t order long d below m =
           }
     ]
 
-pub orders_ending-member : (n k : ℕ) (before t : List ℕ) → length before ≡ k → Distinct (before ++ t) → ((c : ℕ) → Member c (before ++ t) → c < n) → Member (before ++ t) (orders_ending n k t)
+pub orders_ending-member : (n k : ℕ) (before t : List ℕ) → length before ≡ k → Distinct (before ++ t) → ((c : ℕ) → Member c (before ++ t) → c < n) →
+    Member (before ++ t) (orders_ending n k t)
 orders_ending-member n zero [] t long d below = here
 orders_ending-member n zero (x ∷ before) t long d below = cc
 orders_ending-member n (suc k) [] t long d below = cc
@@ -80,7 +87,8 @@ pub orders_ending_are : (n k : ℕ) (t order : List ℕ) → k + length t ≡ n 
 orders_ending_are n k t order long proper = (forth, back) where
   forth : Contains (orders_ending n k t) order → (is_order n order ≡ true) × EndsIn order t
   forth h =
-      let e = from_orders_ending n k t order long (suffix_facts n t proper).apart (suffix_facts n t proper).below (member-from_contains order (orders_ending n k t) h) in
+      let e = from_orders_ending n k t order long (suffix_facts n t proper).apart (suffix_facts n t proper).below
+      (member-from_contains order (orders_ending n k t) h) in
       (order-from_ending e, (e.before, e.split))
 
   back : (is_order n order ≡ true) × EndsIn order t → Contains (orders_ending n k t) order
@@ -109,8 +117,10 @@ alternative-member n winner c order h ne ends =
     let short : length before ≡ n - 1 = omega (arith, o.long, ap length same, length-append before (c ∷ [])) in
     let below : (z : ℕ) → Member z (before ++ c ∷ []) → z < n = λ z m. o.below z (subst (Member z) (sym same) m) in
     let mine : c < n = below c (member-append_right before here) in
-    member-flat_map (λ c. orders_ending n (n - 1) (c ∷ [])) (member-filter (λ c. not (c == winner)) (candidates n) (candidate-member c n mine) (not_from_false (c == winner) (ne_eqb c winner ne)))
-    (subst (λ x. Member x (orders_ending n (n - 1) (c ∷ []))) (sym same) (orders_ending-member n (n - 1) before (c ∷ []) short (subst Distinct same o.apart) below))
+    member-flat_map (λ c. orders_ending n (n - 1) (c ∷ [])) (member-filter (λ c. not (c == winner)) (candidates n) (candidate-member c n mine)
+    (not_from_false (c == winner) (ne_eqb c winner ne)))
+    (subst (λ x. Member x (orders_ending n (n - 1) (c ∷ []))) (sym same)
+    (orders_ending-member n (n - 1) before (c ∷ []) short (subst Distinct same o.apart) below))
 
 pub alternative_orders_are : (n winner : ℕ) (order : List ℕ) →
     (Contains (alternative_orders n winner) order ↔ ((is_order n order ≡ true) × ((c : ℕ) × (c ≢ winner) × Elects order c)))

@@ -28,7 +28,8 @@ pub suffixes_ending-self : (n k : ℕ) (t : List ℕ) → Member t (suffixes_end
 suffixes_ending-self n zero t = here
 suffixes_ending-self n (suc k) t = here
 
-pub end_of : (n : ℕ) (low : List ℕ → ℕ) (margin k x : ℕ) (t before order : List ℕ) → order ≡ before ++ x ∷ t → length before ≡ k → Distinct order → ((c : ℕ) → Member c order → c < n) →
+pub end_of : (n : ℕ) (low : List ℕ → ℕ) (margin k x : ℕ) (t before order : List ℕ) → order ≡ before ++ x ∷ t → length before ≡ k → Distinct order →
+    ((c : ℕ) → Member c order → c < n) →
     margin ≤ low order → (margin ≤ low (x ∷ t) → is_end low margin (x ∷ t) ≡ true) → EndOf n low margin k (x ∷ t) order
 end_of n low margin zero x t [] order same long d below le starts =
     record { suffix = x ∷ t; before = []; split = same; is = starts (subst (λ s. margin ≤ low s) same le); listed = here }
@@ -51,15 +52,18 @@ end_of n low margin (suc k) x t (b ∷ bs) order same long d below le starts =
             before = r.before;
             split = r.split;
             is = r.is;
-            listed = there (member-flat_map (λ c. if is_in (x ∷ t) c then [] else suffixes_ending n k (c ∷ x ∷ t)) (candidate-member c n (below c inside)) (rw out m));
+            listed = there (member-flat_map (λ c. if is_in (x ∷ t) c then [] else suffixes_ending n k (c ∷ x ∷ t)) (candidate-member c n (below c inside))
+                (rw out m));
           }
     ]
 
-pub end-member : (n winner c : ℕ) (low : List ℕ → ℕ) (margin : ℕ) (s : List ℕ) → c ≢ winner → c < n → Member s (suffixes_ending n (n - 1) (c ∷ [])) → is_end low margin s ≡ true →
+pub end-member : (n winner c : ℕ) (low : List ℕ → ℕ) (margin : ℕ) (s : List ℕ) → c ≢ winner → c < n → Member s (suffixes_ending n (n - 1) (c ∷ [])) →
+    is_end low margin s ≡ true →
     Member s (certificate_ends n winner low margin)
 end-member n winner c low margin s ne below m is =
     member-filter (is_end low margin) (alternative_suffixes n winner)
-    (member-flat_map (λ c. suffixes_ending n (n - 1) (c ∷ [])) (member-filter (λ c. not (c == winner)) (candidates n) (candidate-member c n below) (not_from_false (c == winner) (ne_eqb c winner ne))) m)
+    (member-flat_map (λ c. suffixes_ending n (n - 1) (c ∷ []))
+    (member-filter (λ c. not (c == winner)) (candidates n) (candidate-member c n below) (not_from_false (c == winner) (ne_eqb c winner ne))) m)
     is
 
 pub from_end : (n winner : ℕ) (low : List ℕ → ℕ) (margin : ℕ) (s : List ℕ) → Member s (certificate_ends n winner low margin) → is_end low margin s ≡ true

@@ -28,12 +28,17 @@ suffix-rest before t s = record { apart = distinct-rest before t s.apart; below 
 
 -- a child
 pub child : (n c : ℕ) (t : List ℕ) → Suffix n t → c < n → is_in t c ≡ false → Suffix n (c ∷ t)
-child n c t s l out = record { apart = more (none-from_out out) s.apart; below = λ z m. elim (member_cases m) [ inl e ↦ subst (λ x. x < n) e l | inr r ↦ s.below z r ] }
+child n c t s l out = record {
+  apart = more (none-from_out out) s.apart;
+  below = λ z m.
+      elim (member_cases m) [ inl e ↦ subst (λ x. x < n) e l | inr r ↦ s.below z r ];
+}
 
 abbrev pub children_ending : ℕ → ℕ → List ℕ → ℕ → List (List ℕ)
 children_ending n k t c = if is_in t c then [] else suffixes_ending n k (c ∷ t)
 
-pub from_children : (n k : ℕ) (t : List ℕ) (c : ℕ) (s : List ℕ) → Member s (children_ending n k t c) → (is_in t c ≡ false) × Member s (suffixes_ending n k (c ∷ t))
+pub from_children : (n k : ℕ) (t : List ℕ) (c : ℕ) (s : List ℕ) → Member s (children_ending n k t c) →
+    (is_in t c ≡ false) × Member s (suffixes_ending n k (c ∷ t))
 from_children n k t c s m = go (is_in t c) refl m where
   go : (b : Bool) → is_in t c ≡ b → Member s (cond b [] (suffixes_ending n k (c ∷ t))) → (is_in t c ≡ false) × Member s (suffixes_ending n k (c ∷ t))
   go true e m = absurd (member_nil m)
@@ -101,10 +106,12 @@ suffixes_ending_are n k t s proper = (forth, back) where
 stands_before-longer : (xs : List ℕ) (y : ℕ) (ys : List ℕ) → stands_before xs (xs ++ y ∷ ys) ≡ true
 stands_before-longer [] y ys = refl
 stands_before-longer (x ∷ xs) y ys =
-    or_right (nat_lt x x) ((x == x) && stands_before xs (xs ++ y ∷ ys)) (and_from (x == x) (stands_before xs (xs ++ y ∷ ys)) (eq-eqb x x refl) (stands_before-longer xs y ys))
+    or_right (nat_lt x x) ((x == x) && stands_before xs (xs ++ y ∷ ys))
+    (and_from (x == x) (stands_before xs (xs ++ y ∷ ys)) (eq-eqb x x refl) (stands_before-longer xs y ys))
 
 before-longer : (t : List ℕ) (c : ℕ) (s : List ℕ) → EndsIn s (c ∷ t) → IsBefore t s
-before-longer t c s (before, e) = subst (λ r. stands_before (reverse t) r ≡ true) (sym (reverse_ending s t c before e)) (stands_before-longer (reverse t) c (reverse before))
+before-longer t c s (before, e) = subst (λ r. stands_before (reverse t) r ≡ true) (sym (reverse_ending s t c before e))
+    (stands_before-longer (reverse t) c (reverse before))
 
 pub ends_longer : (n k : ℕ) (t s : List ℕ) → Member s (suffixes_ending n k t) → EndsIn s t
 ends_longer n zero t s m = elim (member_cases m) [ inl e ↦ ([], sym e) | inr r ↦ absurd (member_nil r) ]

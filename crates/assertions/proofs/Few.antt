@@ -38,11 +38,13 @@ module _ (p : List ℕ → Bool) (f : ℕ → List (List ℕ)) (inside : ℕ →
       length (filter p (flat_map f cs)) ≤ length (filter (λ c. not (inside c)) cs) * most
   flat_map-few [] few = omega arith
   flat_map-few (c ∷ cs) few =
-      subst (λ x. x ≤ length (filter (λ c. not (inside c)) (c ∷ cs)) * most) (sym (ap length (filter-append p (f c) (flat_map f cs)) ∙ length-append (filter p (f c)) (filter p (flat_map f cs))))
+      subst (λ x. x ≤ length (filter (λ c. not (inside c)) (c ∷ cs)) * most) (sym (ap length (filter-append p (f c) (flat_map f cs))
+      ∙ length-append (filter p (f c)) (filter p (flat_map f cs))))
       (go (inside c) refl (flat_map-few cs (λ d m. few d (there m))))
     where
       go : (b : Bool) → inside c ≡ b → length (filter p (flat_map f cs)) ≤ length (filter (λ c. not (inside c)) cs) * most →
-          length (filter p (f c)) + length (filter p (flat_map f cs)) ≤ length (cond (not b) (c ∷ filter (λ c. not (inside c)) cs) (filter (λ c. not (inside c)) cs)) * most
+          length (filter p (f c)) + length (filter p (flat_map f cs)) ≤ length
+          (cond (not b) (c ∷ filter (λ c. not (inside c)) cs) (filter (λ c. not (inside c)) cs)) * most
       go true e ih = let empty : length (filter p (f c)) ≡ 0 = ap (λ s. length (filter p s)) (none_of c e) in omega arith
       go false e ih =
           let first : length (filter p (f c)) ≤ most = few c here e in
@@ -55,8 +57,10 @@ module _ (p : List ℕ → Bool) (f : ℕ → List (List ℕ)) (inside : ℕ →
 outside-few : (n : ℕ) (t : List ℕ) → Suffix n t → length (filter (λ c. not (is_in t c)) (candidates n)) + length t ≤ n
 outside-few n t s =
     let le : length t ≤ length (filter (is_in t) (candidates n)) =
-    distinct-le t (filter (is_in t) (candidates n)) s.apart (λ z m. member-filter (is_in t) (candidates n) (candidate-member z n (s.below z m)) (in-from_member m)) in
-    let all : length (filter (is_in t) (candidates n)) + length (filter (λ c. not (is_in t c)) (candidates n)) ≡ length (candidates n) = length-filter_both (is_in t) (λ c. not (is_in t c)) (λ c. refl) (candidates n) in
+    distinct-le t (filter (is_in t) (candidates n)) s.apart (λ z m. member-filter (is_in t) (candidates n) (candidate-member z n (s.below z m))
+    (in-from_member m)) in
+    let all : length (filter (is_in t) (candidates n)) + length (filter (λ c. not (is_in t c)) (candidates n)) ≡ length (candidates n) =
+    length-filter_both (is_in t) (λ c. not (is_in t c)) (λ c. refl) (candidates n) in
     omega (arith, length-range 0 n)
 
 abbrev short : ℕ → List ℕ → Bool
@@ -72,8 +76,10 @@ parts-few n zero t s long = whole (short n t) (not_below (length t) n (omega ari
   whole true e = cc
   whole false e = omega arith
 parts-few n (suc k) t s long =
-    let children : length (filter (short n) (flat_map (children_ending n k t) (candidates n))) ≤ length (filter (λ c. not (is_in t c)) (candidates n)) * bound k =
-    flat_map-few (short n) (children_ending n k t) (is_in t) (bound k) (λ c e. rw e refl) (candidates n) (λ c m out. rw out (parts-few n k (c ∷ t) (child n c t s (from_candidates m) out) (omega arith))) in
+    let children : length (filter (short n) (flat_map (children_ending n k t) (candidates n))) ≤ length (filter (λ c. not (is_in t c)) (candidates n)) * bound
+    k =
+    flat_map-few (short n) (children_ending n k t) (is_in t) (bound k) (λ c e. rw e refl) (candidates n)
+    (λ c m out. rw out (parts-few n k (c ∷ t) (child n c t s (from_candidates m) out) (omega arith))) in
     let few : length (filter (λ c. not (is_in t c)) (candidates n)) ≤ suc k = omega (arith, outside-few n t s) in
     joined (short n t) (filter (short n) (flat_map (children_ending n k t) (candidates n))) (le_trans children (mul-le-mul_right (bound k) few))
   where

@@ -61,11 +61,13 @@ stands_before-append (x ∷ p) u v c d h =
 
 pub reverse_ending : (order t : List ℕ) (c : ℕ) (before : List ℕ) → order ≡ before ++ c ∷ t → reverse order ≡ reverse t ++ c ∷ reverse before
 reverse_ending order t c before e =
-    ap reverse e ∙ reverse-append before (c ∷ t) ∙ ap (λ s. s ++ reverse before) (reverse-append (c ∷ []) t) ∙ append_assoc (reverse t) (c ∷ []) (reverse before)
+    ap reverse e ∙ reverse-append before (c ∷ t) ∙ ap (λ s. s ++ reverse before) (reverse-append (c ∷ []) t)
+    ∙ append_assoc (reverse t) (c ∷ []) (reverse before)
 
 pub across-endings : (x y t : List ℕ) (c d : ℕ) → c < d → EndsIn x (c ∷ t) → EndsIn y (d ∷ t) → IsBefore x y
 across-endings x y t c d h (a, e) (b, g) =
-    subst₂ (λ u v. stands_before u v ≡ true) (sym (reverse_ending x t c a e)) (sym (reverse_ending y t d b g)) (stands_before-append (reverse t) (reverse a) (reverse b) c d h)
+    subst₂ (λ u v. stands_before u v ≡ true) (sym (reverse_ending x t c a e)) (sym (reverse_ending y t d b g))
+    (stands_before-append (reverse t) (reverse a) (reverse b) c d h)
 
 pub one_more-across : (n k : ℕ) (t : List ℕ) (c d : ℕ) (x y : List ℕ) → c < d →
     Member x (if is_in t c then [] else orders_ending n k (c ∷ t)) → Member y (if is_in t d then [] else orders_ending n k (d ∷ t)) → IsBefore x y
@@ -77,7 +79,8 @@ one_more-across n k t c d x y h a b = across-endings x y t c d h (ends c x a) (e
         | inr out ↦ let m' : Member x (orders_ending n k (c ∷ t)) = rw out at m in ending n k (c ∷ t) x m'
       ]
 
-first_ending : (n k : ℕ) (t : List ℕ) (p : List ℕ → Bool) (x y : List ℕ) → find p (orders_ending n k t) ≡ Some x → Member y (orders_ending n k t) → p y ≡ true → (x ≡ y) ⊎ IsBefore x y
+first_ending : (n k : ℕ) (t : List ℕ) (p : List ℕ → Bool) (x y : List ℕ) → find p (orders_ending n k t) ≡ Some x → Member y (orders_ending n k t) →
+    p y ≡ true → (x ≡ y) ⊎ IsBefore x y
 first_ending n zero t p x y e m r =
     let (k, passes) = from_find p x (t ∷ []) e in
     elim (member_cases k) [
@@ -107,4 +110,5 @@ first_alternative n winner p found order e m r =
 pub order_is_first : (n winner margin : ℕ) (hardness : List ℕ → ℕ) (found order : List ℕ) → certificate_order n winner hardness margin ≡ Some found →
     Contains (alternative_orders n winner) order → hardness order ≡ margin → (found ≡ order) ⊎ (comes_before found order ≡ true)
 order_is_first n winner margin hardness found order e h r =
-    first_alternative n winner (λ order. hardness order == margin) found order e (member-from_contains order (alternative_orders n winner) h) (eq-eqb (hardness order) margin r)
+    first_alternative n winner (λ order. hardness order == margin) found order e (member-from_contains order (alternative_orders n winner) h)
+    (eq-eqb (hardness order) margin r)

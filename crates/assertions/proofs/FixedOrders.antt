@@ -42,7 +42,8 @@ from_row n w q m = let (l, k, e) = from_map (λ l. (w, l)) q (all_but n w) m in 
 sorted-pairs : (n : ℕ) → Sorted PairBefore (pairs n)
 sorted-pairs n =
     sorted-flat_map ◌<◌ PairBefore (λ w. map (λ l. (w, l)) (all_but n w))
-    (λ w. sorted-map ◌<◌ PairBefore (λ l. (w, l)) (λ l k h. by_rest w (l ∷ []) (k ∷ []) (by_first l k [] [] h)) (sorted-filter ◌<◌ (λ c. not (c == w)) (sorted-range 0 n)))
+    (λ w. sorted-map ◌<◌ PairBefore (λ l. (w, l)) (λ l k h. by_rest w (l ∷ []) (k ∷ []) (by_first l k [] [] h))
+    (sorted-filter ◌<◌ (λ c. not (c == w)) (sorted-range 0 n)))
     (λ w v x y h m m'.
     let e : x.0 ≡ w = from_row n w x m in
     let e' : y.0 ≡ v = from_row n v y m' in
@@ -56,7 +57,8 @@ longer a b c d x y h =
       | inr r ↦
           let (p, q) = and_parts (a == c) (stands_before (b ∷ []) (d ∷ [])) r in
           elim (or_cases (nat_lt b d) ((b == d) && false) q) [
-            | inl g ↦ or_right (nat_lt a c) ((a == c) && stands_before (b ∷ x) (d ∷ y)) (and_from (a == c) (stands_before (b ∷ x) (d ∷ y)) p (by_first b d x y (ltb-true b d g)))
+            | inl g ↦ or_right (nat_lt a c) ((a == c) && stands_before (b ∷ x) (d ∷ y))
+                (and_from (a == c) (stands_before (b ∷ x) (d ∷ y)) p (by_first b d x y (ltb-true b d g)))
             | inr g ↦ let never : false ≡ true = (and_parts (b == d) false g).1 in cc
           ]
     ]
@@ -77,11 +79,13 @@ sorted-assertions n =
   where
     within : (p : ℕ × ℕ) → Sorted Before (nens_of n p)
     within p =
-        sorted-map ◌<◌ Before (λ s. Nen p.0 p.1 s) (λ s u h. by_rest 1 (p.0 ∷ p.1 ∷ s ∷ []) (p.0 ∷ p.1 ∷ u ∷ []) (by_rest p.0 (p.1 ∷ s ∷ []) (p.1 ∷ u ∷ []) (by_rest p.1 (s ∷ []) (u ∷ []) (by_first s u [] [] h))))
+        sorted-map ◌<◌ Before (λ s. Nen p.0 p.1 s) (λ s u h. by_rest 1 (p.0 ∷ p.1 ∷ s ∷ []) (p.0 ∷ p.1 ∷ u ∷ [])
+        (by_rest p.0 (p.1 ∷ s ∷ []) (p.1 ∷ u ∷ []) (by_rest p.1 (s ∷ []) (u ∷ []) (by_first s u [] [] h))))
         (sorted-filter ◌<◌ (λ s. has s p.0 && has s p.1) (sorted-range 0 (2 ^ n)))
 
     across : (p q : ℕ × ℕ) (x y : Assertion) → PairBefore p q → Member x (nens_of n p) → Member y (nens_of n q) → Before x y
     across p q x y h m m' =
         let (s, k, e) = from_map (λ s. Nen p.0 p.1 s) x (sets_with n p) m in
         let (u, k', e') = from_map (λ s. Nen q.0 q.1 s) y (sets_with n q) m' in
-        subst (λ z. Before x z) e' (subst (λ z. Before z (Nen q.0 q.1 u)) e (by_rest 1 (p.0 ∷ p.1 ∷ s ∷ []) (q.0 ∷ q.1 ∷ u ∷ []) (longer p.0 p.1 q.0 q.1 (s ∷ []) (u ∷ []) h)))
+        subst (λ z. Before x z) e' (subst (λ z. Before z (Nen q.0 q.1 u)) e
+        (by_rest 1 (p.0 ∷ p.1 ∷ s ∷ []) (q.0 ∷ q.1 ∷ u ∷ []) (longer p.0 p.1 q.0 q.1 (s ∷ []) (u ∷ []) h)))

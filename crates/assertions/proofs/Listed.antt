@@ -15,7 +15,8 @@ use Rattle.assertions.proofs.Proper.{IsPair, nen_facts, nen_test, pair_facts, pa
 pub pair-member : (n w l : ℕ) → IsPair n w l → Member (w, l) (pairs n)
 pair-member n w l p =
     member-flat_map (λ w. map (λ l. (w, l)) (all_but n w)) (candidate-member w n p.winner)
-    (member-map (λ l. (w, l)) (member-filter (λ c. not (c == w)) (candidates n) (candidate-member l n p.loser) (not_from_false (l == w) (ne_eqb l w (λ e. p.differ (sym e))))))
+    (member-map (λ l. (w, l)) (member-filter (λ c. not (c == w)) (candidates n) (candidate-member l n p.loser)
+    (not_from_false (l == w) (ne_eqb l w (λ e. p.differ (sym e))))))
 
 pub from_pairs : (n : ℕ) (p : ℕ × ℕ) → Member p (pairs n) → IsPair n p.0 p.1
 from_pairs n p m =
@@ -31,7 +32,8 @@ assertion-member n (Nen w l rest) h =
     let p = nen_facts n w l rest h in
     let small : rest < 2 ^ n = p.small in
     let m : Member rest (sets_with n (w, l)) =
-    member-filter (λ rest. has rest w && has rest l) (range_with_len 0 (2 ^ n)) (range-member rest 0 (2 ^ n) (omega arith) (omega arith)) (and_from (has rest w) (has rest l) p.has_winner p.has_loser) in
+    member-filter (λ rest. has rest w && has rest l) (range_with_len 0 (2 ^ n)) (range-member rest 0 (2 ^ n) (omega arith) (omega arith))
+    (and_from (has rest w) (has rest l) p.has_winner p.has_loser) in
     member-append_right (map (λ (p : ℕ × ℕ). Neb p.0 p.1) (pairs n))
     (member-flat_map (λ (p : ℕ × ℕ). map (λ rest. Nen p.0 p.1 rest) (sets_with n p)) (pair-member n w l p.pair) (member-map (λ rest. Nen w l rest) m))
 

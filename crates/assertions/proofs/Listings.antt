@@ -19,7 +19,8 @@ use Rattle.assertions.proofs.Sorted.{Sorted, sorted-filter, sorted-flat_map, sor
 orders_ending-sorted : (n k : ℕ) (t : List ℕ) → Sorted IsBefore (orders_ending n k t)
 orders_ending-sorted n zero t = Rattle.assertions.proofs.Sorted.more (λ y m. absurd (member_nil m)) Rattle.assertions.proofs.Sorted.none
 orders_ending-sorted n (suc k) t =
-    sorted-flat_map ◌<◌ IsBefore (λ c. if is_in t c then [] else orders_ending n k (c ∷ t)) (λ c. within c (is_in t c) (orders_ending-sorted n k (c ∷ t))) (one_more-across n k t) (sorted-range 0 n)
+    sorted-flat_map ◌<◌ IsBefore (λ c. if is_in t c then [] else orders_ending n k (c ∷ t)) (λ c. within c (is_in t c) (orders_ending-sorted n k (c ∷ t)))
+    (one_more-across n k t) (sorted-range 0 n)
   where
     within : (c : ℕ) (b : Bool) → Sorted IsBefore (orders_ending n k (c ∷ t)) → Sorted IsBefore (cond b [] (orders_ending n k (c ∷ t)))
     within c true s = Rattle.assertions.proofs.Sorted.none
@@ -36,7 +37,8 @@ alternative_orders_rise n winner = sorted-get IsBefore (alternative_orders n win
 
 -- ---- parts
 pub parts_rise : (n c : ℕ) → AllPairs IsBefore (parts_ending n c)
-parts_rise n c = sorted-get IsBefore (parts_ending n c) (sorted-filter IsBefore (λ suffix. nat_lt (length suffix) n) (suffixes_ending-sorted n (n - 1) (c ∷ [])))
+parts_rise n c = sorted-get IsBefore (parts_ending n c) (sorted-filter IsBefore (λ suffix. nat_lt (length suffix) n)
+    (suffixes_ending-sorted n (n - 1) (c ∷ [])))
 
 pub parts_ending_are : (n c : ℕ) (s : List ℕ) → c < n → (Contains (parts_ending n c) s ↔ ((is_suffix n s ≡ true) × Elects s c × (length s < n)))
 parts_ending_are n c s below = (forth, back) where
@@ -53,7 +55,8 @@ parts_ending_are n c s below = (forth, back) where
       let lt : length s < n = h.2 in
       let m : Member s (suffixes_ending n (n - 1) (c ∷ [])) =
       subst (λ x. Member x (suffixes_ending n (n - 1) (c ∷ []))) (sym same)
-      (suffixes_ending-member n (n - 1) before (c ∷ []) (subst (Suffix n) same (suffix_facts n s h.0)) (omega (arith, ap length same, length-append before (c ∷ [])))) in
+      (suffixes_ending-member n (n - 1) before (c ∷ []) (subst (Suffix n) same (suffix_facts n s h.0))
+      (omega (arith, ap length same, length-append before (c ∷ [])))) in
       contains-from_member (member-filter (λ suffix. nat_lt (length suffix) n) (suffixes_ending n (n - 1) (c ∷ [])) m (lt-ltb (length s) n lt))
 
 -- ---- the order that the search starts from
@@ -81,9 +84,27 @@ start_is_alternative n winner order two h (front, ends) = go front ends where
       let (before, a, e) = last_split x xs in
       let whole : order ≡ before ++ a ∷ winner ∷ [] = same ∙ ap (λ s. s ++ winner ∷ []) e ∙ append_assoc before (a ∷ []) (winner ∷ []) in
       let start : start_order order ≡ before ++ winner ∷ a ∷ [] = ap start_order whole ∙ exchanged-last before a winner in
-      let long : length (before ++ winner ∷ a ∷ []) ≡ n = omega (arith, (order_facts n order h).long, ap length whole, length-append before (a ∷ winner ∷ []), length-append before (winner ∷ a ∷ [])) in
+      let long : length (before ++ winner ∷ a ∷ []) ≡ n = omega (
+        arith,
+        (order_facts n order h).long,
+        ap length whole,
+        length-append before (a ∷ winner ∷ []),
+        length-append before (winner ∷ a ∷ []),
+      ) in
       let test : is_order n (before ++ winner ∷ a ∷ []) ≡ true =
-      and_from (length (before ++ winner ∷ a ∷ []) == n) (list_all (λ c. is_in (before ++ winner ∷ a ∷ []) c) (candidates n)) (eq-eqb (length (before ++ winner ∷ a ∷ [])) n long)
-      (list_all-each (λ c. is_in (before ++ winner ∷ a ∷ []) c) (candidates n) (λ c m. in-from_member (moved c a winner before (subst (Member c) whole ((order_facts n order h).whole c (from_candidates m)))))) in
-      let apart : Distinct (a ∷ winner ∷ []) = distinct-rest before (a ∷ winner ∷ []) (subst Distinct whole (order_facts n order h).apart) in
-      (ap (is_order n) start ∙ test, (a, λ s. distinct-head apart (member_at (sym s)), (before ++ winner ∷ [], start ∙ sym (append_assoc before (winner ∷ []) (a ∷ [])))))
+      and_from (length (before ++ winner ∷ a ∷ []) == n) (list_all (λ c. is_in (before ++ winner ∷ a ∷ []) c) (candidates n))
+      (eq-eqb (length (before ++ winner ∷ a ∷ [])) n long)
+      (list_all-each (λ c. is_in (before ++ winner ∷ a ∷ []) c) (candidates n)
+      (λ c m. in-from_member (moved c a winner before (subst (Member c) whole ((order_facts n order h).whole c (from_candidates m)))))) in
+      let apart : Distinct (a ∷ winner ∷ []) = distinct-rest before (a ∷ winner ∷ []) (subst Distinct whole (order_facts n order h).apart) in (
+        ap (is_order n) start ∙ test,
+        (
+          a,
+          λ s. distinct-head apart (member_at (sym s)),
+          (
+            before ++ winner ∷ [],
+            start
+                ∙ sym (append_assoc before (winner ∷ []) (a ∷ [])),
+          ),
+        ),
+      )

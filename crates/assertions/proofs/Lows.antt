@@ -13,10 +13,13 @@ use Rattle.assertions.proofs.Greatest.{greatest-member, greatest_is}
 use Rattle.assertions.proofs.Listed.{assertion-member, assertion-proper}
 use Rattle.assertions.proofs.Parts.{refutes_more}
 
-pub low-refuter : (n : ℕ) (records : List (List ℕ)) (t : List ℕ) (a : Assertion) → is_proper n a ≡ true → refutes a t ≡ true → true_margin records a ≤ low n records t
+pub low-refuter : (n : ℕ) (records : List (List ℕ)) (t : List ℕ) (a : Assertion) → is_proper n a ≡ true → refutes a t ≡ true →
+    true_margin records a ≤ low n records t
 low-refuter n records t a proper r =
     elim (cases_Bool (is_true records a)) [
-      | inl holds ↦ greatest-member (member-map (true_margin records) (member-filter (λ a. refutes a t && is_true records a) (assertions n) (assertion-member n a proper) (and_from (refutes a t) (is_true records a) r holds)))
+      | inl holds ↦ greatest-member (member-map (true_margin records)
+          (member-filter (λ a. refutes a t && is_true records a) (assertions n) (assertion-member n a proper)
+          (and_from (refutes a t) (is_true records a) r holds)))
       | inr fails ↦ elim (cases_lt (votes_against records a) (votes_for records a)) [
         | inl lt ↦ absurd (both_ways (is_true records a) fails (lt-ltb (votes_against records a) (votes_for records a) lt))
         | inr le ↦ let none : votes_for records a - votes_against records a ≡ 0 = omega arith in subst (λ x. x ≤ low n records t) (sym none) (omega arith)
@@ -30,7 +33,8 @@ pub record Gives (n : ℕ) (records : List (List ℕ)) (t : List ℕ) (a : Asser
   pub true_of : is_true records a ≡ true
   pub reached : true_margin records a ≡ low n records t
 
-pub from_true_refuters : (n : ℕ) (records : List (List ℕ)) (t : List ℕ) (a : Assertion) → Member a (true_refuters n records t) → true_margin records a ≡ low n records t → Gives n records t a
+pub from_true_refuters : (n : ℕ) (records : List (List ℕ)) (t : List ℕ) (a : Assertion) → Member a (true_refuters n records t) →
+    true_margin records a ≡ low n records t → Gives n records t a
 from_true_refuters n records t a m e =
     let (k, both) = from_filter (λ a. refutes a t && is_true records a) (assertions n) m in
     let (r, holds) = and_parts (refutes a t) (is_true records a) both in
@@ -38,7 +42,8 @@ from_true_refuters n records t a m e =
 
 pub low_is : (n : ℕ) (records : List (List ℕ)) (t : List ℕ) → 0 < low n records t → (a : Assertion) × Gives n records t a
 low_is n records t h =
-    let m : Member (low n records t) (map (true_margin records) (true_refuters n records t)) = greatest_is (map (true_margin records) (true_refuters n records t)) h in
+    let m : Member (low n records t) (map (true_margin records) (true_refuters n records t)) =
+    greatest_is (map (true_margin records) (true_refuters n records t)) h in
     let (a, k, e) = from_map (true_margin records) (low n records t) (true_refuters n records t) m in
     (a, from_true_refuters n records t a k e)
 
@@ -81,12 +86,14 @@ from_refuter n records t a h =
 
 pub gives-member : (n : ℕ) (records : List (List ℕ)) (t : List ℕ) (a : Assertion) → Gives n records t a → Member a (true_refuters n records t)
 gives-member n records t a g =
-    member-filter (λ a. refutes a t && is_true records a) (assertions n) (assertion-member n a g.proper) (and_from (refutes a t) (is_true records a) g.refuting g.true_of)
+    member-filter (λ a. refutes a t && is_true records a) (assertions n) (assertion-member n a g.proper)
+    (and_from (refutes a t) (is_true records a) g.refuting g.true_of)
 
 pub refuter_is : (n : ℕ) (records : List (List ℕ)) (t : List ℕ) → 0 < low n records t → (a : Assertion) × (refuter n records t ≡ Some a)
 refuter_is n records t h =
     let (a, g) = low_is n records t h in
-    find-member (λ a. true_margin records a == low n records t) a (true_refuters n records t) (gives-member n records t a g) (eq-eqb (true_margin records a) (low n records t) g.reached)
+    find-member (λ a. true_margin records a == low n records t) a (true_refuters n records t) (gives-member n records t a g)
+    (eq-eqb (true_margin records a) (low n records t) g.reached)
 
 pub refuter_is_none : (n : ℕ) (records : List (List ℕ)) (t : List ℕ) → low n records t ≡ 0 → refuter n records t ≡ None
 refuter_is_none n records t e = go (refuter n records t) refl where

@@ -18,7 +18,8 @@ pair w l ne = more (λ m. elim (member_cases m) [ inl e ↦ ne (sym e) | inr r �
 pair-hasn't : (w l c : ℕ) → w ≢ l → (c == l) ≡ false → (c == w) ≡ false → has (set_of (w ∷ l ∷ [])) c ≡ false
 pair-hasn't w l c ne nl nw =
     has-set_of (w ∷ l ∷ []) c (pair w l ne)
-    ∙ or_from (w == c) ((l == c) || false) (ne_eqb w c (λ e. eqb-false c w nw (sym e))) (or_from (l == c) false (ne_eqb l c (λ e. eqb-false c l nl (sym e))) refl)
+    ∙ or_from (w == c) ((l == c) || false) (ne_eqb w c (λ e. eqb-false c w nw (sym e)))
+    (or_from (l == c) false (ne_eqb l c (λ e. eqb-false c l nl (sym e))) refl)
 
 ahead-top : (w l : ℕ) (ranking : List ℕ) → w ≢ l → is_ahead ranking l w ≡ true → is_some_of (top ranking (set_of (w ∷ l ∷ []))) l ≡ true
 ahead-top w l [] ne h = cc

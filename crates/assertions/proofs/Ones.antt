@@ -39,12 +39,14 @@ module _ (n winner : ℕ) (records : List (List ℕ)) where
     go (c, ne, (before, same)) =
         let p : Suffix n (before ++ c ∷ []) = subst (Suffix n) same (suffix_facts n s e.proper) in
         let short : length before ≤ n - 1 = omega (arith, suffix-few p, length-append before (c ∷ [])) in
-        let m : Member s (suffixes_ending n (n - 1) (c ∷ [])) = subst (λ x. Member x (suffixes_ending n (n - 1) (c ∷ []))) (sym same) (suffixes_ending-member n (n - 1) before (c ∷ []) p short) in
+        let m : Member s (suffixes_ending n (n - 1) (c ∷ [])) =
+        subst (λ x. Member x (suffixes_ending n (n - 1) (c ∷ []))) (sym same) (suffixes_ending-member n (n - 1) before (c ∷ []) p short) in
         end-member n winner c (low n records) best s ne (p.below c (member-append_right before here)) m e.shortest
 
   -- ---- what is defined meets the rules
   pub certificate_is : winner < n → 1 < n →
-      (order : List ℕ) × (certificate_order n winner (low n records) best ≡ Some order) × IsCertificate n records winner best order (certificate_assertions n records winner)
+      (order : List ℕ) × (certificate_order n winner (low n records) best ≡ Some order) × IsCertificate n records winner best order
+      (certificate_assertions n records winner)
   certificate_is below two =
       let (order, found, h, e) = order_is n winner (low n records) below two in (
         order,
@@ -53,9 +55,12 @@ module _ (n winner : ℕ) (records : List (List ℕ)) where
           least = λ other alternative. best-le n winner (low n records) other (listed_order other alternative);
           alternative = from_alternative n winner order (member-from_contains order (alternative_orders n winner) h);
           reached = e;
-          first = λ other alternative same. turned (order_is_first n winner best (low n records) order other found (contains-from_member (listed_order other alternative)) same);
+          first = λ other alternative same. turned (order_is_first n winner best (low n records) order other found
+              (contains-from_member (listed_order other alternative)) same);
           listed = λ a. (forth a, back a);
-          rising = sorted-get Before (certificate_assertions n records winner) (sorted-filter Before (λ a. list_any (λ suffix. is_some_same (refuter n records suffix) a) (certificate_ends n winner (low n records) best)) (sorted-assertions n));
+          rising = sorted-get Before (certificate_assertions n records winner)
+              (sorted-filter Before (λ a. list_any (λ suffix. is_some_same (refuter n records suffix) a) (certificate_ends n winner (low n records) best))
+              (sorted-assertions n));
         },
       )
     where
@@ -92,7 +97,8 @@ module _ (n winner : ℕ) (records : List (List ℕ)) where
       (λ a m. member-from_contains a cs' ((y.listed a).1 ((x.listed a).0 (contains-from_member m))))
       (λ a m. member-from_contains a cs ((x.listed a).1 ((y.listed a).0 (contains-from_member m))))
 
-  pub certificate_is_one : (b b' : ℕ) (o o' : List ℕ) (cs cs' : List Assertion) → IsCertificate n records winner b o cs → IsCertificate n records winner b' o' cs' →
+  pub certificate_is_one : (b b' : ℕ) (o o' : List ℕ) (cs cs' : List Assertion) → IsCertificate n records winner b o cs →
+      IsCertificate n records winner b' o' cs' →
       (b ≡ b') × (o ≡ o') × (cs ≡ cs')
   certificate_is_one b b' o o' cs cs' x y =
       let same : b ≡ b' = le_antisymm (best-one b b' o o' cs cs' x y) (best-one b' b o' o cs' cs y x) in

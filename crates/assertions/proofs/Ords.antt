@@ -31,7 +31,8 @@ cmp-key (Nen w l s) (Neb v k) = refl
 cmp-key (Nen w l s) (Nen v k u) = ap (λ o. ordering_then (nat_cmp w v) (ordering_then (nat_cmp l k) o)) (sym (then_equal (nat_cmp s u)))
 
 pub is_lt-keys : (x y : List ℕ) → is_lt (slice_cmp nat_cmp x y) ≡ stands_before x y
-is_lt-keys x y = same_from_slice_cmp nat_cmp is_lt stands_before refl (λ _ _. refl) (λ _ _. refl) (λ x y xs ys o h. grind (arith, nat_tests)) x y (slice_cmp nat_cmp x y) refl
+is_lt-keys x y = same_from_slice_cmp nat_cmp is_lt stands_before refl (λ _ _. refl) (λ _ _. refl) (λ x y xs ys o h. grind (arith, nat_tests)) x y
+    (slice_cmp nat_cmp x y) refl
 
 is_lt-Less : (o : Ordering) → is_lt o ≡ true → o ≡ Less
 is_lt-Less Less h = refl

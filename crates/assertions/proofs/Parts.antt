@@ -54,7 +54,8 @@ is_distinct-part_from [] w h = h
 is_distinct-part_from (c ∷ t) w h =
     elim (cases_eq c w) [
       | inl e ↦ subst (λ s. is_distinct s ≡ true) (sym (part_from-same c w t e)) h
-      | inr ne ↦ subst (λ s. is_distinct s ≡ true) (sym (part_from-other c w t ne)) (is_distinct-part_from t w (and_parts (not (is_in t c)) (is_distinct t) h).1)
+      | inr ne ↦ subst (λ s. is_distinct s ≡ true) (sym (part_from-other c w t ne))
+          (is_distinct-part_from t w (and_parts (not (is_in t c)) (is_distinct t) h).1)
     ]
 
 -- of two that are there, one is in the part part_from the other on

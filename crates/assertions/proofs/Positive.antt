@@ -25,7 +25,8 @@ elects-same (x ∷ xs) (y ∷ ys) c d e = elects-same xs ys c d (tails e) where
   tails : {a b : ℕ} {s t : List ℕ} → a ∷ s ≡ b ∷ t → s ≡ t
   tails e = cc
 
-set_of-same : (xs ys : List ℕ) → Distinct xs → Distinct ys → ((z : ℕ) → Member z xs → Member z ys) → ((z : ℕ) → Member z ys → Member z xs) → set_of xs ≡ set_of ys
+set_of-same : (xs ys : List ℕ) → Distinct xs → Distinct ys → ((z : ℕ) → Member z xs → Member z ys) → ((z : ℕ) → Member z ys → Member z xs) →
+    set_of xs ≡ set_of ys
 set_of-same xs ys d d' f g = set_of_is (set_of xs) ys d' (λ c. has-set_of xs c d ∙ same c) where
   same : (c : ℕ) → is_in xs c ≡ is_in ys c
   same c =
@@ -51,9 +52,11 @@ possible-tabulated records (x ∷ xs) (y ∷ ys) d d' f g h p =
           let mx : Member x ys = behind (λ e. ne (sym e)) (f x here) in
           let sets : set_of (y ∷ ys) ≡ set_of (x ∷ xs) = set_of-same (y ∷ ys) (x ∷ xs) d' d g f in
           let lt : tally records (set_of (x ∷ xs)) x < tally records (set_of (x ∷ xs)) y =
-          ltb-true (tally records (set_of (x ∷ xs)) x) (tally records (set_of (x ∷ xs)) y) (from_list_all (λ d. nat_lt (tally records (set_of (x ∷ xs)) x) (tally records (set_of (x ∷ xs)) d)) my loses_x) in
+          ltb-true (tally records (set_of (x ∷ xs)) x) (tally records (set_of (x ∷ xs)) y)
+          (from_list_all (λ d. nat_lt (tally records (set_of (x ∷ xs)) x) (tally records (set_of (x ∷ xs)) d)) my loses_x) in
           let le : tally records (set_of (y ∷ ys)) y ≤ tally records (set_of (y ∷ ys)) x =
-          leb-true (tally records (set_of (y ∷ ys)) y) (tally records (set_of (y ∷ ys)) x) (from_list_all (λ d. nat_le (tally records (set_of (y ∷ ys)) y) (tally records (set_of (y ∷ ys)) d)) mx may_y) in
+          leb-true (tally records (set_of (y ∷ ys)) y) (tally records (set_of (y ∷ ys)) x)
+          (from_list_all (λ d. nat_le (tally records (set_of (y ∷ ys)) y) (tally records (set_of (y ∷ ys)) d)) mx may_y) in
           let le' : tally records (set_of (x ∷ xs)) y ≤ tally records (set_of (x ∷ xs)) x = subst (λ s. tally records s y ≤ tally records s x) sets le in
           absurd (omega arith)
     ] in
@@ -65,7 +68,8 @@ possible-tabulated records (x ∷ xs) (y ∷ ys) d d' f g h p =
     behind : {c z : ℕ} {cs : List ℕ} → (c ≡ z → ⊥) → Member z (c ∷ cs) → Member z cs
     behind ne m = elim (member_cases m) [ inl e ↦ absurd (ne e) | inr r ↦ r ]
 
-pub best_is_positive : (n winner : ℕ) (records : List (List ℕ)) (order : List ℕ) → 1 < n → is_order n order ≡ true → is_tabulated records order ≡ true → Elects order winner →
+pub best_is_positive : (n winner : ℕ) (records : List (List ℕ)) (order : List ℕ) → 1 < n → is_order n order ≡ true → is_tabulated records order ≡ true →
+    Elects order winner →
     1 ≤ best_margin n winner (low n records)
 best_is_positive n winner records order two h tabulated (before, ends) =
     elim (cases_lt 0 (best_margin n winner (low n records))) [
@@ -77,6 +81,7 @@ best_is_positive n winner records order two h tabulated (before, ends) =
           let (h', (c, ne, (before', ends'))) = from_alternative n winner other m in
           let o' : Order n other = order_facts n other h' in
           let easy : low n records other ≡ 0 = omega arith in
-          let same : order ≡ other = possible-tabulated records order other o.apart o'.apart (λ z k. o'.whole z (o.below z k)) (λ z k. o.whole z (o'.below z k)) tabulated ((possible_iff_unrefuted n records other h').1 easy) in
+          let same : order ≡ other = possible-tabulated records order other o.apart o'.apart (λ z k. o'.whole z (o.below z k))
+          (λ z k. o.whole z (o'.below z k)) tabulated ((possible_iff_unrefuted n records other h').1 easy) in
           absurd (ne (elects-same before' before c winner (sym ends' ∙ sym same ∙ ends)))
     ]

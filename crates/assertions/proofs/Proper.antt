@@ -18,7 +18,8 @@ pair_facts n w l h =
 
 pub pair_test : (n w l : ℕ) → IsPair n w l → is_pair n w l ≡ true
 pair_test n w l p =
-    and_from (nat_lt w n && nat_lt l n) (not (w == l)) (and_from (nat_lt w n) (nat_lt l n) (lt-ltb w n p.winner) (lt-ltb l n p.loser)) (not_from_false (w == l) (ne_eqb w l p.differ))
+    and_from (nat_lt w n && nat_lt l n) (not (w == l)) (and_from (nat_lt w n) (nat_lt l n) (lt-ltb w n p.winner) (lt-ltb l n p.loser))
+    (not_from_false (w == l) (ne_eqb w l p.differ))
 
 pub record IsNen (n w l rest : ℕ) : Type 0 where
   pub pair : IsPair n w l
@@ -36,5 +37,6 @@ nen_facts n w l rest h =
 pub nen_test : (n w l rest : ℕ) → IsNen n w l rest → is_proper n (Nen w l rest) ≡ true
 nen_test n w l rest p =
     and_from (is_pair n w l && nat_lt rest (2 ^ n) && has rest w) (has rest l)
-    (and_from (is_pair n w l && nat_lt rest (2 ^ n)) (has rest w) (and_from (is_pair n w l) (nat_lt rest (2 ^ n)) (pair_test n w l p.pair) (lt-ltb rest (2 ^ n) p.small)) p.has_winner)
+    (and_from (is_pair n w l && nat_lt rest (2 ^ n)) (has rest w)
+    (and_from (is_pair n w l) (nat_lt rest (2 ^ n)) (pair_test n w l p.pair) (lt-ltb rest (2 ^ n) p.small)) p.has_winner)
     p.has_loser

@@ -19,7 +19,8 @@ refuter-first n records t a h =
       reached = g.reached;
       first = λ b proper r e.
           let gives : Gives n records t b = record { proper = proper; refuting = r; true_of = above b e (positive n records t a g); reached = e } in
-          find-first Before (λ a. true_margin records a == low n records t) a b (sorted-filter Before (λ a. refutes a t && is_true records a) (sorted-assertions n)) h
+          find-first Before (λ a. true_margin records a == low n records t) a b
+          (sorted-filter Before (λ a. refutes a t && is_true records a) (sorted-assertions n)) h
           (gives-member n records t b gives) (eq-eqb (true_margin records b) (low n records t) e);
     }
   where

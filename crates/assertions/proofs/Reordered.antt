@@ -33,7 +33,8 @@ refuter_by f g n suffix = find (λ a. (f a - g a) == low_by f g n suffix) (refut
 abbrev claims_by : (Assertion → ℕ) → (Assertion → ℕ) → ℕ → ℕ → List Claim
 claims_by f g n winner =
     map (λ a. let c : Claim = record { assertion = a; margin = f a - g a } in c)
-    (filter (λ a. list_any (λ suffix. is_some_same (refuter_by f g n suffix) a) (certificate_ends n winner (low_by f g n) (best_margin n winner (low_by f g n)))) (assertions n))
+    (filter (λ a. list_any (λ suffix. is_some_same (refuter_by f g n suffix) a)
+    (certificate_ends n winner (low_by f g n) (best_margin n winner (low_by f g n)))) (assertions n))
 
 pub records_in_any_order : (n winner : ℕ) (records others : List (List ℕ)) → IsPermutation records others →
     (low n records ≡ low n others) × (refuter n records ≡ refuter n others) × (certificate_claims n records winner ≡ certificate_claims n others winner)

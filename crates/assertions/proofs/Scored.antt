@@ -28,15 +28,18 @@ pub record IsScore (records : List (List ℕ)) (S : Assertion → Type 0) (p : S
   pub held : Held records S p.low p.by
 
 module _ (records : List (List ℕ)) where
-  held-same : (S T : Assertion → Type 0) → ((a : Assertion) → S a → T a) → ((a : Assertion) → T a → S a) → (m : ℕ) (o : Option Assertion) → Held records S m o → Held records T m o
+  held-same : (S T : Assertion → Type 0) → ((a : Assertion) → S a → T a) → ((a : Assertion) → T a → S a) → (m : ℕ) (o : Option Assertion) →
+      Held records S m o → Held records T m o
   held-same S T f g m None h = h
   held-same S T f g m (Some b) h = (f b h.0, h.1, h.2, λ a t. h.3 a (g a t))
 
-  score-same : (S T : Assertion → Type 0) → ((a : Assertion) → S a → T a) → ((a : Assertion) → T a → S a) → (p : Score) → IsScore records S p → IsScore records T p
+  score-same : (S T : Assertion → Type 0) → ((a : Assertion) → S a → T a) → ((a : Assertion) → T a → S a) → (p : Score) → IsScore records S p →
+      IsScore records T p
   score-same S T f g p h = record { above = λ a t. h.above a (g a t); held = held-same S T f g p.low p.by h.held }
 
   one_at : (S T : Assertion → Type 0) → ((a : Assertion) → S a → T a) → ((a : Assertion) → T a → S a) → (m k : ℕ) (o u : Option Assertion) →
-      ((a : Assertion) → S a → true_margin records a ≤ m) → ((a : Assertion) → T a → true_margin records a ≤ k) → Held records S m o → Held records T k u → (m ≡ k) × (o ≡ u)
+      ((a : Assertion) → S a → true_margin records a ≤ m) → ((a : Assertion) → T a → true_margin records a ≤ k) → Held records S m o → Held records T k u →
+      (m ≡ k) × (o ≡ u)
   one_at S T f g m k None None above above' h h' = (h ∙ sym h', refl)
   one_at S T f g m k None (Some b) above above' h h' = let le = above b (g b h'.0) in absurd (omega (arith, h'.1, h'.2, h))
   one_at S T f g m k (Some b) None above above' h h' = let le = above' b (f b h.0) in absurd (omega (arith, h.1, h.2, h'))
@@ -51,7 +54,8 @@ module _ (records : List (List ℕ)) where
         ]),
       )
 
-  pub only_score : (S T : Assertion → Type 0) → ((a : Assertion) → S a → T a) → ((a : Assertion) → T a → S a) → (p q : Score) → IsScore records S p → IsScore records T q → p ≡ q
+  pub only_score : (S T : Assertion → Type 0) → ((a : Assertion) → S a → T a) → ((a : Assertion) → T a → S a) → (p q : Score) → IsScore records S p →
+      IsScore records T q → p ≡ q
   only_score S T f g p q h k =
       let (a, b) = one_at S T f g p.low q.low p.by q.by h.above k.above h.held k.held in
       joined p.low q.low p.by q.by a b
@@ -63,7 +67,8 @@ module _ (records : List (List ℕ)) where
   With S y a = S a ⊎ (a ≡ y)
 
   -- one more assertion, by the tests that are made of it
-  stays : (S : Assertion → Type 0) (y : Assertion) (m : ℕ) (o : Option Assertion) → Held records S m o → (m < true_margin records y → ⊥) → (m ≡ true_margin records y → is_before_that y o ≡ false) → Held records (With S y) m o
+  stays : (S : Assertion → Type 0) (y : Assertion) (m : ℕ) (o : Option Assertion) → Held records S m o → (m < true_margin records y → ⊥) →
+      (m ≡ true_margin records y → is_before_that y o ≡ false) → Held records (With S y) m o
   stays S y m None h most later = h
   stays S y m (Some b) h most later = (
     inl h.0,
@@ -78,7 +83,8 @@ module _ (records : List (List ℕ)) where
     ],
   )
 
-  takes_tie : (S : Assertion → Type 0) (y : Assertion) (m : ℕ) (o : Option Assertion) → Held records S m o → m ≡ true_margin records y → is_before_that y o ≡ true → Held records (With S y) (true_margin records y) (Some y)
+  takes_tie : (S : Assertion → Type 0) (y : Assertion) (m : ℕ) (o : Option Assertion) → Held records S m o → m ≡ true_margin records y →
+      is_before_that y o ≡ true → Held records (With S y) (true_margin records y) (Some y)
   takes_tie S y m None h e t = cc
   takes_tie S y m (Some b) h e t = (
     inr refl,
@@ -93,7 +99,8 @@ module _ (records : List (List ℕ)) where
     ],
   )
 
-  pub offered-score : (S : Assertion → Type 0) (y : Assertion) (p : Score) → IsScore records S p → IsScore records (With S y) (offered p (true_margin records y) y)
+  pub offered-score : (S : Assertion → Type 0) (y : Assertion) (p : Score) → IsScore records S p →
+      IsScore records (With S y) (offered p (true_margin records y) y)
   offered-score S y p h = go (nat_lt p.low (true_margin records y) || ((p.low == true_margin records y) && is_before_that y p.by)) refl where
     go : (v : Bool) → (nat_lt p.low (true_margin records y) || ((p.low == true_margin records y) && is_before_that y p.by)) ≡ v →
         IsScore records (With S y) (cond v (record { low = true_margin records y; by = Some y }) p)
@@ -114,16 +121,28 @@ module _ (records : List (List ℕ)) where
               }
         ]
     go false e =
-        let most : p.low < true_margin records y → ⊥ = λ lt. both_ways _ e (or_left (nat_lt p.low (true_margin records y)) ((p.low == true_margin records y) && is_before_that y p.by) (lt-ltb p.low (true_margin records y) lt)) in
+        let most : p.low < true_margin records y → ⊥ =
+        λ lt. both_ways _ e (or_left (nat_lt p.low (true_margin records y)) ((p.low == true_margin records y) && is_before_that y p.by)
+        (lt-ltb p.low (true_margin records y) lt)) in
         record {
-          above = λ a s. elim s [ inl k ↦ h.above a k | inr k ↦ elim (cases_lt p.low (true_margin records y)) [ inl lt ↦ absurd (most lt) | inr le ↦ let same = ap (true_margin records) k in omega (arith, same) ] ];
+          above = λ a s. elim s [
+            | inl k ↦ h.above a k
+            | inr k ↦
+                elim (cases_lt p.low (true_margin records y)) [
+                  | inl lt ↦ absurd (most lt)
+                  | inr le ↦ let same = ap (true_margin records) k in
+                      omega (arith, same)
+                ]
+          ];
           held = stays S y p.low p.by h.held most (λ same. elim (cases_Bool (is_before_that y p.by)) [
-            | inl t ↦ absurd (both_ways _ e (or_right (nat_lt p.low (true_margin records y)) ((p.low == true_margin records y) && is_before_that y p.by) (and_from (p.low == true_margin records y) (is_before_that y p.by) (eq-eqb p.low (true_margin records y) same) t)))
+            | inl t ↦ absurd (both_ways _ e (or_right (nat_lt p.low (true_margin records y)) ((p.low == true_margin records y) && is_before_that y p.by)
+                (and_from (p.low == true_margin records y) (is_before_that y p.by) (eq-eqb p.low (true_margin records y) same) t)))
             | inr f ↦ f
           ]);
         }
 
-  pub all_offered-score : (S : Assertion → Type 0) (p : Score) (cs : List Assertion) → IsScore records S p → IsScore records (λ a. S a ⊎ Member a cs) (all_offered records p cs)
+  pub all_offered-score : (S : Assertion → Type 0) (p : Score) (cs : List Assertion) → IsScore records S p →
+      IsScore records (λ a. S a ⊎ Member a cs) (all_offered records p cs)
   all_offered-score S p [] h = score-same S (λ a. S a ⊎ Member a []) (λ a s. inl s) (λ a s. elim s [ inl k ↦ k | inr m ↦ absurd (member_nil m) ]) p h
   all_offered-score S p (y ∷ cs) h =
       score-same (λ a. With S y a ⊎ Member a cs) (λ a. S a ⊎ Member a (y ∷ cs))

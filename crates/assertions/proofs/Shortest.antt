@@ -28,19 +28,22 @@ either-ends (x ∷ b) (y ∷ b') s s' e = either-ends b b' s s' (tails e) where
   tails e = cc
 
 module _ (n winner margin : ℕ) (records : List (List ℕ)) where
-  below-end : (s : List ℕ) → is_suffix n s ≡ true → is_end (low n records) margin s ≡ true → (x : ℕ) (bs shorter : List ℕ) → s ≡ (x ∷ bs) ++ shorter → (shorter ≡ [] → ⊥) → low n records shorter < margin
+  below-end : (s : List ℕ) → is_suffix n s ≡ true → is_end (low n records) margin s ≡ true → (x : ℕ) (bs shorter : List ℕ) → s ≡ (x ∷ bs) ++ shorter →
+      (shorter ≡ [] → ⊥) → low n records shorter < margin
   below-end [] p h x bs shorter same some = cc
   below-end (c ∷ []) p h x [] shorter same some = absurd (some (cc))
   below-end (c ∷ []) p h x (y ∷ bs) shorter same some = cc
   below-end (c ∷ d ∷ parent) p h x bs shorter same some =
-      let lt : low n records (d ∷ parent) < margin = ltb-true (low n records (d ∷ parent)) margin (and_parts (nat_le margin (low n records (c ∷ d ∷ parent))) (nat_lt (low n records (d ∷ parent)) margin) h).1 in
+      let lt : low n records (d ∷ parent) < margin = ltb-true (low n records (d ∷ parent)) margin
+      (and_parts (nat_le margin (low n records (c ∷ d ∷ parent))) (nat_lt (low n records (d ∷ parent)) margin) h).1 in
       let same' : d ∷ parent ≡ bs ++ shorter = cc in
       let apart : Distinct (bs ++ shorter) = subst Distinct same' (distinct-tail (suffix_facts n (c ∷ d ∷ parent) p).apart) in
       let le : low n records shorter ≤ low n records (bs ++ shorter) = low_of_suffix n records bs shorter apart in
       let le' : low n records shorter ≤ low n records (d ∷ parent) = subst (λ z. low n records shorter ≤ low n records z) (sym same') le in
       omega arith
 
-  pub ends_are_shortest : (s shorter : List ℕ) → IsEnd n records winner margin s → EndsIn s shorter → shorter ≢ [] → shorter ≢ s → low n records shorter < margin
+  pub ends_are_shortest : (s shorter : List ℕ) → IsEnd n records winner margin s → EndsIn s shorter → shorter ≢ [] → shorter ≢ s →
+      low n records shorter < margin
   ends_are_shortest s shorter e (before, same) some other = go before same where
     go : (before : List ℕ) → s ≡ before ++ shorter → low n records shorter < margin
     go [] same = absurd (other (sym same))
@@ -62,7 +65,8 @@ module _ (n winner margin : ℕ) (records : List (List ℕ)) where
   one_end order s s' e e' (b, h) (b', h') = elim (either-ends b b' s s' (sym h ∙ h')) [ inl x ↦ sym (ends-same s s' e e' x) | inr x ↦ ends-same s' s e' e x ]
 
   -- a suffix that reaches the margin has an end
-  pub reaching-end : (c : ℕ) (s : List ℕ) → is_suffix n s ≡ true → c ≢ winner → Elects s c → margin ≤ low n records s → (t : List ℕ) × IsEnd n records winner margin t × EndsIn s t
+  pub reaching-end : (c : ℕ) (s : List ℕ) → is_suffix n s ≡ true → c ≢ winner → Elects s c → margin ≤ low n records s →
+      (t : List ℕ) × IsEnd n records winner margin t × EndsIn s t
   reaching-end c s p ne (before, same) le =
       let q : Suffix n s = suffix_facts n s p in
       let r = end_of n (low n records) margin (length before) c [] before s same refl q.apart q.below le (λ g. le-leb margin (low n records (c ∷ [])) g) in
@@ -77,7 +81,8 @@ ends_are_one n winner records order (h, (c, ne, elects)) =
     let best = best_margin n winner (low n records) in
     let o : Order n order = order_facts n order h in
     let q : Suffix n order = record { apart = o.apart; below = o.below } in
-    let (s, e, ends) = reaching-end n winner best records c order (suffix_test q) ne elects (best-le n winner (low n records) order (alternative-member n winner c order h ne elects)) in
+    let (s, e, ends) = reaching-end n winner best records c order (suffix_test q) ne elects
+    (best-le n winner (low n records) order (alternative-member n winner c order h ne elects)) in
     (s, e, ends, λ t e' ends'. one_end n winner best records order s t e e' ends ends')
 
 pub certificate_refutes : (n winner c : ℕ) (records : List (List ℕ)) (s : List ℕ) → 0 < best_margin n winner (low n records) →

@@ -8,13 +8,15 @@ pub data Sorted {X : Type 0} (R : X → X → Type 0) : List X → Type 0 where
   none : Sorted R []
   more : {x : X} {xs : List X} → ((y : X) → Member y xs → R x y) → Sorted R xs → Sorted R (x ∷ xs)
 
-pub sorted-append : {X : Type 0} (R : X → X → Type 0) (xs ys : List X) → Sorted R xs → Sorted R ys → ((x y : X) → Member x xs → Member y ys → R x y) → Sorted R (xs ++ ys)
+pub sorted-append : {X : Type 0} (R : X → X → Type 0) (xs ys : List X) → Sorted R xs → Sorted R ys → ((x y : X) → Member x xs → Member y ys → R x y) →
+    Sorted R (xs ++ ys)
 sorted-append R [] ys none t h = t
 sorted-append R (x ∷ xs) ys (more first s) t h =
     more (λ y m. elim (member-append_cases xs ys m) [ inl a ↦ first y a | inr b ↦ h x y here b ])
     (sorted-append R xs ys s t (λ u v m k. h u v (there m) k))
 
-pub sorted-map : {X Y : Type 0} (R : X → X → Type 0) (Q : Y → Y → Type 0) (f : X → Y) → ((x y : X) → R x y → Q (f x) (f y)) → {xs : List X} → Sorted R xs → Sorted Q (map f xs)
+pub sorted-map : {X Y : Type 0} (R : X → X → Type 0) (Q : Y → Y → Type 0) (f : X → Y) → ((x y : X) → R x y → Q (f x) (f y)) → {xs : List X} → Sorted R xs →
+    Sorted Q (map f xs)
 sorted-map R Q f h none = none
 sorted-map R Q f h (more {x = x} {xs = xs} first s) =
     more (λ y m. let (z, k, e) = from_map f y xs m in subst (Q (f x)) e (h x z (first z k))) (sorted-map R Q f h s)
@@ -38,7 +40,8 @@ sorted-range a zero = none
 sorted-range a (suc n) = more (λ d m. let h = from_range d (a + 1) n m in omega arith) (sorted-range (a + 1) n)
 
 -- what `find` gives stands before each other that passes
-pub find-first : {X : Type 0} (R : X → X → Type 0) (p : X → Bool) (b a : X) {xs : List X} → Sorted R xs → find p xs ≡ Some b → Member a xs → p a ≡ true → (a ≡ b) ⊎ R b a
+pub find-first : {X : Type 0} (R : X → X → Type 0) (p : X → Bool) (b a : X) {xs : List X} → Sorted R xs → find p xs ≡ Some b → Member a xs → p a ≡ true →
+    (a ≡ b) ⊎ R b a
 find-first R p b a none e m t = absurd (member_nil m)
 find-first R p b a (more {x = x} {xs = xs} first s) e m t = go (p x) refl e (find-first R p b a s) where
   go : (v : Bool) → p x ≡ v → cond v (Some x) (find p xs) ≡ Some b → (find p xs ≡ Some b → Member a xs → p a ≡ true → (a ≡ b) ⊎ R b a) → (a ≡ b) ⊎ R b a

@@ -36,9 +36,11 @@ module _ (n : ℕ) (records : List (List ℕ)) (c : ℕ) (t : List ℕ) (s : Suf
         | inl e ↦
             let out : is_in (c ∷ t) w ≡ false = ap (λ s. is_in s w) (sym (part_from-same c l t e)) ∙ not-true (is_in (part_from (c ∷ t) l) w) free in
             let m : Member (Neb w c) (nebs_against n c (c ∷ t)) =
-            member-map (λ w. Neb w c) (member-filter (λ w. not (is_in (c ∷ t) w)) (candidates n) (candidate-member w n p.winner) (not_from_false (is_in (c ∷ t) w) out)) in
+            member-map (λ w. Neb w c) (member-filter (λ w. not (is_in (c ∷ t) w)) (candidates n) (candidate-member w n p.winner)
+            (not_from_false (is_in (c ∷ t) w) out)) in
             inr (subst (λ x. Member (Neb w x) (added_refuters n c t)) e (member-append_left (nens_for c (set_of (c ∷ t)) t) m))
-        | inr m ↦ inl (and_from (is_in t l) (not (is_in (part_from t l) w)) (in-from_member m) (ap (λ s. not (is_in s w)) (sym (part_from-other c l t (apart m))) ∙ free))
+        | inr m ↦ inl (and_from (is_in t l) (not (is_in (part_from t l) w)) (in-from_member m)
+            (ap (λ s. not (is_in s w)) (sym (part_from-other c l t (apart m))) ∙ free))
       ]
   split_refuter (Nen w l rest) proper r =
       let p = nen_facts n w l rest proper in
@@ -46,10 +48,16 @@ module _ (n : ℕ) (records : List (List ℕ)) (c : ℕ) (t : List ℕ) (s : Suf
       elim (member_cases (member-from_in w (c ∷ t) in')) [
         | inl e ↦
             let q : set_of (c ∷ t) ≡ rest = ap set_of (sym (part_from-same c w t e)) ∙ eqb-true (set_of (part_from (c ∷ t) w)) rest same in
-            let k : Member l t = elim (member_cases (member-from_has (c ∷ t) l s.apart (ap (λ x. has x l) q ∙ p.has_loser))) [ inl g ↦ absurd (p.pair.differ (sym e ∙ g)) | inr g ↦ g ] in
+            let k : Member l t = elim (member_cases (member-from_has (c ∷ t) l s.apart (ap (λ x. has x l) q ∙ p.has_loser))) [
+              | inl g ↦ absurd
+                  (p.pair.differ (sym e ∙ g))
+              | inr g ↦ g
+            ] in
             let m : Member (Nen c l (set_of (c ∷ t))) (nens_for c (set_of (c ∷ t)) t) = member-map (λ l. Nen c l (set_of (c ∷ t))) k in
-            inr (subst (λ x. Member (Nen x l rest) (added_refuters n c t)) e (subst (λ x. Member (Nen c l x) (added_refuters n c t)) q (member-append_right (nebs_against n c (c ∷ t)) m)))
-        | inr m ↦ inl (and_from (is_in t w) (set_of (part_from t w) == rest) (in-from_member m) (ap (λ x. set_of x == rest) (sym (part_from-other c w t (apart m))) ∙ same))
+            inr (subst (λ x. Member (Nen x l rest) (added_refuters n c t)) e
+            (subst (λ x. Member (Nen c l x) (added_refuters n c t)) q (member-append_right (nebs_against n c (c ∷ t)) m)))
+        | inr m ↦ inl (and_from (is_in t w) (set_of (part_from t w) == rest) (in-from_member m)
+            (ap (λ x. set_of x == rest) (sym (part_from-other c w t (apart m))) ∙ same))
       ]
 
   abbrev pub Refutes : Assertion → Type 0
@@ -64,14 +72,21 @@ module _ (n : ℕ) (records : List (List ℕ)) (c : ℕ) (t : List ℕ) (s : Suf
             let (k', out) = from_filter (λ w. not (is_in (c ∷ t) w)) (candidates n) k in
             let out' : is_in (c ∷ t) w ≡ false = not-true (is_in (c ∷ t) w) out in
             subst Refutes e (
-              pair_test n w c (record { winner = from_candidates k'; loser = s.below c here; differ = λ e. none-from_out out' (subst (λ z. Member z (c ∷ t)) (sym e) here) }),
-              and_from (is_in (c ∷ t) c) (not (is_in (part_from (c ∷ t) c) w)) (in-from_member {c = c} {cs = c ∷ t} here) (not_from_false (is_in (part_from (c ∷ t) c) w) (ap (λ s. is_in s w) (part_from-same c c t refl) ∙ out')),
+              pair_test n w c (record {
+                winner = from_candidates k';
+                loser = s.below c here;
+                differ = λ e. none-from_out out'
+                    (subst (λ z. Member z (c ∷ t)) (sym e) here);
+              }),
+              and_from (is_in (c ∷ t) c) (not (is_in (part_from (c ∷ t) c) w)) (in-from_member {c = c} {cs = c ∷ t} here)
+                  (not_from_false (is_in (part_from (c ∷ t) c) w) (ap (λ s. is_in s w) (part_from-same c c t refl) ∙ out')),
             )
         | inr x ↦
             let (l, k, e) = from_map (λ l. Nen c l (set_of (c ∷ t))) a t x in
             subst Refutes e (
               suffix-nen n c l (c ∷ t) s here (there k) (apart k),
-              and_from (is_in (c ∷ t) c) (set_of (part_from (c ∷ t) c) == set_of (c ∷ t)) (in-from_member {c = c} {cs = c ∷ t} here) (eq-eqb (set_of (part_from (c ∷ t) c)) (set_of (c ∷ t)) (ap set_of (part_from-same c c t refl))),
+              and_from (is_in (c ∷ t) c) (set_of (part_from (c ∷ t) c) == set_of (c ∷ t)) (in-from_member {c = c} {cs = c ∷ t} here)
+                  (eq-eqb (set_of (part_from (c ∷ t) c)) (set_of (c ∷ t)) (ap set_of (part_from-same c c t refl))),
             )
       ]
 
@@ -82,7 +97,8 @@ module _ (n : ℕ) (records : List (List ℕ)) (c : ℕ) (t : List ℕ) (s : Suf
             let (a, g) = low_is n records (c ∷ t) lt in
             elim (split_refuter a g.proper g.refuting) [
               | inl q ↦ let le : true_margin records a ≤ low n records t = low-refuter n records t a g.proper q in at-most g.reached (omega arith)
-              | inr q ↦ let le : true_margin records a ≤ added n records c t = greatest-member (member-map (true_margin records) q) in at-most g.reached (omega arith)
+              | inr q ↦ let le : true_margin records a ≤ added n records c t = greatest-member (member-map (true_margin records) q) in
+                  at-most g.reached (omega arith)
             ]
         | inr z ↦ omega arith
       ]
@@ -130,5 +146,6 @@ frontier_bounds n winner margin records frontier below two ends lows =
     let (order, m, e) = best_is n winner (low n records) below two in
     let (s, k, (before, same)) = ends order (contains-from_member m) in
     let o : Order n order = order_facts n order (from_alternative n winner order m).0 in
-    let reached : margin ≤ low n records s = leb-true margin (low n records s) (from_list_all (λ s. nat_le margin (low n records s)) (member-from_contains s frontier k) lows) in
+    let reached : margin ≤ low n records s =
+    leb-true margin (low n records s) (from_list_all (λ s. nat_le margin (low n records s)) (member-from_contains s frontier k) lows) in
     subst (λ x. margin ≤ x) (ap (low n records) (sym same) ∙ e) (le_trans reached (low_of_suffix n records before s (subst Distinct same o.apart)))

@@ -52,8 +52,10 @@ assorter-sum n records (Nen w l rest) proper =
 difference : (s n f a : ℕ) → s + a ≡ n + f → pos s -ℤ pos n ≡ pos f -ℤ pos a
 difference s n f a e = omega (arith, ints)
 
-pub assorter_sums : (n : ℕ) (records : List (List ℕ)) (a : Assertion) → is_proper n a ≡ true → pos (sum_by (assorter_value a) records) -ℤ pos (length records) ≡ margin records a
-assorter_sums n records a proper = difference (sum_by (assorter_value a) records) (length records) (votes_for records a) (votes_against records a) (assorter-sum n records a proper)
+pub assorter_sums : (n : ℕ) (records : List (List ℕ)) (a : Assertion) → is_proper n a ≡ true →
+    pos (sum_by (assorter_value a) records) -ℤ pos (length records) ≡ margin records a
+assorter_sums n records a proper = difference (sum_by (assorter_value a) records) (length records) (votes_for records a) (votes_against records a)
+    (assorter-sum n records a proper)
 
 -- ---- each is 0, 1 or 2
 pub assorter-is : (a : Assertion) (ranking : List ℕ) → assorter_value a ranking ≤ 2

@@ -31,7 +31,8 @@ first-top set w (c ∷ rest) h f = rw (ap (has set) (eqb-true c w f) ∙ h) f
 top-ahead : (set l w : ℕ) (ranking : List ℕ) → has set w ≡ true → is_some_of (top ranking set) l ≡ true → is_ahead ranking l w ≡ true
 top-ahead set l w [] h f = cc
 top-ahead set l w (c ∷ rest) h f = go (has set c) refl f (top-ahead set l w rest h) where
-  go : (b : Bool) → has set c ≡ b → is_some_of (cond b (Some c) (top rest set)) l ≡ true → (is_some_of (top rest set) l ≡ true → is_ahead rest l w ≡ true) → is_ahead (c ∷ rest) l w ≡ true
+  go : (b : Bool) → has set c ≡ b → is_some_of (cond b (Some c) (top rest set)) l ≡ true → (is_some_of (top rest set) l ≡ true → is_ahead rest l w ≡ true) →
+      is_ahead (c ∷ rest) l w ≡ true
   go true e k ih = rw k refl
   go false e k ih =
       elim (cases_Bool (c == l)) [
@@ -51,10 +52,12 @@ possible-part_from records [] w h = h
 possible-part_from records (c ∷ t) w h =
     elim (cases_eq c w) [
       | inl e ↦ ap (is_possible records) (part_from-same c w t e) ∙ h
-      | inr ne ↦ ap (is_possible records) (part_from-other c w t ne) ∙ possible-part_from records t w (and_parts (may_lose records c t) (is_possible records t) h).1
+      | inr ne ↦ ap (is_possible records) (part_from-other c w t ne)
+          ∙ possible-part_from records t w (and_parts (may_lose records c t) (is_possible records t) h).1
     ]
 
-possible-head : (records : List (List ℕ)) (w l : ℕ) (rest : List ℕ) → is_possible records (w ∷ rest) ≡ true → Member l rest → tally records (set_of (w ∷ rest)) w ≤ tally records (set_of (w ∷ rest)) l
+possible-head : (records : List (List ℕ)) (w l : ℕ) (rest : List ℕ) → is_possible records (w ∷ rest) ≡ true → Member l rest →
+    tally records (set_of (w ∷ rest)) w ≤ tally records (set_of (w ∷ rest)) l
 possible-head records w l rest h m =
     let lose : may_lose records w rest ≡ true = (and_parts (may_lose records w rest) (is_possible records rest) h).0 in
     leb-true (tally records (set_of (w ∷ rest)) w) (tally records (set_of (w ∷ rest)) l)

@@ -99,10 +99,11 @@ module _ (records : List (List ℕ)) (w l : ℕ) (below : list_all (λ ranking. 
     best = ap (λ os. least (map (low 2 records) os)) orders ∙ low_both
 
     order : certificate_order 2 w (low 2 records) lead ≡ Some (w ∷ l ∷ [])
-    order = ap (find (λ order. low 2 records order == lead)) orders ∙ found (low 2 records (w ∷ l ∷ []) == lead) (eq-eqb (low 2 records (w ∷ l ∷ [])) lead low_both) where
-      found : (b : Bool) → b ≡ true → cond b (Some (w ∷ l ∷ [])) None ≡ Some (w ∷ l ∷ [])
-      found true e = refl
-      found false e = cc
+    order = ap (find (λ order. low 2 records order == lead)) orders
+        ∙ found (low 2 records (w ∷ l ∷ []) == lead) (eq-eqb (low 2 records (w ∷ l ∷ [])) lead low_both) where
+          found : (b : Bool) → b ≡ true → cond b (Some (w ∷ l ∷ [])) None ≡ Some (w ∷ l ∷ [])
+          found true e = refl
+          found false e = cc
 
     -- ---- the one end, and what refutes it
     end : certificate_ends 2 w (low 2 records) lead ≡ (l ∷ []) ∷ []
@@ -171,7 +172,8 @@ module _ (records : List (List ℕ)) (w l : ℕ) (below : list_all (λ ranking. 
     claims : certificate_assertions 2 records w ≡ Neb w l ∷ []
     claims =
         sorted-same Before before-not_both (certificate_assertions 2 records w) (Neb w l ∷ [])
-        (sorted-filter Before (λ a. list_any (λ suffix. is_some_same (refuter 2 records suffix) a) (certificate_ends 2 w (low 2 records) (best_margin 2 w (low 2 records)))) (sorted-assertions 2))
+        (sorted-filter Before (λ a. list_any (λ suffix. is_some_same (refuter 2 records suffix) a)
+        (certificate_ends 2 w (low 2 records) (best_margin 2 w (low 2 records)))) (sorted-assertions 2))
         (Rattle.assertions.proofs.Sorted.more (λ y m. absurd (member_nil m)) Rattle.assertions.proofs.Sorted.none)
         forth back
       where

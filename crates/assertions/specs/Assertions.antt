@@ -13,7 +13,7 @@ abbrev pub votes_for : List (List ℕ) → Assertion → ℕ
 votes_for records (Neb w l) = count_by (λ ranking. is_first ranking w) records
 votes_for records (Nen w l rest) = tally records rest w
 
--- and what for the loser: for NEB the records that rank it and don't have w ahead of it, for NEN its tally in the set
+-- what the records have for the loser: for NEB the records that rank it and don't have w ahead of it, for NEN its tally in the set
 abbrev pub votes_against : List (List ℕ) → Assertion → ℕ
 votes_against records (Neb w l) = count_by (λ ranking. is_ahead ranking l w) records
 votes_against records (Nen w l rest) = tally records rest l
@@ -21,7 +21,7 @@ votes_against records (Nen w l rest) = tally records rest l
 abbrev pub margin : List (List ℕ) → Assertion → ℤ
 margin records a = pos (votes_for records a) -ℤ pos (votes_against records a)
 
--- the margin is above 0
+-- an assertion is true where its margin is above 0
 abbrev pub is_true : List (List ℕ) → Assertion → Bool
 is_true records a = nat_lt (votes_against records a) (votes_for records a)
 
@@ -29,11 +29,11 @@ is_true records a = nat_lt (votes_against records a) (votes_for records a)
 abbrev pub true_margin : List (List ℕ) → Assertion → ℕ
 true_margin records a = votes_for records a - votes_against records a
 
--- two different candidates below n
+-- winner and loser are two different candidates below n
 abbrev pub is_pair : ℕ → ℕ → ℕ → Bool
 is_pair n w l = nat_lt w n && nat_lt l n && not (w == l)
 
--- for NEN with a set of candidates below n that has both
+-- an assertion is proper with two different candidates below n, and for NEN with a set of candidates below n that has both
 abbrev pub is_proper : ℕ → Assertion → Bool
 is_proper n (Neb w l) = is_pair n w l
 is_proper n (Nen w l rest) = is_pair n w l && nat_lt rest (2 ^ n) && has rest w && has rest l

@@ -6,8 +6,11 @@ use Rattle.assertions.specs.declared.assertion.Assertion.TheVariants.{Neb, Nen}
 
 -- 2 for a ballot that counts for the winner, 0 for one that counts for the loser, 1 for each other
 abbrev pub assorter_value : Assertion → List ℕ → ℕ
-assorter_value (Neb w l) ranking = if is_first ranking w then 2 else (if is_ahead ranking l w then 0 else 1)
-assorter_value (Nen w l rest) ranking = if is_some_of (top ranking rest) w then 2 else (if is_some_of (top ranking rest) l then 0 else 1)
+assorter_value (Neb w l) ranking =
+    if is_first ranking w then 2 else (if is_ahead ranking l w then 0 else 1)
+assorter_value (Nen w l rest) ranking =
+    if is_some_of (top ranking rest) w then 2
+    else (if is_some_of (top ranking rest) l then 0 else 1)
 
 -- a card without a record counts as 1
 abbrev pub recorded_value : Assertion → Option (List ℕ) → ℕ
@@ -19,6 +22,6 @@ abbrev pub seen_value : Assertion → Option (List ℕ) → ℕ
 seen_value a None = 0
 seen_value a (Some ranking) = assorter_value a ranking
 
--- from 0 to 4; 2 where what is seen counts as what is recorded
+-- the discrepancy of a card, from 0 to 4; 2 where what is seen counts as what is recorded
 abbrev pub discrepancy : Assertion → Option (List ℕ) → Option (List ℕ) → ℕ
 discrepancy a recorded seen = 2 + seen_value a seen - recorded_value a recorded

@@ -14,21 +14,24 @@ greatest xs = fold max 0 xs
 abbrev pub true_refuters : ℕ → List (List ℕ) → List ℕ → List Assertion
 true_refuters n records suffix = filter (λ a. refutes a suffix && is_true records a) (assertions n)
 
--- the greatest margin of these, or 0 where there is none; of a whole order this is its hardness
+-- the greatest margin of a true assertion that refutes a suffix, or 0 where there is none; of a whole order this is its hardness
 abbrev pub low : ℕ → List (List ℕ) → List ℕ → ℕ
 low n records suffix = greatest (map (true_margin records) (true_refuters n records suffix))
 
--- the first of these that has it
+-- the first of the true assertions that refute a suffix by its low
 abbrev pub refuter : ℕ → List (List ℕ) → List ℕ → Option Assertion
-refuter n records suffix = find (λ a. true_margin records a == low n records suffix) (true_refuters n records suffix)
+refuter n records suffix =
+    find (λ a. true_margin records a == low n records suffix) (true_refuters n records suffix)
 
 -- what the refuter of a suffix is: a true assertion of that margin that refutes it, before each other one in the fixed order
-pub record IsRefuter (n : ℕ) (records : List (List ℕ)) (suffix : List ℕ) (a : Assertion) : Type 0 where
+pub record IsRefuter (n : ℕ) (records : List (List ℕ)) (suffix : List ℕ) (a : Assertion)
+    : Type 0 where
   pub proper : IsTrue (is_proper n a)
   pub holds : IsTrue (is_true records a)
   pub refuting : IsTrue (refutes a suffix)
   pub reached : true_margin records a ≡ low n records suffix
-  pub first : (b : Assertion) → IsTrue (is_proper n b) → IsTrue (refutes b suffix) → true_margin records b ≡ low n records suffix → (b ≡ a) ⊎ IsTrue (is_before a b)
+  pub first : (b : Assertion) → IsTrue (is_proper n b) → IsTrue (refutes b suffix) →
+      true_margin records b ≡ low n records suffix → (b ≡ a) ⊎ IsTrue (is_before a b)
 
 -- the least hardness of an order that elects another candidate
 abbrev pub best_margin : ℕ → ℕ → (List ℕ → ℕ) → ℕ
@@ -42,6 +45,6 @@ with_first_two_exchanged short = short
 abbrev pub start_order : List ℕ → List ℕ
 start_order order = reverse (with_first_two_exchanged (reverse order))
 
--- its hardness
+-- the hardness of the start order
 abbrev pub first_bound : ℕ → List (List ℕ) → List ℕ → ℕ
 first_bound n records order = low n records (start_order order)

@@ -24,11 +24,14 @@ use Rattle.assertions.specs.Assorter.{assorter_value}
 -- a NEB compares w at its worst, with all left, to l at its best, with w and l alone
 abbrev pub NebFor : Type 0
 NebFor =
-    (n : ℕ) (records : List (List ℕ)) (w l : ℕ) → IsTrue (list_all (λ ranking. list_all (λ c. nat_lt c n) ranking) records) →
+    (n : ℕ) (records : List (List ℕ)) (w l : ℕ) →
+    IsTrue (list_all (λ ranking. list_all (λ c. nat_lt c n) ranking) records) →
     votes_for records (Neb w l) ≡ tally records (set_of (candidates n)) w
 
 abbrev pub NebAgainst : Type 0
-NebAgainst = (records : List (List ℕ)) (w l : ℕ) → w ≢ l → votes_against records (Neb w l) ≡ tally records (set_of (w ∷ l ∷ [])) l
+NebAgainst =
+    (records : List (List ℕ)) (w l : ℕ) → w ≢ l →
+    votes_against records (Neb w l) ≡ tally records (set_of (w ∷ l ∷ [])) l
 
 abbrev pub AssorterIs : Type 0
 AssorterIs = (a : Assertion) (ranking : List ℕ) → assorter_value a ranking ≤ 2
@@ -43,7 +46,8 @@ AssorterSums =
 abbrev pub TrueMargin : Type 0
 TrueMargin =
     (records : List (List ℕ)) (a : Assertion) →
-    (IsTrue (is_true records a) ↔ (pos 0 <ℤ margin records a)) × (IsTrue (is_true records a) → margin records a ≡ pos (true_margin records a))
+    (IsTrue (is_true records a) ↔ (pos 0 <ℤ margin records a))
+    × (IsTrue (is_true records a) → margin records a ≡ pos (true_margin records a))
 
 abbrev pub AssertionsAreProper : Type 0
 AssertionsAreProper = (n : ℕ) (a : Assertion) → (Contains (assertions n) a ↔ IsTrue (is_proper n a))
@@ -61,9 +65,11 @@ pub record IsStrictTotal (precedes : Assertion → Assertion → Type 0) : Type 
 abbrev pub FixedOrderIsTotal : Type 0
 FixedOrderIsTotal = IsStrictTotal (λ a b. IsTrue (is_before a b))
 
--- it is the one that `Ord` has
+-- the fixed order is the one that `Ord` has
 abbrev pub FixedOrderIsOrd : Type 0
-FixedOrderIsOrd = (a b : Assertion) → ((ghosts.cmp a b ≡ Less) ↔ IsTrue (is_before a b)) × ((ghosts.cmp a b ≡ Equal) ↔ (a ≡ b))
+FixedOrderIsOrd =
+    (a b : Assertion) →
+    ((ghosts.cmp a b ≡ Less) ↔ IsTrue (is_before a b)) × ((ghosts.cmp a b ≡ Equal) ↔ (a ≡ b))
 
 -- ==== refutation
 
@@ -71,19 +77,27 @@ FixedOrderIsOrd = (a b : Assertion) → ((ghosts.cmp a b ≡ Less) ↔ IsTrue (i
 abbrev pub RefutesWhere : Type 0
 RefutesWhere =
     (suffix : List ℕ) (w l rest : ℕ) → IsTrue (is_distinct suffix) →
-    (IsTrue (refutes (Neb w l) suffix) ↔ ((before : List ℕ) × (behind : List ℕ) × (suffix ≡ before ++ l ∷ behind) × IsFalse (is_in (l ∷ behind) w)))
-    × (IsTrue (refutes (Nen w l rest) suffix) ↔ ((before : List ℕ) × (behind : List ℕ) × (suffix ≡ before ++ w ∷ behind) × (set_of (w ∷ behind) ≡ rest)))
+    (IsTrue (refutes (Neb w l) suffix)
+    ↔ ((before : List ℕ) × (behind : List ℕ) × (suffix ≡ before ++ l ∷ behind)
+    × IsFalse (is_in (l ∷ behind) w)))
+    × (IsTrue (refutes (Nen w l rest) suffix)
+    ↔ ((before : List ℕ) × (behind : List ℕ) × (suffix ≡ before ++ w ∷ behind)
+    × (set_of (w ∷ behind) ≡ rest)))
 
 -- what refutes a suffix refutes each longer one
 abbrev pub RefutesLonger : Type 0
-RefutesLonger = (a : Assertion) (suffix : List ℕ) (c : ℕ) → IsTrue (refutes a suffix) → IsFalse (is_in suffix c) → IsTrue (refutes a (c ∷ suffix))
+RefutesLonger =
+    (a : Assertion) (suffix : List ℕ) (c : ℕ) → IsTrue (refutes a suffix) →
+    IsFalse (is_in suffix c) → IsTrue (refutes a (c ∷ suffix))
 
 -- a covering set that is true of some records proves their winner, however ties are broken
 abbrev pub CoverIsSound : Type 0
 CoverIsSound =
-    (n winner : ℕ) (claims : List Assertion) → winner < n → IsTrue (list_all (is_proper n) claims) → IsTrue (covers n winner claims) →
+    (n winner : ℕ) (claims : List Assertion) → winner < n → IsTrue (list_all (is_proper n) claims) →
+    IsTrue (covers n winner claims) →
     (records : List (List ℕ)) → IsTrue (list_all (is_true records) claims) →
-    (order : List ℕ) → IsTrue (is_order n order) → IsTrue (is_possible records order) → Elects order winner
+    (order : List ℕ) → IsTrue (is_order n order) → IsTrue (is_possible records order) →
+    Elects order winner
 
 -- ==== suffixes and orders
 
@@ -93,40 +107,52 @@ OrdersEnding =
     (Contains (orders_ending n k suffix) order ↔ (IsTrue (is_order n order) × EndsIn order suffix))
 
 abbrev pub AlternativeOrders : Type 0
-AlternativeOrders = (n winner : ℕ) (order : List ℕ) → (Contains (alternative_orders n winner) order ↔ IsAlternative n winner order)
+AlternativeOrders =
+    (n winner : ℕ) (order : List ℕ) →
+    (Contains (alternative_orders n winner) order ↔ IsAlternative n winner order)
 
--- they are listed each once, and in order
+-- the alternative orders are listed each once, and read backwards they rise
 abbrev pub AlternativeOrdersRise : Type 0
-AlternativeOrdersRise = (n winner : ℕ) → AllPairs (λ order other. IsTrue (comes_before order other)) (alternative_orders n winner)
+AlternativeOrdersRise =
+    (n winner : ℕ) →
+    AllPairs (λ order other. IsTrue (comes_before order other)) (alternative_orders n winner)
 
 abbrev pub SuffixesEnding : Type 0
 SuffixesEnding =
     (n k : ℕ) (suffix other : List ℕ) → IsTrue (is_suffix n suffix) →
-    (Contains (suffixes_ending n k suffix) other ↔ (IsTrue (is_suffix n other) × EndsIn other suffix × (length other ≤ k + length suffix)))
+    (Contains (suffixes_ending n k suffix) other
+    ↔ (IsTrue (is_suffix n other) × EndsIn other suffix × (length other ≤ k + length suffix)))
 
 -- what the cover count and the order count go through: suffixes that end in c and aren't whole
 abbrev pub PartsEnding : Type 0
 PartsEnding =
     (n c : ℕ) (suffix : List ℕ) → c < n →
-    (Contains (parts_ending n c) suffix ↔ (IsTrue (is_suffix n suffix) × Elects suffix c × (length suffix < n)))
+    (Contains (parts_ending n c) suffix
+    ↔ (IsTrue (is_suffix n suffix) × Elects suffix c × (length suffix < n)))
 
 abbrev pub PartsRise : Type 0
-PartsRise = (n c : ℕ) → AllPairs (λ suffix other. IsTrue (comes_before suffix other)) (parts_ending n c)
+PartsRise =
+    (n c : ℕ) → AllPairs (λ suffix other. IsTrue (comes_before suffix other)) (parts_ending n c)
 
--- they are at most so many, and so are those that a count counts
+-- the suffixes that end in c and aren't whole are at most so many, and so are those that a count counts
 abbrev pub PartsAreFew : Type 0
 PartsAreFew = (n c : ℕ) → c < n → length (parts_ending n c) ≤ 2 * factorial (n - 1)
 
 abbrev pub CountsAreFew : Type 0
 CountsAreFew =
     (n c margin : ℕ) (low : List ℕ → ℕ) (order : List ℕ) → c < n →
-    (cover_count n low margin c ≤ 2 * factorial (n - 1)) × (order_count n low margin order c ≤ 2 * factorial (n - 1))
+    (cover_count n low margin c ≤ 2 * factorial (n - 1))
+    × (order_count n low margin order c ≤ 2 * factorial (n - 1))
 
--- the cover count is the number of those below the margin: each is in the list, which has them once each, read backwards
+-- the cover count is the length of a list that has each suffix that ends in c, isn't whole and is below the margin, once
 abbrev pub CoverCountIs : Type 0
 CoverCountIs =
-    (n c margin : ℕ) (low : List ℕ → ℕ) (below : List (List ℕ)) → c < n → AllPairs (λ suffix other. IsTrue (comes_before suffix other)) below →
-    ((suffix : List ℕ) → (Contains below suffix ↔ (IsTrue (is_suffix n suffix) × Elects suffix c × (length suffix < n) × (low suffix < margin)))) →
+    (n c margin : ℕ) (low : List ℕ → ℕ) (below : List (List ℕ)) → c < n →
+    AllPairs (λ suffix other. IsTrue (comes_before suffix other)) below →
+    ((suffix : List ℕ) →
+    (Contains below suffix
+    ↔ (IsTrue (is_suffix n suffix) × Elects suffix c × (length suffix < n)
+    × (low suffix < margin)))) →
     cover_count n low margin c ≡ length below
 
 -- an order that ends in a suffix is it, or ends in one that is longer by one
@@ -137,20 +163,26 @@ SuffixGrows =
 
 -- ==== hardness
 
--- each true assertion that refutes the suffix has at most that margin, and one has it if it is above 0
+-- each true assertion that refutes a suffix has at most its low as its margin, and one has it if it is above 0
 abbrev pub LowIsGreatest : Type 0
 LowIsGreatest =
     (n : ℕ) (records : List (List ℕ)) (suffix : List ℕ) →
-    ((a : Assertion) → IsTrue (is_proper n a) → IsTrue (refutes a suffix) → true_margin records a ≤ low n records suffix)
-    × (0 < low n records suffix → (a : Assertion) × IsTrue (is_proper n a) × IsTrue (refutes a suffix) × (true_margin records a ≡ low n records suffix))
+    ((a : Assertion) → IsTrue (is_proper n a) → IsTrue (refutes a suffix) →
+    true_margin records a ≤ low n records suffix)
+    × (0 < low n records suffix →
+    (a : Assertion) × IsTrue (is_proper n a) × IsTrue (refutes a suffix)
+    × (true_margin records a ≡ low n records suffix))
 
 abbrev pub LowGrows : Type 0
-LowGrows = (n : ℕ) (records : List (List ℕ)) (suffix : List ℕ) (c : ℕ) → IsFalse (is_in suffix c) → low n records suffix ≤ low n records (c ∷ suffix)
+LowGrows =
+    (n : ℕ) (records : List (List ℕ)) (suffix : List ℕ) (c : ℕ) → IsFalse (is_in suffix c) →
+    low n records suffix ≤ low n records (c ∷ suffix)
 
--- how the search computes it, one more candidate at a time
+-- how the search computes the low, one more candidate at a time
 abbrev pub LowOfMore : Type 0
 LowOfMore =
-    (n : ℕ) (records : List (List ℕ)) (c : ℕ) (suffix : List ℕ) → IsTrue (is_suffix n (c ∷ suffix)) →
+    (n : ℕ) (records : List (List ℕ)) (c : ℕ) (suffix : List ℕ) →
+    IsTrue (is_suffix n (c ∷ suffix)) →
     low n records (c ∷ suffix) ≡ max (low n records suffix) (added n records c suffix)
 
 abbrev pub LowOfNone : Type 0
@@ -158,16 +190,22 @@ LowOfNone = (n : ℕ) (records : List (List ℕ)) → low n records [] ≡ 0
 
 -- the refuter is the first assertion, in the fixed order, that gives the suffix its low
 abbrev pub RefuterIsFirst : Type 0
-RefuterIsFirst = (n : ℕ) (records : List (List ℕ)) (suffix : List ℕ) (a : Assertion) → ((refuter n records suffix ≡ Some a) ↔ IsRefuter n records suffix a)
+RefuterIsFirst =
+    (n : ℕ) (records : List (List ℕ)) (suffix : List ℕ) (a : Assertion) →
+    ((refuter n records suffix ≡ Some a) ↔ IsRefuter n records suffix a)
 
 abbrev pub RefuterOrNone : Type 0
-RefuterOrNone = (n : ℕ) (records : List (List ℕ)) (suffix : List ℕ) → ((refuter n records suffix ≡ None) ↔ (low n records suffix ≡ 0))
+RefuterOrNone =
+    (n : ℕ) (records : List (List ℕ)) (suffix : List ℕ) →
+    ((refuter n records suffix ≡ None) ↔ (low n records suffix ≡ 0))
 
--- the low and the refuter together, likewise
+-- how the search computes the low and the refuter together, one more candidate at a time
 abbrev pub ScoreOfMore : Type 0
 ScoreOfMore =
-    (n : ℕ) (records : List (List ℕ)) (c : ℕ) (suffix : List ℕ) → IsTrue (is_suffix n (c ∷ suffix)) →
-    score_of n records (c ∷ suffix) ≡ all_offered records (score_of n records suffix) (added_refuters n c suffix)
+    (n : ℕ) (records : List (List ℕ)) (c : ℕ) (suffix : List ℕ) →
+    IsTrue (is_suffix n (c ∷ suffix)) →
+    score_of n records (c ∷ suffix)
+    ≡ all_offered records (score_of n records suffix) (added_refuters n c suffix)
 
 abbrev pub ScoreOfNone : Type 0
 ScoreOfNone = (n : ℕ) (records : List (List ℕ)) → score_of n records [] ≡ no_score
@@ -182,80 +220,105 @@ PossibleIffUnrefuted =
 
 abbrev pub BestIsLeast : Type 0
 BestIsLeast =
-    (n winner : ℕ) (hardness : List ℕ → ℕ) (order : List ℕ) → Contains (alternative_orders n winner) order → best_margin n winner hardness ≤ hardness order
+    (n winner : ℕ) (hardness : List ℕ → ℕ) (order : List ℕ) →
+    Contains (alternative_orders n winner) order → best_margin n winner hardness ≤ hardness order
 
--- without a tie it is at least 1
+-- without a tie the best margin is at least 1
 abbrev pub BestIsPositive : Type 0
 BestIsPositive =
-    (n winner : ℕ) (records : List (List ℕ)) (order : List ℕ) → 1 < n → IsTrue (is_order n order) → IsTrue (is_tabulated records order) → Elects order winner →
+    (n winner : ℕ) (records : List (List ℕ)) (order : List ℕ) → 1 < n → IsTrue (is_order n order) →
+    IsTrue (is_tabulated records order) → Elects order winner →
     1 ≤ best_margin n winner (low n records)
 
 -- the search starts with an alternative order
 abbrev pub StartIsAlternative : Type 0
-StartIsAlternative = (n winner : ℕ) (order : List ℕ) → 1 < n → IsTrue (is_order n order) → Elects order winner → IsAlternative n winner (start_order order)
+StartIsAlternative =
+    (n winner : ℕ) (order : List ℕ) → 1 < n → IsTrue (is_order n order) → Elects order winner →
+    IsAlternative n winner (start_order order)
 
--- suffixes in which all alternative orders end bound it
+-- suffixes in which all alternative orders end bound the best margin
 abbrev pub FrontierBounds : Type 0
 FrontierBounds =
-    (n winner margin : ℕ) (records : List (List ℕ)) (frontier : List (List ℕ)) → winner < n → 1 < n →
-    ((order : List ℕ) → Contains (alternative_orders n winner) order → (suffix : List ℕ) × Contains frontier suffix × EndsIn order suffix) →
-    IsTrue (list_all (λ suffix. nat_le margin (low n records suffix)) frontier) → margin ≤ best_margin n winner (low n records)
+    (n winner margin : ℕ) (records : List (List ℕ)) (frontier : List (List ℕ)) →
+    winner < n → 1 < n →
+    ((order : List ℕ) → Contains (alternative_orders n winner) order →
+    (suffix : List ℕ) × Contains frontier suffix × EndsIn order suffix) →
+    IsTrue (list_all (λ suffix. nat_le margin (low n records suffix)) frontier) →
+    margin ≤ best_margin n winner (low n records)
 
 -- no covering set has a greater least margin
 abbrev pub NoneBeatsBest : Type 0
 NoneBeatsBest =
-    (n winner : ℕ) (records : List (List ℕ)) (claims : List Assertion) → winner < n → 1 < n → IsTrue (list_all (is_proper n) claims) → IsTrue (covers n winner claims) →
-    (a : Assertion) × Contains claims a × (true_margin records a ≤ best_margin n winner (low n records))
+    (n winner : ℕ) (records : List (List ℕ)) (claims : List Assertion) → winner < n → 1 < n →
+    IsTrue (list_all (is_proper n) claims) → IsTrue (covers n winner claims) →
+    (a : Assertion) × Contains claims a
+    × (true_margin records a ≤ best_margin n winner (low n records))
 
 -- ==== the certificate
 
 abbrev pub CertificateIsProper : Type 0
-CertificateIsProper = (n winner : ℕ) (records : List (List ℕ)) → IsTrue (list_all (is_proper n) (certificate_assertions n records winner))
+CertificateIsProper =
+    (n winner : ℕ) (records : List (List ℕ)) →
+    IsTrue (list_all (is_proper n) (certificate_assertions n records winner))
 
 abbrev pub CertificateIsTrue : Type 0
-CertificateIsTrue = (n winner : ℕ) (records : List (List ℕ)) → IsTrue (list_all (is_true records) (certificate_assertions n records winner))
+CertificateIsTrue =
+    (n winner : ℕ) (records : List (List ℕ)) →
+    IsTrue (list_all (is_true records) (certificate_assertions n records winner))
 
 abbrev pub CertificateCovers : Type 0
-CertificateCovers = (n winner : ℕ) (records : List (List ℕ)) → 0 < best_margin n winner (low n records) → IsTrue (covers n winner (certificate_assertions n records winner))
+CertificateCovers =
+    (n winner : ℕ) (records : List (List ℕ)) → 0 < best_margin n winner (low n records) →
+    IsTrue (covers n winner (certificate_assertions n records winner))
 
--- the best margin is the smallest margin of its assertions
+-- the best margin is the smallest margin of the certificate's assertions
 abbrev pub CertificateReachesBest : Type 0
 CertificateReachesBest =
     (n winner : ℕ) (records : List (List ℕ)) →
-    IsTrue (list_all (λ a. nat_le (best_margin n winner (low n records)) (true_margin records a)) (certificate_assertions n records winner))
+    IsTrue
+    (list_all (λ a. nat_le (best_margin n winner (low n records)) (true_margin records a))
+    (certificate_assertions n records winner))
 
 abbrev pub CertificateHasBest : Type 0
 CertificateHasBest =
-    (n winner : ℕ) (records : List (List ℕ)) → winner < n → 1 < n → 0 < best_margin n winner (low n records) →
-    (a : Assertion) × Contains (certificate_assertions n records winner) a × (true_margin records a ≡ best_margin n winner (low n records))
+    (n winner : ℕ) (records : List (List ℕ)) → winner < n → 1 < n →
+    0 < best_margin n winner (low n records) →
+    (a : Assertion) × Contains (certificate_assertions n records winner) a
+    × (true_margin records a ≡ best_margin n winner (low n records))
 
--- its order, over any hardness
+-- the certificate's order is an alternative order of the best margin, over any hardness
 abbrev pub CertificateOrder : Type 0
 CertificateOrder =
     (n winner : ℕ) (hardness : List ℕ → ℕ) → winner < n → 1 < n →
     let best = best_margin n winner hardness in
-    (order : List ℕ) × (certificate_order n winner hardness best ≡ Some order) × Contains (alternative_orders n winner) order × (hardness order ≡ best)
+    (order : List ℕ) × (certificate_order n winner hardness best ≡ Some order)
+    × Contains (alternative_orders n winner) order × (hardness order ≡ best)
 
--- it is the least when read backwards
+-- the certificate's order is the least of these when read backwards
 abbrev pub CertificateOrderIsFirst : Type 0
 CertificateOrderIsFirst =
-    (n winner margin : ℕ) (hardness : List ℕ → ℕ) (found order : List ℕ) → certificate_order n winner hardness margin ≡ Some found →
-    Contains (alternative_orders n winner) order → hardness order ≡ margin → (found ≡ order) ⊎ IsTrue (comes_before found order)
+    (n winner margin : ℕ) (hardness : List ℕ → ℕ) (found order : List ℕ) →
+    certificate_order n winner hardness margin ≡ Some found →
+    Contains (alternative_orders n winner) order → hardness order ≡ margin →
+    (found ≡ order) ⊎ IsTrue (comes_before found order)
 
 -- the certificate refutes exactly the suffixes that reach the best margin
 abbrev pub CertificateRefutes : Type 0
 CertificateRefutes =
-    (n winner c : ℕ) (records : List (List ℕ)) (suffix : List ℕ) → 0 < best_margin n winner (low n records) →
+    (n winner c : ℕ) (records : List (List ℕ)) (suffix : List ℕ) →
+    0 < best_margin n winner (low n records) →
     IsTrue (is_suffix n suffix) → Elects suffix c → c ≢ winner →
-    (IsTrue (list_any (λ a. refutes a suffix) (certificate_assertions n records winner)) ↔ (best_margin n winner (low n records) ≤ low n records suffix))
+    (IsTrue (list_any (λ a. refutes a suffix) (certificate_assertions n records winner))
+    ↔ (best_margin n winner (low n records) ≤ low n records suffix))
 
 -- an end is the shortest of its suffixes that reaches the margin
 abbrev pub EndsAreShortest : Type 0
 EndsAreShortest =
-    (n winner margin : ℕ) (records : List (List ℕ)) (suffix shorter : List ℕ) → IsEnd n records winner margin suffix →
+    (n winner margin : ℕ) (records : List (List ℕ)) (suffix shorter : List ℕ) →
+    IsEnd n records winner margin suffix →
     EndsIn suffix shorter → shorter ≢ [] → shorter ≢ suffix → low n records shorter < margin
 
--- and each alternative order has one
+-- each alternative order ends in exactly one end
 abbrev pub EndsAreOne : Type 0
 EndsAreOne =
     (n winner : ℕ) (records : List (List ℕ)) (order : List ℕ) → IsAlternative n winner order →
@@ -263,32 +326,40 @@ EndsAreOne =
     (suffix : List ℕ) × IsEnd n records winner best suffix × EndsIn order suffix
     × ((other : List ℕ) → IsEnd n records winner best other → EndsIn order other → other ≡ suffix)
 
--- what is defined meets the rules
+-- the certificate as it is defined meets the rules
 abbrev pub CertificateIs : Type 0
 CertificateIs =
     (n winner : ℕ) (records : List (List ℕ)) → winner < n → 1 < n →
-    (order : List ℕ) × (certificate_order n winner (low n records) (best_margin n winner (low n records)) ≡ Some order)
-    × IsCertificate n records winner (best_margin n winner (low n records)) order (certificate_assertions n records winner)
+    (order : List ℕ)
+    × (certificate_order n winner (low n records) (best_margin n winner (low n records))
+    ≡ Some order)
+    × IsCertificate n records winner (best_margin n winner (low n records)) order
+    (certificate_assertions n records winner)
 
--- and nothing else does
+-- nothing but the certificate meets the rules
 abbrev pub CertificateIsOne : Type 0
 CertificateIsOne =
-    (n winner : ℕ) (records : List (List ℕ)) (best best' : ℕ) (order order' : List ℕ) (claims claims' : List Assertion) →
-    IsCertificate n records winner best order claims → IsCertificate n records winner best' order' claims' →
+    (n winner : ℕ) (records : List (List ℕ)) (best best' : ℕ) (order order' : List ℕ)
+    (claims claims' : List Assertion) →
+    IsCertificate n records winner best order claims →
+    IsCertificate n records winner best' order' claims' →
     (best ≡ best') × (order ≡ order') × (claims ≡ claims')
 
--- the records may stand in any order
+-- the certificate is the same in whatever order the records stand
 abbrev pub RecordsInAnyOrder : Type 0
 RecordsInAnyOrder =
     (n winner : ℕ) (records others : List (List ℕ)) → IsPermutation records others →
-    (low n records ≡ low n others) × (refuter n records ≡ refuter n others) × (certificate_claims n records winner ≡ certificate_claims n others winner)
+    (low n records ≡ low n others) × (refuter n records ≡ refuter n others)
+    × (certificate_claims n records winner ≡ certificate_claims n others winner)
 
 -- ==== two candidates
 abbrev pub TwoCandidates : Type 0
 TwoCandidates =
-    (records : List (List ℕ)) (w l : ℕ) → IsTrue (list_all (λ ranking. list_all (λ c. nat_lt c 2) ranking) records) → w < 2 → l < 2 →
+    (records : List (List ℕ)) (w l : ℕ) →
+    IsTrue (list_all (λ ranking. list_all (λ c. nat_lt c 2) ranking) records) → w < 2 → l < 2 →
     let votes = tally records (set_of (candidates 2)) in
     votes l < votes w →
     (best_margin 2 w (low 2 records) ≡ votes w - votes l)
     × (certificate_order 2 w (low 2 records) (votes w - votes l) ≡ Some (w ∷ l ∷ []))
-    × (certificate_claims 2 records w ≡ record { assertion = Neb w l; margin = votes w - votes l } ∷ [])
+    × (certificate_claims 2 records w
+    ≡ record { assertion = Neb w l; margin = votes w - votes l } ∷ [])

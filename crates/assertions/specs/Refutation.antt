@@ -19,4 +19,5 @@ refutes (Nen w l rest) suffix = is_in suffix w && (set_of (part_from suffix w) =
 
 -- each order that elects another candidate is refuted by one of the assertions
 abbrev pub covers : ℕ → ℕ → List Assertion → Bool
-covers n winner claims = list_all (λ order. list_any (λ a. refutes a order) claims) (alternative_orders n winner)
+covers n winner claims =
+    list_all (λ order. list_any (λ a. refutes a order) claims) (alternative_orders n winner)

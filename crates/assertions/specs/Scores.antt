@@ -25,7 +25,8 @@ is_before_that a (Some b) = is_before a b
 -- the score after one more assertion with its margin: the greater margin, and at the same margin the first assertion
 abbrev pub offered : Score → ℕ → Assertion → Score
 offered score margin a =
-    if nat_lt score.low margin || ((score.low == margin) && is_before_that a score.by) then record { low = margin; by = Some a } else score
+    if nat_lt score.low margin || ((score.low == margin) && is_before_that a score.by)
+    then record { low = margin; by = Some a } else score
 
 abbrev pub all_offered : List (List ℕ) → Score → List Assertion → Score
 all_offered records score claims = fold (λ s a. offered s (true_margin records a) a) score claims
@@ -40,6 +41,6 @@ nens_for c set behind = map (λ l. Nen c l set) behind
 abbrev pub added_refuters : ℕ → ℕ → List ℕ → List Assertion
 added_refuters n c suffix = nebs_against n c (c ∷ suffix) ++ nens_for c (set_of (c ∷ suffix)) suffix
 
--- the greatest margin of a true one of them, or 0
+-- the greatest margin of a true one of what one more candidate in front adds, or 0
 abbrev pub added : ℕ → List (List ℕ) → ℕ → List ℕ → ℕ
 added n records c suffix = greatest (map (true_margin records) (added_refuters n c suffix))

@@ -8,30 +8,34 @@ use Rattle.assertions.specs.Lists.{stands_before}
 -- the orders that put k more candidates before the suffix; read backwards, the least comes first
 abbrev pub orders_ending : ℕ → ℕ → List ℕ → List (List ℕ)
 orders_ending n zero suffix = suffix ∷ []
-orders_ending n (suc k) suffix = flat_map (λ c. if is_in suffix c then [] else orders_ending n k (c ∷ suffix)) (candidates n)
+orders_ending n (suc k) suffix =
+    flat_map (λ c. if is_in suffix c then [] else orders_ending n k (c ∷ suffix)) (candidates n)
 
--- the suffixes that put at most k more candidates before it, likewise
+-- the suffixes that put at most k more candidates before the suffix; read backwards, the least comes first
 abbrev pub suffixes_ending : ℕ → ℕ → List ℕ → List (List ℕ)
 suffixes_ending n zero suffix = suffix ∷ []
-suffixes_ending n (suc k) suffix = suffix ∷ flat_map (λ c. if is_in suffix c then [] else suffixes_ending n k (c ∷ suffix)) (candidates n)
+suffixes_ending n (suc k) suffix =
+    suffix
+    ∷ flat_map (λ c. if is_in suffix c then [] else suffixes_ending n k (c ∷ suffix)) (candidates n)
 
 -- an order that elects another candidate than the winner
 abbrev pub IsAlternative : ℕ → ℕ → List ℕ → Type 0
 IsAlternative n winner order = IsTrue (is_order n order) × ((c : ℕ) × (c ≢ winner) × Elects order c)
 
--- all of these, likewise
+-- all orders that elect another candidate than the winner; read backwards, the least comes first
 abbrev pub alternative_orders : ℕ → ℕ → List (List ℕ)
 alternative_orders n winner = flat_map (λ c. orders_ending n (n - 1) (c ∷ [])) (all_but n winner)
 
--- the suffixes of all of these
+-- all suffixes that elect another candidate than the winner
 abbrev pub alternative_suffixes : ℕ → ℕ → List (List ℕ)
-alternative_suffixes n winner = flat_map (λ c. suffixes_ending n (n - 1) (c ∷ [])) (all_but n winner)
+alternative_suffixes n winner =
+    flat_map (λ c. suffixes_ending n (n - 1) (c ∷ [])) (all_but n winner)
 
 -- the suffixes that end in c and aren't whole orders
 abbrev pub parts_ending : ℕ → ℕ → List (List ℕ)
 parts_ending n c = filter (λ suffix. nat_lt (length suffix) n) (suffixes_ending n (n - 1) (c ∷ []))
 
--- both read backwards, the one stands before the other
+-- the one suffix stands before the other, both read backwards
 abbrev pub comes_before : List ℕ → List ℕ → Bool
 comes_before suffix other = stands_before (reverse suffix) (reverse other)
 

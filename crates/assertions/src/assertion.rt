@@ -26,7 +26,9 @@ pub enum Assertion {
 /// An assertion and its margin, in votes.
 #[derive(Clone, Copy, Debug, PartialEq, Eq)]
 pub struct Claim {
+    /// What is asserted.
     pub assertion: Assertion,
+    /// By how many votes it is said to be true.
     pub margin: u32,
 }
 

@@ -15,7 +15,8 @@ pub fn three_candidates()
     ensures start { start_order (2 ∷ 0 ∷ 1 ∷ []) ≡ 2 ∷ 1 ∷ 0 ∷ [] }
     ensures first { low 3 contests.three_candidates (2 ∷ 1 ∷ 0 ∷ []) ≡ 2 }
     ensures best { best_margin 3 1 (low 3 contests.three_candidates) ≡ 1 }
-    ensures order { certificate_order 3 1 (low 3 contests.three_candidates) 1 ≡ Some (1 ∷ 0 ∷ 2 ∷ []) }
+    ensures order { certificate_order 3 1 (low 3 contests.three_candidates) 1
+        ≡ Some (1 ∷ 0 ∷ 2 ∷ []) }
     ensures claims { certificate_claims 3 contests.three_candidates 1
         ≡ record { assertion = Assertion.Neb 1 2; margin = 1 }
         ∷ record { assertion = Assertion.Nen 1 0 3; margin = 2 }
@@ -54,5 +55,6 @@ pub fn discrepancies()
     ensures lost { discrepancy (Assertion.Neb 1 2) (Some (1 ∷ 2 ∷ [])) None ≡ 0 }
     ensures unrecorded { discrepancy (Assertion.Neb 1 2) None None ≡ 1 }
     ensures alike { discrepancy (Assertion.Neb 1 2) (Some (1 ∷ 2 ∷ [])) (Some (1 ∷ 2 ∷ [])) ≡ 2 }
-    ensures understated { discrepancy (Assertion.Neb 1 2) (Some (2 ∷ 1 ∷ [])) (Some (1 ∷ 2 ∷ [])) ≡ 4 }
+    ensures understated { discrepancy (Assertion.Neb 1 2) (Some (2 ∷ 1 ∷ [])) (Some (1 ∷ 2 ∷ []))
+        ≡ 4 }
 {}

@@ -1,12 +1,12 @@
 //! The laws of the definitions: each holds of every value that it names, and has no code.
 ghost use Rattle.assertions.specs.Laws.{NebFor, NebAgainst, AssorterIs, AssorterSums, TrueMargin, AssertionsAreProper, AssertionsRise, FixedOrderIsTotal, FixedOrderIsOrd, RefutesWhere, RefutesLonger, CoverIsSound, OrdersEnding, AlternativeOrders, AlternativeOrdersRise, SuffixesEnding, PartsEnding, PartsRise, PartsAreFew, CountsAreFew, CoverCountIs, SuffixGrows, LowIsGreatest, LowGrows, LowOfMore, LowOfNone, RefuterIsFirst, RefuterOrNone, ScoreOfMore, ScoreOfNone, PossibleIffUnrefuted, BestIsLeast, BestIsPositive, StartIsAlternative, FrontierBounds, NoneBeatsBest, CertificateIsProper, CertificateIsTrue, CertificateCovers, CertificateReachesBest, CertificateHasBest, CertificateOrder, CertificateOrderIsFirst, CertificateRefutes, EndsAreShortest, EndsAreOne, CertificateIs, CertificateIsOne, RecordsInAnyOrder, TwoCandidates};
 
-/// What a NEB has for its winner: its votes with all candidates left.
+/// A NEB has for its winner the votes that it has with all candidates left.
 pub fn neb_for()
     ensures { NebFor }
 {}
 
-/// What a NEB has against its winner: the votes of the loser with these two alone.
+/// A NEB has against its winner the votes of the loser with these two alone.
 pub fn neb_against()
     ensures { NebAgainst }
 {}
@@ -16,7 +16,7 @@ pub fn assorter_is()
     ensures { AssorterIs }
 {}
 
-/// What the assorter values are above 1 each, in sum, is the margin.
+/// The margin is what the assorter values are above 1 each, in sum.
 pub fn assorter_sums()
     ensures { AssorterSums }
 {}
@@ -31,7 +31,7 @@ pub fn assertions_are_proper()
     ensures { AssertionsAreProper }
 {}
 
-/// They are listed each once, in the fixed order.
+/// The list of all assertions has each of them once, in the fixed order.
 pub fn assertions_rise()
     ensures { AssertionsRise }
 {}
@@ -41,7 +41,7 @@ pub fn fixed_order_is_total()
     ensures { FixedOrderIsTotal }
 {}
 
-/// It is the order of `Assertion` as `Ord`.
+/// The fixed order is the order of `Assertion` as `Ord`.
 pub fn fixed_order_is_ord()
     ensures { FixedOrderIsOrd }
 {}
@@ -73,7 +73,7 @@ pub fn alternative_orders()
     ensures { AlternativeOrders }
 {}
 
-/// They are listed each once, and read backwards they rise.
+/// The alternative orders are listed each once, and read backwards they rise.
 pub fn alternative_orders_rise()
     ensures { AlternativeOrdersRise }
 {}
@@ -89,22 +89,23 @@ pub fn parts_ending()
     ensures { PartsEnding }
 {}
 
-/// These are listed each once, and read backwards they rise.
+/// The suffixes that the counts go through are listed each once, and read backwards they rise.
 pub fn parts_rise()
     ensures { PartsRise }
 {}
 
-/// They are at most `2 * (n - 1)!`.
+/// The suffixes that the counts go through are at most `2 * (n - 1)!`.
 pub fn parts_are_few()
     ensures { PartsAreFew }
 {}
 
-/// So the cover count and the order count are at most that.
+/// The cover count and the order count are at most `2 * (n - 1)!`.
 pub fn counts_are_few()
     ensures { CountsAreFew }
 {}
 
-/// The cover count is the number of those whose low is below the margin.
+/// The cover count is the number of suffixes that end in the candidate, are no whole orders and have a low below the
+/// margin.
 pub fn cover_count_is()
     ensures { CoverCountIs }
 {}
@@ -119,12 +120,12 @@ pub fn low_is_greatest()
     ensures { LowIsGreatest }
 {}
 
-/// So it is at most the low of a longer suffix.
+/// The low of a suffix is at most the low of a longer one.
 pub fn low_grows()
     ensures { LowGrows }
 {}
 
-/// How the low of a suffix follows from that of its parent.
+/// The low of a suffix is that of its parent, or the greatest margin that its first candidate adds.
 pub fn low_of_more()
     ensures { LowOfMore }
 {}
@@ -139,17 +140,17 @@ pub fn refuter_is_first()
     ensures { RefuterIsFirst }
 {}
 
-/// There is none exactly where the low is 0.
+/// A suffix has no refuter exactly where its low is 0.
 pub fn refuter_or_none()
     ensures { RefuterOrNone }
 {}
 
-/// How the low and the refuter of a suffix follow from those of its parent.
+/// The low and the refuter of a suffix follow from those of its parent and what its first candidate adds.
 pub fn score_of_more()
     ensures { ScoreOfMore }
 {}
 
-/// The empty suffix has neither.
+/// The empty suffix has the low 0 and no refuter.
 pub fn score_of_none()
     ensures { ScoreOfNone }
 {}
@@ -189,22 +190,22 @@ pub fn certificate_is_proper()
     ensures { CertificateIsProper }
 {}
 
-/// And true of the records, whatever the best margin.
+/// The certificate's assertions are true of the records, whatever the best margin.
 pub fn certificate_is_true()
     ensures { CertificateIsTrue }
 {}
 
-/// They refute each alternative order.
+/// Where the best margin is above 0, the certificate's assertions refute each alternative order.
 pub fn certificate_covers()
     ensures { CertificateCovers }
 {}
 
-/// Each of them has at least the best margin.
+/// Each of the certificate's assertions has at least the best margin.
 pub fn certificate_reaches_best()
     ensures { CertificateReachesBest }
 {}
 
-/// And one has it.
+/// Where the best margin is above 0, one of the certificate's assertions has exactly that.
 pub fn certificate_has_best()
     ensures { CertificateHasBest }
 {}
@@ -214,12 +215,13 @@ pub fn certificate_order()
     ensures { CertificateOrder }
 {}
 
-/// And the least of these when read backwards.
+/// The certificate's order is, read backwards, the least of the alternative orders of the best margin.
 pub fn certificate_order_is_first()
     ensures { CertificateOrderIsFirst }
 {}
 
-/// A suffix is refuted by one of the certificate's assertions exactly where it reaches the best margin.
+/// Where the best margin is above 0, one of the certificate's assertions refutes a suffix that ends in another candidate
+/// than the winner exactly where its low reaches that.
 pub fn certificate_refutes()
     ensures { CertificateRefutes }
 {}
@@ -229,7 +231,7 @@ pub fn ends_are_shortest()
     ensures { EndsAreShortest }
 {}
 
-/// Each alternative order has one end.
+/// Each alternative order ends in exactly one end of the certificate.
 pub fn ends_are_one()
     ensures { EndsAreOne }
 {}
@@ -239,12 +241,12 @@ pub fn certificate_is()
     ensures { CertificateIs }
 {}
 
-/// Nothing else does: the records determine the margin, the order and the assertions.
+/// Nothing but the certificate meets its rules: the records determine the margin, the order and the assertions.
 pub fn certificate_is_one()
     ensures { CertificateIsOne }
 {}
 
-/// The records may stand in any order.
+/// The certificate is the same in whatever order the records stand.
 pub fn records_in_any_order()
     ensures { RecordsInAnyOrder }
 {}

@@ -14,6 +14,3 @@ pub use assertion::{Assertion, Claim, before};
 pub use assorter::value_of;
 pub use margins::margin;
 pub use refutation::refutes;
-
-#[cfg(test)]
-mod tests;

@@ -5,7 +5,7 @@ ghost use Rattle.assertions.specs.Assertions.{is_proper, margin};
 ghost use Rattle.set_tallies.specs.Bags.{IsOf, AreOf, tallies};
 
 use crate::Assertion;
-use irv_base::{CandSet, Candidate, Memory};
+use irv_base::{Candidate, Memory};
 use set_tallies::{Ahead, Tallies};
 
 fn lead(for_winner: u32, for_loser: u32) -> i64
@@ -17,33 +17,35 @@ fn lead(for_winner: u32, for_loser: u32) -> i64
 fn neb_margin(ahead: &Ahead, w: Candidate, l: Candidate) -> i64
     requires winner { w < ahead.now.n }
     requires loser { l < ahead.now.n }
-    ensures { (records : List (List ℕ)) → AreOf ahead.now records → result ≡ margin records (Neb w l) }
+    ensures { (records : List (List ℕ)) → AreOf ahead.now records
+        → result ≡ margin records (Neb w l) }
 {
     lead(ahead.first(w), ahead.ahead(l, w))
 }
 
-// From the tallies of the set.
-fn nen_margin(row: &[u32], w: Candidate, l: Candidate, rest: CandSet) -> i64
+// The margin of a NEN, from the tallies of its set.
+fn nen_margin(row: &[u32], w: Candidate, l: Candidate) -> i64
     requires winner { w < length row.now }
     requires loser { l < length row.now }
-    ensures { (n : ℕ) (records : List (List ℕ)) → row.now ≡ tallies records n rest → w < n → l < n → result ≡ margin records (Nen w l rest) }
+    ensures { (n rest : ℕ) (records : List (List ℕ)) → row.now ≡ tallies records n rest
+        → w < n → l < n → result ≡ margin records (Nen w l rest) }
 {
-    let _rest = rest;
     lead(row[w.index()], row[l.index()])
 }
 
-/// The margin of a proper assertion over the records of the tallies, in votes: what the records have for its winner, less what
-/// they have for its loser, so that it is below 0 where the loser has more (RAIRE, section 3).
+/// The margin of a proper assertion over the records of the tallies, in votes: what the records have for its winner, less
+/// what they have for its loser, so that it is below 0 where the loser has more (RAIRE, section 3).
 pub fn margin(a: &Assertion, t: &mut Tallies<'_>) -> Result<i64, Memory>
     requires { IsTrue (is_proper t.old.bag.n a.now) }
-    ensures margin { (records : List (List ℕ)) → IsOf t.old.bag records → IfOk result (λ m. m ≡ margin records a.now) }
+    ensures margin { (records : List (List ℕ)) → IsOf t.old.bag records
+        → IfOk result (λ m. m ≡ margin records a.now) }
     ensures same { t.new ≡ t.old }
 {
     match *a {
         Assertion::Neb { w, l } => Ok(neb_margin(t.ahead(), w, l)),
         Assertion::Nen { w, l, rest } => {
             let row = t.tally(rest)?;
-            Ok(nen_margin(&row, w, l, rest))
+            Ok(nen_margin(&row, w, l))
         }
     }
 }

@@ -32,12 +32,14 @@ some_counted p {x} (here {xs = xs}) t = let e : cond (p x) 1 0 ≡ (let u : ℕ 
 some_counted p (there {y = y} {xs = xs} m) t = omega (arith, one_counted p y xs, some_counted p m t)
 
 -- lists that differ, each among others that pass, are no more than these
-pub no_more_than : (q : List ℕ → Bool) (xs ys : List (List ℕ)) → ((s : List ℕ) → count_by (is_same s) xs ≤ 1) → ((x : List ℕ) → Member x xs → Member x ys × (q x ≡ true)) → length xs ≤ count_by q ys
+pub no_more_than : (q : List ℕ → Bool) (xs ys : List (List ℕ)) → ((s : List ℕ) → count_by (is_same s) xs ≤ 1) →
+    ((x : List ℕ) → Member x xs → Member x ys × (q x ≡ true)) → length xs ≤ count_by q ys
 no_more_than q [] ys once h = omega arith
 no_more_than q (x ∷ xs) ys once h =
     let (m, t) = h x here in
     let (a, b, e) = split m in
-    let ih : length xs ≤ count_by q (a ++ b) = no_more_than q xs (a ++ b) (λ s. omega (arith, once s, one_counted (is_same s) x xs)) (λ z k. (other a b e z k, (h z (there k)).1)) in
+    let ih : length xs ≤ count_by q (a ++ b) = no_more_than q xs (a ++ b) (λ s. omega (arith, once s, one_counted (is_same s) x xs))
+    (λ z k. (other a b e z k, (h z (there k)).1)) in
     let one : cond (q x) 1 0 ≡ (let u : ℕ = 1 in u) = ap (λ v. cond v 1 0) t in
     let whole : count_by q (a ++ x ∷ b) ≡ count_by q a + count_by q (x ∷ b) = sum_by-append (λ y. cond (q y) 1 0) a (x ∷ b) in
     let less : count_by q (a ++ b) ≡ count_by q a + count_by q b = sum_by-append (λ y. cond (q y) 1 0) a b in
@@ -57,20 +59,23 @@ no_more_than q (x ∷ xs) ys once h =
         ]
 
 -- ---- the listed suffixes stand there once each
-counted_flat : {X : Type 0} (p : X → Bool) (f : ℕ → List X) (q g : ℕ → Bool) → ((c : ℕ) → count_by p (f c) ≤ cond (q c && g c) 1 0) → (cs : List ℕ) → count_by p (flat_map f cs) ≤ count_by g (filter q cs)
+counted_flat : {X : Type 0} (p : X → Bool) (f : ℕ → List X) (q g : ℕ → Bool) → ((c : ℕ) → count_by p (f c) ≤ cond (q c && g c) 1 0) → (cs : List ℕ) →
+    count_by p (flat_map f cs) ≤ count_by g (filter q cs)
 counted_flat p f q g h [] = omega arith
 counted_flat p f q g h (c ∷ cs) =
     let e : count_by p (f c ++ flat_map f cs) ≡ count_by p (f c) + count_by p (flat_map f cs) = sum_by-append (λ y. cond (p y) 1 0) (f c) (flat_map f cs) in
     omega (arith, e, counted_flat p f q g h cs, kept (q c) (h c))
   where
-    kept : (b : Bool) → count_by p (f c) ≤ cond (b && g c) 1 0 → count_by p (f c) + count_by g (filter q cs) ≤ count_by g (cond b (c ∷ filter q cs) (filter q cs))
+    kept : (b : Bool) → count_by p (f c) ≤ cond (b && g c) 1 0 →
+        count_by p (f c) + count_by g (filter q cs) ≤ count_by g (cond b (c ∷ filter q cs) (filter q cs))
     kept true le = omega (arith, le, one_counted g c (filter q cs))
     kept false le = omega (arith, le)
 
 pub listed_once : (n k : ℕ) (t s : List ℕ) → count_by (is_same s) (suffixes_ending n k t) ≤ cond (ends_in s t) 1 0
 listed_once n zero t s = omega (arith, one_counted (is_same s) t [], one_place s t [] none)
 listed_once n (suc k) t s =
-    let rest = counted_flat (is_same s) (λ c. if is_in t c then [] else suffixes_ending n k (c ∷ t)) (λ c. not (is_in t c)) (λ c. ends_in s (c ∷ t)) (λ c. below c (is_in t c) (listed_once n k (c ∷ t) s)) (candidates n) in
+    let rest = counted_flat (is_same s) (λ c. if is_in t c then [] else suffixes_ending n k (c ∷ t)) (λ c. not (is_in t c)) (λ c. ends_in s (c ∷ t))
+    (λ c. below c (is_in t c) (listed_once n k (c ∷ t) s)) (candidates n) in
     let place = one_place s t (filter (λ c. not (is_in t c)) (candidates n)) (distinct-filter (λ c. not (is_in t c)) (distinct-range 0 n)) in
     omega (arith, one_counted (is_same s) t (flat_map (λ c. if is_in t c then [] else suffixes_ending n k (c ∷ t)) (candidates n)), rest, place)
   where
@@ -98,7 +103,8 @@ part_listed n piece x p =
     let few : length before ≤ n - length piece = omega (arith, p.short, ap length e, length-append before piece) in
     subst (λ y. Member y (suffixes_of n piece)) (sym e) (suffixes_ending-member n (n - length piece) before piece s few)
 
-pub most_below : (bag : Kept) (records : List (List ℕ)) (done : List (List ℕ)) (limit : ℕ) (f : Frontier) → IsAfter bag done f → All (λ s. low bag.n records s < limit) done →
+pub most_below : (bag : Kept) (records : List (List ℕ)) (done : List (List ℕ)) (limit : ℕ) (f : Frontier) → IsAfter bag done f →
+    All (λ s. low bag.n records s < limit) done →
     f.expanded ≤ parts_below bag.n records limit f.piece.list
 most_below bag records done limit f k below =
     subst (λ x. x ≤ count_by (is_part_below bag.n records limit) (suffixes_of bag.n f.piece.list)) k.count
@@ -110,18 +116,25 @@ most_below bag records done limit f k below =
       and_from (nat_lt (length x) bag.n) (nat_lt (low bag.n records x) limit) (lt-ltb (length x) bag.n p.short) (lt-ltb (low bag.n records x) limit e),
     )))
 
-pub most_expanded : (bag : Kept) (records : List (List ℕ)) (done : List (List ℕ)) (limit : ℕ) (f : Frontier) → IsOf bag records → IsAfter bag done f → AreBelow bag limit done →
+pub most_expanded : (bag : Kept) (records : List (List ℕ)) (done : List (List ℕ)) (limit : ℕ) (f : Frontier) → IsOf bag records → IsAfter bag done f →
+    AreBelow bag limit done →
     f.expanded ≤ parts_below bag.n records limit f.piece.list
 most_expanded bag records done limit f of k below = most_below bag records done limit f k (below records of)
 
-pub least_expanded : (bag : Kept) (records : List (List ℕ)) (f : Frontier) → IsOf bag records → is_suffix bag.n f.piece.list ≡ true → IsFront bag f → IsClosed f →
+pub least_expanded : (bag : Kept) (records : List (List ℕ)) (f : Frontier) → IsOf bag records → is_suffix bag.n f.piece.list ≡ true → IsFront bag f →
+    IsClosed f →
     count_by (is_part_below bag.n records (min f.bound f.least)) (suffixes_of bag.n f.piece.list) ≤ f.expanded
 least_expanded bag records f of piece (done, k) closed =
     let q : List ℕ → Bool = is_part_below bag.n records (min f.bound f.least) in
     let parts : List (List ℕ) = suffixes_of bag.n f.piece.list in
     let few : length (filter q parts) ≤ count_by (λ s. true) done =
     no_more_than (λ s. true) (filter q parts) done
-    (λ s. omega (arith, filter_counts (is_same s) q parts, listed_once bag.n (bag.n - length f.piece.list) f.piece.list s, at_most_one (ends_in s f.piece.list)))
+    (λ s. omega (
+      arith,
+      filter_counts (is_same s) q parts,
+      listed_once bag.n (bag.n - length f.piece.list) f.piece.list s,
+      at_most_one (ends_in s f.piece.list),
+    ))
     (λ x m. (expanded x m, refl)) in
     omega (arith, few, length-filter q parts, count_by-le-length (λ (s : List ℕ). true) done, k.count)
   where
@@ -142,7 +155,8 @@ least_expanded bag records f of piece (done, k) closed =
         ]
 
 -- an order of the piece below the bound and below the least margin found ends in an open suffix
-pub orders_stay_open : (bag : Kept) (records : List (List ℕ)) (f : Frontier) → IsOf bag records → IsFront bag f → (s : List ℕ) → is_order bag.n s ≡ true → EndsIn s f.piece.list →
+pub orders_stay_open : (bag : Kept) (records : List (List ℕ)) (f : Frontier) → IsOf bag records → IsFront bag f → (s : List ℕ) → is_order bag.n s ≡ true →
+    EndsIn s f.piece.list →
     low bag.n records s < f.bound → low bag.n records s < f.least → EndsInOne f.suffixes s
 orders_stay_open bag records f of (done, k) s h inside l m =
     elim (k.covers records of s (order_is_suffix bag.n s h) inside l m) [
@@ -153,7 +167,8 @@ orders_stay_open bag records f of (done, k) s h inside l m =
     ]
 
 -- where no open suffix is below the bound, none is
-pub closed_above : (bag : Kept) (records : List (List ℕ)) (f : Frontier) → IsOf bag records → IsFront bag f → IsClosed f → (s : List ℕ) → is_order bag.n s ≡ true → EndsIn s f.piece.list →
+pub closed_above : (bag : Kept) (records : List (List ℕ)) (f : Frontier) → IsOf bag records → IsFront bag f → IsClosed f → (s : List ℕ) →
+    is_order bag.n s ≡ true → EndsIn s f.piece.list →
     (f.bound ≤ low bag.n records s) ⊎ (f.least ≤ low bag.n records s)
 closed_above bag records f of (done, k) closed s h inside =
     elim (cases_lt (low bag.n records s) f.bound) [
@@ -170,7 +185,8 @@ closed_above bag records f of (done, k) closed s h inside =
     ]
 
 -- ---- where a suffix below the limit is left that isn't a whole order, there is one more than were expanded
-module _ (bag : Kept) (records : List (List ℕ)) (done : List (List ℕ)) (limit : ℕ) (f : Frontier) (one : Scored) (of : IsOf bag records) (k : IsAfter bag done f) where
+module _ (bag : Kept) (records : List (List ℕ)) (done : List (List ℕ)) (limit : ℕ) (f : Frontier) (one : Scored) (of : IsOf bag records)
+    (k : IsAfter bag done f) where
   -- the one that is left ends in an open suffix, itself
   left_once : Contains f.suffixes one → (s : List ℕ) → count_by (is_same s) (one.tail.list ∷ done) ≤ 1
   left_once still s =
@@ -178,20 +194,23 @@ module _ (bag : Kept) (records : List (List ℕ)) (done : List (List ℕ)) (limi
         | inl yes' ↦
             let e = same-from s one.tail.list yes' in
             let ends : ends_in s one.tail.list ≡ true = subst (λ x. ends_in x one.tail.list ≡ true) (sym e) (ends-self one.tail.list) in
-            let some : 1 ≤ count_by (λ o. ends_in s o.tail.list) f.suffixes = some_counted (λ (o : Scored). ends_in s o.tail.list) (member-from_contains one f.suffixes still) ends in
+            let some : 1 ≤ count_by (λ o. ends_in s o.tail.list) f.suffixes =
+            some_counted (λ (o : Scored). ends_in s o.tail.list) (member-from_contains one f.suffixes still) ends in
             omega (arith, some, k.once s, one_counted (is_same s) one.tail.list done, at_most_one (is_same s one.tail.list))
         | inr f' ↦
             let z : cond (is_same s one.tail.list) 1 0 ≡ (let u : ℕ = 0 in u) = ap (λ v. cond v 1 0) f' in
             omega (arith, z, k.once s, one_counted (is_same s) one.tail.list done)
       ]
 
-  listed_below : (x : List ℕ) → IsPart bag.n f.piece.list x → low bag.n records x < limit → Member x (suffixes_of bag.n f.piece.list) × (is_part_below bag.n records limit x ≡ true)
+  listed_below : (x : List ℕ) → IsPart bag.n f.piece.list x → low bag.n records x < limit →
+      Member x (suffixes_of bag.n f.piece.list) × (is_part_below bag.n records limit x ≡ true)
   listed_below x p e = (
     part_listed bag.n f.piece.list x p,
     and_from (nat_lt (length x) bag.n) (nat_lt (low bag.n records x) limit) (lt-ltb (length x) bag.n p.short) (lt-ltb (low bag.n records x) limit e),
   )
 
-  pub one_more : All (λ s. low bag.n records s < limit) done → Contains f.suffixes one → length one.tail.list < bag.n → one.low < limit → f.expanded < parts_below bag.n records limit f.piece.list
+  pub one_more : All (λ s. low bag.n records s < limit) done → Contains f.suffixes one → length one.tail.list < bag.n → one.low < limit →
+      f.expanded < parts_below bag.n records limit f.piece.list
   one_more below still short lower =
       let t : List ℕ = one.tail.list in
       let o : IsOpen bag f.piece.list one = All-contains (IsOpen bag f.piece.list) f.suffixes one k.each still in
@@ -199,7 +218,8 @@ module _ (bag : Kept) (records : List (List ℕ)) (done : List (List ℕ)) (limi
       let part : IsPart bag.n f.piece.list t = record { proper = o.proper; inside = o.inside; short = short } in
       let all : length (t ∷ done) ≤ parts_below bag.n records limit f.piece.list =
       no_more_than (is_part_below bag.n records limit) (t ∷ done) (suffixes_of bag.n f.piece.list) (left_once still) (λ x m. elim (member_cases m) [
-        | inl e ↦ subst (λ (y : List ℕ). Member y (suffixes_of bag.n f.piece.list) × (is_part_below bag.n records limit y ≡ true)) e (listed_below t part low_one)
+        | inl e ↦ subst (λ (y : List ℕ). Member y (suffixes_of bag.n f.piece.list) × (is_part_below bag.n records limit y ≡ true)) e
+            (listed_below t part low_one)
         | inr m' ↦
             let d = contains-from_member m' in
             listed_below x (All-contains (IsPart bag.n f.piece.list) done x k.parts d) (All-contains (λ s. low bag.n records s < limit) done x below d)

@@ -34,12 +34,14 @@ others_same c k same = filter_next (λ d. not (d == c)) k ∙ ap (λ b. cond (no
 abbrev pub electing_below : ℕ → ℕ → ℕ → List Suffix
 electing_below n c k = map (piece_of n) (map (λ d. d ∷ c ∷ []) (others c k))
 
-pub electing_more : (n c k : ℕ) (start now next : List Suffix) (end x : Suffix) → now ≡ start ++ electing_below n c k → (k == c) ≡ false → end.n ≡ n → end.list ≡ c ∷ [] → x ≡ with_front end k → next ≡ now ++ x ∷ [] →
+pub electing_more : (n c k : ℕ) (start now next : List Suffix) (end x : Suffix) → now ≡ start ++ electing_below n c k → (k == c) ≡ false → end.n ≡ n →
+    end.list ≡ c ∷ [] → x ≡ with_front end k → next ≡ now ++ x ∷ [] →
     next ≡ start ++ electing_below n c (k + 1)
 electing_more n c k start now next end x h other number alone is pushed =
     let one : x ≡ piece_of n (k ∷ c ∷ []) = is ∙ ap (λ m. record { n = m; list = k ∷ end.list }) number ∙ ap (λ l. record { n = n; list = k ∷ l }) alone in
     let grown : electing_below n c (k + 1) ≡ electing_below n c k ++ piece_of n (k ∷ c ∷ []) ∷ [] =
-    ap (λ ds. map (piece_of n) (map (λ d. d ∷ c ∷ []) ds)) (others_more c k other) ∙ ap (map (piece_of n)) (map_push (λ d. d ∷ c ∷ []) (others c k) k) ∙ map_push (piece_of n) (map (λ d. d ∷ c ∷ []) (others c k)) (k ∷ c ∷ []) in
+    ap (λ ds. map (piece_of n) (map (λ d. d ∷ c ∷ []) ds)) (others_more c k other) ∙ ap (map (piece_of n)) (map_push (λ d. d ∷ c ∷ []) (others c k) k)
+    ∙ map_push (piece_of n) (map (λ d. d ∷ c ∷ []) (others c k)) (k ∷ c ∷ []) in
     pushed
     ∙ ap (λ s. s ++ x ∷ []) h
     ∙ append_assoc start (electing_below n c k) (x ∷ [])
@@ -53,10 +55,12 @@ electing_same n c k same = ap (λ ds. map (piece_of n) (map (λ d. d ∷ c ∷ [
 abbrev pub pieces_below : ℕ → ℕ → ℕ → List Suffix
 pieces_below n winner k = map (piece_of n) (flat_map (pieces_electing n) (others winner k))
 
-pub pieces_more : (n winner k : ℕ) (now next : List Suffix) → now ≡ pieces_below n winner k → (k == winner) ≡ false → next ≡ now ++ map (piece_of n) (pieces_electing n k) → next ≡ pieces_below n winner (k + 1)
+pub pieces_more : (n winner k : ℕ) (now next : List Suffix) → now ≡ pieces_below n winner k → (k == winner) ≡ false →
+    next ≡ now ++ map (piece_of n) (pieces_electing n k) → next ≡ pieces_below n winner (k + 1)
 pieces_more n winner k now next h other added =
     let grown : flat_map (pieces_electing n) (others winner (k + 1)) ≡ flat_map (pieces_electing n) (others winner k) ++ pieces_electing n k =
-    ap (flat_map (pieces_electing n)) (others_more winner k other) ∙ flat_map-append (pieces_electing n) (others winner k) (k ∷ []) ∙ ap (λ s. flat_map (pieces_electing n) (others winner k) ++ s) (append-nil (pieces_electing n k)) in
+    ap (flat_map (pieces_electing n)) (others_more winner k other) ∙ flat_map-append (pieces_electing n) (others winner k) (k ∷ [])
+    ∙ ap (λ s. flat_map (pieces_electing n) (others winner k) ++ s) (append-nil (pieces_electing n k)) in
     added
     ∙ ap (λ s. s ++ map (piece_of n) (pieces_electing n k)) h
     ∙ sym (map-append (piece_of n) (flat_map (pieces_electing n) (others winner k)) (pieces_electing n k))
@@ -101,8 +105,10 @@ tail_facts n winner k t at =
 
 -- ---- each alternative order ends in one
 
-ends_in_two : (n winner c : ℕ) (order : List ℕ) → is_order n order ≡ true → 1 < n → c ≢ winner → Elects order c → (piece : List ℕ) × Member piece (pieces n winner) × EndsIn order piece
-ends_in_two n winner c order whole two apart ([], split) = let o = order_facts n order whole in let long = ap length split in absurd (omega (arith, o.long, two, long))
+ends_in_two : (n winner c : ℕ) (order : List ℕ) → is_order n order ≡ true → 1 < n → c ≢ winner → Elects order c →
+    (piece : List ℕ) × Member piece (pieces n winner) × EndsIn order piece
+ends_in_two n winner c order whole two apart ([], split) = let o = order_facts n order whole in let long = ap length split in
+    absurd (omega (arith, o.long, two, long))
 ends_in_two n winner c order whole two apart (x ∷ xs, split) =
     let o : Order n order = order_facts n order whole in
     let (ys, d, last) = last_split x xs in
@@ -113,18 +119,22 @@ ends_in_two n winner c order whole two apart (x ∷ xs, split) =
     let low_d : d < n = inside d (member-append_right ys here) in
     let low_c : c < n = inside c (member-append_right ys (there here)) in (
       d ∷ c ∷ [],
-      member-flat_map (pieces_electing n) (member-filter (λ e. not (e == winner)) (candidates n) (candidate-member c n low_c) (not_from_false (c == winner) (ne_eqb c winner apart)))
-          (member-map (λ e. e ∷ c ∷ []) (member-filter (λ e. not (e == c)) (candidates n) (candidate-member d n low_d) (not_from_false (d == c) (ne_eqb d c differ)))),
+      member-flat_map (pieces_electing n) (member-filter (λ e. not (e == winner)) (candidates n) (candidate-member c n low_c)
+          (not_from_false (c == winner) (ne_eqb c winner apart)))
+          (member-map (λ e. e ∷ c ∷ []) (member-filter (λ e. not (e == c)) (candidates n) (candidate-member d n low_d)
+          (not_from_false (d == c) (ne_eqb d c differ)))),
       (ys, is),
     )
 
-place_of : (n : ℕ) {piece : List ℕ} {ps : List (List ℕ)} → Member piece ps → (k : ℕ) × (k < length ps) × (slice_get (map (piece_of n) ps) k ≡ Some (piece_of n piece))
+place_of : (n : ℕ) {piece : List ℕ} {ps : List (List ℕ)} → Member piece ps → (k : ℕ) × (k < length ps) ×
+    (slice_get (map (piece_of n) ps) k ≡ Some (piece_of n piece))
 place_of n (here {xs = xs}) = (0, omega arith, refl)
 place_of n (there m) = let (k, low, at) = place_of n m in (suc k, omega (arith, low), at)
 
 -- a number of such a piece
 pub ends_in_piece : (n winner c : ℕ) (order : List ℕ) → is_order n order ≡ true → 1 < n → c ≢ winner → Elects order c →
-    (piece : List ℕ) × EndsIn order piece × (k : ℕ) × (k < length (pieces n winner)) × (slice_get (map (piece_of n) (pieces n winner)) k ≡ Some (piece_of n piece))
+    (piece : List ℕ) × EndsIn order piece × (k : ℕ) × (k < length (pieces n winner)) ×
+    (slice_get (map (piece_of n) (pieces n winner)) k ≡ Some (piece_of n piece))
 ends_in_piece n winner c order whole two apart elects =
     let (piece, m, ends) = ends_in_two n winner c order whole two apart elects in
     let (k, low, at) = place_of n m in

@@ -59,16 +59,19 @@ pub ends_through : (s t u : List ℕ) → EndsIn s t → EndsIn t u → EndsIn s
 ends_through s t u (before, e) (between, e') = (before ++ between, e ∙ ap (λ x. before ++ x) e' ∙ sym (append_assoc before between u))
 
 -- ---- children
-pub child-of : (t : Suffix) (cs : List Scored) (k : Scored) → map (λ s. s.tail) cs ≡ children t → Contains cs k → (c : ℕ) × (c < t.n) × (is_in t.list c ≡ false) × (k.tail ≡ with_front t c)
+pub child-of : (t : Suffix) (cs : List Scored) (k : Scored) → map (λ s. s.tail) cs ≡ children t → Contains cs k →
+    (c : ℕ) × (c < t.n) × (is_in t.list c ≡ false) × (k.tail ≡ with_front t c)
 child-of t cs k e h =
     let m : Member k.tail (children t) = subst (Member k.tail) e (member-map (λ s. s.tail) (member-from_contains k cs h)) in
     let (c, m', same) = from_map (with_front t) k.tail (filter (λ c. not (is_in t.list c)) (candidates t.n)) m in
     let (inside, out) = from_filter (λ c. not (is_in t.list c)) (candidates t.n) m' in
     (c, from_candidates inside, not-true (is_in t.list c) out, sym same)
 
-pub child-at : (c : ℕ) (t : Suffix) (cs : List Scored) → map (λ s. s.tail) cs ≡ children t → c < t.n → is_in t.list c ≡ false → (k : Scored) × Contains cs k × (k.tail ≡ with_front t c)
+pub child-at : (c : ℕ) (t : Suffix) (cs : List Scored) → map (λ s. s.tail) cs ≡ children t → c < t.n → is_in t.list c ≡ false →
+    (k : Scored) × Contains cs k × (k.tail ≡ with_front t c)
 child-at c t cs e l out =
-    let m : Member (with_front t c) (children t) = member-map (with_front t) (member-filter (λ c. not (is_in t.list c)) (candidates t.n) (candidate-member c t.n l) (not_from_false (is_in t.list c) out)) in
+    let m : Member (with_front t c) (children t) =
+    member-map (with_front t) (member-filter (λ c. not (is_in t.list c)) (candidates t.n) (candidate-member c t.n l) (not_from_false (is_in t.list c) out)) in
     let (k, m', same) = from_map (λ s. s.tail) (with_front t c) cs (subst (Member (with_front t c)) (sym e) m) in
     (k, contains-from_member m', same)
 
@@ -135,7 +138,8 @@ count_one p (c ∷ cs) (more out d) h =
     elim (cases_Bool (p c)) [
       | inl t ↦
           let one : bit (p c) ≡ 1 = ap (λ b. bit b) t in
-          let rest : count_by p cs ≡ 0 = rest_none cs (λ x m. elim (cases_Bool (p x)) [ inl u ↦ absurd (out (subst (λ z. Member z cs) (h x c u t) m)) | inr f ↦ f ]) in
+          let rest : count_by p cs ≡ 0 =
+          rest_none cs (λ x m. elim (cases_Bool (p x)) [ inl u ↦ absurd (out (subst (λ z. Member z cs) (h x c u t) m)) | inr f ↦ f ]) in
           omega (arith, e, one, rest)
       | inr f ↦ let z : bit (p c) ≡ 0 = ap (λ b. bit b) f in omega (arith, e, z, count_one p cs d h)
     ]
@@ -159,8 +163,13 @@ pub one_place : (s t cs : List ℕ) → Distinct cs → bit (is_same s t) + coun
 one_place s t cs d =
     elim (cases_Bool (ends_in s t)) [
       | inr f ↦
-          let a : is_same s t ≡ false = elim (cases_Bool (is_same s t)) [ inl u ↦ absurd (both_ways (ends_in s t) f (subst (λ x. ends_in x t ≡ true) (sym (same-from s t u)) (ends-self t))) | inr g ↦ g ] in
-          let b : count_by (λ c. ends_in s (c ∷ t)) cs ≡ 0 = count_none (λ c. ends_in s (c ∷ t)) cs (λ c. elim (cases_Bool (ends_in s (c ∷ t))) [ inl u ↦ absurd (both_ways (ends_in s t) f (ends-rest s t c u)) | inr g ↦ g ]) in
+          let a : is_same s t ≡ false = elim (cases_Bool (is_same s t)) [
+            | inl u ↦ absurd
+                (both_ways (ends_in s t) f (subst (λ x. ends_in x t ≡ true) (sym (same-from s t u)) (ends-self t)))
+            | inr g ↦ g
+          ] in
+          let b : count_by (λ c. ends_in s (c ∷ t)) cs ≡ 0 = count_none (λ c. ends_in s (c ∷ t)) cs
+          (λ c. elim (cases_Bool (ends_in s (c ∷ t))) [ inl u ↦ absurd (both_ways (ends_in s t) f (ends-rest s t c u)) | inr g ↦ g ]) in
           let x : bit (is_same s t) ≡ 0 = ap (λ v. bit v) a in
           omega (arith, b, x)
       | inl u ↦
@@ -170,12 +179,14 @@ one_place s t cs d =
                 let x : bit (is_same s t) ≡ 1 = ap (λ v. bit v) e in
                 let same = same-from s t e in
                 let b : count_by (λ c. ends_in s (c ∷ t)) cs ≡ 0 =
-                count_none (λ c. ends_in s (c ∷ t)) cs (λ c. elim (cases_Bool (ends_in s (c ∷ t))) [ inl w ↦ absurd (not_longer t c (subst (λ z. ends_in z (c ∷ t) ≡ true) same w)) | inr g ↦ g ]) in
+                count_none (λ c. ends_in s (c ∷ t)) cs
+                (λ c. elim (cases_Bool (ends_in s (c ∷ t))) [ inl w ↦ absurd (not_longer t c (subst (λ z. ends_in z (c ∷ t) ≡ true) same w)) | inr g ↦ g ]) in
                 omega (arith, b, x, y)
             | inr e ↦
                 let x : bit (is_same s t) ≡ 0 = ap (λ v. bit v) e in
                 let b : count_by (λ c. ends_in s (c ∷ t)) cs ≤ 1 =
-                count_one (λ c. ends_in s (c ∷ t)) cs d (λ c k h g. let (before, i) = ends-from s (c ∷ t) h in let (before', j) = ends-from s (k ∷ t) g in next_same before before' t c k (sym i ∙ j)) in
+                count_one (λ c. ends_in s (c ∷ t)) cs d (λ c k h g. let (before, i) = ends-from s (c ∷ t) h in let (before', j) = ends-from s (k ∷ t) g in
+                next_same before before' t c k (sym i ∙ j)) in
                 omega (arith, b, x, y)
           ]
     ]
@@ -183,8 +194,10 @@ one_place s t cs d =
 pub places_of_children : (s : List ℕ) (t : Suffix) (cs : List Scored) → map (λ o. o.tail) cs ≡ children t →
     bit (is_same s t.list) + count_by (λ o. ends_in s o.tail.list) cs ≤ bit (ends_in s t.list)
 places_of_children s t cs e =
-    let of_tails : count_by (λ x. ends_in s x.list) (map (λ o. o.tail) cs) ≡ count_by (λ o. ends_in s o.tail.list) cs = fold-map (λ a (x : Suffix). a + bit (ends_in s x.list)) (λ (o : Scored). o.tail) 0 cs in
-    let of_candidates : count_by (λ x. ends_in s x.list) (children t) ≡ count_by (λ c. ends_in s (c ∷ t.list)) (filter (λ c. not (is_in t.list c)) (candidates t.n)) =
+    let of_tails : count_by (λ x. ends_in s x.list) (map (λ o. o.tail) cs) ≡ count_by (λ o. ends_in s o.tail.list) cs =
+    fold-map (λ a (x : Suffix). a + bit (ends_in s x.list)) (λ (o : Scored). o.tail) 0 cs in
+    let of_candidates : count_by (λ x. ends_in s x.list) (children t) ≡ count_by (λ c. ends_in s (c ∷ t.list))
+    (filter (λ c. not (is_in t.list c)) (candidates t.n)) =
     fold-map (λ a (x : Suffix). a + bit (ends_in s x.list)) (with_front t) 0 (filter (λ c. not (is_in t.list c)) (candidates t.n)) in
     let place = one_place s t.list (filter (λ c. not (is_in t.list c)) (candidates t.n)) (distinct-filter (λ c. not (is_in t.list c)) (distinct-range 0 t.n)) in
     omega (arith, of_tails, of_candidates, place, ap (count_by (λ (x : Suffix). ends_in s x.list)) e)

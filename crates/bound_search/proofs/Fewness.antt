@@ -48,7 +48,9 @@ work_few n records order c below = greatest-le (length (parts_ending n c)) (map 
       let (other, m'', two) = from_map (λ d. d ∷ c ∷ []) piece (all_but n c) m' in
       let (inside, out) = from_filter (λ e. not (e == c)) (candidates n) m'' in
       let apart : other ≢ c = eqb-false other c (not-true (other == c) out) in
-      let none : is_in (c ∷ []) other ≡ false = out-from_none other (c ∷ []) (λ k. elim (member_cases k) [ inl same ↦ apart (sym same) | inr k' ↦ member_nil k' ]) in
+      let none : is_in (c ∷ []) other ≡ false =
+      out-from_none other (c ∷ []) (λ k. elim (member_cases k) [ inl same ↦ apart (sym same) | inr k' ↦ member_nil k' ]) in
       let proper : is_suffix n (other ∷ c ∷ []) ≡ true = suffix_test (child n other (c ∷ []) (one_alone n c below) (from_candidates inside) none) in
-      let le : work n records first (other ∷ c ∷ []) ≤ length (parts_ending n c) = parts_few n records (min first (value_of n records (other ∷ c ∷ []) + 1)) c other proper below in
+      let le : work n records first (other ∷ c ∷ []) ≤ length (parts_ending n c) =
+      parts_few n records (min first (value_of n records (other ∷ c ∷ []) + 1)) c other proper below in
       subst (λ y. y ≤ length (parts_ending n c)) is (subst (λ p. work n records first p ≤ length (parts_ending n c)) two le)

@@ -31,8 +31,10 @@ pub drop_next : {A : Type 0} (xs : List A) (i : ℕ) (x : A) → i < length xs �
 drop_next xs i x inside is = rw add-one (drop-cons xs i x inside) ∙ ap (λ y. y ∷ drop (i + 1) xs) (sym is)
 
 module _ (bag : Kept) (nodes : ℕ) (tails : List Suffix) (race : SharedRace) (start : Best) (w : Worker) (e : WorkerEnd) (j k : Joined) (r : Report)
-    (was : IsJoined bag nodes tails race start j) (ran : WorkerRan bag nodes tails race (length j.reports.items) w) (end : IsWorkerEnd bag race.terms.first nodes (length j.reports.items) tails w.seat.view e)
-    (seats : k.seats.items ≡ j.seats.items ++ w.seat ∷ []) (ends : k.ends.items ≡ j.ends.items ++ e.ends.items) (reports : k.reports.items ≡ j.reports.items ++ r ∷ [])
+    (was : IsJoined bag nodes tails race start j) (ran : WorkerRan bag nodes tails race (length j.reports.items) w)
+    (end : IsWorkerEnd bag race.terms.first nodes (length j.reports.items) tails w.seat.view e)
+    (seats : k.seats.items ≡ j.seats.items ++ w.seat ∷ []) (ends : k.ends.items ≡ j.ends.items ++ e.ends.items)
+    (reports : k.reports.items ≡ j.reports.items ++ r ∷ [])
     (told : r.pieces ≡ length e.ends.items) (expanded : r.expanded ≡ sum_by (λ p. p.expanded) e.ends.items) (looks : r.looks ≡ e.looks)
     (margin : k.best.margin ≡ option_map_or (λ b. min b.margin j.best.margin) e.best j.best.margin) (one : (k.best ≡ j.best) ⊎ (e.best ≡ Some k.best))
     (spent : k.spent ≡ first_of j.spent e.spent.items) where
@@ -46,7 +48,8 @@ module _ (bag : Kept) (nodes : ℕ) (tails : List Suffix) (race : SharedRace) (s
   least_now fits =
       margin ∙ go e.best end.best ∙ sym (ap (least_posted start.margin) views_now ∙ least-push start.margin (views_of j.seats.items) w.seat.view)
     where
-      go : (best : Option Best) → IsBestFound bag tails w.seat.view.posted best → option_map_or (λ b. min b.margin j.best.margin) best j.best.margin ≡ min w.seat.view.posted (least_posted start.margin (views_of j.seats.items))
+      go : (best : Option Best) → IsBestFound bag tails w.seat.view.posted best → option_map_or (λ b. min b.margin j.best.margin) best j.best.margin
+          ≡ min w.seat.view.posted (least_posted start.margin (views_of j.seats.items))
       go None top = let low = least-first start.margin (views_of j.seats.items) in omega (arith, top, was.least fits, low, fits)
       go (Some b) (found, same, low) = omega (arith, same, was.least fits)
 
@@ -57,7 +60,8 @@ module _ (bag : Kept) (nodes : ℕ) (tails : List Suffix) (race : SharedRace) (s
           | inl is ↦ inl (same ∙ is)
           | inr found ↦ inr (subst (IsFoundIn bag tails) (sym same) found)
         ]
-        | inr is ↦ let found : IsBestFound bag tails w.seat.view.posted (Some k.best) = subst (IsBestFound bag tails w.seat.view.posted) is end.best in inr found.0
+        | inr is ↦ let found : IsBestFound bag tails w.seat.view.posted (Some k.best) = subst (IsBestFound bag tails w.seat.view.posted) is end.best in
+            inr found.0
       ]
 
   took_now : map (λ p. p.piece) k.ends.items ≡ taken_pieces (views_of k.seats.items)
@@ -66,7 +70,8 @@ module _ (bag : Kept) (nodes : ℕ) (tails : List Suffix) (race : SharedRace) (s
       ∙ map-append (λ (p : PieceEnd). p.piece) j.ends.items e.ends.items
       ∙ ap (λ xs. xs ++ map (λ (p : PieceEnd). p.piece) e.ends.items) was.took
       ∙ ap (λ xs. taken_pieces (views_of j.seats.items) ++ xs) end.took
-      ∙ sym (ap taken_pieces views_now ∙ flat_map-append (λ (v : View). v.taken) (views_of j.seats.items) (w.seat.view ∷ []) ∙ ap (λ xs. taken_pieces (views_of j.seats.items) ++ xs) (append-nil w.seat.view.taken))
+      ∙ sym (ap taken_pieces views_now ∙ flat_map-append (λ (v : View). v.taken) (views_of j.seats.items) (w.seat.view ∷ [])
+      ∙ ap (λ xs. taken_pieces (views_of j.seats.items) ++ xs) (append-nil w.seat.view.taken))
 
   longer : length k.reports.items ≡ length j.reports.items + 1
   longer = ap length reports ∙ length_push j.reports.items r
@@ -78,13 +83,15 @@ module _ (bag : Kept) (nodes : ℕ) (tails : List Suffix) (race : SharedRace) (s
       (All-weaker (IsEntryOfOne bag first nodes (length j.reports.items) tails) (IsEntryOfOne bag first nodes (length k.reports.items) tails)
       (λ p h. (let low = h.0 in omega (arith, longer, low), h.1)) j.ends.items was.entries)
       (All-weaker (IsEntry bag first nodes (length j.reports.items) tails) (IsEntryOfOne bag first nodes (length k.reports.items) tails)
-      (λ p h. (let is = h.worker_is in omega (arith, is, longer), record { tail = h.tail; worker_is = refl; within = h.within; most = h.most })) e.ends.items end.entries))
+      (λ p h. (let is = h.worker_is in omega (arith, is, longer), record { tail = h.tail; worker_is = refl; within = h.within; most = h.most })) e.ends.items
+      end.entries))
 
   reports_now : AreReportsOf k.ends.items k.reports.items
   reports_now =
       reports-more j.ends.items e.ends.items k.ends.items j.reports.items k.reports.items r ends reports
       (λ p m. (All-contains (IsEntryOfOne bag first nodes (length j.reports.items) tails) j.ends.items p was.entries (contains-from_member m)).0)
-      (λ p m. (All-contains (IsEntry bag first nodes (length j.reports.items) tails) e.ends.items p end.entries (contains-from_member m)).worker_is) was.reports told expanded
+      (λ p m. (All-contains (IsEntry bag first nodes (length j.reports.items) tails) e.ends.items p end.entries (contains-from_member m)).worker_is)
+      was.reports told expanded
 
   -- what no seat of these saw less than, none of the former did, nor this one
   seats_before : (bound : ℕ) → All (λ s. bound ≤ s.view.seen) k.seats.items → All (λ s. bound ≤ s.view.seen) j.seats.items × (bound ≤ w.seat.view.seen)
@@ -102,7 +109,8 @@ module _ (bag : Kept) (nodes : ℕ) (tails : List Suffix) (race : SharedRace) (s
     closed : Type 0
     closed = All (IsClosedUnder bag k.seats.items) k.ends.items
 
-    go : (o : Option ℕ) → MatchOption o (All (IsClosedUnder bag j.seats.items) j.ends.items) (IsCostly bag first nodes tails) → (xs : List ℕ) → e.spent.items ≡ xs → MatchOption (first_of o xs) closed (IsCostly bag first nodes tails)
+    go : (o : Option ℕ) → MatchOption o (All (IsClosedUnder bag j.seats.items) j.ends.items) (IsCostly bag first nodes tails) → (xs : List ℕ) →
+        e.spent.items ≡ xs → MatchOption (first_of o xs) closed (IsCostly bag first nodes tails)
     go (Some number) costly xs is = costly
     go None all (x ∷ xs) is = All-head (IsCostly bag first nodes tails) x xs (subst (All (IsCostly bag first nodes tails)) is end.costly)
     go None all [] is =
@@ -113,10 +121,13 @@ module _ (bag : Kept) (nodes : ℕ) (tails : List Suffix) (race : SharedRace) (s
 
   pub join_more : IsJoined bag nodes tails race start k
   join_more = record {
-    of_race = All-same (λ (s : Seated). s.race ≡ race.id) k.seats.items (j.seats.items ++ w.seat ∷ []) seats (All-push (λ (s : Seated). s.race ≡ race.id) j.seats.items w.seat was.of_race ran.of_race);
-    done = All-same (λ (s : Seated). 1 ≤ s.view.ends) k.seats.items (j.seats.items ++ w.seat ∷ []) seats (All-push (λ (s : Seated). 1 ≤ s.view.ends) j.seats.items w.seat was.done (let d = end.done in omega (arith, d)));
+    of_race = All-same (λ (s : Seated). s.race ≡ race.id) k.seats.items (j.seats.items ++ w.seat ∷ []) seats
+        (All-push (λ (s : Seated). s.race ≡ race.id) j.seats.items w.seat was.of_race ran.of_race);
+    done = All-same (λ (s : Seated). 1 ≤ s.view.ends) k.seats.items (j.seats.items ++ w.seat ∷ []) seats
+        (All-push (λ (s : Seated). 1 ≤ s.view.ends) j.seats.items w.seat was.done (let d = end.done in omega (arith, d)));
     count = ap length reports ∙ length_push j.reports.items r ∙ ap (λ n. n + 1) was.count ∙ sym (ap length seats ∙ length_push j.seats.items w.seat);
-    paced = All-same IsPaced k.reports.items (j.reports.items ++ r ∷ []) reports (All-push IsPaced j.reports.items r was.paced (let le = end.paced in omega (arith, expanded, looks, le)));
+    paced = All-same IsPaced k.reports.items (j.reports.items ++ r ∷ []) reports (All-push IsPaced j.reports.items r was.paced (let le = end.paced in
+        omega (arith, expanded, looks, le)));
     least = least_now;
     best = best_now;
     took = took_now;
@@ -126,7 +137,8 @@ module _ (bag : Kept) (nodes : ℕ) (tails : List Suffix) (race : SharedRace) (s
   }
 
 -- nobody yet
-pub join_none : (bag : Kept) (nodes : ℕ) (tails : List Suffix) (race : SharedRace) (start : Best) (j : Joined) → j.seats.items ≡ [] → j.ends.items ≡ [] → j.reports.items ≡ [] → j.best ≡ start → j.spent ≡ None →
+pub join_none : (bag : Kept) (nodes : ℕ) (tails : List Suffix) (race : SharedRace) (start : Best) (j : Joined) → j.seats.items ≡ [] → j.ends.items ≡ [] →
+    j.reports.items ≡ [] → j.best ≡ start → j.spent ≡ None →
     IsJoined bag nodes tails race start j
 join_none bag nodes tails race start j seats ends reports best spent = record {
   of_race = All-same (λ (s : Seated). s.race ≡ race.id) j.seats.items [] seats (All-nil (λ (s : Seated). s.race ≡ race.id));
@@ -136,7 +148,8 @@ join_none bag nodes tails race start j seats ends reports best spent = record {
   least = λ fits. ap (λ (b : Best). b.margin) best ∙ sym (ap (λ (xs : List Seated). least_posted start.margin (views_of xs)) seats);
   best = inl best;
   took = ap (map (λ (p : PieceEnd). p.piece)) ends ∙ sym (ap (λ (xs : List Seated). taken_pieces (views_of xs)) seats);
-  entries = All-same (IsEntryOfOne bag race.terms.first nodes (length j.reports.items) tails) j.ends.items [] ends (All-nil (IsEntryOfOne bag race.terms.first nodes (length j.reports.items) tails));
+  entries = All-same (IsEntryOfOne bag race.terms.first nodes (length j.reports.items) tails) j.ends.items [] ends
+      (All-nil (IsEntryOfOne bag race.terms.first nodes (length j.reports.items) tails));
   reports = λ w d low. absurd (let none = ap length reports in omega arith);
   spent = subst (λ o. MatchOption o (All (IsClosedUnder bag j.seats.items) j.ends.items) (IsCostly bag race.terms.first nodes tails)) (sym spent)
       (All-same (IsClosedUnder bag j.seats.items) j.ends.items [] ends (All-nil (IsClosedUnder bag j.seats.items)));
@@ -151,7 +164,8 @@ inside : {X : Type 0} (before rest : List X) (x : X) → length before < length 
 inside [] rest x = omega arith
 inside (y ∷ before) rest x = let l = inside before rest x in omega arith
 
-pub worker_at : (bag : Kept) (nodes : ℕ) (tails : List Suffix) (race : SharedRace) (team before rest : List Worker) (w : Worker) → team ≡ before ++ w ∷ rest → TeamRan bag nodes tails race team →
+pub worker_at : (bag : Kept) (nodes : ℕ) (tails : List Suffix) (race : SharedRace) (team before rest : List Worker) (w : Worker) → team ≡ before ++ w ∷ rest →
+    TeamRan bag nodes tails race team →
     WorkerRan bag nodes tails race (length before) w
 worker_at bag nodes tails race team before rest w whole h =
     let all : TeamRan bag nodes tails race (before ++ w ∷ rest) = subst (TeamRan bag nodes tails race) whole h in

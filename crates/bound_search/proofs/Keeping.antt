@@ -23,7 +23,8 @@ use Rattle.bound_search.proofs.Endings.{bit, grows, low_in, whole_ends, whole_is
 use Rattle.bound_search.proofs.Sifting.{one_contained, only_contained, all_from_contained}
 
 -- ---- an open suffix
-pub open_low : (bag : Kept) (piece : List ℕ) (o : Scored) → IsOpen bag piece o → (records : List (List ℕ)) → IsOf bag records → o.low ≡ low bag.n records o.tail.list
+pub open_low : (bag : Kept) (piece : List ℕ) (o : Scored) → IsOpen bag piece o → (records : List (List ℕ)) → IsOf bag records →
+    o.low ≡ low bag.n records o.tail.list
 open_low bag piece o h records of = (h.scored records of).low_is ∙ ap (λ n. low n records o.tail.list) h.contest
 
 pub open_found : (bag : Kept) (piece : List ℕ) (o : Scored) → IsOpen bag piece o → length o.tail.list ≡ bag.n → IsFound bag piece o.tail.list o.low
@@ -37,9 +38,11 @@ pub ends_in_itself : (open_ones : List Scored) (o : Scored) → Contains open_on
 ends_in_itself open_ones o h = (o, h, ([], refl))
 
 -- ---- one suffix is taken from a front
-module _ (bag : Kept) (done : List (List ℕ)) (f : Frontier) (t : Scored) (rest : List Scored) (k : IsAfter bag done f) (taken : IsPermutation f.suffixes (t ∷ rest)) where
+module _ (bag : Kept) (done : List (List ℕ)) (f : Frontier) (t : Scored) (rest : List Scored) (k : IsAfter bag done f)
+    (taken : IsPermutation f.suffixes (t ∷ rest)) where
   top_contained : Contains f.suffixes t
-  top_contained = Contains-permutation (t ∷ rest) f.suffixes t (IsPermutation-sym f.suffixes (t ∷ rest) taken) (Contains-append_left (t ∷ []) rest t (one_contained t))
+  top_contained = Contains-permutation (t ∷ rest) f.suffixes t (IsPermutation-sym f.suffixes (t ∷ rest) taken)
+      (Contains-append_left (t ∷ []) rest t (one_contained t))
 
   pub top_open : IsOpen bag f.piece.list t
   top_open = All-contains (IsOpen bag f.piece.list) f.suffixes t k.each top_contained
@@ -67,11 +70,15 @@ module _ (bag : Kept) (done : List (List ℕ)) (f : Frontier) (t : Scored) (rest
       (stays : All (IsOpenChild cs f.bound) fresh) (few : (p : Scored → Bool) → count_by p fresh ≤ count_by p cs) where
     new_once : (s : List ℕ) → count_by (is_same s) (done ++ t.tail.list ∷ []) + count_by (λ o. ends_in s o.tail.list) new ≤ 1
     new_once s =
-        let done_more : count_by (is_same s) (done ++ t.tail.list ∷ []) ≡ count_by (is_same s) done + count_by (is_same s) (t.tail.list ∷ []) = sum_by-append (λ d. bit (is_same s d)) done (t.tail.list ∷ []) in
+        let done_more : count_by (is_same s) (done ++ t.tail.list ∷ []) ≡ count_by (is_same s) done + count_by (is_same s) (t.tail.list ∷ []) =
+        sum_by-append (λ d. bit (is_same s d)) done (t.tail.list ∷ []) in
         let one : count_by (is_same s) (t.tail.list ∷ []) ≡ bit (is_same s t.tail.list) = omega arith in
-        let gone : count_by (λ o. ends_in s o.tail.list) rest + bit (ends_in s t.tail.list) ≡ count_by (λ o. ends_in s o.tail.list) f.suffixes = sum_by_popped (λ o. bit (ends_in s o.tail.list)) t f.suffixes rest taken in
-        let all : count_by (λ o. ends_in s o.tail.list) new ≡ count_by (λ o. ends_in s o.tail.list) (rest ++ fresh) = sum_by-IsPermutation (λ o. bit (ends_in s o.tail.list)) (rest ++ fresh) new joined in
-        let split : count_by (λ o. ends_in s o.tail.list) (rest ++ fresh) ≡ count_by (λ o. ends_in s o.tail.list) rest + count_by (λ o. ends_in s o.tail.list) fresh = sum_by-append (λ o. bit (ends_in s o.tail.list)) rest fresh in
+        let gone : count_by (λ o. ends_in s o.tail.list) rest + bit (ends_in s t.tail.list) ≡ count_by (λ o. ends_in s o.tail.list) f.suffixes =
+        sum_by_popped (λ o. bit (ends_in s o.tail.list)) t f.suffixes rest taken in
+        let all : count_by (λ o. ends_in s o.tail.list) new ≡ count_by (λ o. ends_in s o.tail.list) (rest ++ fresh) =
+        sum_by-IsPermutation (λ o. bit (ends_in s o.tail.list)) (rest ++ fresh) new joined in
+        let split : count_by (λ o. ends_in s o.tail.list) (rest ++ fresh) ≡ count_by (λ o. ends_in s o.tail.list) rest
+        + count_by (λ o. ends_in s o.tail.list) fresh = sum_by-append (λ o. bit (ends_in s o.tail.list)) rest fresh in
         let place = places_of_children s t.tail cs are in
         omega (arith, done_more, one, gone, all, split, place, few (λ o. ends_in s o.tail.list), k.once s)
 
@@ -114,7 +121,8 @@ module _ (bag : Kept) (done : List (List ℕ)) (f : Frontier) (t : Scored) (rest
         (All-weaker (IsOpenChild cs f.bound) (λ o. length o.tail.list ≡ bag.n → ⊥) (λ x o whole. o.part (whole ∙ sym (child_open x o.one).contest)) fresh stays)
 
     in_new : (x : Scored) → Contains rest x ⊎ Contains fresh x → Contains new x
-    in_new x h = Contains-permutation (rest ++ fresh) new x joined (elim h [ inl a ↦ Contains-append_left rest fresh x a | inr b ↦ Contains-append_right rest fresh x b ])
+    in_new x h = Contains-permutation (rest ++ fresh) new x joined
+        (elim h [ inl a ↦ Contains-append_left rest fresh x a | inr b ↦ Contains-append_right rest fresh x b ])
 
     new_covers : (least : ℕ) → least ≤ f.least → ((m : ℕ) → IsFoundWithin found m → least ≤ m) → (records : List (List ℕ)) → IsOf bag records →
         (s : List ℕ) → is_suffix bag.n s ≡ true → EndsIn s f.piece.list → low bag.n records s < f.bound → low bag.n records s < least →
@@ -158,7 +166,8 @@ module _ (bag : Kept) (done : List (List ℕ)) (f : Frontier) (t : Scored) (rest
           count = omega (arith, length-append done (t.tail.list ∷ []), k.count, expanded);
           parts = subst (λ p. All (IsPart bag.n p) (done ++ t.tail.list ∷ [])) (sym list)
               (All-append (IsPart bag.n f.piece.list) done (t.tail.list ∷ []) k.parts
-              (All-cons (IsPart bag.n f.piece.list) t.tail.list [] (record { proper = top_open.proper; inside = top_open.inside; short = short }) (All-nil (IsPart bag.n f.piece.list))));
+              (All-cons (IsPart bag.n f.piece.list) t.tail.list [] (record { proper = top_open.proper; inside = top_open.inside; short = short })
+              (All-nil (IsPart bag.n f.piece.list))));
           each = subst (λ p. All (IsOpen bag p) f'.suffixes) (sym list) (subst (All (IsOpen bag f.piece.list)) (sym items) new_open);
           alone = λ o h whole. absurd (All-contains (λ o. length o.tail.list ≡ bag.n → ⊥) new o new_parts (subst (λ x. Contains x o) items h) whole);
           covers = λ records of s h inside l m.
@@ -167,7 +176,8 @@ module _ (bag : Kept) (done : List (List ℕ)) (f : Frontier) (t : Scored) (rest
           once = λ s. subst (λ x. count_by (is_same s) (done ++ t.tail.list ∷ []) + count_by (λ o. ends_in s o.tail.list) x ≤ 1) (sym items) (new_once s);
         }
 
-    pub put_found : (o : Scored) → IsFoundChild cs f.bound o → ((length o.tail.list == o.tail.n) ≡ true) × IsFound bag f.piece.list o.tail.list o.low × EndsInOne f.suffixes o.tail.list × (o.low < f.bound)
+    pub put_found : (o : Scored) → IsFoundChild cs f.bound o → ((length o.tail.list == o.tail.n) ≡ true) × IsFound bag f.piece.list o.tail.list o.low ×
+        EndsInOne f.suffixes o.tail.list × (o.low < f.bound)
     put_found o h =
         let s = child_open o h.one in
         (eq-eqb (length o.tail.list) o.tail.n h.whole, open_found bag f.piece.list o s (h.whole ∙ s.contest), child_from o h.one, h.below)
@@ -188,19 +198,22 @@ module _ (bag : Kept) (done : List (List ℕ)) (f : Frontier) (t : Scored) (rest
         contest = ap (λ (s : Suffix). s.n) piece ∙ k.contest;
         count = k.count ∙ sym expanded;
         parts = subst (λ p. All (IsPart bag.n p) done) (sym list) k.parts;
-        each = subst (λ p. All (IsOpen bag p) f'.suffixes) (sym list) (subst (All (IsOpen bag f.piece.list)) (sym items) (rest_all (IsOpen bag f.piece.list) k.each));
+        each = subst (λ p. All (IsOpen bag p) f'.suffixes) (sym list)
+            (subst (All (IsOpen bag f.piece.list)) (sym items) (rest_all (IsOpen bag f.piece.list) k.each));
         alone = λ o h long. absurd (no_more whole o (subst (λ x. Contains x o) items h));
-        covers = λ records of s h inside l m. elim (k.covers records of s h (subst (EndsIn s) list inside) (omega (arith, l, bound)) (omega (arith, m, least))) [
-          | inl d ↦ inl d
-          | inr (o, there', ends) ↦ elim (open_cases o there') [
-            | inl r ↦ absurd (no_more whole o r)
-            | inr same ↦
-                let e : s ≡ t.tail.list = whole_ends bag.n s t.tail.list h (subst (λ (x : Scored). EndsIn s x.tail.list) (sym same) ends) whole in
-                absurd (omega (arith, m, least, open_low bag f.piece.list t top_open records of, ap (low bag.n records) e))
-          ]
-        ];
+        covers = λ records of s h inside l m. elim (k.covers records of s h (subst (EndsIn s) list inside) (omega (arith, l, bound))
+            (omega (arith, m, least))) [
+              | inl d ↦ inl d
+              | inr (o, there', ends) ↦ elim (open_cases o there') [
+                | inl r ↦ absurd (no_more whole o r)
+                | inr same ↦
+                    let e : s ≡ t.tail.list = whole_ends bag.n s t.tail.list h (subst (λ (x : Scored). EndsIn s x.tail.list) (sym same) ends) whole in
+                    absurd (omega (arith, m, least, open_low bag f.piece.list t top_open records of, ap (low bag.n records) e))
+              ]
+            ];
         once = λ s.
-            let gone : count_by (λ o. ends_in s o.tail.list) rest + bit (ends_in s t.tail.list) ≡ count_by (λ o. ends_in s o.tail.list) f.suffixes = sum_by_popped (λ o. bit (ends_in s o.tail.list)) t f.suffixes rest taken in
+            let gone : count_by (λ o. ends_in s o.tail.list) rest + bit (ends_in s t.tail.list) ≡ count_by (λ o. ends_in s o.tail.list) f.suffixes =
+            sum_by_popped (λ o. bit (ends_in s o.tail.list)) t f.suffixes rest taken in
             omega (arith, gone, k.once s, ap (count_by (λ (o : Scored). ends_in s o.tail.list)) items);
       }
 
@@ -208,7 +221,8 @@ module _ (bag : Kept) (done : List (List ℕ)) (f : Frontier) (t : Scored) (rest
   taken_from_open f' items = subst (All (λ o. EndsInOne f.suffixes o.tail.list)) (sym items) rest_from_open
 
 -- ---- a lower bound
-pub after_lower : (bag : Kept) (done : List (List ℕ)) (f : Frontier) (bound : ℕ) → IsAfter bag done f → bound ≤ f.bound → IsAfter bag done (record f { bound = bound })
+pub after_lower : (bag : Kept) (done : List (List ℕ)) (f : Frontier) (bound : ℕ) → IsAfter bag done f → bound ≤ f.bound →
+    IsAfter bag done (record f { bound = bound })
 after_lower bag done f bound k le = record {
   contest = k.contest;
   count = k.count;
@@ -220,20 +234,23 @@ after_lower bag done f bound k le = record {
 }
 
 -- ---- the start
-pub after_start : (bag : Kept) (f : Frontier) (start : Scored) → IsOpen bag start.tail.list start → f.piece ≡ start.tail → f.suffixes ≡ start ∷ [] → f.expanded ≡ 0 → IsAfter bag [] f
+pub after_start : (bag : Kept) (f : Frontier) (start : Scored) → IsOpen bag start.tail.list start → f.piece ≡ start.tail → f.suffixes ≡ start ∷ [] →
+    f.expanded ≡ 0 → IsAfter bag [] f
 after_start bag f start scored piece items none =
     let list : f.piece.list ≡ start.tail.list = ap (λ (s : Suffix). s.list) piece in
     record {
       contest = ap (λ (s : Suffix). s.n) piece ∙ scored.contest;
       count = sym none;
       parts = All-nil (IsPart bag.n f.piece.list);
-      each = subst (All (IsOpen bag f.piece.list)) (sym items) (All-cons (IsOpen bag f.piece.list) start [] (subst (λ p. IsOpen bag p start) (sym list) scored) (All-nil (IsOpen bag f.piece.list)));
+      each = subst (All (IsOpen bag f.piece.list)) (sym items)
+          (All-cons (IsOpen bag f.piece.list) start [] (subst (λ p. IsOpen bag p start) (sym list) scored) (All-nil (IsOpen bag f.piece.list)));
       alone = λ o h long. items ∙ ap (λ x. x ∷ []) (only_contained o start (subst (λ x. Contains x o) items h));
       covers = λ records of s h inside l m. inr (start, subst (λ x. Contains x start) (sym items) (one_contained start), subst (EndsIn s) list inside);
       once = λ s. omega (arith, count_by-le-length (λ (o : Scored). ends_in s o.tail.list) f.suffixes, ap length items);
     }
 
-pub front_start : (bag : Kept) (f : Frontier) (start : Scored) → start.tail.n ≡ bag.n → is_suffix start.tail.n start.tail.list ≡ true → IsScoredOver bag start → f.piece ≡ start.tail → f.suffixes ≡ start ∷ [] → f.expanded ≡ 0 →
+pub front_start : (bag : Kept) (f : Frontier) (start : Scored) → start.tail.n ≡ bag.n → is_suffix start.tail.n start.tail.list ≡ true →
+    IsScoredOver bag start → f.piece ≡ start.tail → f.suffixes ≡ start ∷ [] → f.expanded ≡ 0 →
     IsFront bag f
 front_start bag f start number proper scored piece items none =
     let opened : IsOpen bag start.tail.list start = record {
@@ -253,7 +270,8 @@ least_after-within : (m : ℕ) (found : Option Scored) (x : ℕ) → IsFoundWith
 least_after-within m None x h = absurd h
 least_after-within m (Some o) x h = omega arith
 
-pub first_is : (whole : Bool) (bound : ℕ) (o : Option Scored) (t : Scored) → o ≡ Some t → IsFirst whole bound o → (t.low < bound) × ((length t.tail.list == t.tail.n) ≡ whole)
+pub first_is : (whole : Bool) (bound : ℕ) (o : Option Scored) (t : Scored) → o ≡ Some t → IsFirst whole bound o →
+    (t.low < bound) × ((length t.tail.list == t.tail.n) ≡ whole)
 first_is whole bound None t e h = absurd h
 first_is whole bound (Some u) t e h = let same : u ≡ t = cc in subst (λ (x : Scored). (x.low < bound) × ((length x.tail.list == x.tail.n) ≡ whole)) same h
 
@@ -267,11 +285,14 @@ some_same o a b e e' = cc
 -- what a heap has first is the first
 pub first_of_heap : (items : List Scored) (x : Scored) → 0 < length items → x ≡ get_or items 0 x → IsUpperBound first_is_greatest x items → IsFirstOf x items
 first_of_heap items x some e bound = record { inside = (0, some, sym e); least = go items bound } where
-  go : (ys : List Scored) → IsUpperBound first_is_greatest x ys → All (λ o. (x.low < o.low) ⊎ ((x.low ≡ o.low) × (comes_before o.tail.list x.tail.list ≡ false))) ys
+  go : (ys : List Scored) → IsUpperBound first_is_greatest x ys →
+      All (λ o. (x.low < o.low) ⊎ ((x.low ≡ o.low) × (comes_before o.tail.list x.tail.list ≡ false))) ys
   go [] h = All-nil (λ (o : Scored). (x.low < o.low) ⊎ ((x.low ≡ o.low) × (comes_before o.tail.list x.tail.list ≡ false)))
-  go (y ∷ ys) (h, rest) = All-cons (λ (o : Scored). (x.low < o.low) ⊎ ((x.low ≡ o.low) × (comes_before o.tail.list x.tail.list ≡ false))) y ys (not_sooner x y h) (go ys rest)
+  go (y ∷ ys) (h, rest) = All-cons (λ (o : Scored). (x.low < o.low) ⊎ ((x.low ≡ o.low) × (comes_before o.tail.list x.tail.list ≡ false))) y ys
+      (not_sooner x y h) (go ys rest)
 
-module _ (bag : Kept) (old new : Frontier) (t : Scored) (cs : List Scored) (found : Option Scored) (first : slice_get old.suffixes 0 ≡ Some t) (least : IsFirstOf t old.suffixes) (look : IsFirst false old.bound (slice_get old.suffixes 0))
+module _ (bag : Kept) (old new : Frontier) (t : Scored) (cs : List Scored) (found : Option Scored) (first : slice_get old.suffixes 0 ≡ Some t)
+    (least : IsFirstOf t old.suffixes) (look : IsFirst false old.bound (slice_get old.suffixes 0))
     (are : map (λ s. s.tail) cs ≡ children t.tail) (scored : All (IsScoredOver bag) cs) (put : IsPut cs old new found) where
   the_top : put.replaced.top ≡ t
   the_top = some_same (slice_get old.suffixes 0) put.replaced.top t put.replaced.first first
@@ -293,14 +314,16 @@ module _ (bag : Kept) (old new : Frontier) (t : Scored) (cs : List Scored) (foun
   newly done k None e = put.least ∙ ap (least_after old.least) e
   newly done k (Some o) e =
       let one : IsFoundChild cs old.bound o = subst (λ x. IfSome x (IsFoundChild cs old.bound)) e put.found_one in
-      let (a, b, c, d) = put_found bag done old put.replaced.top put.replaced.rest k put.replaced.taken (top_short done k) put.fresh new.suffixes cs found put.replaced.joined top_children scored put.placed put.stays put.counts o one in
+      let (a, b, c, d) = put_found bag done old put.replaced.top put.replaced.rest k put.replaced.taken (top_short done k) put.fresh new.suffixes cs found
+      put.replaced.joined top_children scored put.placed put.stays put.counts o one in
       (a, b, c, d, put.least ∙ ap (least_after old.least) e)
 
   left_open : All (λ o. Contains put.replaced.rest o ⊎ Contains (children put.replaced.top.tail) o.tail) new.suffixes
   left_open =
       let P : Scored → Type 0 = λ o. Contains put.replaced.rest o ⊎ Contains (children put.replaced.top.tail) o.tail in
       All-permutation P (put.replaced.rest ++ put.fresh) new.suffixes put.replaced.joined
-      (All-append P put.replaced.rest put.fresh (all_from_contained P put.replaced.rest (λ o h. inl h)) (All-weaker (IsOpenChild cs old.bound) P (λ o c. inr (is_child o c.one)) put.fresh put.stays))
+      (All-append P put.replaced.rest put.fresh (all_from_contained P put.replaced.rest (λ o h. inl h))
+      (All-weaker (IsOpenChild cs old.bound) P (λ o c. inr (is_child o c.one)) put.fresh put.stays))
     where
       is_child : (o : Scored) → Contains cs o → Contains (children put.replaced.top.tail) o.tail
       is_child o h = subst (λ xs. Contains xs o.tail) top_children (contains-from_member (member-map (λ (x : Scored). x.tail) (member-from_contains o cs h)))
@@ -313,9 +336,12 @@ module _ (bag : Kept) (old new : Frontier) (t : Scored) (cs : List Scored) (foun
     first = subst (λ x. IsFirstOf x old.suffixes) (sym the_top) least;
     replaced = record { rest = put.replaced.rest; taken = put.replaced.taken; left = left_open };
     after = λ done' k'.
-        after_put bag done' old put.replaced.top put.replaced.rest k' put.replaced.taken (top_short done' k') put.fresh new.suffixes cs found put.replaced.joined top_children scored put.placed put.stays put.counts
-        new refl put.piece put.bound put.expanded (omega (arith, put.least, least_after-le old.least found)) (λ m h. omega (arith, put.least, least_after-within old.least found m h));
-    from_open = new_from_open bag done old put.replaced.top put.replaced.rest k put.replaced.taken (top_short done k) put.fresh new.suffixes cs found put.replaced.joined top_children scored put.placed put.stays put.counts;
+        after_put bag done' old put.replaced.top put.replaced.rest k' put.replaced.taken (top_short done' k') put.fresh new.suffixes cs found
+        put.replaced.joined top_children scored put.placed put.stays put.counts
+        new refl put.piece put.bound put.expanded (omega (arith, put.least, least_after-le old.least found))
+        (λ m h. omega (arith, put.least, least_after-within old.least found m h));
+    from_open = new_from_open bag done old put.replaced.top put.replaced.rest k put.replaced.taken (top_short done k) put.fresh new.suffixes cs found
+        put.replaced.joined top_children scored put.placed put.stays put.counts;
     piece = put.piece;
     bound = put.bound;
     expanded = put.expanded;

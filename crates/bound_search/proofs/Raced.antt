@@ -70,7 +70,8 @@ pub some_one : (o : Option Suffix) (a b : Suffix) → o ≡ Some a → o ≡ Som
 some_one o a b e e' = cc
 
 -- entries in the order of the pieces have their suffixes
-tails_in_order : (pre tails : List Suffix) (ps : List PieceEnd) → numbers ps ≡ range_with_len (length pre) (length tails) → All (λ p. slice_get (pre ++ tails) p.piece ≡ Some p.tail) ps → map (λ p. p.tail) ps ≡ tails
+tails_in_order : (pre tails : List Suffix) (ps : List PieceEnd) → numbers ps ≡ range_with_len (length pre) (length tails) →
+    All (λ p. slice_get (pre ++ tails) p.piece ≡ Some p.tail) ps → map (λ p. p.tail) ps ≡ tails
 tails_in_order pre [] [] same all = refl
 tails_in_order pre [] (p ∷ ps) same all = cc
 tails_in_order pre (t ∷ tails) [] same all = cc
@@ -78,10 +79,12 @@ tails_in_order pre (t ∷ tails) (p ∷ ps) same all =
     let number : p.piece ≡ length pre = cc in
     let rest : numbers ps ≡ range_with_len (length pre + 1) (length tails) = cc in
     let P : PieceEnd → Type 0 = λ q. slice_get (pre ++ t ∷ tails) q.piece ≡ Some q.tail in
-    let first : slice_get (pre ++ t ∷ tails) (length pre) ≡ Some p.tail = subst (λ k. slice_get (pre ++ t ∷ tails) k ≡ Some p.tail) number (All-head P p ps all) in
+    let first : slice_get (pre ++ t ∷ tails) (length pre) ≡ Some p.tail =
+    subst (λ k. slice_get (pre ++ t ∷ tails) k ≡ Some p.tail) number (All-head P p ps all) in
     let is : p.tail ≡ t = some_one (slice_get (pre ++ t ∷ tails) (length pre)) p.tail t first (get_at_seam pre t tails) in
     let longer : length (pre ++ t ∷ []) ≡ length pre + 1 = length-append pre (t ∷ []) in
-    let others : All (λ q. slice_get ((pre ++ t ∷ []) ++ tails) q.piece ≡ Some q.tail) ps = subst (λ xs. All (λ q. slice_get xs q.piece ≡ Some q.tail) ps) (sym (append_assoc pre (t ∷ []) tails)) (All-tail P p ps all) in
+    let others : All (λ q. slice_get ((pre ++ t ∷ []) ++ tails) q.piece ≡ Some q.tail) ps =
+    subst (λ xs. All (λ q. slice_get xs q.piece ≡ Some q.tail) ps) (sym (append_assoc pre (t ∷ []) tails)) (All-tail P p ps all) in
     let same_rest = tails_in_order (pre ++ t ∷ []) tails ps (rest ∙ ap (λ k. range_with_len k (length tails)) (sym longer)) others in
     ap (λ x. x ∷ map (λ (q : PieceEnd). q.tail) ps) is ∙ ap (λ xs. t ∷ xs) same_rest
 
@@ -105,14 +108,17 @@ found_reached bag winner best h =
 pub elected_below : (n c : ℕ) (order : List ℕ) → is_order n order ≡ true → Elects order c → c < n
 elected_below n c order h (before, same) = (order_facts n order h).below c (subst (Member c) (sym same) (member-append_right before here))
 
-pub all_searched : (bag : Kept) (records : List (List ℕ)) (winner : ℕ) (best : Best) (end : RaceEnd) → end.margin ≡ best.margin → end.order ≡ best.order → IsOf bag records → winner < bag.n → 1 < bag.n →
-    IsReached bag winner best → ((c : ℕ) (order : List ℕ) → c ≢ winner → is_order bag.n order ≡ true → Elects order c → best.margin ≤ low bag.n records order) → IsBest bag.n records winner end
+pub all_searched : (bag : Kept) (records : List (List ℕ)) (winner : ℕ) (best : Best) (end : RaceEnd) → end.margin ≡ best.margin → end.order ≡ best.order →
+    IsOf bag records → winner < bag.n → 1 < bag.n →
+    IsReached bag winner best → ((c : ℕ) (order : List ℕ) → c ≢ winner → is_order bag.n order ≡ true → Elects order c →
+    best.margin ≤ low bag.n records order) → IsBest bag.n records winner end
 all_searched bag records winner best end same_margin same_order of below two reached searched =
     let (order, m, same) = best_is bag.n winner (low bag.n records) below two in
     let (h, (c, ne, elects)) = from_alternative bag.n winner order m in
     let up : best.margin ≤ low bag.n records order = searched c order ne h elects in
     let (whole, (d, other, ends)) = reached.alternative in
-    let down : best_margin bag.n winner (low bag.n records) ≤ low bag.n records best.order = best-le bag.n winner (low bag.n records) best.order (alternative-member bag.n winner d best.order whole other ends) in
+    let down : best_margin bag.n winner (low bag.n records) ≤ low bag.n records best.order =
+    best-le bag.n winner (low bag.n records) best.order (alternative-member bag.n winner d best.order whole other ends) in
     record {
       best = same_margin ∙ le_antisymm (omega (arith, up, same)) (omega (arith, down, reached.hardness records of));
       alternative = subst (IsAlternative bag.n winner) (sym same_order) reached.alternative;
@@ -120,7 +126,8 @@ all_searched bag records winner best end same_margin same_order of below two rea
     }
 
 -- there is a piece
-pub some_pieces : (bag : Kept) (winner : ℕ) (first : Best) (tails : List Suffix) → 1 < bag.n → IsReached bag winner first → tails ≡ tails_are bag.n winner → 1 ≤ length tails
+pub some_pieces : (bag : Kept) (winner : ℕ) (first : Best) (tails : List Suffix) → 1 < bag.n → IsReached bag winner first → tails ≡ tails_are bag.n winner →
+    1 ≤ length tails
 some_pieces bag winner first tails two reached tails_is =
     let (whole, (c, apart, elects)) = reached.alternative in
     let (piece, ends, k, low, at) = ends_in_piece bag.n winner c first.order whole two apart elects in
@@ -128,9 +135,11 @@ some_pieces bag winner first tails two reached tails_is =
     omega (arith, low, count)
 
 pub of_contest : (bag : Kept) (winner : ℕ) (tails : List Suffix) → tails ≡ tails_are bag.n winner → All (λ t. t.n ≡ bag.n) tails
-of_contest bag winner tails is = All-same (λ (t : Suffix). t.n ≡ bag.n) tails (tails_are bag.n winner) is (All-map (λ (t : Suffix). t.n ≡ bag.n) (piece_of bag.n) (pieces bag.n winner) (λ k d inside. refl))
+of_contest bag winner tails is = All-same (λ (t : Suffix). t.n ≡ bag.n) tails (tails_are bag.n winner) is
+    (All-map (λ (t : Suffix). t.n ≡ bag.n) (piece_of bag.n) (pieces bag.n winner) (λ k d inside. refl))
 
-pub start_for : (bag : Kept) (tab : Tabulated) (tallies moved : Source) (n : ℕ) (start : Start) → tallies.bag ≡ bag → moved ≡ tallies → n ≡ moved.bag.n → FEWEST_CANDIDATES ≤ n → IsReached tallies.bag tab.winner start.first →
+pub start_for : (bag : Kept) (tab : Tabulated) (tallies moved : Source) (n : ℕ) (start : Start) → tallies.bag ≡ bag → moved ≡ tallies → n ≡ moved.bag.n →
+    FEWEST_CANDIDATES ≤ n → IsReached tallies.bag tab.winner start.first →
     start.first.order ≡ start_order tab.order → start.tails.items ≡ tails_are n tab.winner → IsStart bag tab start
 start_for bag tab tallies moved n start same kept n_is fewest reached order tails_is =
     let all : n ≡ bag.n = n_is ∙ ap (λ (s : Source). s.bag.n) kept ∙ ap (λ (b : Kept). b.n) same in
@@ -143,7 +152,8 @@ start_for bag tab tallies moved n start same kept n_is fewest reached order tail
     }
 
 -- the start order, or one that was found
-pub joined_reached : (bag : Kept) (winner : ℕ) (start best : Best) (tails : List Suffix) → tails ≡ tails_are bag.n winner → IsReached bag winner start → (best ≡ start) ⊎ IsFoundIn bag tails best → IsReached bag winner best
+pub joined_reached : (bag : Kept) (winner : ℕ) (start best : Best) (tails : List Suffix) → tails ≡ tails_are bag.n winner → IsReached bag winner start →
+    (best ≡ start) ⊎ IsFoundIn bag tails best → IsReached bag winner best
 joined_reached bag winner start best tails is reached (inl same) = subst (IsReached bag winner) (sym same) reached
 joined_reached bag winner start best tails is reached (inr found) = found_reached bag winner best (subst (λ ts. IsFoundIn bag ts best) is found)
 
@@ -151,33 +161,42 @@ joined_reached bag winner start best tails is reached (inr found) = found_reache
 pub whole_team : {A : Type 0} (n : ℕ) (xs ys : List A) → length xs ≡ n → take n (xs ++ ys) ≡ xs
 whole_team n xs ys len = ap (λ k. take k (xs ++ ys)) (sym len) ∙ take-append_seam xs ys
 
-few_ends : (bag : Kept) (nodes : ℕ) (tails : List Suffix) (race : SharedRace) (number : ℕ) (w : Worker) → length tails ≤ MOST_PIECES → WorkerRan bag nodes tails race number w → HasFewEnds w
+few_ends : (bag : Kept) (nodes : ℕ) (tails : List Suffix) (race : SharedRace) (number : ℕ) (w : Worker) → length tails ≤ MOST_PIECES →
+    WorkerRan bag nodes tails race number w → HasFewEnds w
 few_ends bag nodes tails race number w few ran =
     if_ok (IsWorkerEnd bag race.terms.first nodes number tails w.seat.view) (λ e. length e.ends.items ≤ MOST_PIECES) w.end
-    (λ e h. let took = ap length h.took in let mapped = length-map e.ends.items (λ (p : PieceEnd). p.piece) in let le = h.few in omega (arith, few, le, took, mapped)) ran.end
+    (λ e h. let took = ap length h.took in let mapped = length-map e.ends.items (λ (p : PieceEnd). p.piece) in let le = h.few in
+    omega (arith, few, le, took, mapped)) ran.end
 
 -- the team that ran, and that nobody has more ends than there are pieces
-pub few_of_all : (bag : Kept) (nodes : ℕ) (tails : List Suffix) (race : SharedRace) (team : List Worker) → length tails ≤ MOST_PIECES → TeamRan bag nodes tails race team → All HasFewEnds team
+pub few_of_all : (bag : Kept) (nodes : ℕ) (tails : List Suffix) (race : SharedRace) (team : List Worker) → length tails ≤ MOST_PIECES →
+    TeamRan bag nodes tails race team → All HasFewEnds team
 few_of_all bag nodes tails race team few ran i d low = few_ends bag nodes tails race i (get_or team i d) few (ran i d low)
 
 -- ---- what the seats and the bound at the end make of the joined ends
 
-module _ (bag : Kept) (nodes workers bound : ℕ) (tails : List Suffix) (race : SharedRace) (start : Best) (j : Joined) (r : Raced) (joined : IsJoined bag nodes tails race start j)
-    (first : race.terms.first ≡ start.margin) (pieces_are : race.terms.pieces ≡ length tails) (fits : start.margin ≤ highest) (count : length j.seats.items ≡ workers)
+module _ (bag : Kept) (nodes workers bound : ℕ) (tails : List Suffix) (race : SharedRace) (start : Best) (j : Joined) (r : Raced)
+    (joined : IsJoined bag nodes tails race start j)
+    (first : race.terms.first ≡ start.margin) (pieces_are : race.terms.pieces ≡ length tails) (fits : start.margin ≤ highest)
+    (count : length j.seats.items ≡ workers)
     (bound_is : bound ≡ least_posted race.terms.first (views_of j.seats.items)) (seen : All (λ s. bound ≤ s.view.seen) j.seats.items)
-    (once : EachOnce race.terms.pieces (taken_pieces (views_of j.seats.items))) (r_is : r ≡ record { ends = j.ends; reports = j.reports; best = j.best; spent = j.spent }) where
+    (once : EachOnce race.terms.pieces (taken_pieces (views_of j.seats.items)))
+    (r_is : r ≡ record { ends = j.ends; reports = j.reports; best = j.best; spent = j.spent }) where
   margin_is : j.best.margin ≡ bound
   margin_is = joined.least fits ∙ ap (λ f. least_posted f (views_of j.seats.items)) (sym first) ∙ sym bound_is
 
-  closed_of : (o : Option ℕ) → MatchOption o (All (IsClosedUnder bag j.seats.items) j.ends.items) (IsCostly bag race.terms.first nodes tails) → MatchOption o (All (IsClosedEntry bag j.best.margin) j.ends.items) (IsCostly bag start.margin nodes tails)
+  closed_of : (o : Option ℕ) → MatchOption o (All (IsClosedUnder bag j.seats.items) j.ends.items) (IsCostly bag race.terms.first nodes tails) →
+      MatchOption o (All (IsClosedEntry bag j.best.margin) j.ends.items) (IsCostly bag start.margin nodes tails)
   closed_of None all =
-      All-weaker (IsClosedUnder bag j.seats.items) (IsClosedEntry bag j.best.margin) (λ p h. subst (λ b. IsClosedEntry bag b p) (sym margin_is) (h bound seen)) j.ends.items all
+      All-weaker (IsClosedUnder bag j.seats.items) (IsClosedEntry bag j.best.margin)
+      (λ p h. subst (λ b. IsClosedEntry bag b p) (sym margin_is) (h bound seen)) j.ends.items all
   closed_of (Some piece) costly = subst (λ f. IsCostly bag f nodes tails piece) first costly
 
   pub is_raced : IsRaced bag nodes tails workers start r
   is_raced = subst (IsRaced bag nodes tails workers start) (sym r_is) (record {
     took = subst (EachOnce (length tails)) (sym joined.took) (subst (λ n. EachOnce n (taken_pieces (views_of j.seats.items))) pieces_are once);
-    entries = subst (λ f. All (IsEntryOfOne bag f nodes workers tails) j.ends.items) first (subst (λ k. All (IsEntryOfOne bag race.terms.first nodes k tails) j.ends.items) (joined.count ∙ count) joined.entries);
+    entries = subst (λ f. All (IsEntryOfOne bag f nodes workers tails) j.ends.items) first
+        (subst (λ k. All (IsEntryOfOne bag race.terms.first nodes k tails) j.ends.items) (joined.count ∙ count) joined.entries);
     count = joined.count ∙ count;
     reports = joined.reports;
     paced = joined.paced;
@@ -186,9 +205,24 @@ module _ (bag : Kept) (nodes workers bound : ℕ) (tails : List Suffix) (race : 
     spent = closed_of j.spent joined.spent;
   })
 
+-- ---- the budget of a piece was spent, or no piece's was
+
+pub costly_where : (bag : Kept) (nodes : ℕ) (tails : List Suffix) (workers : ℕ) (start : Best) (r : Raced) → IsRaced bag nodes tails workers start r →
+    (piece : ℕ) → r.spent ≡ Some piece →
+    IsCostly bag start.margin nodes tails piece
+costly_where bag nodes tails workers start r raced piece spent =
+    subst (λ o. MatchOption o (All (IsClosedEntry bag r.best.margin) r.ends.items) (IsCostly bag start.margin nodes tails)) spent raced.spent
+
+pub closed_where : (bag : Kept) (nodes : ℕ) (tails : List Suffix) (workers : ℕ) (start : Best) (r : Raced) → IsRaced bag nodes tails workers start r →
+    r.spent ≡ None →
+    All (IsClosedEntry bag r.best.margin) r.ends.items
+closed_where bag nodes tails workers start r raced none =
+    subst (λ o. MatchOption o (All (IsClosedEntry bag r.best.margin) r.ends.items) (IsCostly bag start.margin nodes tails)) none raced.spent
+
 -- ---- all that the race says
 
-module _ (bag : Kept) (nodes winner workers : ℕ) (tails : List Suffix) (start : Best) (r : Raced) (tails_is : tails ≡ tails_are bag.n winner) (two : 1 < bag.n) (raced : IsRaced bag nodes tails workers start r) where
+module _ (bag : Kept) (nodes winner workers : ℕ) (tails : List Suffix) (start : Best) (r : Raced) (tails_is : tails ≡ tails_are bag.n winner)
+    (two : 1 < bag.n) (raced : IsRaced bag nodes tails workers start r) where
   -- each piece has an entry
   pub taken_entry : (k : ℕ) → k < length tails → (p : PieceEnd) × Member p r.ends.items × (p.piece ≡ k)
   taken_entry k low =
@@ -203,7 +237,8 @@ module _ (bag : Kept) (nodes winner workers : ℕ) (tails : List Suffix) (start 
     closed_facts p m = All-contains (IsClosedEntry bag r.best.margin) r.ends.items p closed m
 
     -- no alternative order is less hard than the bound
-    none_below : (records : List (List ℕ)) → IsOf bag records → (c : ℕ) (order : List ℕ) → c ≢ winner → is_order bag.n order ≡ true → Elects order c → r.best.margin ≤ low bag.n records order
+    none_below : (records : List (List ℕ)) → IsOf bag records → (c : ℕ) (order : List ℕ) → c ≢ winner → is_order bag.n order ≡ true → Elects order c →
+        r.best.margin ≤ low bag.n records order
     none_below records of c order apart whole elects =
         let (piece, ends, k, low, at) = ends_in_piece bag.n winner c order whole two apart elects in
         let count : length tails ≡ length (pieces bag.n winner) = ap length tails_is ∙ length-map (pieces bag.n winner) (piece_of bag.n) in
@@ -214,14 +249,18 @@ module _ (bag : Kept) (nodes winner workers : ℕ) (tails : List Suffix) (start 
         let inside : EndsIn order p.tail.list = subst (EndsIn order) (sym (ap (λ (s : Suffix). s.list) is)) ends in
         (closed_facts p (contains-from_member m)).above records of order whole inside
 
-    pub best_race : (end : RaceEnd) → end.margin ≡ r.best.margin → end.order ≡ r.best.order → winner < bag.n → IsReached bag winner r.best → IsBestOver bag winner end
-    best_race end same_margin same_order below reached records of = all_searched bag records winner r.best end same_margin same_order of below two reached (none_below records of)
+    pub best_race : (end : RaceEnd) → end.margin ≡ r.best.margin → end.order ≡ r.best.order → winner < bag.n → IsReached bag winner r.best →
+        IsBestOver bag winner end
+    best_race end same_margin same_order below reached records of =
+        all_searched bag records winner r.best end same_margin same_order of below two reached (none_below records of)
 
-    pub pieces_race : (tab : Tabulated) (end : RaceEnd) → tab.winner ≡ winner → end.margin ≡ r.best.margin → numbers end.pieces.items ≡ candidates (length tails) → All (Contains r.ends.items) end.pieces.items →
+    pub pieces_race : (tab : Tabulated) (end : RaceEnd) → tab.winner ≡ winner → end.margin ≡ r.best.margin →
+        numbers end.pieces.items ≡ candidates (length tails) → All (Contains r.ends.items) end.pieces.items →
         ((records : List (List ℕ)) → IsOf bag records → start.margin ≡ first_bound bag.n records tab.order) → ArePiecesOver bag tab end
     pieces_race tab end won same_margin in_order each first records of =
         let count : length tails ≡ length (pieces bag.n winner) = ap length tails_is ∙ length-map (pieces bag.n winner) (piece_of bag.n) in
-        let own = All-weaker (Contains r.ends.items) (λ (p : PieceEnd). slice_get tails p.piece ≡ Some p.tail) (λ p m. (entry_facts p m).1.tail) end.pieces.items each in
+        let own = All-weaker (Contains r.ends.items) (λ (p : PieceEnd). slice_get tails p.piece ≡ Some p.tail) (λ p m. (entry_facts p m).1.tail)
+        end.pieces.items each in
         record {
           all = tails_in_order [] tails end.pieces.items in_order own ∙ tails_is ∙ ap (λ v. map (piece_of bag.n) (pieces bag.n v)) (sym won);
           numbers = in_order ∙ ap candidates count ∙ ap (λ v. candidates (length (pieces bag.n v))) (sym won);
@@ -258,8 +297,10 @@ module _ (bag : Kept) (nodes winner workers : ℕ) (tails : List Suffix) (start 
 
 -- ---- a piece that is spent
 
-pub spent_race : (bag : Kept) (nodes winner number first : ℕ) (tab : Tabulated) (tail : Suffix) (best : Best) (fault : RaceFault) → tab.winner ≡ winner → IsReached bag winner best →
-    ((records : List (List ℕ)) → IsOf bag records → (first ≡ first_bound bag.n records tab.order) × (best.margin ≤ first)) → slice_get (tails_are bag.n winner) number ≡ Some tail → IsCostly bag first nodes (tails_are bag.n winner) number →
+pub spent_race : (bag : Kept) (nodes winner number first : ℕ) (tab : Tabulated) (tail : Suffix) (best : Best) (fault : RaceFault) → tab.winner ≡ winner →
+    IsReached bag winner best →
+    ((records : List (List ℕ)) → IsOf bag records → (first ≡ first_bound bag.n records tab.order) × (best.margin ≤ first)) →
+    slice_get (tails_are bag.n winner) number ≡ Some tail → IsCostly bag first nodes (tails_are bag.n winner) number →
     ((last : ℕ) (other : ℕ) → tail.list ≡ other ∷ last ∷ [] → fault ≡ Spent last best.margin best.order) → IsSpentOver bag tab nodes fault
 spent_race bag nodes winner number first tab tail best fault won reached upper at (tail', at', over) says =
     let piece = (tail_facts bag.n winner number tail at).1 in
@@ -268,7 +309,8 @@ spent_race bag nodes winner number first tab tail best fault won reached upper a
     let u = upper records of in
     let costs : nodes < work bag.n records first tail.list = subst (λ (t : Suffix). nodes < work bag.n records first t.list) same (over records of) in
     let costs' : nodes < work bag.n records (first_bound bag.n records tab.order) tail.list = subst (λ f. nodes < work bag.n records f tail.list) u.0 costs in
-    let most : work bag.n records (first_bound bag.n records tab.order) tail.list ≤ work_for bag.n records tab.order piece.last = greatest-member (member-map (work bag.n records (first_bound bag.n records tab.order)) piece.electing) in
+    let most : work bag.n records (first_bound bag.n records tab.order) tail.list ≤ work_for bag.n records tab.order piece.last =
+    greatest-member (member-map (work bag.n records (first_bound bag.n records tab.order)) piece.electing) in
     record {
       candidate = piece.below;
       other = λ e. piece.apart (e ∙ won);

@@ -31,25 +31,32 @@ abbrev pub work_limit : ℕ → List (List ℕ) → ℕ → List ℕ → ℕ
 work_limit n records first piece = min first (value_of n records piece + 1)
 
 abbrev pub IsUnder : Kept → ℕ → Frontier → Type 0
-IsUnder bag first f = (done : List (List ℕ)) × IsAfter bag done f × ((records : List (List ℕ)) → IsOf bag records → All (λ s. low bag.n records s < work_limit bag.n records first f.piece.list) done)
+IsUnder bag first f = (done : List (List ℕ)) × IsAfter bag done f × ((records : List (List ℕ)) → IsOf bag records →
+    All (λ s. low bag.n records s < work_limit bag.n records first f.piece.list) done)
 
 pub under_front : (bag : Kept) (first : ℕ) (f : Frontier) → IsUnder bag first f → IsFront bag f
 under_front bag first f (done, k, below) = (done, k)
 
 pub under_start : (bag : Kept) (first : ℕ) (f : Frontier) → IsFront bag f → f.expanded ≡ 0 → IsUnder bag first f
 under_start bag first f (done, k) none =
-    let empty : done ≡ [] = nil_from_length done (k.count ∙ none) in
-    (done, k, λ records of. subst (All (λ s. low bag.n records s < work_limit bag.n records first f.piece.list)) (sym empty) (All-nil (λ s. low bag.n records s < work_limit bag.n records first f.piece.list)))
+    let empty : done ≡ [] = nil_from_length done (k.count ∙ none) in (
+      done,
+      k,
+      λ records of. subst (All (λ s. low bag.n records s < work_limit bag.n records first f.piece.list)) (sym empty)
+          (All-nil (λ s. low bag.n records s < work_limit bag.n records first f.piece.list)),
+    )
 
 -- what is below the bound and within the orders of the piece is in its work
-in_work : (bag : Kept) (records : List (List ℕ)) (first bound : ℕ) (piece s : List ℕ) → is_suffix bag.n piece ≡ true → bound ≤ first → low bag.n records s < bound → IsWithin bag records piece s →
+in_work : (bag : Kept) (records : List (List ℕ)) (first bound : ℕ) (piece s : List ℕ) → is_suffix bag.n piece ≡ true → bound ≤ first →
+    low bag.n records s < bound → IsWithin bag records piece s →
     low bag.n records s < work_limit bag.n records first piece
 in_work bag records first bound piece s proper le below within =
     let (order, whole, ends, value) = value_reached bag.n records piece proper in
     let up = within order whole ends in
     omega (arith, up, value, below, le)
 
-pub under_turn : (bag : Kept) (first bound : ℕ) (old new : Frontier) → is_suffix bag.n old.piece.list ≡ true → IsUnder bag first old → bound ≤ first → bound ≤ old.least → Grows bag bound old new → new.piece ≡ old.piece →
+pub under_turn : (bag : Kept) (first bound : ℕ) (old new : Frontier) → is_suffix bag.n old.piece.list ≡ true → IsUnder bag first old → bound ≤ first →
+    bound ≤ old.least → Grows bag bound old new → new.piece ≡ old.piece →
     IsUnder bag first new
 under_turn bag first bound old new proper (done, k, below) le least grows same =
     let g : HasGrown bag done bound old new = grows done k in
@@ -59,8 +66,10 @@ under_turn bag first bound old new proper (done, k, below) le least grows same =
       λ records of.
           let P : List ℕ → Type 0 = λ s. low bag.n records s < work_limit bag.n records first old.piece.list in
           let more : All P g.more =
-          λ i d inside. in_work bag records first bound old.piece.list (get_or g.more i d) proper le (g.below records of i d inside) (g.within least records of i d inside) in
-          subst (λ p. All (λ s. low bag.n records s < work_limit bag.n records first p) (done ++ g.more)) piece (All-append P done g.more (below records of) more),
+          λ i d inside. in_work bag records first bound old.piece.list (get_or g.more i d) proper le (g.below records of i d inside)
+          (g.within least records of i d inside) in
+          subst (λ p. All (λ s. low bag.n records s < work_limit bag.n records first p) (done ++ g.more)) piece
+          (All-append P done g.more (below records of) more),
     )
 
 pub under_most : (bag : Kept) (first : ℕ) (f : Frontier) → IsUnder bag first f → IsInWork bag first f.piece.list f.expanded
@@ -83,7 +92,8 @@ closed_lower bag a b piece expanded le h = record {
   least = λ records of. le_trans (parts_below-le bag.n records b a piece le) (h.least records of);
 }
 
-pub after_closed : (bag : Kept) (left seen : ℕ) (old new : Frontier) (t : Turn) → t ≡ Closed → IsTurn bag left old new t → IsFront bag new → is_suffix bag.n new.piece.list ≡ true → seen ≤ new.bound → seen ≤ old.least →
+pub after_closed : (bag : Kept) (left seen : ℕ) (old new : Frontier) (t : Turn) → t ≡ Closed → IsTurn bag left old new t → IsFront bag new →
+    is_suffix bag.n new.piece.list ≡ true → seen ≤ new.bound → seen ≤ old.least →
     IsClosedAt bag seen new.piece.list new.expanded
 after_closed bag left seen old new t e h k proper bound least =
     let h' : IsTurn bag left old new Closed = subst (IsTurn bag left old new) e h in
@@ -103,11 +113,13 @@ after_found bag left old new t order margin e h =
     let h' : IsTurn bag left old new (Found order margin) = subst (IsTurn bag left old new) e h in
     (h'.0, h'.2, h'.3)
 
-pub after_more : (bag : Kept) (left : ℕ) (old new : Frontier) (t : Turn) → t ≡ More → IsTurn bag left old new t → (new.least ≡ old.least) × (new.expanded ≡ old.expanded + MOST_EXPANDED)
+pub after_more : (bag : Kept) (left : ℕ) (old new : Frontier) (t : Turn) → t ≡ More → IsTurn bag left old new t →
+    (new.least ≡ old.least) × (new.expanded ≡ old.expanded + MOST_EXPANDED)
 after_more bag left old new t e h = let h' : IsTurn bag left old new More = subst (IsTurn bag left old new) e h in (h'.0, h'.1)
 
 -- one that is left is in the work of the piece, and wasn't expanded
-pub after_spent : (bag : Kept) (left nodes first : ℕ) (old new : Frontier) (t : Turn) → t ≡ Spent → IsTurn bag left old new t → IsUnder bag first new → is_suffix bag.n new.piece.list ≡ true → new.bound ≤ first →
+pub after_spent : (bag : Kept) (left nodes first : ℕ) (old new : Frontier) (t : Turn) → t ≡ Spent → IsTurn bag left old new t → IsUnder bag first new →
+    is_suffix bag.n new.piece.list ≡ true → new.bound ≤ first →
     new.bound ≤ old.least → old.expanded + left ≡ nodes → IsOverBudget bag first nodes new.piece.list
 after_spent bag left nodes first old new t e h (done, k, below) proper bound least all records of =
     let h' : IsTurn bag left old new Spent = subst (IsTurn bag left old new) e h in
@@ -116,14 +128,16 @@ after_spent bag left nodes first old new t e h (done, k, below) proper bound lea
     elim (cases_lt (low bag.n records order) new.bound) [
       | inr ge ↦
           let one = h'.3.one in
-          let more = one_more bag records done limit new one of k (below records of) h'.3.still_open (h'.3.parts one h'.3.still_open h'.3.below) (omega (arith, h'.3.below, ge, value, bound)) in
+          let more = one_more bag records done limit new one of k (below records of) h'.3.still_open (h'.3.parts one h'.3.still_open h'.3.below)
+          (omega (arith, h'.3.below, ge, value, bound)) in
           omega (arith, more, h'.1, all)
       | inl lt ↦
           let (o, still, inside) = orders_stay_open bag records new of (done, k) order whole ends lt (omega (arith, lt, least, h'.0)) in
           let low_o = open_low bag new.piece.list o (All-contains (IsOpen bag new.piece.list) new.suffixes o k.each still) records of in
           let up = low_in bag.n records order o.tail.list (order_is_suffix bag.n order whole) inside in
           let lower : o.low < new.bound = omega (arith, low_o, up, lt) in
-          let more = one_more bag records done limit new o of k (below records of) still (h'.3.parts o still lower) (omega (arith, lower, low_o, up, value, bound)) in
+          let more = one_more bag records done limit new o of k (below records of) still (h'.3.parts o still lower)
+          (omega (arith, lower, low_o, up, value, bound)) in
           omega (arith, more, h'.1, all)
     ]
 

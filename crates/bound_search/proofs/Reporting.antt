@@ -35,7 +35,8 @@ ones [] = refl
 ones (p ∷ ps) = let e : sum_by (λ (q : PieceEnd). 1) ps ≡ length ps = ones ps in sum_by-cons (λ (q : PieceEnd). 1) p ps ∙ omega arith
 
 -- ---- one worker more
-module _ (entries more all : List PieceEnd) (reports longer : List Report) (r : Report) (all_is : all ≡ entries ++ more) (longer_is : longer ≡ reports ++ r ∷ [])
+module _ (entries more all : List PieceEnd) (reports longer : List Report) (r : Report) (all_is : all ≡ entries ++ more)
+    (longer_is : longer ≡ reports ++ r ∷ [])
     (named : (p : PieceEnd) → Member p entries → p.worker < length reports) (own : (p : PieceEnd) → Member p more → p.worker ≡ length reports) where
   abbrev over : (PieceEnd → ℕ) → ℕ → List PieceEnd → ℕ
   over f w ps = sum_by (of_worker f w) ps
@@ -93,7 +94,8 @@ pub candidates-once : (n k : ℕ) → times (candidates n) k ≡ cond (nat_lt k 
 candidates-once zero k = sym (ap (λ b. cond b 1 0) (le-ltb k 0 (omega arith)))
 candidates-once (suc n) k =
     let so_far : times (candidates n) k ≡ cond (nat_lt k n) 1 0 = candidates-once n k in
-    ap (λ xs. times xs k) (ap candidates (sym (add-one n)) ∙ candidates-more n) ∙ sum_by_push (λ q. cond (q == k) 1 0) (candidates n) n ∙ ap (λ m. m + cond (n == k) 1 0) so_far ∙ step
+    ap (λ xs. times xs k) (ap candidates (sym (add-one n)) ∙ candidates-more n) ∙ sum_by_push (λ q. cond (q == k) 1 0) (candidates n) n
+    ∙ ap (λ m. m + cond (n == k) 1 0) so_far ∙ step
   where
     step : cond (nat_lt k n) 1 0 + cond (n == k) 1 0 ≡ cond (nat_lt k (suc n)) 1 0
     step =
@@ -134,9 +136,11 @@ seam-sum f before after p =
     let c : sum_by f (before ++ after) ≡ sum_by f before + sum_by f after = sum_by-append f before after in
     omega arith
 
-pub same_sum : (f : PieceEnd → ℕ) (ps es : List PieceEnd) → ((k : ℕ) → at k es ≡ at k ps) → ((k : ℕ) → at k ps ≤ 1) → ((p : PieceEnd) → Member p ps → Member p es) → sum_by f ps ≡ sum_by f es
+pub same_sum : (f : PieceEnd → ℕ) (ps es : List PieceEnd) → ((k : ℕ) → at k es ≡ at k ps) → ((k : ℕ) → at k ps ≤ 1) →
+    ((p : PieceEnd) → Member p ps → Member p es) → sum_by f ps ≡ sum_by f es
 same_sum f [] [] same once inside = refl
-same_sum f [] (e ∷ es) same once inside = let a : at e.piece (e ∷ es) ≡ 1 + at e.piece es = at-own e es in let b : at e.piece (e ∷ es) ≡ 0 = same e.piece in absurd (omega arith)
+same_sum f [] (e ∷ es) same once inside = let a : at e.piece (e ∷ es) ≡ 1 + at e.piece es = at-own e es in let b : at e.piece (e ∷ es) ≡ 0 = same e.piece in
+    absurd (omega arith)
 same_sum f (p ∷ ps) es same once inside =
     let (before, after, is) = split_at p es (inside p here) in
     let rest : sum_by f ps ≡ sum_by f (before ++ after) =
@@ -165,7 +169,8 @@ same_sum f (p ∷ ps) es same once inside =
           | inr b ↦ elim (member_cases b) [ inl e ↦ absurd (apart q m e) | inr c ↦ member-append_right before c ]
         ]
 
-pub reports-same : (ps es : List PieceEnd) (reports : List Report) → ((f : PieceEnd → ℕ) → sum_by f ps ≡ sum_by f es) → AreReportsOf es reports → AreReportsOf ps reports
+pub reports-same : (ps es : List PieceEnd) (reports : List Report) → ((f : PieceEnd → ℕ) → sum_by f ps ≡ sum_by f es) → AreReportsOf es reports →
+    AreReportsOf ps reports
 reports-same ps es reports same h w d low =
     let was = h w d low in
     record { pieces = was.pieces ∙ sym (same (of_worker (λ p. 1) w)); expanded = was.expanded ∙ sym (same (of_worker (λ p. p.expanded) w)) }

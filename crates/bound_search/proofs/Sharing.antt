@@ -47,14 +47,16 @@ once_more xs n once out p =
     out_is false h = refl
 
 -- the piece is noted once, as closed or as left open
-noted : (b : Bool) (closed spent : List ℕ) (n p : ℕ) → times (if b then closed ++ n ∷ [] else closed) p + times (if b then spent else spent ++ n ∷ []) p ≡ times closed p + times spent p + cond (n == p) 1 0
+noted : (b : Bool) (closed spent : List ℕ) (n p : ℕ) → times (if b then closed ++ n ∷ [] else closed) p + times (if b then spent else spent ++ n ∷ []) p
+    ≡ times closed p + times spent p + cond (n == p) 1 0
 noted true closed spent n p = omega (arith, times-push closed n p)
 noted false closed spent n p = omega (arith, times-push spent n p)
 
 -- ---- a piece more
 
 module _ (bag : Kept) (first nodes worker : ℕ) (tails : List Suffix) (piece : ℕ) (tail : Suffix) (v t w : View) (spent noted_now : List ℕ) (s : Searched)
-    (inside : slice_get tails piece ≡ Some tail) (take : t ≡ record v { taken = v.taken ++ piece ∷ [] }) (skipped : Bool) (did : IsPieceSearched bag first nodes piece tail.list skipped t w s)
+    (inside : slice_get tails piece ≡ Some tail) (take : t ≡ record v { taken = v.taken ++ piece ∷ [] }) (skipped : Bool)
+    (did : IsPieceSearched bag first nodes piece tail.list skipped t w s)
     (notes : noted_now ≡ (if s.closed then spent else spent ++ piece ∷ [])) where
   abbrev entry : PieceEnd
   entry = record { piece = piece; tail = tail; worker = worker; expanded = s.expanded }
@@ -98,11 +100,16 @@ module _ (bag : Kept) (first nodes worker : ℕ) (tails : List Suffix) (piece : 
   this_done : IsDoneWith bag w noted_now entry
   this_done = go s.closed refl where
     go : (b : Bool) → s.closed ≡ b → IsDoneWith bag w noted_now entry
-    go true e = inl (subst (λ xs. is_in xs piece ≡ true) (sym (closed_now ∙ ap (λ b. if b then v.closed ++ piece ∷ [] else v.closed) e)) (in_last v.closed piece), did.searched e)
+    go true e = inl (
+      subst (λ xs. is_in xs piece ≡ true) (sym (closed_now ∙ ap (λ b. if b then v.closed ++ piece ∷ [] else v.closed) e))
+          (in_last v.closed piece),
+      did.searched e,
+    )
     go false e = inr (subst (λ xs. is_in xs piece ≡ true) (sym (notes ∙ ap (λ b. if b then spent else spent ++ piece ∷ []) e)) (in_last spent piece))
 
   pub done_now : (ends : List PieceEnd) → All (IsDoneWith bag v spent) ends → All (IsDoneWith bag w noted_now) (ends ++ entry ∷ [])
-  done_now ends all = All-push (IsDoneWith bag w noted_now) ends entry (All-weaker (IsDoneWith bag v spent) (IsDoneWith bag w noted_now) still_done ends all) this_done
+  done_now ends all = All-push (IsDoneWith bag w noted_now) ends entry (All-weaker (IsDoneWith bag v spent) (IsDoneWith bag w noted_now) still_done ends all)
+      this_done
 
   -- a piece that is spent now wasn't skipped
   pub costly_now : (before after : List ℕ) → (before ≡ [] → skipped ≡ false) → (after ≡ before) ⊎ ((s.closed ≡ false) × (before ≡ []) × (after ≡ piece ∷ [])) →
@@ -110,15 +117,19 @@ module _ (bag : Kept) (first nodes worker : ℕ) (tails : List Suffix) (piece : 
   costly_now before after none_skipped (inl same) all = subst (All (IsCostly bag first nodes tails)) (sym same) all
   costly_now before after none_skipped (inr (left, none, is)) all =
       subst (All (IsCostly bag first nodes tails)) (sym is)
-      (All-push (IsCostly bag first nodes tails) [] piece (subst (All (IsCostly bag first nodes tails)) none all) (tail, inside, did.over left (none_skipped none)))
+      (All-push (IsCostly bag first nodes tails) [] piece (subst (All (IsCostly bag first nodes tails)) none all)
+      (tail, inside, did.over left (none_skipped none)))
 
-  pub paced_now : (ends : List PieceEnd) (looks : ℕ) → sum_by (λ p. p.expanded) ends ≤ MOST_EXPANDED * looks → sum_by (λ p. p.expanded) (ends ++ entry ∷ []) ≤ MOST_EXPANDED * (looks + s.looks)
+  pub paced_now : (ends : List PieceEnd) (looks : ℕ) → sum_by (λ p. p.expanded) ends ≤ MOST_EXPANDED * looks →
+      sum_by (λ p. p.expanded) (ends ++ entry ∷ []) ≤ MOST_EXPANDED * (looks + s.looks)
   paced_now ends looks paced = let more = sum_by_push (λ (p : PieceEnd). p.expanded) ends entry in let le = did.paced in omega (arith, more, le, paced)
 
   -- what was found in this piece is less hard than what was found before
-  pub found_now : Contains tails tail → (best : Option Best) → v.posted ≤ highest → IsBestFound bag tails v.posted best → (now : Option Best) → now ≡ option_or s.found best → IsBestFound bag tails w.posted now
+  pub found_now : Contains tails tail → (best : Option Best) → v.posted ≤ highest → IsBestFound bag tails v.posted best → (now : Option Best) →
+      now ≡ option_or s.found best → IsBestFound bag tails w.posted now
   found_now one best high was now is = subst (IsBestFound bag tails w.posted) (sym is) (go s.found did.found best was) where
-    go : (found : Option Best) → IsNewest bag tail.list t.posted w.posted found → (best : Option Best) → IsBestFound bag tails v.posted best → IsBestFound bag tails w.posted (option_or found best)
+    go : (found : Option Best) → IsNewest bag tail.list t.posted w.posted found → (best : Option Best) → IsBestFound bag tails v.posted best →
+        IsBestFound bag tails w.posted (option_or found best)
     go None same None none = omega (arith, same, posted_was, none)
     go None same (Some b) (f, is_posted, low) = (f, omega (arith, is_posted, same, posted_was), omega (arith, low, same, posted_was))
     go (Some b) (f, is_posted, less) best was = (record { tail = tail; one = one; found = f }, is_posted, omega (arith, less, posted_was, high))

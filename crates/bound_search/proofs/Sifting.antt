@@ -31,13 +31,15 @@ all_from_contained P xs h = All-weaker (Contains xs) P h xs (All-contains_itself
 
 module _ (children : List Scored) (bound : ℕ) where
   -- without the last, which has its place
-  one_less : (rest' rest fresh fresh' : List Scored) (found found' : Option Scored) (x : Scored) → rest ≡ rest' ++ x ∷ [] → SiftedSoFar children bound rest fresh found →
+  one_less : (rest' rest fresh fresh' : List Scored) (found found' : Option Scored) (x : Scored) → rest ≡ rest' ++ x ∷ [] →
+      SiftedSoFar children bound rest fresh found →
       ((y : Scored) → IsPlaced bound fresh found y → IsPlaced bound fresh' found' y) → IsPlaced bound fresh' found' x →
       IsHeap first_is_greatest fresh' → All (IsOpenChild children bound) fresh' → IfSome found' (IsFoundChild children bound) →
       ((p : Scored → Bool) → count_by p fresh' ≤ count_by p fresh + cond (p x) 1 0) →
       SiftedSoFar children bound rest' fresh' found'
   one_less rest' rest fresh fresh' found found' x e s keeps put heap open_ones found_one few = record {
-    within = all_from_contained (Contains children) rest' (λ y h. All-contains (Contains children) rest y s.within (subst (λ r. Contains r y) (sym e) (Contains-append_left rest' (x ∷ []) y h)));
+    within = all_from_contained (Contains children) rest' (λ y h. All-contains (Contains children) rest y s.within
+        (subst (λ r. Contains r y) (sym e) (Contains-append_left rest' (x ∷ []) y h)));
     placed = λ y h. elim (s.placed y h) [
       | inl left ↦ elim (Contains-append_cases rest' (x ∷ []) y (subst (λ r. Contains r y) e left)) [
         | inl a ↦ inl a
@@ -55,13 +57,16 @@ module _ (children : List Scored) (bound : ℕ) where
   }
 
   last_of : (rest' rest : List Scored) (x : Scored) → rest ≡ rest' ++ x ∷ [] → All (Contains children) rest → Contains children x
-  last_of rest' rest x e h = All-contains (Contains children) rest x h (subst (λ r. Contains r x) (sym e) (Contains-append_right rest' (x ∷ []) x (one_contained x)))
+  last_of rest' rest x e h = All-contains (Contains children) rest x h
+      (subst (λ r. Contains r x) (sym e) (Contains-append_right rest' (x ∷ []) x (one_contained x)))
 
   pub pruned : (rest' rest fresh : List Scored) (found : Option Scored) (x : Scored) → rest ≡ rest' ++ x ∷ [] → bound ≤ x.low →
       SiftedSoFar children bound rest fresh found → SiftedSoFar children bound rest' fresh found
-  pruned rest' rest fresh found x e le s = one_less rest' rest fresh fresh found found x e s (λ y h. h) (inl le) s.heap s.open_ones s.found_one (λ p. omega arith)
+  pruned rest' rest fresh found x e le s = one_less rest' rest fresh fresh found found x e s (λ y h. h) (inl le) s.heap s.open_ones s.found_one
+      (λ p. omega arith)
 
-  pub pushed : (rest' rest fresh fresh' : List Scored) (found : Option Scored) (x : Scored) → rest ≡ rest' ++ x ∷ [] → x.low < bound → (length x.tail.list == x.tail.n) ≡ false →
+  pub pushed : (rest' rest fresh fresh' : List Scored) (found : Option Scored) (x : Scored) → rest ≡ rest' ++ x ∷ [] → x.low < bound →
+      (length x.tail.list == x.tail.n) ≡ false →
       IsPermutation (x ∷ fresh) fresh' → (IsHeap first_is_greatest fresh → IsHeap first_is_greatest fresh') →
       SiftedSoFar children bound rest fresh found → SiftedSoFar children bound rest' fresh' found
   pushed rest' rest fresh fresh' found x e lt part p heap s =
@@ -76,7 +81,8 @@ module _ (children : List Scored) (bound : ℕ) where
       (inr (inl (Contains-permutation (x ∷ fresh) fresh' x p (Contains-append_left (x ∷ []) fresh x (one_contained x)))))
       (heap s.heap)
       (All-permutation (IsOpenChild children bound) (x ∷ fresh) fresh' p
-      (All-cons (IsOpenChild children bound) x fresh (record { one = last_of rest' rest x e s.within; below = lt; part = eqb-false (length x.tail.list) x.tail.n part }) s.open_ones))
+      (All-cons (IsOpenChild children bound) x fresh
+      (record { one = last_of rest' rest x e s.within; below = lt; part = eqb-false (length x.tail.list) x.tail.n part }) s.open_ones))
       s.found_one
       (λ q. let e : count_by q fresh' ≡ cond (q x) 1 0 + count_by q fresh = sum_by_pushed (λ y. cond (q y) 1 0) x fresh fresh' p in omega (arith, e))
 
@@ -88,7 +94,8 @@ module _ (children : List Scored) (bound : ℕ) where
   found_among r None e h = cc
   found_among r (Some o) e h = let same : o ≡ r = cc in subst (IsFoundChild children bound) same h
 
-  pub found_more : (rest' rest fresh : List Scored) (found : Option Scored) (x r : Scored) → rest ≡ rest' ++ x ∷ [] → x.low < bound → (length x.tail.list == x.tail.n) ≡ true →
+  pub found_more : (rest' rest fresh : List Scored) (found : Option Scored) (x r : Scored) → rest ≡ rest' ++ x ∷ [] → x.low < bound →
+      (length x.tail.list == x.tail.n) ≡ true →
       r.low ≤ x.low → IfSome found (λ o. r.low ≤ o.low) → (r ≡ x) ⊎ (found ≡ Some r) →
       SiftedSoFar children bound rest fresh found → SiftedSoFar children bound rest' fresh (Some r)
   found_more rest' rest fresh found x r e lt whole le les one s =
@@ -99,12 +106,14 @@ module _ (children : List Scored) (bound : ℕ) where
       ])
       (inr (inr le)) s.heap s.open_ones
       (elim one [
-        | inl same ↦ subst (IsFoundChild children bound) (sym same) (record { one = last_of rest' rest x e s.within; below = lt; whole = eqb-true (length x.tail.list) x.tail.n whole })
+        | inl same ↦ subst (IsFoundChild children bound) (sym same)
+            (record { one = last_of rest' rest x e s.within; below = lt; whole = eqb-true (length x.tail.list) x.tail.n whole })
         | inr same ↦ found_among r found same s.found_one
       ])
       (λ p. omega arith)
 
-pub sifted_start : (children : List Scored) (bound : ℕ) (fresh : List Scored) → fresh ≡ [] → IsHeap first_is_greatest fresh → SiftedSoFar children bound children fresh None
+pub sifted_start : (children : List Scored) (bound : ℕ) (fresh : List Scored) → fresh ≡ [] → IsHeap first_is_greatest fresh →
+    SiftedSoFar children bound children fresh None
 sifted_start children bound fresh e heap = record {
   within = All-contains_itself children;
   placed = λ x h. inl h;

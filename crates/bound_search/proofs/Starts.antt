@@ -54,7 +54,11 @@ module _ (n : ℕ) (order : List ℕ) (two : 1 < n) (h : is_order n order ≡ tr
   started = ap start_order ends.split ∙ exchanged ends.before ends.next ends.last
 
   start_whole : is_order n (start_order order) ≡ true
-  start_whole = (start_is_alternative n ends.last order two h (ends.before ++ ends.next ∷ [], ends.split ∙ sym (append_assoc ends.before (ends.next ∷ []) (ends.last ∷ [])))).0
+  start_whole = (start_is_alternative n ends.last order two h (
+    ends.before ++ ends.next ∷ [],
+    ends.split
+        ∙ sym (append_assoc ends.before (ends.next ∷ []) (ends.last ∷ [])),
+  )).0
 
   -- the last two
   pub first_two : (list : List ℕ) (a b : ℕ) → list ≡ order → a ≡ get_or list (n - 2) a → b ≡ get_or list (n - 2 + 1) b →
@@ -64,8 +68,10 @@ module _ (n : ℕ) (order : List ℕ) (two : 1 < n) (h : is_order n order ≡ tr
       let split : list ≡ ends.before ++ tail = same ∙ ends.split in
       let place : n - 2 ≡ length ends.before + 0 = omega (arith, ends.long) in
       let place' : n - 2 + 1 ≡ length ends.before + 1 = omega (arith, ends.long) in
-      let a_is : a ≡ ends.next = at ∙ ap (λ xs. get_or xs (n - 2) a) split ∙ ap (λ i. get_or (ends.before ++ tail) i a) place ∙ get_or-append-add ends.before tail 0 a in
-      let b_is : b ≡ ends.last = at' ∙ ap (λ xs. get_or xs (n - 2 + 1) b) split ∙ ap (λ i. get_or (ends.before ++ tail) i b) place' ∙ get_or-append-add ends.before tail 1 b in
+      let a_is : a ≡ ends.next = at ∙ ap (λ xs. get_or xs (n - 2) a) split ∙ ap (λ i. get_or (ends.before ++ tail) i a) place
+      ∙ get_or-append-add ends.before tail 0 a in
+      let b_is : b ≡ ends.last = at' ∙ ap (λ xs. get_or xs (n - 2 + 1) b) split ∙ ap (λ i. get_or (ends.before ++ tail) i b) place'
+      ∙ get_or-append-add ends.before tail 1 b in
       let facts = order_facts n order h in
       let inside : (z : ℕ) → Member z tail → z < n = λ z m. facts.below z (subst (Member z) (sym ends.split) (member-append_right ends.before m)) in
       let apart : Distinct tail = distinct-rest ends.before tail (subst Distinct ends.split facts.apart) in
@@ -74,11 +80,14 @@ module _ (n : ℕ) (order : List ℕ) (two : 1 < n) (h : is_order n order ≡ tr
         subst (λ x. x < n) (sym a_is) (inside ends.next here),
         subst (λ x. x < n) (sym b_is) (inside ends.last (there here)),
         ap (λ x. is_in (x ∷ []) b) a_is ∙ ap (is_in (ends.next ∷ [])) b_is ∙ out,
-        ap (λ x. b ∷ x ∷ []) a_is ∙ ap (λ x. x ∷ ends.next ∷ []) b_is ∙ sym (ap (λ k. drop k (start_order order)) (sym ends.long) ∙ ap (drop (length ends.before)) started ∙ drop-append_seam ends.before (ends.last ∷ ends.next ∷ [])),
+        ap (λ x. b ∷ x ∷ []) a_is ∙ ap (λ x. x ∷ ends.next ∷ []) b_is
+            ∙ sym (ap (λ k. drop k (start_order order)) (sym ends.long) ∙ ap (drop (length ends.before)) started
+            ∙ drop-append_seam ends.before (ends.last ∷ ends.next ∷ [])),
       )
 
   pub first_below : (list : List ℕ) (a : ℕ) → list ≡ order → a ≡ get_or list (n - 2) a → a < n
-  first_below list a same at = (first_two list a (get_or list (n - 2 + 1) 0) same at (at_any list (n - 2 + 1) 0 (get_or list (n - 2 + 1) 0) (omega (arith, two, ap length same, (order_facts n order h).long)))).0
+  first_below list a same at = (first_two list a (get_or list (n - 2 + 1) 0)
+      same at (at_any list (n - 2 + 1) 0 (get_or list (n - 2 + 1) 0) (omega (arith, two, ap length same, (order_facts n order h).long)))).0
 
   -- the one before a place
   pub next_one : (list : List ℕ) (at c : ℕ) → list ≡ order → 0 < at → at + 2 ≤ n → c ≡ get_or list (at - 1) c →
@@ -106,12 +115,14 @@ from_whole t order e = go (length t.list == t.n) e where
   go true e = cc
   go false e = cc
 
-pub start_reached : (bag : Kept) (order : List ℕ) (winner : ℕ) (tail : Suffix) (s : Scored) (first : List ℕ) → 1 < bag.n → is_order bag.n order ≡ true → tail.n ≡ bag.n → tail.list ≡ start_order order →
+pub start_reached : (bag : Kept) (order : List ℕ) (winner : ℕ) (tail : Suffix) (s : Scored) (first : List ℕ) → 1 < bag.n → is_order bag.n order ≡ true →
+    tail.n ≡ bag.n → tail.list ≡ start_order order →
     s.tail ≡ tail → IsScoredOver bag s → whole s.tail ≡ Some first → Elects order winner → IsReached bag winner (record { order = first; margin = s.low })
 start_reached bag order winner tail s first two h number list same scored is elects =
     let first_is : first ≡ s.tail.list = from_whole s.tail first is in
     let started : first ≡ start_order order = first_is ∙ ap (λ (t : Suffix). t.list) same ∙ list in
     record {
       alternative = subst (λ o. IsAlternative bag.n winner o) (sym started) (start_is_alternative bag.n winner order two h elects);
-      hardness = λ records of. ap (low bag.n records) first_is ∙ sym ((scored records of).low_is ∙ ap (λ n. low n records s.tail.list) (ap (λ (t : Suffix). t.n) same ∙ number));
+      hardness = λ records of. ap (low bag.n records) first_is
+          ∙ sym ((scored records of).low_is ∙ ap (λ n. low n records s.tail.list) (ap (λ (t : Suffix). t.n) same ∙ number));
     }

@@ -21,7 +21,8 @@ pub if_ok : {X E : Type 0} (P Q : X → Type 0) (r : Result X E) → ((x : X) �
 if_ok P Q (Ok x) more h = more x h
 if_ok P Q (Err e) more h = tt
 
-through_open : (first between now : List Scored) → All (λ o. EndsInOne first o.tail.list) between → All (λ o. EndsInOne between o.tail.list) now → All (λ o. EndsInOne first o.tail.list) now
+through_open : (first between now : List Scored) → All (λ o. EndsInOne first o.tail.list) between → All (λ o. EndsInOne between o.tail.list) now →
+    All (λ o. EndsInOne first o.tail.list) now
 through_open first between now h g =
     All-weaker (λ o. EndsInOne between o.tail.list) (λ o. EndsInOne first o.tail.list)
     (λ o e.
@@ -53,7 +54,8 @@ module _ (bag : Kept) (f f' : Frontier) (bound : ℕ) (le : bound ≤ f.bound) (
 -- ---- one more is expanded
 
 -- an order of the piece that is below the bound ends in an open suffix, and the first has a low no greater
-one_within : (bag : Kept) (records : List (List ℕ)) (f : Frontier) (one : Scored) → IsOf bag records → IsFront bag f → IsOpen bag f.piece.list one → one.low < f.bound → IsFirstOf one f.suffixes →
+one_within : (bag : Kept) (records : List (List ℕ)) (f : Frontier) (one : Scored) → IsOf bag records → IsFront bag f → IsOpen bag f.piece.list one →
+    one.low < f.bound → IsFirstOf one f.suffixes →
     f.bound ≤ f.least → IsWithin bag records f.piece.list one.tail.list
 one_within bag records f one of (done, k) open_one below first le order whole inside =
     let low_one = open_low bag f.piece.list one open_one records of in
@@ -63,7 +65,8 @@ one_within bag records f one of (done, k) open_one below first le order whole in
           let (o, here, ends) = orders_stay_open bag records f of (done, k) order whole inside lt (omega (arith, lt, le)) in
           let low_o = open_low bag f.piece.list o (All-contains (IsOpen bag f.piece.list) f.suffixes o k.each here) records of in
           let up = low_in bag.n records order o.tail.list (order_is_suffix bag.n order whole) ends in
-          elim (All-contains (λ (x : Scored). (one.low < x.low) ⊎ ((one.low ≡ x.low) × (comes_before x.tail.list one.tail.list ≡ false))) f.suffixes o first.least here) [
+          elim (All-contains (λ (x : Scored). (one.low < x.low) ⊎ ((one.low ≡ x.low) × (comes_before x.tail.list one.tail.list ≡ false))) f.suffixes o
+          first.least here) [
             | inl lower ↦ omega (arith, low_one, low_o, up, lower)
             | inr (same, later) ↦ omega (arith, low_one, low_o, up, same)
           ]
@@ -72,7 +75,8 @@ one_within bag records f one of (done, k) open_one below first le order whole in
 pub front_more : (bag : Kept) (f f' : Frontier) (found : Option Scored) → IsFront bag f → IsExpanded bag f f' found → IsFront bag f'
 front_more bag f f' found (done, k) e = (done ++ e.one.tail.list ∷ [], e.after done k)
 
-pub grows_more : (bag : Kept) (bound : ℕ) (start f f' : Frontier) (found : Option Scored) → Grows bag bound start f → f.bound ≡ bound → IsExpanded bag f f' found → f.piece ≡ start.piece → f.least ≡ start.least → Grows bag bound start f'
+pub grows_more : (bag : Kept) (bound : ℕ) (start f f' : Frontier) (found : Option Scored) → Grows bag bound start f → f.bound ≡ bound →
+    IsExpanded bag f f' found → f.piece ≡ start.piece → f.least ≡ start.least → Grows bag bound start f'
 grows_more bag bound start f f' found g same e piece least = λ done k.
     let now : HasGrown bag done bound start f = g done k in
     let s : List ℕ = e.one.tail.list in
@@ -81,21 +85,25 @@ grows_more bag bound start f f' found g same e piece least = λ done k.
       more = now.more ++ s ∷ [];
       after = subst (λ d. IsAfter bag d f') (append_assoc done now.more (s ∷ [])) (e.after (done ++ now.more) now.after);
       were_open = All-append (EndsInOne start.suffixes) now.more (s ∷ []) now.were_open
-          (All-cons (EndsInOne start.suffixes) s [] (All-contains (λ (o : Scored). EndsInOne start.suffixes o.tail.list) f.suffixes e.one now.from_open e.was_open) (All-nil (EndsInOne start.suffixes)));
+          (All-cons (EndsInOne start.suffixes) s [] (All-contains (λ (o : Scored). EndsInOne start.suffixes o.tail.list) f.suffixes e.one now.from_open
+          e.was_open) (All-nil (EndsInOne start.suffixes)));
       below = λ records of.
           All-append (λ s. low bag.n records s < bound) now.more (s ∷ []) (now.below records of)
-          (All-cons (λ s. low bag.n records s < bound) s [] (omega (arith, e.below, same, open_low bag f.piece.list e.one open_one records of)) (All-nil (λ s. low bag.n records s < bound)));
+          (All-cons (λ s. low bag.n records s < bound) s [] (omega (arith, e.below, same, open_low bag f.piece.list e.one open_one records of))
+          (All-nil (λ s. low bag.n records s < bound)));
       within = λ le records of.
           let of_start : f.piece.list ≡ start.piece.list = ap (λ (p : Suffix). p.list) piece in
           let one = one_within bag records f e.one of (done ++ now.more, now.after) open_one e.below e.first (omega (arith, le, same, least)) in
           All-append (IsWithin bag records start.piece.list) now.more (s ∷ []) (now.within le records of)
-          (All-cons (IsWithin bag records start.piece.list) s [] (subst (λ p. IsWithin bag records p s) of_start one) (All-nil (IsWithin bag records start.piece.list)));
+          (All-cons (IsWithin bag records start.piece.list) s [] (subst (λ p. IsWithin bag records p s) of_start one)
+          (All-nil (IsWithin bag records start.piece.list)));
       from_open = through_open start.suffixes f.suffixes f'.suffixes now.from_open e.from_open;
       best_first = one_expanded e.one now.best_first e.first e.replaced;
     }
 
 -- what ends in an open suffix ends in one that was open at first
-pub was_open : (bag : Kept) (bound : ℕ) (start f : Frontier) (s : List ℕ) → IsFront bag start → Grows bag bound start f → EndsInOne f.suffixes s → EndsInOne start.suffixes s
+pub was_open : (bag : Kept) (bound : ℕ) (start f : Frontier) (s : List ℕ) → IsFront bag start → Grows bag bound start f → EndsInOne f.suffixes s →
+    EndsInOne start.suffixes s
 was_open bag bound start f s (done, k) g (p, inside, ends) =
     let (q, inside', ends') = All-contains (λ (x : Scored). EndsInOne start.suffixes x.tail.list) f.suffixes p (g done k).from_open inside in
     (q, inside', ends_through s p.tail.list q.tail.list ends ends')
@@ -132,7 +140,8 @@ module _ (bag : Kept) (f f' : Frontier) (order : Scored) (look : IsFirst true f.
         were_open = now.were_open;
         below = now.below;
         within = now.within;
-        from_open = through_open start.suffixes f.suffixes f'.suffixes now.from_open (taken_from_open bag (done ++ now.more) f order f'.suffixes now.after t.taken f' refl);
+        from_open = through_open start.suffixes f.suffixes f'.suffixes now.from_open
+            (taken_from_open bag (done ++ now.more) f order f'.suffixes now.after t.taken f' refl);
         best_first = one_found order now.best_first t.taken first_order.1;
       }
 

@@ -16,9 +16,9 @@ use Rattle.bound_search.specs.declared.turn.Turn.TheVariants.{Closed, Found, Mor
 
 pub record Frontier : Type 0 where
   pub piece : Suffix
-  -- the open ones
+  -- the open suffixes
   pub suffixes : List Scored
-  -- of the last turn
+  -- the bound of the last turn
   pub bound : ℕ
   -- the least margin that was found
   pub least : ℕ
@@ -45,57 +45,72 @@ pub record IsAfter (bag : Kept) (done : List (List ℕ)) (f : Frontier) : Type 0
   pub parts : All (IsPart bag.n f.piece.list) done
   pub each : All (IsOpen bag f.piece.list) f.suffixes
   -- a whole order is open only alone
-  pub alone : (o : Scored) → Contains f.suffixes o → length o.tail.list ≡ bag.n → f.suffixes ≡ o ∷ []
+  pub alone : (o : Scored) → Contains f.suffixes o → length o.tail.list ≡ bag.n →
+      f.suffixes ≡ o ∷ []
   -- each suffix of the piece that is below the bound and the least margin found was expanded or ends in an open one
-  pub covers : (records : List (List ℕ)) → IsOf bag records → (s : List ℕ) → IsTrue (is_suffix bag.n s) → EndsIn s f.piece.list →
-      low bag.n records s < f.bound → low bag.n records s < f.least → Contains done s ⊎ EndsInOne f.suffixes s
-  -- none was expanded twice, or ends in two open ones, or was expanded and ends in an open one
-  pub once : (s : List ℕ) → count_by (is_same s) done + count_by (λ o. ends_in s o.tail.list) f.suffixes ≤ 1
+  pub covers : (records : List (List ℕ)) → IsOf bag records → (s : List ℕ) →
+      IsTrue (is_suffix bag.n s) → EndsIn s f.piece.list →
+      low bag.n records s < f.bound → low bag.n records s < f.least →
+      Contains done s ⊎ EndsInOne f.suffixes s
+  -- no suffix was expanded twice, or ends in two open ones, or was expanded and ends in an open one
+  pub once : (s : List ℕ) →
+      count_by (is_same s) done + count_by (λ o. ends_in s o.tail.list) f.suffixes ≤ 1
 
 -- a front, whatever it has expanded
 abbrev pub IsFront : Kept → Frontier → Type 0
 IsFront bag f = (done : List (List ℕ)) × IsAfter bag done f
 
--- below the limit
+-- the suffixes are below the limit
 abbrev pub AreBelow : Kept → ℕ → List (List ℕ) → Type 0
-AreBelow bag limit suffixes = (records : List (List ℕ)) → IsOf bag records → All (λ s. low bag.n records s < limit) suffixes
+AreBelow bag limit suffixes =
+    (records : List (List ℕ)) → IsOf bag records → All (λ s. low bag.n records s < limit) suffixes
 
 -- no order of the piece is less hard than the suffix is low
 abbrev pub IsWithin : Kept → List (List ℕ) → List ℕ → List ℕ → Type 0
-IsWithin bag records piece s = (order : List ℕ) → IsTrue (is_order bag.n order) → EndsIn order piece → low bag.n records s ≤ low bag.n records order
+IsWithin bag records piece s =
+    (order : List ℕ) → IsTrue (is_order bag.n order) → EndsIn order piece →
+    low bag.n records s ≤ low bag.n records order
 
--- the same of each of these
+-- no order of the piece is less hard than any of the suffixes is low
 abbrev pub AreWithin : Kept → List ℕ → List (List ℕ) → Type 0
-AreWithin bag piece suffixes = (records : List (List ℕ)) → IsOf bag records → All (IsWithin bag records piece) suffixes
+AreWithin bag piece suffixes =
+    (records : List (List ℕ)) → IsOf bag records → All (IsWithin bag records piece) suffixes
 
 -- ---- best first
 
--- the one of these that goes first: none has a lower low, and none of the same low comes before it, both read backwards
+-- the suffix that goes first: none has a lower low, and none of the same low comes before it, both read backwards
 pub record IsFirstOf (one : Scored) (suffixes : List Scored) : Type 0 where
   pub inside : Contains suffixes one
-  pub least : All (λ o. (one.low < o.low) ⊎ ((one.low ≡ o.low) × IsFalse (comes_before o.tail.list one.tail.list))) suffixes
+  pub least :
+      All
+      (λ o. (one.low < o.low)
+      ⊎ ((one.low ≡ o.low) × IsFalse (comes_before o.tail.list one.tail.list)))
+      suffixes
 
--- one was expanded: it has gone, and only children of it came in
+-- one suffix was expanded: it has gone, and only children of it came in
 pub record IsReplaced (one : Scored) (before after : List Scored) : Type 0 where
   pub rest : List Scored
   pub taken : IsPermutation before (one ∷ rest)
   pub left : All (λ o. Contains rest o ⊎ Contains (children one.tail) o.tail) after
 
--- from the ones that were open at first these suffixes were expanded in turn, each the first of those that were open then; and these are
--- open now
+-- from the suffixes that were open at first these were expanded in turn, each the first of those that were open then; and
+-- these are open now
 pub data AreFirstEach (start : List Scored) : List (List ℕ) → List Scored → Type 0 where
   none_expanded : AreFirstEach start [] start
-  one_expanded : {expanded : List (List ℕ)} {before after : List Scored} (one : Scored) → AreFirstEach start expanded before → IsFirstOf one before → IsReplaced one before after →
+  one_expanded : {expanded : List (List ℕ)} {before after : List Scored} (one : Scored) →
+      AreFirstEach start expanded before → IsFirstOf one before → IsReplaced one before after →
       AreFirstEach start (expanded ++ one.tail.list ∷ []) after
   -- a whole order that is found goes
-  one_found : {expanded : List (List ℕ)} {before after : List Scored} (order : Scored) → AreFirstEach start expanded before → IsPermutation before (order ∷ after) →
+  one_found : {expanded : List (List ℕ)} {before after : List Scored} (order : Scored) →
+      AreFirstEach start expanded before → IsPermutation before (order ∷ after) →
       (length order.tail.list == order.tail.n) ≡ true → AreFirstEach start expanded after
 
 -- ---- what a front has done
 
 -- what was expanded between two fronts under a bound: each ends in a suffix that was open at first, and is below the bound; each suffix
 -- that is open now ends in one that was
-pub record HasGrown (bag : Kept) (done : List (List ℕ)) (bound : ℕ) (old new : Frontier) : Type 0 where
+pub record HasGrown (bag : Kept) (done : List (List ℕ)) (bound : ℕ) (old new : Frontier)
+    : Type 0 where
   pub more : List (List ℕ)
   pub after : IsAfter bag (done ++ more) new
   pub were_open : All (EndsInOne old.suffixes) more
@@ -105,7 +120,8 @@ pub record HasGrown (bag : Kept) (done : List (List ℕ)) (bound : ℕ) (old new
   pub best_first : AreFirstEach old.suffixes more new.suffixes
 
 abbrev pub Grows : Kept → ℕ → Frontier → Frontier → Type 0
-Grows bag bound old new = (done : List (List ℕ)) → IsAfter bag done old → HasGrown bag done bound old new
+Grows bag bound old new =
+    (done : List (List ℕ)) → IsAfter bag done old → HasGrown bag done bound old new
 
 -- ---- the answers of a turn
 
@@ -119,7 +135,7 @@ pub record IsFound (bag : Kept) (piece order : List ℕ) (margin : ℕ) : Type 0
 abbrev pub IsClosed : Frontier → Type 0
 IsClosed f = All (λ o. f.bound ≤ o.low) f.suffixes
 
--- one is, and none that is is a whole order
+-- some open suffix is below the bound, and none that is below it is a whole order
 pub record IsLeft (bag : Kept) (f : Frontier) : Type 0 where
   pub one : Scored
   pub still_open : Contains f.suffixes one
@@ -129,6 +145,11 @@ pub record IsLeft (bag : Kept) (f : Frontier) : Type 0 where
 -- what a turn says, by the front before and after it; an order that is found ended in a suffix that was open
 abbrev pub IsTurn : Kept → ℕ → Frontier → Frontier → Turn → Type 0
 IsTurn bag left old new Closed = (new.least ≡ old.least) × IsClosed new
-IsTurn bag left old new (Found order margin) = IsFound bag old.piece.list order margin × EndsInOne old.suffixes order × (margin < new.bound) × (new.least ≡ min old.least margin)
-IsTurn bag left old new More = (new.least ≡ old.least) × (new.expanded ≡ old.expanded + MOST_EXPANDED) × IsLeft bag new
-IsTurn bag left old new Spent = (new.least ≡ old.least) × (new.expanded ≡ old.expanded + left) × (left < MOST_EXPANDED) × IsLeft bag new
+IsTurn bag left old new (Found order margin) =
+    IsFound bag old.piece.list order margin × EndsInOne old.suffixes order × (margin < new.bound)
+    × (new.least ≡ min old.least margin)
+IsTurn bag left old new More =
+    (new.least ≡ old.least) × (new.expanded ≡ old.expanded + MOST_EXPANDED) × IsLeft bag new
+IsTurn bag left old new Spent =
+    (new.least ≡ old.least) × (new.expanded ≡ old.expanded + left) × (left < MOST_EXPANDED)
+    × IsLeft bag new

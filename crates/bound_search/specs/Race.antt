@@ -21,17 +21,18 @@ pub record IsBest (n : ℕ) (records : List (List ℕ)) (winner : ℕ) (end : Ra
   pub alternative : IsAlternative n winner end.order
   pub hardness : low n records end.order ≡ end.margin
 
--- over whatever records the bag is of
+-- the best margin over whatever records the bag is of
 abbrev pub IsBestOver : Kept → ℕ → RaceEnd → Type 0
-IsBestOver bag winner end = (records : List (List ℕ)) → IsOf bag records → IsBest bag.n records winner end
+IsBestOver bag winner end =
+    (records : List (List ℕ)) → IsOf bag records → IsBest bag.n records winner end
 
 -- ---- the pieces
 
--- those of the orders that elect c: one for each candidate that is eliminated last
+-- the pieces of the orders that elect c: one for each candidate that is eliminated last
 abbrev pub pieces_electing : ℕ → ℕ → List (List ℕ)
 pieces_electing n c = map (λ other. other ∷ c ∷ []) (all_but n c)
 
--- each is given by the two candidates that its orders end in; read backwards, the least comes first
+-- all pieces, each given by the two candidates that its orders end in; read backwards, the least comes first
 abbrev pub pieces : ℕ → ℕ → List (List ℕ)
 pieces n winner = flat_map (pieces_electing n) (all_but n winner)
 
@@ -52,7 +53,7 @@ suffixes_of n piece = suffixes_ending n (n - length piece) piece
 abbrev pub is_part_below : ℕ → List (List ℕ) → ℕ → List ℕ → Bool
 is_part_below n records limit s = nat_lt (length s) n && nat_lt (low n records s) limit
 
--- how many of a piece are
+-- how many suffixes of a piece are no whole orders and of a low below the limit
 abbrev pub parts_below : ℕ → List (List ℕ) → ℕ → List ℕ → ℕ
 parts_below n records limit piece = count_by (is_part_below n records limit) (suffixes_of n piece)
 
@@ -61,18 +62,21 @@ abbrev pub work : ℕ → List (List ℕ) → ℕ → List ℕ → ℕ
 work n records first piece = parts_below n records (min first (value_of n records piece + 1)) piece
 
 -- no more were expanded than the work of the piece, and no fewer than have a low below the best margin
-pub record IsPieceEnd (n : ℕ) (records : List (List ℕ)) (order : List ℕ) (margin : ℕ) (p : PieceEnd) : Type 0 where
+pub record IsPieceEnd (n : ℕ) (records : List (List ℕ)) (order : List ℕ) (margin : ℕ) (p : PieceEnd)
+    : Type 0 where
   pub most : p.expanded ≤ work n records (first_bound n records order) p.tail.list
   pub least : parts_below n records margin p.tail.list ≤ p.expanded
 
 -- the pieces in the order of their numbers
-pub record ArePieces (n : ℕ) (records : List (List ℕ)) (tab : Tabulated) (end : RaceEnd) : Type 0 where
+pub record ArePieces (n : ℕ) (records : List (List ℕ)) (tab : Tabulated) (end : RaceEnd)
+    : Type 0 where
   pub all : map (λ p. p.tail) end.pieces.items ≡ map (piece_of n) (pieces n tab.winner)
   pub numbers : map (λ p. p.piece) end.pieces.items ≡ candidates (length (pieces n tab.winner))
   pub each : All (IsPieceEnd n records tab.order end.margin) end.pieces.items
 
 abbrev pub ArePiecesOver : Kept → Tabulated → RaceEnd → Type 0
-ArePiecesOver bag tab end = (records : List (List ℕ)) → IsOf bag records → ArePieces bag.n records tab end
+ArePiecesOver bag tab end =
+    (records : List (List ℕ)) → IsOf bag records → ArePieces bag.n records tab end
 
 -- a worker expands no more in a turn than one may, and looks at the bound before each
 abbrev pub IsPaced : Report → Type 0
@@ -81,20 +85,25 @@ IsPaced report = report.expanded ≤ MOST_EXPANDED * report.looks
 -- how many entries name the worker, and how many suffixes these expanded together
 pub record IsReportOf (entries : List PieceEnd) (worker : ℕ) (report : Report) : Type 0 where
   pub pieces : report.pieces ≡ count_by (λ p. p.worker == worker) entries
-  pub expanded : report.expanded ≡ sum_by (λ p. if p.worker == worker then p.expanded else 0) entries
+  pub expanded :
+      report.expanded ≡ sum_by (λ p. if p.worker == worker then p.expanded else 0) entries
 
 -- a report for each worker, in the order of their numbers
 abbrev pub AreReportsOf : List PieceEnd → List Report → Type 0
-AreReportsOf entries reports = (worker : ℕ) (d : Report) → worker < length reports → IsReportOf entries worker (slice_index_or reports worker d)
+AreReportsOf entries reports =
+    (worker : ℕ) (d : Report) → worker < length reports →
+    IsReportOf entries worker (slice_index_or reports worker d)
 
 -- ---- too much work
 
 -- the greatest work of a piece whose orders elect c
 abbrev pub work_for : ℕ → List (List ℕ) → List ℕ → ℕ → ℕ
-work_for n records order c = greatest (map (work n records (first_bound n records order)) (pieces_electing n c))
+work_for n records order c =
+    greatest (map (work n records (first_bound n records order)) (pieces_electing n c))
 
 -- an alternative winner with more work than the budget, and an alternative order that is no harder than the start order
-pub record IsTooMuch (n : ℕ) (records : List (List ℕ)) (tab : Tabulated) (nodes last upper : ℕ) (order : List ℕ) : Type 0 where
+pub record IsTooMuch (n : ℕ) (records : List (List ℕ)) (tab : Tabulated) (nodes last upper : ℕ)
+    (order : List ℕ) : Type 0 where
   pub candidate : last < n
   pub other : last ≢ tab.winner
   pub more : nodes < work_for n records tab.order last
@@ -103,8 +112,10 @@ pub record IsTooMuch (n : ℕ) (records : List (List ℕ)) (tab : Tabulated) (no
   pub reached : upper ≤ first_bound n records tab.order
 
 abbrev pub IsSpent : ℕ → List (List ℕ) → Tabulated → ℕ → RaceFault → Type 0
-IsSpent n records tab nodes (Spent last upper order) = IsTooMuch n records tab nodes last upper order
+IsSpent n records tab nodes (Spent last upper order) =
+    IsTooMuch n records tab nodes last upper order
 IsSpent n records tab nodes Memory = ⊤
 
 abbrev pub IsSpentOver : Kept → Tabulated → ℕ → RaceFault → Type 0
-IsSpentOver bag tab nodes fault = (records : List (List ℕ)) → IsOf bag records → IsSpent bag.n records tab nodes fault
+IsSpentOver bag tab nodes fault =
+    (records : List (List ℕ)) → IsOf bag records → IsSpent bag.n records tab nodes fault

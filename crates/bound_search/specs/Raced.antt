@@ -19,13 +19,15 @@ pub record IsStart (bag : Kept) (tab : Tabulated) (start : Start) : Type 0 where
   pub two : 1 < bag.n
   pub tails : start.tails.items ≡ map (piece_of bag.n) (pieces bag.n tab.winner)
   pub reached : IsReached bag tab.winner start.first
-  pub first : (records : List (List ℕ)) → IsOf bag records → start.first.margin ≡ first_bound bag.n records tab.order
+  pub first : (records : List (List ℕ)) → IsOf bag records →
+      start.first.margin ≡ first_bound bag.n records tab.order
 
 -- the piece of the entry is closed under the bound
 abbrev pub IsClosedEntry : Kept → ℕ → PieceEnd → Type 0
 IsClosedEntry bag bound p = IsClosedAt bag bound p.tail.list p.expanded
 
-pub record IsRaced (bag : Kept) (nodes : ℕ) (tails : List Suffix) (workers : ℕ) (start : Best) (r : Raced) : Type 0 where
+pub record IsRaced (bag : Kept) (nodes : ℕ) (tails : List Suffix) (workers : ℕ) (start : Best)
+    (r : Raced) : Type 0 where
   pub took : EachOnce (length tails) (map (λ p. p.piece) r.ends.items)
   pub entries : All (IsEntryOfOne bag start.margin nodes workers tails) r.ends.items
   pub count : length r.reports.items ≡ workers
@@ -33,4 +35,6 @@ pub record IsRaced (bag : Kept) (nodes : ℕ) (tails : List Suffix) (workers : �
   pub paced : All IsPaced r.reports.items
   pub best : (r.best ≡ start) ⊎ IsFoundIn bag tails r.best
   pub upper : r.best.margin ≤ start.margin
-  pub spent : MatchOption r.spent (All (IsClosedEntry bag r.best.margin) r.ends.items) (IsCostly bag start.margin nodes tails)
+  pub spent :
+      MatchOption r.spent (All (IsClosedEntry bag r.best.margin) r.ends.items)
+      (IsCostly bag start.margin nodes tails)

@@ -1,5 +1,5 @@
 -- What a worker found in a piece and in its share of a race, by the views of its seat before and after.
-use Rattle.std.specs.Prelude.{◌≡◌, ◌⊎◌, ℕ, ◌+◌, ◌*◌, ◌<◌, ◌≤◌, if◌then◌else◌, Bool, false, List, [], ◌∷◌, ◌++◌, length, map, sum_by, All, Contains, Option, Some, slice_get, IsTrue, ⊤}
+use Rattle.std.specs.Prelude.{◌≡◌, ◌⊎◌, ℕ, ◌+◌, ◌*◌, ◌<◌, ◌≤◌, if◌then◌else◌, Bool, false, not, List, [], ◌∷◌, ◌++◌, length, map, sum_by, All, Contains, Option, Some, slice_get, IsTrue}
 use Rattle.std.specs.Option.{MatchOption}
 use Rattle.irv_base.specs.Candidates.{is_in}
 use Rattle.irv_base.specs.Orders.{is_order, EndsIn}
@@ -7,6 +7,7 @@ use Rattle.assertions.specs.Suffixes.{IsAlternative}
 use Rattle.assertions.specs.Hardness.{low, first_bound}
 use Rattle.set_tallies.specs.Bags.{Kept, IsOf}
 use Rattle.shared_witness.specs.declared.view.View.{View}
+use Rattle.shared_witness.specs.Race.{Seated, SharedRace}
 use Rattle.shared_witness.specs.View.{highest}
 use Rattle.shared_witness.specs.Moment.{times}
 use Rattle.suffix_tree.specs.Suffixes.{Suffix}
@@ -23,36 +24,52 @@ pub record IsReached (bag : Kept) (winner : ℕ) (e : Best) : Type 0 where
   pub alternative : IsAlternative bag.n winner e.order
   pub hardness : (records : List (List ℕ)) → IsOf bag records → low bag.n records e.order ≡ e.margin
 
--- no more than the hardness of the start order
+-- the margin is no more than the hardness of the start order
 abbrev pub IsUpper : Kept → List ℕ → ℕ → Type 0
-IsUpper bag order margin = (records : List (List ℕ)) → IsOf bag records → margin ≤ first_bound bag.n records order
+IsUpper bag order margin =
+    (records : List (List ℕ)) → IsOf bag records → margin ≤ first_bound bag.n records order
 
--- no order of the piece is less hard
+-- no order of the piece is less hard than the margin
 abbrev pub IsLeastOf : Kept → List ℕ → ℕ → Type 0
 IsLeastOf bag piece margin =
-    (records : List (List ℕ)) → IsOf bag records → (order : List ℕ) → IsTrue (is_order bag.n order) → EndsIn order piece → margin ≤ low bag.n records order
+    (records : List (List ℕ)) → IsOf bag records → (order : List ℕ) →
+    IsTrue (is_order bag.n order) → EndsIn order piece → margin ≤ low bag.n records order
 
 -- ---- a piece
 
 -- a piece was searched to the end: none of its orders is below what was seen of the bound, and all suffixes that are were expanded
 pub record IsClosedAt (bag : Kept) (seen : ℕ) (piece : List ℕ) (expanded : ℕ) : Type 0 where
   pub above : IsLeastOf bag piece seen
-  pub least : (records : List (List ℕ)) → IsOf bag records → parts_below bag.n records seen piece ≤ expanded
+  pub least : (records : List (List ℕ)) → IsOf bag records →
+      parts_below bag.n records seen piece ≤ expanded
 
 -- the budget is smaller than the work of the piece
 abbrev pub IsOverBudget : Kept → ℕ → ℕ → List ℕ → Type 0
-IsOverBudget bag first nodes piece = (records : List (List ℕ)) → IsOf bag records → nodes < work bag.n records first piece
+IsOverBudget bag first nodes piece =
+    (records : List (List ℕ)) → IsOf bag records → nodes < work bag.n records first piece
 
--- no more were expanded than the work of the piece
+-- no more suffixes were expanded than the work of the piece
 abbrev pub IsInWork : Kept → ℕ → List ℕ → ℕ → Type 0
-IsInWork bag first piece expanded = (records : List (List ℕ)) → IsOf bag records → expanded ≤ work bag.n records first piece
+IsInWork bag first piece expanded =
+    (records : List (List ℕ)) → IsOf bag records → expanded ≤ work bag.n records first piece
 
 -- what was posted before is the least post, or the order that was found last
 abbrev pub IsNewest : Kept → List ℕ → ℕ → ℕ → Option Best → Type 0
-IsNewest bag piece before posted found = MatchOption found (posted ≡ before) (λ b. IsFound bag piece b.order b.margin × (b.margin ≡ posted) × (posted < before))
+IsNewest bag piece before posted found =
+    MatchOption found (posted ≡ before)
+    (λ b. IsFound bag piece b.order b.margin × (b.margin ≡ posted) × (posted < before))
+
+-- a seat of the race took the piece and hasn't closed it; it posted nothing below what it has seen
+pub record HoldsPiece (race : SharedRace) (seat : Seated) (piece : ℕ) : Type 0 where
+  pub of_race : seat.race ≡ race.id
+  pub taken : IsTrue (is_in seat.view.taken piece)
+  pub still_open : IsTrue (not (is_in seat.view.closed piece))
+  pub seen : seat.view.seen ≤ seat.view.posted
+  pub posted : seat.view.posted ≤ highest
 
 -- a piece was searched, or skipped, from the one view to the other
-pub record IsPieceSearched (bag : Kept) (first nodes number : ℕ) (piece : List ℕ) (skipped : Bool) (old new : View) (s : Searched) : Type 0 where
+pub record IsPieceSearched (bag : Kept) (first nodes number : ℕ) (piece : List ℕ) (skipped : Bool)
+    (old new : View) (s : Searched) : Type 0 where
   pub taken : new.taken ≡ old.taken
   pub ends : new.ends ≡ old.ends
   pub closed : new.closed ≡ (if s.closed then old.closed ++ number ∷ [] else old.closed)
@@ -75,12 +92,15 @@ pub record IsFoundIn (bag : Kept) (tails : List Suffix) (e : Best) : Type 0 wher
   pub one : Contains tails tail
   pub found : IsFound bag tail.list e.order e.margin
 
--- nothing was found exactly where nothing was posted, and else the least post was
+-- no order was found exactly where nothing was posted, and else the one of the least post was
 abbrev pub IsBestFound : Kept → List Suffix → ℕ → Option Best → Type 0
-IsBestFound bag tails posted best = MatchOption best (posted ≡ highest) (λ b. IsFoundIn bag tails b × (b.margin ≡ posted) × (posted < highest))
+IsBestFound bag tails posted best =
+    MatchOption best (posted ≡ highest)
+    (λ b. IsFoundIn bag tails b × (b.margin ≡ posted) × (posted < highest))
 
 -- the entry of a piece that the worker took
-pub record IsEntry (bag : Kept) (first nodes worker : ℕ) (tails : List Suffix) (p : PieceEnd) : Type 0 where
+pub record IsEntry (bag : Kept) (first nodes worker : ℕ) (tails : List Suffix) (p : PieceEnd)
+    : Type 0 where
   pub tail : slice_get tails p.piece ≡ Some p.tail
   pub worker_is : p.worker ≡ worker
   pub within : p.expanded ≤ nodes
@@ -88,7 +108,8 @@ pub record IsEntry (bag : Kept) (first nodes worker : ℕ) (tails : List Suffix)
 
 -- the piece of this number has more work than the budget
 abbrev pub IsCostly : Kept → ℕ → ℕ → List Suffix → ℕ → Type 0
-IsCostly bag first nodes tails number = (tail : Suffix) × (slice_get tails number ≡ Some tail) × IsOverBudget bag first nodes tail.list
+IsCostly bag first nodes tails number =
+    (tail : Suffix) × (slice_get tails number ≡ Some tail) × IsOverBudget bag first nodes tail.list
 
 -- the pieces that a worker left open
 abbrev pub left_open : WorkerEnd → List ℕ
@@ -96,10 +117,13 @@ left_open e = e.spent.items ++ e.skipped.items
 
 -- the piece is closed, or was left open
 abbrev pub IsDoneWith : Kept → View → List ℕ → PieceEnd → Type 0
-IsDoneWith bag v left p = (IsTrue (is_in v.closed p.piece) × IsClosedAt bag v.seen p.tail.list p.expanded) ⊎ IsTrue (is_in left p.piece)
+IsDoneWith bag v left p =
+    (IsTrue (is_in v.closed p.piece) × IsClosedAt bag v.seen p.tail.list p.expanded)
+    ⊎ IsTrue (is_in left p.piece)
 
 -- what a worker came to, by the view of its seat
-pub record IsWorkerEnd (bag : Kept) (first nodes worker : ℕ) (tails : List Suffix) (v : View) (e : WorkerEnd) : Type 0 where
+pub record IsWorkerEnd (bag : Kept) (first nodes worker : ℕ) (tails : List Suffix) (v : View)
+    (e : WorkerEnd) : Type 0 where
   pub done : v.ends ≡ 1
   pub looks : e.looks ≡ v.looks
   pub took : map (λ p. p.piece) e.ends.items ≡ v.taken
@@ -110,7 +134,7 @@ pub record IsWorkerEnd (bag : Kept) (first nodes worker : ℕ) (tails : List Suf
   pub entries : All (IsEntry bag first nodes worker tails) e.ends.items
   pub done_with : All (IsDoneWith bag v (left_open e)) e.ends.items
   pub costly : All (IsCostly bag first nodes tails) e.spent.items
-  -- none is skipped before one is spent
+  -- no piece is skipped before one is spent
   pub cause : e.spent.items ≡ [] → e.skipped.items ≡ []
   pub paced : sum_by (λ p. p.expanded) e.ends.items ≤ MOST_EXPANDED * e.looks
   pub best : IsBestFound bag tails v.posted e.best

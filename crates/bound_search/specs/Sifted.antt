@@ -17,13 +17,13 @@ IsFoundWithin (Some o) m = o.low ≤ m
 abbrev pub IsPlaced : ℕ → List Scored → Option Scored → Scored → Type 0
 IsPlaced bound fresh found x = (bound ≤ x.low) ⊎ (Contains fresh x ⊎ IsFoundWithin found x.low)
 
--- one of the children, below the bound, that isn't a whole order
+-- x is one of the children, below the bound, and isn't a whole order
 pub record IsOpenChild (children : List Scored) (bound : ℕ) (x : Scored) : Type 0 where
   pub one : Contains children x
   pub below : x.low < bound
   pub part : length x.tail.list ≡ x.tail.n → ⊥
 
--- or that is one
+-- x is one of the children, below the bound, and a whole order
 pub record IsFoundChild (children : List Scored) (bound : ℕ) (x : Scored) : Type 0 where
   pub one : Contains children x
   pub below : x.low < bound
@@ -34,7 +34,7 @@ abbrev pub least_after : ℕ → Option Scored → ℕ
 least_after least None = least
 least_after least (Some o) = min least o.low
 
--- the first is taken, and the others are put in
+-- the first suffix of a heap is taken, and the fresh ones are put in
 pub record Replaced (old fresh new : List Scored) : Type 0 where
   pub top : Scored
   pub rest : List Scored
@@ -43,7 +43,8 @@ pub record Replaced (old fresh new : List Scored) : Type 0 where
   pub joined : IsPermutation (rest ++ fresh) new
 
 -- the children stand in the place of the first suffix, or are pruned, or found
-pub record IsPut (children : List Scored) (old new : Frontier) (found : Option Scored) : Type 0 where
+pub record IsPut (children : List Scored) (old new : Frontier) (found : Option Scored)
+    : Type 0 where
   pub fresh : List Scored
   pub replaced : Replaced old.suffixes fresh new.suffixes
   pub placed : (x : Scored) → Contains children x → IsPlaced old.bound fresh found x
@@ -55,19 +56,22 @@ pub record IsPut (children : List Scored) (old new : Frontier) (found : Option S
   pub expanded : new.expanded ≡ old.expanded + 1
   pub least : new.least ≡ least_after old.least found
 
--- no more was found, or an order below the bound
+-- no order was found, or one below the bound
 abbrev pub IsNewlyFound : Kept → Frontier → Frontier → Option Scored → Type 0
 IsNewlyFound bag old new None = new.least ≡ old.least
-IsNewlyFound bag old new (Some o) = ((length o.tail.list == o.tail.n) ≡ true) × IsFound bag old.piece.list o.tail.list o.low × EndsInOne old.suffixes o.tail.list × (o.low < old.bound) × (new.least ≡ min old.least o.low)
+IsNewlyFound bag old new (Some o) =
+    ((length o.tail.list == o.tail.n) ≡ true) × IsFound bag old.piece.list o.tail.list o.low
+    × EndsInOne old.suffixes o.tail.list × (o.low < old.bound) × (new.least ≡ min old.least o.low)
 
--- one suffix was expanded
+-- one suffix of a front was expanded
 pub record IsExpanded (bag : Kept) (old new : Frontier) (found : Option Scored) : Type 0 where
   pub one : Scored
   pub was_open : Contains old.suffixes one
   pub below : one.low < old.bound
   pub first : IsFirstOf one old.suffixes
   pub replaced : IsReplaced one old.suffixes new.suffixes
-  pub after : (done : List (List ℕ)) → IsAfter bag done old → IsAfter bag (done ++ one.tail.list ∷ []) new
+  pub after : (done : List (List ℕ)) → IsAfter bag done old →
+      IsAfter bag (done ++ one.tail.list ∷ []) new
   pub from_open : All (λ o. EndsInOne old.suffixes o.tail.list) new.suffixes
   pub piece : new.piece ≡ old.piece
   pub bound : new.bound ≡ old.bound
@@ -83,7 +87,7 @@ pub record IsTaken (old new : Frontier) (order : Scored) : Type 0 where
   pub expanded : new.expanded ≡ old.expanded
   pub least : new.least ≡ min old.least order.low
 
--- the first is below the bound, and is a whole order or isn't
+-- the first suffix is below the bound, and is a whole order or isn't
 abbrev pub IsFirst : Bool → ℕ → Option Scored → Type 0
 IsFirst whole bound None = ⊥
 IsFirst whole bound (Some t) = (t.low < bound) × ((length t.tail.list == t.tail.n) ≡ whole)

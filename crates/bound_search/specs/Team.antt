@@ -19,7 +19,7 @@ use Rattle.bound_search.specs.declared.team.Worker.{Worker}
 abbrev pub waiting : RaceSeat → Worker
 waiting s = record { seat = s; end = Err record {} }
 
--- its seat did nothing yet
+-- the worker's seat did nothing yet
 abbrev pub WorkerWaits : SharedRace → Worker → Type 0
 WorkerWaits race w = w.seat ≡ new_seat race
 
@@ -29,18 +29,22 @@ pub record IsCut (bag : Kept) (tails : List Suffix) (race : SharedRace) : Type 0
   pub one_each : race.terms.pieces ≡ length tails
   pub few : length tails ≤ MOST_PIECES
 
--- of an `Err` nothing is said
+-- what the end of a worker says; of an `Err` nothing is said
 abbrev pub HasEnd : Kept → ℕ → ℕ → List Suffix → ℕ → Worker → Type 0
-HasEnd bag first nodes tails worker w = IfOk w.end (IsWorkerEnd bag first nodes worker tails w.seat.view)
+HasEnd bag first nodes tails worker w =
+    IfOk w.end (IsWorkerEnd bag first nodes worker tails w.seat.view)
 
 -- the seat is of the race, whatever the end
-pub record WorkerRan (bag : Kept) (nodes : ℕ) (tails : List Suffix) (race : SharedRace) (number : ℕ) (w : Worker) : Type 0 where
+pub record WorkerRan (bag : Kept) (nodes : ℕ) (tails : List Suffix) (race : SharedRace) (number : ℕ)
+    (w : Worker) : Type 0 where
   pub of_race : w.seat.race ≡ race.id
   pub end : HasEnd bag race.terms.first nodes tails number w
 
 -- the workers in the order of their numbers
 abbrev pub TeamRan : Kept → ℕ → List Suffix → SharedRace → List Worker → Type 0
-TeamRan bag nodes tails race team = (i : ℕ) (d : Worker) → i < length team → WorkerRan bag nodes tails race i (slice_index_or team i d)
+TeamRan bag nodes tails race team =
+    (i : ℕ) (d : Worker) → i < length team →
+    WorkerRan bag nodes tails race i (slice_index_or team i d)
 
 -- ---- what all workers came to together
 
@@ -49,11 +53,13 @@ HasFewEnds w = IfOk w.end (λ e. length e.ends.items ≤ MOST_PIECES)
 
 -- the entry of a piece that was closed: no seat has seen less than the bound
 abbrev pub IsClosedUnder : Kept → List Seated → PieceEnd → Type 0
-IsClosedUnder bag seats p = (bound : ℕ) → All (λ s. bound ≤ s.view.seen) seats → IsClosedAt bag bound p.tail.list p.expanded
+IsClosedUnder bag seats p =
+    (bound : ℕ) → All (λ s. bound ≤ s.view.seen) seats → IsClosedAt bag bound p.tail.list p.expanded
 
 -- the entry of a piece that some worker took
 abbrev pub IsEntryOfOne : Kept → ℕ → ℕ → ℕ → List Suffix → PieceEnd → Type 0
-IsEntryOfOne bag first nodes workers tails p = (p.worker < workers) × IsEntry bag first nodes p.worker tails p
+IsEntryOfOne bag first nodes workers tails p =
+    (p.worker < workers) × IsEntry bag first nodes p.worker tails p
 
 abbrev pub first_of : Option ℕ → List ℕ → Option ℕ
 first_of (Some number) others = Some number
@@ -61,14 +67,19 @@ first_of None [] = None
 first_of None (number ∷ others) = Some number
 
 -- the ends of all workers, joined
-pub record IsJoined (bag : Kept) (nodes : ℕ) (tails : List Suffix) (race : SharedRace) (start : Best) (j : Joined) : Type 0 where
+pub record IsJoined (bag : Kept) (nodes : ℕ) (tails : List Suffix) (race : SharedRace)
+    (start : Best) (j : Joined) : Type 0 where
   pub of_race : All (λ s. s.race ≡ race.id) j.seats.items
   pub done : All (λ s. 1 ≤ s.view.ends) j.seats.items
   pub count : length j.reports.items ≡ length j.seats.items
   pub paced : All IsPaced j.reports.items
-  pub least : start.margin ≤ highest → j.best.margin ≡ least_posted start.margin (views_of j.seats.items)
+  pub least : start.margin ≤ highest →
+      j.best.margin ≡ least_posted start.margin (views_of j.seats.items)
   pub best : (j.best ≡ start) ⊎ IsFoundIn bag tails j.best
   pub took : map (λ p. p.piece) j.ends.items ≡ taken_pieces (views_of j.seats.items)
-  pub entries : All (IsEntryOfOne bag race.terms.first nodes (length j.reports.items) tails) j.ends.items
+  pub entries :
+      All (IsEntryOfOne bag race.terms.first nodes (length j.reports.items) tails) j.ends.items
   pub reports : AreReportsOf j.ends.items j.reports.items
-  pub spent : MatchOption j.spent (All (IsClosedUnder bag j.seats.items) j.ends.items) (IsCostly bag race.terms.first nodes tails)
+  pub spent :
+      MatchOption j.spent (All (IsClosedUnder bag j.seats.items) j.ends.items)
+      (IsCostly bag race.terms.first nodes tails)

@@ -1,4 +1,4 @@
-// How a race ends.
+// How the search of a piece, the share of a worker, and a race end.
 ghost use Rattle.std.specs.Prelude.{◌≡◌};
 ghost use Rattle.bound_search.specs.declared.ends.RaceFault.TheVariants.{Memory as WantOfMemory};
 
@@ -11,11 +11,13 @@ use suffix_tree::Tail;
 /// An order that elects another candidate than the winner, and its hardness, in votes.
 #[derive(Clone, Copy)]
 pub struct Best {
+    /// The order, which has all candidates of the contest.
     pub order: Order,
+    /// Its hardness.
     pub margin: u32,
 }
 
-/// How it ended with a piece.
+/// How the search of one piece ended, and by whom.
 #[derive(Clone, Copy)]
 pub struct PieceEnd {
     /// The number of the piece.
@@ -28,16 +30,16 @@ pub struct PieceEnd {
     pub expanded: u32,
 }
 
-/// What one worker came to.
+/// What the share of one worker came to.
 #[derive(Drop)]
 pub struct WorkerEnd {
     /// The least hard order that it found, if it found one.
     pub best: Option<Best>,
     /// The pieces that it took, in turn.
     pub ends: Vec<PieceEnd>,
-    /// The numbers of those that it couldn't search to the end within the budget.
+    /// The numbers of the pieces that it couldn't search to the end within the budget.
     pub spent: Vec<u32>,
-    /// The numbers of those that it skipped, once one was spent.
+    /// The numbers of the pieces that it skipped, once one was spent.
     pub skipped: Vec<u32>,
     /// How often it looked at the bound.
     pub looks: u64,
@@ -54,7 +56,7 @@ pub struct Report {
     pub looks: u64,
 }
 
-/// How a race ends that was within its budget.
+/// What a race within its budget answers.
 #[derive(Drop)]
 pub struct RaceEnd {
     /// The best margin, in votes.

@@ -1,5 +1,6 @@
 // The open suffixes of one piece.
-ghost use Rattle.std.specs.Prelude.{◌≡◌, ◌+◌, ◌^◌, ◌<◌, ◌∷◌, [], length, IfOk, OnErr, Some, slice_get};
+ghost use Rattle.std.specs.Prelude.{◌≡◌, ◌+◌, ◌^◌, ◌<◌, ◌∷◌, [], length, IfOk, OnErr, Some, IsTrue, slice_get};
+ghost use Rattle.assertions.specs.Suffixes.{is_suffix};
 ghost use Rattle.set_tallies.specs.Bags.{Kept};
 ghost use Rattle.suffix_tree.specs.Scores.{IsScoredOver};
 ghost use Rattle.bound_search.specs.Fronts.{IsFirstOf, IsFront};
@@ -44,7 +45,7 @@ impl Model for Front {
     ghost invariant = { λ f. IsHeap first_is_greatest (heap_items f.suffixes) };
 }
 
-/// What stands first: nothing below the bound, a whole order, or another suffix.
+/// What a front has at its head: nothing below the bound, a whole order, or another suffix.
 #[derive(Clone, Copy)]
 pub enum Look {
     NoneLeft,
@@ -58,13 +59,14 @@ impl Front {
         ensures front { IfOk result (λ f. (bag : Kept) → start.tail.n ≡ bag.n
             → IsScoredOver bag start → IsFront bag f) }
         ensures piece { IfOk result (λ f. f.piece ≡ start.tail) }
+        ensures suffix { IfOk result (λ f. IsTrue (is_suffix f.piece.n f.piece.list)) }
         ensures alone { IfOk result (λ f. f.suffixes ≡ start ∷ []) }
         ensures unbounded { IfOk result (λ f. f.bound ≡ u32.MAX) }
         ensures nothing_found { IfOk result (λ f. f.least ≡ u32.MAX) }
         ensures none_expanded { IfOk result (λ f. f.expanded ≡ 0) }
     {
         let piece = start.tail;
-        // Its candidates are distinct, and of the contest.
+        // The list promises what no field of a tail tells: its candidates are distinct, and of the contest.
         let _suffix = start.tail.list();
         let mut suffixes = BinaryHeap::new(alloc);
         suffixes.push(start)?;
@@ -91,7 +93,7 @@ impl Front {
         self.bound = bound;
     }
 
-    // What stands first.
+    // What the front has at its head.
     pub(crate) fn look(&self) -> Look
         ensures { IsLook self.now result }
     {

@@ -17,8 +17,11 @@ use std::alloc::Global;
 /// What the workers came to together.
 #[derive(Drop)]
 pub(crate) struct Joined {
+    /// The seats of the workers, as these left them.
     pub seats: Vec<RaceSeat>,
+    /// The ends of the pieces that were taken, worker by worker.
     pub ends: Vec<PieceEnd>,
+    /// What each worker did, in the order of their numbers.
     pub reports: Vec<Report>,
     /// The least hard of the orders that were found, or the start order.
     pub best: Best,

@@ -13,12 +13,13 @@ pub fn closed_above()
     ensures { ClosedAbove }
 {}
 
-/// No more were expanded than there are suffixes of the piece below the greatest bound.
+/// No more suffixes were expanded than the piece has below the greatest bound.
 pub fn most_expanded()
     ensures { MostExpanded }
 {}
 
-/// Where no open suffix is below the bound, no fewer were expanded than there are below it and below the least margin found.
+/// Where no open suffix is below the bound, no fewer suffixes were expanded than the piece has below it and below the least
+/// margin found.
 pub fn least_expanded()
     ensures { LeastExpanded }
 {}

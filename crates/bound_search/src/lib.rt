@@ -25,6 +25,3 @@ pub use pieces::tails_of;
 pub use search::race;
 pub use share::work;
 pub use turn::Turn;
-
-#[cfg(test)]
-mod tests;

@@ -1,8 +1,6 @@
 // The search of one piece by one worker.
-ghost use Rattle.std.specs.Prelude.{◌≡◌, ◌≤◌, ◌<◌, IfOk, IsTrue, false, not};
-ghost use Rattle.irv_base.specs.Candidates.{is_in};
-ghost use Rattle.shared_witness.specs.View.{highest};
-ghost use Rattle.bound_search.specs.Reached.{IsPieceSearched};
+ghost use Rattle.std.specs.Prelude.{◌≡◌, ◌<◌, IfOk, false};
+ghost use Rattle.bound_search.specs.Reached.{HoldsPiece, IsPieceSearched};
 
 use crate::ends::Best;
 use crate::front::Front;
@@ -59,17 +57,13 @@ pub(crate) fn search<L: Ledger>(
     requires parts { blank.parts ≡ L.parts }
     requires some { 0 < blank.parts }
     requires contest { tail.now.n ≡ tallies.old.bag.n }
-    requires race { seat.old.race ≡ race.now.id }
-    requires taken { IsTrue (is_in seat.old.view.taken piece) }
-    requires open_piece { IsTrue (not (is_in seat.old.view.closed piece)) }
-    requires seen { (seat.old.view.seen ≤ seat.old.view.posted) × (seat.old.view.posted ≤ highest) }
+    requires holds { HoldsPiece race.now seat.old piece }
     ensures race { seat.new.race ≡ race.now.id }
     ensures searched { IfOk result (IsPieceSearched tallies.old.bag race.now.terms.first nodes
         piece tail.now.list false seat.old.view seat.new.view) }
     ensures same { tallies.new ≡ tallies.old }
 {
     let mut steps = Steps::<L>::new(blank);
-    let _suffix = tail.list();
     let mut front = Front::new(alloc, score(tail, tallies)?)?;
     let mut found: Option<Best> = None;
     let mut looks = 0u64;

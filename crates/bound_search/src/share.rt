@@ -1,9 +1,7 @@
 // The share of one worker.
-ghost use Rattle.std.specs.Prelude.{◌≡◌, ◌⊎◌, ◌≤◌, ◌++◌, ◌∷◌, [], All, false, IfOk, OnOk, IsTrue, length, not, if◌then◌else◌};
-ghost use Rattle.irv_base.specs.Candidates.{is_in};
-ghost use Rattle.shared_witness.specs.View.{highest};
+ghost use Rattle.std.specs.Prelude.{◌≡◌, ◌⊎◌, ◌≤◌, ◌++◌, ◌∷◌, [], All, false, IfOk, OnOk, length, if◌then◌else◌};
 ghost use Rattle.shared_witness.specs.Race.{new_seat};
-ghost use Rattle.bound_search.specs.Reached.{IsPieceSearched, IsWorkerEnd};
+ghost use Rattle.bound_search.specs.Reached.{HoldsPiece, IsPieceSearched, IsWorkerEnd};
 ghost use Rattle.bound_search.specs.declared.limits.TheConstants.{MOST_PIECES};
 
 use crate::ends::{PieceEnd, WorkerEnd};
@@ -55,10 +53,7 @@ fn search_or_skip(
     skip: bool,
 ) -> Result<Searched, Memory>
     requires contest { tail.now.n ≡ tallies.old.bag.n }
-    requires race { seat.old.race ≡ race.now.id }
-    requires taken { IsTrue (is_in seat.old.view.taken piece) }
-    requires open_piece { IsTrue (not (is_in seat.old.view.closed piece)) }
-    requires seen { (seat.old.view.seen ≤ seat.old.view.posted) × (seat.old.view.posted ≤ highest) }
+    requires holds { HoldsPiece race.now seat.old piece }
     ensures race { seat.new.race ≡ race.now.id }
     ensures searched { IfOk result (IsPieceSearched tallies.old.bag race.now.terms.first nodes
         piece tail.now.list skip seat.old.view seat.new.view) }

@@ -25,11 +25,13 @@ fn lesser(found: Option<Scored>, order: Scored) -> Scored
 /// What becomes of the children: those that stay open, and the least whole order.
 #[derive(Drop)]
 pub struct Sifted {
+    /// The children that stay open, the least low first.
     pub fresh: BinaryHeap<Scored>,
+    /// The least whole order below the bound, if there is one.
     pub found: Option<Scored>,
 }
 
-/// Prunes what the bound rules out, and sets the least whole order apart.
+/// Prunes the children that the bound rules out, and sets the least whole order apart.
 pub fn sift(alloc: Global, children: Vec<Scored>, bound: u32) -> Result<Sifted, Memory>
     ensures heap { IfOk result (λ s. IsHeap first_is_greatest (heap_items s.fresh)) }
     ensures each { IfOk result (λ s. (x : Scored) → Contains children.items x
@@ -54,7 +56,7 @@ pub fn sift(alloc: Global, children: Vec<Scored>, bound: u32) -> Result<Sifted, 
     Ok(Sifted { fresh, found })
 }
 
-/// Takes the first, and puts the others in. Where memory is short nothing changes.
+/// Takes the first suffix, and puts the fresh ones in. Where memory is short nothing changes.
 pub fn replace_first(
     suffixes: &mut BinaryHeap<Scored>,
     fresh: BinaryHeap<Scored>,

@@ -19,7 +19,9 @@ use suffix_tree::Tail;
 /// A worker: its seat, and its end. Before its share the end is an `Err`.
 #[derive(Drop)]
 pub(crate) struct Worker {
+    /// Its seat in the race.
     pub seat: RaceSeat,
+    /// What it came to, or `Memory` where it couldn't go on or hasn't begun.
     pub end: Result<WorkerEnd, Memory>,
 }
 

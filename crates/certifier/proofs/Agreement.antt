@@ -34,7 +34,8 @@ order-after k x e =
 from_insert : (ks : List Assertion) (k a : Assertion) → Member a (insert_key order ks k) → (k ≡ a) ⊎ Member a ks
 from_insert [] k a m = elim (member_cases m) [ inl e ↦ inl e | inr r ↦ absurd (member_nil r) ]
 from_insert (x ∷ xs) k a m = go (order k x) m (from_insert xs k a) where
-  go : (o : Ordering) → Member a (match_ordering o (k ∷ x ∷ xs) (x ∷ xs) (x ∷ insert_key order xs k)) → (Member a (insert_key order xs k) → (k ≡ a) ⊎ Member a xs) → (k ≡ a) ⊎ Member a (x ∷ xs)
+  go : (o : Ordering) → Member a (match_ordering o (k ∷ x ∷ xs) (x ∷ xs) (x ∷ insert_key order xs k)) →
+      (Member a (insert_key order xs k) → (k ≡ a) ⊎ Member a xs) → (k ≡ a) ⊎ Member a (x ∷ xs)
   go Less n ih = elim (member_cases n) [ inl e ↦ inl e | inr r ↦ inr r ]
   go Equal n ih = inr n
   go Greater n ih = elim (member_cases n) [ inl e ↦ inr (member_at e) | inr r ↦ elim (ih r) [ inl e ↦ inl e | inr s ↦ inr (there s) ] ]
@@ -58,10 +59,12 @@ insert-keeps (x ∷ xs) k a m = go (order k x) (insert-keeps xs k a) where
 insert-sorted : (ks : List Assertion) (k : Assertion) → Sorted Before ks → Sorted Before (insert_key order ks k)
 insert-sorted [] k none = more (λ y m. absurd (member_nil m)) none
 insert-sorted (x ∷ xs) k (more first r) = go (order k x) refl (insert-sorted xs k r) where
-  go : (o : Ordering) → order k x ≡ o → Sorted Before (insert_key order xs k) → Sorted Before (match_ordering o (k ∷ x ∷ xs) (x ∷ xs) (x ∷ insert_key order xs k))
+  go : (o : Ordering) → order k x ≡ o → Sorted Before (insert_key order xs k) →
+      Sorted Before (match_ordering o (k ∷ x ∷ xs) (x ∷ xs) (x ∷ insert_key order xs k))
   go Less e ih =
       let l : Before k x = (cmp-Less k x).0 e in
-      more {x = k} {xs = x ∷ xs} (λ y m. elim (member_cases m) [ inl s ↦ subst (Before k) s l | inr n ↦ fixed_order_is_total.goes_on k x y l (first y n) ]) (more {x = x} {xs = xs} first r)
+      more {x = k} {xs = x ∷ xs} (λ y m. elim (member_cases m) [ inl s ↦ subst (Before k) s l | inr n ↦ fixed_order_is_total.goes_on k x y l (first y n) ])
+      (more {x = x} {xs = xs} first r)
   go Equal e ih = more {x = x} {xs = xs} first r
   go Greater e ih =
       let l : Before x k = order-after k x e in
@@ -119,19 +122,22 @@ module _ (n : ℕ) (records : List (List ℕ)) where
   insert-marked [] a = refl
   insert-marked (x ∷ xs) a = go (order a x) refl (insert-marked xs a) where
     go : (o : Ordering) → order a x ≡ o → insert_entry order (map marked xs) a (true_margin records a) ≡ map marked (insert_key order xs a) →
-        match_ordering o (marked a ∷ marked x ∷ map marked xs) ((x, true_margin records a) ∷ map marked xs) (marked x ∷ insert_entry order (map marked xs) a (true_margin records a))
+        match_ordering o (marked a ∷ marked x ∷ map marked xs) ((x, true_margin records a) ∷ map marked xs)
+        (marked x ∷ insert_entry order (map marked xs) a (true_margin records a))
         ≡ map marked (match_ordering o (a ∷ x ∷ xs) (x ∷ xs) (x ∷ insert_key order xs a))
     go Less e ih = refl
     go Equal e ih = let same : a ≡ x = (cmp-Equal a x).0 e in ap (λ b. (x, true_margin records b) ∷ map marked xs) same
     go Greater e ih = ap (λ r. marked x ∷ r) ih
 
-  margin-marked : (ks : List Assertion) (s : List ℕ) → with_margin order (map marked ks) (refuter n records s) (low n records s) ≡ map marked (with_key ks (refuter n records s))
+  margin-marked : (ks : List Assertion) (s : List ℕ) → with_margin order (map marked ks) (refuter n records s) (low n records s)
+      ≡ map marked (with_key ks (refuter n records s))
   margin-marked ks s = go (refuter n records s) refl where
     go : (o : Option Assertion) → refuter n records s ≡ o → with_margin order (map marked ks) o (low n records s) ≡ map marked (with_key ks o)
     go None e = refl
     go (Some a) e = ap (insert_entry order (map marked ks) a) (sym (from_refuter n records s a e).reached) ∙ insert-marked ks a
 
-  pub gathered-marked : (ks : List Assertion) (suffixes : List (List ℕ)) → gathered order (score_of n records) (map marked ks) suffixes ≡ map marked (keys_of (refuter n records) ks suffixes)
+  pub gathered-marked : (ks : List Assertion) (suffixes : List (List ℕ)) → gathered order (score_of n records) (map marked ks) suffixes
+      ≡ map marked (keys_of (refuter n records) ks suffixes)
   gathered-marked ks [] = refl
   gathered-marked ks (s ∷ suffixes) =
       ap (λ es. gathered order (score_of n records) es suffixes) (margin-marked ks s) ∙ gathered-marked (with_key ks (refuter n records s)) suffixes

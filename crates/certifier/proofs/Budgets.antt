@@ -51,7 +51,8 @@ module _ (n winner nodes : ℕ) (count : ℕ → ℕ) where
         over = ltb-true nodes (count last) t;
         least = λ c l other. elim (cases_lt nodes (count c)) [
           | inl lt ↦
-              elim (find-first ◌<◌ is_over last c (sorted-filter ◌<◌ (λ d. not (d == winner)) (sorted-range 0 n)) h (other-member c (omega arith) other) (lt-ltb nodes (count c) lt)) [
+              elim (find-first ◌<◌ is_over last c (sorted-filter ◌<◌ (λ d. not (d == winner)) (sorted-range 0 n)) h (other-member c (omega arith) other)
+              (lt-ltb nodes (count c) lt)) [
                 | inl e ↦ absurd (omega arith)
                 | inr g ↦ absurd (omega arith)
               ]
@@ -72,10 +73,12 @@ module _ (n nodes : ℕ) (kept : List ℕ → Bool) where
   -- at or behind the candidate that it begins with
   pub scan-later : (winner c last : ℕ) → scan_from n nodes kept winner c ≡ Err last → c ≤ last
   scan-later winner c last h =
-      (from_range last c (n - c) (from_filter (λ d. not (d == winner)) (range_with_len c (n - c)) (scan-member (filter (λ d. not (d == winner)) (range_with_len c (n - c))) last h)).0).0
+      (from_range last c (n - c) (from_filter (λ d. not (d == winner)) (range_with_len c (n - c))
+      (scan-member (filter (λ d. not (d == winner)) (range_with_len c (n - c))) last h)).0).0
 
   -- so the counts of those before it are within the budget
-  pub earlier-within : (winner c : ℕ) (count : ℕ → ℕ) (order : Option (List ℕ)) → scan_from n nodes kept winner c ≡ or_spent (first_over n winner nodes count) order →
+  pub earlier-within : (winner c : ℕ) (count : ℕ → ℕ) (order : Option (List ℕ)) → scan_from n nodes kept winner c
+      ≡ or_spent (first_over n winner nodes count) order →
       (d : ℕ) → d < n → d < c → d ≢ winner → count d ≤ nodes
   earlier-within winner c count order h d below l ne = go (first_over n winner nodes count) refl h where
     go : (o : Option ℕ) → first_over n winner nodes count ≡ o → scan_from n nodes kept winner c ≡ or_spent o order → count d ≤ nodes
@@ -116,16 +119,18 @@ module _ (n winner nodes : ℕ) (records : List (List ℕ)) (best : ℕ) (is : b
   none_under = find-none (is_under n records best) (alternative_orders n winner) (λ o m. le-ltb (low n records o) best (reached o m))
 
   cover_kept : (c : ℕ) → kept_count n (is_under n records best) None c ≡ cover_count n (low n records) best c
-  cover_kept c = count-same (λ s. is_under n records best s && true) (is_under n records best) (parts_ending n c) (λ s m. both (is_under n records best s)) where
-    both : (b : Bool) → (b && true) ≡ b
-    both true = refl
-    both false = refl
+  cover_kept c = count-same (λ s. is_under n records best s && true) (is_under n records best) (parts_ending n c) (λ s m. both (is_under n records best s))
+    where
+      both : (b : Bool) → (b && true) ≡ b
+      both true = refl
+      both false = refl
 
   pub covers_are : first_within n winner nodes (is_under n records best) ≡ or_spent (first_over n winner nodes (cover_count n (low n records) best)) None
   covers_are =
       ap (λ o. or_spent (first_over n winner nodes (kept_count n (is_under n records best) o)) o) none_under
       ∙ ap (λ o. or_spent o None)
-      (find-same (λ c. nat_lt nodes (kept_count n (is_under n records best) None c)) (λ c. nat_lt nodes (cover_count n (low n records) best c)) (all_but n winner) (λ c m. ap (nat_lt nodes) (cover_kept c)))
+      (find-same (λ c. nat_lt nodes (kept_count n (is_under n records best) None c)) (λ c. nat_lt nodes (cover_count n (low n records) best c))
+      (all_but n winner) (λ c m. ap (nat_lt nodes) (cover_kept c)))
 
   -- the search for the order
   abbrev at_most : List ℕ → Bool

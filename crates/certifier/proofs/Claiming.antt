@@ -35,7 +35,8 @@ module _ (n : ℕ) (records : List (List ℕ)) (task : Task) where
   abbrev ends_of : ℕ → List (List ℕ)
   ends_of c = ends_in n records task.best (all_ending n (c ∷ []))
 
-  pub claims-none : (own : ℕ → Bool) (entries : List (Assertion × ℕ)) → ((c : ℕ) → IsOwn n records task own c → ⊥) → entries ≡ [] → AreClaims n records task own entries
+  pub claims-none : (own : ℕ → Bool) (entries : List (Assertion × ℕ)) → ((c : ℕ) → IsOwn n records task own c → ⊥) → entries ≡ [] →
+      AreClaims n records task own entries
   claims-none own entries nobody empty = record {
     keys = [];
     marked = empty;
@@ -43,7 +44,8 @@ module _ (n : ℕ) (records : List (List ℕ)) (task : Task) where
     listed = λ a. (λ m. absurd (member_nil (member-from_contains a [] m)), λ r. absurd (nobody r.0 r.1));
   }
 
-  pub claims-same : (own its : ℕ → Bool) (entries : List (Assertion × ℕ)) → ((c : ℕ) → IsOwn n records task own c → IsOwn n records task its c) → ((c : ℕ) → IsOwn n records task its c → IsOwn n records task own c) →
+  pub claims-same : (own its : ℕ → Bool) (entries : List (Assertion × ℕ)) → ((c : ℕ) → IsOwn n records task own c → IsOwn n records task its c) →
+      ((c : ℕ) → IsOwn n records task its c → IsOwn n records task own c) →
       AreClaims n records task own entries → AreClaims n records task its entries
   claims-same own its entries there back h = record {
     keys = h.keys;
@@ -56,8 +58,10 @@ module _ (n : ℕ) (records : List (List ℕ)) (task : Task) where
   }
 
   -- one candidate more
-  pub claims-more : (own its : ℕ → Bool) (last : ℕ) (entries next : List (Assertion × ℕ)) → IsOwn n records task its last → ((c : ℕ) → IsOwn n records task own c → IsOwn n records task its c) →
-      ((c : ℕ) → IsOwn n records task its c → IsOwn n records task own c ⊎ (c ≡ last)) → AreClaims n records task own entries → next ≡ gathered order (score_of n records) entries (ends_of last) →
+  pub claims-more : (own its : ℕ → Bool) (last : ℕ) (entries next : List (Assertion × ℕ)) → IsOwn n records task its last →
+      ((c : ℕ) → IsOwn n records task own c → IsOwn n records task its c) →
+      ((c : ℕ) → IsOwn n records task its c → IsOwn n records task own c ⊎ (c ≡ last)) → AreClaims n records task own entries →
+      next ≡ gathered order (score_of n records) entries (ends_of last) →
       AreClaims n records task its next
   claims-more own its last entries next mine there back h e =
       let sorted = keys-sorted (refuter n records) h.keys (ends_of last) (sorted-from_pairs Before h.keys h.rising) in
@@ -80,17 +84,20 @@ module _ (n : ℕ) (records : List (List ℕ)) (task : Task) where
           contains-from_member
           (elim (back c o) [
             | inl mine ↦ keys-keep (refuter n records) h.keys (ends_of last) a (member-from_contains a h.keys ((h.listed a).1 (c, mine, s, q, r)))
-            | inr same ↦ keys-member (refuter n records) h.keys (ends_of last) s a (subst (λ d. Member s (ends_of d)) same (member-from_contains s (ends_of c) q)) r
+            | inr same ↦ keys-member (refuter n records) h.keys (ends_of last) s a
+                (subst (λ d. Member s (ends_of d)) same (member-from_contains s (ends_of c) q)) r
           ])
 
   -- two parts
-  pub claims-join : (own its : ℕ → Bool) (entries more next : List (Assertion × ℕ)) → AreClaims n records task own entries → AreClaims n records task its more → next ≡ with_all order entries more →
+  pub claims-join : (own its : ℕ → Bool) (entries more next : List (Assertion × ℕ)) → AreClaims n records task own entries →
+      AreClaims n records task its more → next ≡ with_all order entries more →
       AreClaims n records task (in_either own its) next
   claims-join own its entries more next h k e =
       let sorted = keys-sorted Some h.keys k.keys (sorted-from_pairs Before h.keys h.rising) in
       record {
         keys = keys_of Some h.keys k.keys;
-        marked = e ∙ ap (λ es. with_all order es more) h.marked ∙ ap (with_all order (map (marked n records) h.keys)) k.marked ∙ all-marked n records h.keys k.keys;
+        marked = e ∙ ap (λ es. with_all order es more) h.marked ∙ ap (with_all order (map (marked n records) h.keys)) k.marked
+            ∙ all-marked n records h.keys k.keys;
         rising = sorted-get Before (keys_of Some h.keys k.keys) sorted;
         listed = λ a. (to a, from a);
       }
@@ -119,8 +126,10 @@ module _ (n : ℕ) (records : List (List ℕ)) (task : Task) where
       from a (c, o, s, q, r) =
           contains-from_member
           (elim (from_or (own c) (its c) o.meant) [
-            | inl mine ↦ keys-keep Some h.keys k.keys a (member-from_contains a h.keys ((h.listed a).1 (c, record { below = o.below; alternative = o.alternative; meant = mine }, s, q, r)))
-            | inr its ↦ keys-member Some h.keys k.keys a a (member-from_contains a k.keys ((k.listed a).1 (c, record { below = o.below; alternative = o.alternative; meant = its }, s, q, r))) refl
+            | inl mine ↦ keys-keep Some h.keys k.keys a (member-from_contains a h.keys
+                ((h.listed a).1 (c, record { below = o.below; alternative = o.alternative; meant = mine }, s, q, r)))
+            | inr its ↦ keys-member Some h.keys k.keys a a (member-from_contains a k.keys
+                ((k.listed a).1 (c, record { below = o.below; alternative = o.alternative; meant = its }, s, q, r))) refl
           ])
 
   -- all of them
@@ -132,17 +141,27 @@ module _ (n : ℕ) (records : List (List ℕ)) (task : Task) where
         let (c, o, s, q, r) = (h.listed a).0 (contains-from_member m) in
         let (k, e) = from_filter (is_end (low n records) task.best) (all_ending n (c ∷ [])) (member-from_contains s (ends_of c) q) in
         let inside : Member s (certificate_ends n task.winner (low n records) task.best) =
-        member-filter (is_end (low n records) task.best) _ (member-flat_map (λ d. all_ending n (d ∷ [])) (other-member n task.winner 0 (λ d. 0) c o.below o.alternative) k) e in
+        member-filter (is_end (low n records) task.best) _ (member-flat_map (λ d. all_ending n (d ∷ []))
+        (other-member n task.winner 0 (λ d. 0) c o.below o.alternative) k) e in
         certificate-member n task.winner records a s (subst (λ best. Member s (certificate_ends n task.winner (low n records) best)) is inside) r
 
     from : (a : Assertion) → Member a (certificate_assertions n records task.winner) → Member a h.keys
     from a m =
         let (s, q, r) = from_certificate n task.winner records a m in
-        let (k, e) = from_filter (is_end (low n records) task.best) _ (subst (λ best. Member s (certificate_ends n task.winner (low n records) best)) (sym is) q) in
+        let (k, e) = from_filter (is_end (low n records) task.best)
+        _ (subst (λ best. Member s (certificate_ends n task.winner (low n records) best)) (sym is) q) in
         let (c, o, k') = from_flat_map (λ d. all_ending n (d ∷ [])) s (all_but n task.winner) k in
         let (below, ne) = from_filter (λ d. not (d == task.winner)) (candidates n) o in
-        let own : IsOwn n records task is_any c = record { below = from_candidates below; alternative = eqb-false c task.winner (not-true (c == task.winner) ne); meant = refl } in
-        member-from_contains a h.keys ((h.listed a).1 (c, own, s, contains-from_member (member-filter (is_end (low n records) task.best) (all_ending n (c ∷ [])) k' e), r))
+        let own : IsOwn n records task is_any c =
+        record { below = from_candidates below; alternative = eqb-false c task.winner (not-true (c == task.winner) ne); meant = refl } in
+        member-from_contains a h.keys ((h.listed a).1 (
+          c,
+          own,
+          s,
+          contains-from_member (member-filter (is_end (low n records) task.best) (all_ending n (c ∷ [])) k' e),
+          r,
+        ))
 
     keys_are : h.keys ≡ certificate_assertions n records task.winner
-    keys_are = sorted-same Before before-not_both h.keys (certificate_assertions n records task.winner) (sorted-from_pairs Before h.keys h.rising) (sorted-filter Before _ (sorted-assertions n)) to from
+    keys_are = sorted-same Before before-not_both h.keys (certificate_assertions n records task.winner) (sorted-from_pairs Before h.keys h.rising)
+        (sorted-filter Before _ (sorted-assertions n)) to from

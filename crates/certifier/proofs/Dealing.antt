@@ -41,17 +41,21 @@ module _ (n : ℕ) (records : List (List ℕ)) (task : Task) (workers number : �
   own_from c d l ne a b = record { below = l; alternative = ne; meant = and (is_dealt workers number d) (nat_lt d c) a (lt-ltb d c b) }
 
   pub deal-none : (p : Part) → p.claims.entries ≡ [] → p.over ≡ None → p.end ≡ None → IsPart n records task (dealt_before workers number 0) p
-  deal-none p empty over end = part-none n records task (dealt_before workers number 0) p (λ d o. let l = (own_parts 0 d o).1 in absurd (omega arith)) empty over end
+  deal-none p empty over end = part-none n records task (dealt_before workers number 0) p (λ d o. let l = (own_parts 0 d o).1 in
+      absurd (omega arith)) empty over end
 
-  pub deal-next : IsTask n records task → 1 < n → (c : ℕ) (p q : Part) → c < n → c ≢ task.winner → is_dealt workers number c ≡ true → is_some p.over ≡ false → IsPart n records task (dealt_before workers number c) p →
+  pub deal-next : IsTask n records task → 1 < n → (c : ℕ) (p q : Part) → c < n → c ≢ task.winner → is_dealt workers number c ≡ true → is_some p.over ≡ false →
+      IsPart n records task (dealt_before workers number c) p →
       IsNext n records task c p q → IsPart n records task (dealt_before workers number (c + 1)) q
   deal-next is two c p q below other mine open_end h x =
-      part-next n records task is two (dealt_before workers number c) (dealt_before workers number (c + 1)) c p q (own_from (c + 1) c below other mine (omega arith))
+      part-next n records task is two (dealt_before workers number c) (dealt_before workers number (c + 1)) c p q
+      (own_from (c + 1) c below other mine (omega arith))
       (λ d o. let (a, l) = own_parts c d o in own_from (c + 1) d o.below o.alternative a (omega arith))
       (λ d o. let (a, l) = own_parts (c + 1) d o in elim (cases_lt d c) [ inl lt ↦ inl (own_from c d o.below o.alternative a lt) | inr ge ↦ inr (omega arith) ])
       (λ d o. (own_parts c d o).1) (none_from p.over open_end) h x
 
-  pub deal-passes : (c : ℕ) (p : Part) → (is_dealt workers number c ≡ false) ⊎ (c ≡ task.winner) → IsPart n records task (dealt_before workers number c) p → IsPart n records task (dealt_before workers number (c + 1)) p
+  pub deal-passes : (c : ℕ) (p : Part) → (is_dealt workers number c ≡ false) ⊎ (c ≡ task.winner) → IsPart n records task (dealt_before workers number c) p →
+      IsPart n records task (dealt_before workers number (c + 1)) p
   deal-passes c p why =
       part-same n records task (dealt_before workers number c) (dealt_before workers number (c + 1)) p
       (λ d o b.
@@ -60,7 +64,11 @@ module _ (n : ℕ) (records : List (List ℕ)) (task : Task) (workers number : �
         | inl lt ↦ own_from c d o.below o.alternative a lt
         | inr ge ↦
             let same : d ≡ c = omega arith in
-            elim why [ inl f ↦ absurd (both_ways (is_dealt workers number c) f (subst (λ k. is_dealt workers number k ≡ true) same a)) | inr w ↦ absurd (o.alternative (same ∙ w)) ]
+            elim why [
+              | inl f ↦ absurd (both_ways (is_dealt workers number c) f (subst (λ k. is_dealt workers number k ≡ true) same a))
+              | inr w ↦ absurd
+                  (o.alternative (same ∙ w))
+            ]
       ])
       (λ d o. let (a, l) = own_parts c d o in own_from (c + 1) d o.below o.alternative a (omega arith))
 
@@ -69,16 +77,20 @@ module _ (n : ℕ) (records : List (List ℕ)) (task : Task) (workers number : �
 
   pub deal-ends : (c : ℕ) (p : Part) → n ≤ c → IsPart n records task (dealt_before workers number c) p → IsPart n records task (is_dealt workers number) p
   deal-ends c p le =
-      part-same n records task (dealt_before workers number c) (is_dealt workers number) p (λ d o b. let l = o.below in own_from c d l o.alternative o.meant (omega arith)) (own_all c)
+      part-same n records task (dealt_before workers number c) (is_dealt workers number) p (λ d o b. let l = o.below in
+      own_from c d l o.alternative o.meant (omega arith)) (own_all c)
 
-  deal-over : (c : ℕ) (p : Part) (last : ℕ) → p.over ≡ Some last → IsPart n records task (dealt_before workers number c) p → IsPart n records task (is_dealt workers number) p
+  deal-over : (c : ℕ) (p : Part) (last : ℕ) → p.over ≡ Some last → IsPart n records task (dealt_before workers number c) p →
+      IsPart n records task (is_dealt workers number) p
   deal-over c p last over h =
-      let it : IsOver n records task (dealt_before workers number c) last = subst (λ o. MatchOption o (Unit {0}) (IsOver n records task (dealt_before workers number c))) over h.over in
+      let it : IsOver n records task (dealt_before workers number c) last =
+      subst (λ o. MatchOption o (Unit {0}) (IsOver n records task (dealt_before workers number c))) over h.over in
       let low = (own_parts c last it.candidate).1 in
       part-same n records task (dealt_before workers number c) (is_dealt workers number) p
       (λ d o b. let l : d < last = subst (IsBefore d) over b in own_from c d o.below o.alternative o.meant (omega (arith, l, low))) (own_all c) h
 
-  pub deal-stops : (c : ℕ) (p : Part) → is_some p.over ≡ true → IsPart n records task (dealt_before workers number c) p → IsPart n records task (is_dealt workers number) p
+  pub deal-stops : (c : ℕ) (p : Part) → is_some p.over ≡ true → IsPart n records task (dealt_before workers number c) p →
+      IsPart n records task (is_dealt workers number) p
   deal-stops c p is h = go p.over refl is where
     go : (o : Option ℕ) → p.over ≡ o → is_some o ≡ true → IsPart n records task (is_dealt workers number) p
     go None e k = cc
@@ -93,7 +105,8 @@ inside : {X : Type 0} (before rest : List X) (x : X) → length before < length 
 inside [] rest x = omega arith
 inside (y ∷ before) rest x = let l = inside before rest x in omega arith
 
-pub part-at : (bag : Kept) (task : Task) (workers : ℕ) (parts before rest : List (Result Part Memory)) (part : Result Part Memory) → parts ≡ before ++ part ∷ rest → AreParts bag task workers parts →
+pub part-at : (bag : Kept) (task : Task) (workers : ℕ) (parts before rest : List (Result Part Memory)) (part : Result Part Memory) →
+    parts ≡ before ++ part ∷ rest → AreParts bag task workers parts →
     HasPart bag task workers (length before) part
 part-at bag task workers parts before rest part whole h =
     let all : AreParts bag task workers (before ++ part ∷ rest) = subst (AreParts bag task workers) whole h in
@@ -101,9 +114,11 @@ part-at bag task workers parts before rest part whole h =
 
 module _ (n : ℕ) (records : List (List ℕ)) (task : Task) (workers : ℕ) where
   pub join-none : (p : Part) → p.claims.entries ≡ [] → p.over ≡ None → p.end ≡ None → IsPart n records task (dealt_below workers 0) p
-  join-none p empty over end = part-none n records task (dealt_below workers 0) p (λ d o. let l = ltb-true (d % workers) 0 o.meant in absurd (omega arith)) empty over end
+  join-none p empty over end = part-none n records task (dealt_below workers 0) p (λ d o. let l = ltb-true (d % workers) 0 o.meant in
+      absurd (omega arith)) empty over end
 
-  pub join-next : (number more : ℕ) (p : Part) → more ≡ number + 1 → IsPart n records task (in_either (dealt_below workers number) (is_dealt workers number)) p → IsPart n records task (dealt_below workers more) p
+  pub join-next : (number more : ℕ) (p : Part) → more ≡ number + 1 →
+      IsPart n records task (in_either (dealt_below workers number) (is_dealt workers number)) p → IsPart n records task (dealt_below workers more) p
   join-next number more p is =
       part-same n records task (in_either (dealt_below workers number) (is_dealt workers number)) (dealt_below workers more) p
       (λ d o b.
@@ -125,8 +140,14 @@ module _ (n : ℕ) (records : List (List ℕ)) (task : Task) (workers : ℕ) whe
         ]);
       })
 
-  pub join-all : (number : ℕ) (p : Part) → 1 ≤ workers → number ≡ workers → IsPart n records task (dealt_below workers number) p → IsPart n records task is_any p
+  pub join-all : (number : ℕ) (p : Part) → 1 ≤ workers → number ≡ workers → IsPart n records task (dealt_below workers number) p →
+      IsPart n records task is_any p
   join-all number p some is =
       part-same n records task (dealt_below workers number) is_any p
-      (λ d o b. record { below = o.below; alternative = o.alternative; meant = lt-ltb (d % workers) number (let l : d % workers < workers = search arith in omega arith) })
+      (λ d o b. record {
+        below = o.below;
+        alternative = o.alternative;
+        meant = lt-ltb (d % workers) number (let l : d % workers < workers = search arith in
+            omega arith);
+      })
       (λ d o. record { below = o.below; alternative = o.alternative; meant = refl })

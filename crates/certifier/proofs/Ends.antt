@@ -30,7 +30,8 @@ module _ (n : ℕ) (records : List (List ℕ)) (limit : ℕ) where
   end-yes : (t : List ℕ) → 0 < length t → is_parent_kept (is_under n records limit) t ≡ true → limit ≤ low n records t → is_end (low n records) limit t ≡ true
   end-yes [] some h le = absurd (omega arith)
   end-yes (c ∷ []) some h le = le-leb limit (low n records (c ∷ [])) le
-  end-yes (c ∷ d ∷ t) some h le = and_from (nat_le limit (low n records (c ∷ d ∷ t))) (nat_lt (low n records (d ∷ t)) limit) (le-leb limit (low n records (c ∷ d ∷ t)) le) h
+  end-yes (c ∷ d ∷ t) some h le = and_from (nat_le limit (low n records (c ∷ d ∷ t))) (nat_lt (low n records (d ∷ t)) limit)
+      (le-leb limit (low n records (c ∷ d ∷ t)) le) h
 
   end-no : (t : List ℕ) → low n records t < limit → is_end (low n records) limit t ≡ false
   end-no [] l = refl
@@ -39,7 +40,8 @@ module _ (n : ℕ) (records : List (List ℕ)) (limit : ℕ) where
 
   end-past : (c : ℕ) (t : List ℕ) → 0 < length t → limit ≤ low n records t → is_end (low n records) limit (c ∷ t) ≡ false
   end-past c [] some le = absurd (omega arith)
-  end-past c (d ∷ t) some le = and_right (nat_le limit (low n records (c ∷ d ∷ t))) (nat_lt (low n records (d ∷ t)) limit) (le-ltb (low n records (d ∷ t)) limit le)
+  end-past c (d ∷ t) some le = and_right (nat_le limit (low n records (c ∷ d ∷ t))) (nat_lt (low n records (d ∷ t)) limit)
+      (le-ltb (low n records (d ∷ t)) limit le)
 
   -- ---- none beyond an end: among the children, where what is said of theirs is known
   beyond-step : (k : ℕ) (t : List ℕ) → is_suffix n t ≡ true → limit ≤ low n records t → (s : List ℕ) →
@@ -58,36 +60,51 @@ module _ (n : ℕ) (records : List (List ℕ)) (limit : ℕ) where
   beyond : (k : ℕ) (t : List ℕ) → 0 < length t → is_suffix n t ≡ true → limit ≤ low n records t → (s : List ℕ) →
       Member s (flat_map (λ c. if is_in t c then [] else suffixes_ending n k (c ∷ t)) (candidates n)) → is_end (low n records) limit s ≡ false
   beyond zero t some proper le s m =
-      beyond-step zero t proper le s (λ c p g k. elim (member_cases k) [ inl e ↦ ap (is_end (low n records) limit) (sym e) ∙ end-past c t some le | inr r ↦ absurd (member_nil r) ]) m
+      beyond-step zero t proper le s (λ c p g k. elim (member_cases k) [
+        | inl e ↦ ap (is_end (low n records) limit) (sym e)
+            ∙ end-past c t some le
+        | inr r ↦ absurd (member_nil r)
+      ]) m
   beyond (suc k) t some proper le s m =
       beyond-step (suc k) t proper le s
-      (λ c p g q. elim (member_cases q) [ inl e ↦ ap (is_end (low n records) limit) (sym e) ∙ end-past c t some le | inr r ↦ beyond k (c ∷ t) (omega arith) p g s r ]) m
+      (λ c p g q. elim (member_cases q) [
+        | inl e ↦ ap (is_end (low n records) limit) (sym e)
+            ∙ end-past c t some le
+        | inr r ↦ beyond k (c ∷ t) (omega arith) p g s r
+      ]) m
 
   -- a suffix that is an end is the only one of those that end in it
-  ends-here : (t : List ℕ) → 0 < length t → is_suffix n t ≡ true → is_parent_kept (is_under n records limit) t ≡ true → limit ≤ low n records t → ends_in n records limit (all_ending n t) ≡ t ∷ []
+  ends-here : (t : List ℕ) → 0 < length t → is_suffix n t ≡ true → is_parent_kept (is_under n records limit) t ≡ true → limit ≤ low n records t →
+      ends_in n records limit (all_ending n t) ≡ t ∷ []
   ends-here t some proper parent le =
       elim (cases_lt (length t) n) [
-        | inl l ↦ ap (ends_in n records limit) (all_ending-step n t l) ∙ kept (flat_map (child n t) (candidates n)) (beyond (n - suc (length t)) t some proper le)
+        | inl l ↦ ap (ends_in n records limit) (all_ending-step n t l)
+            ∙ kept (flat_map (child n t) (candidates n)) (beyond (n - suc (length t)) t some proper le)
         | inr g ↦ ap (ends_in n records limit) (all_ending-whole n t g) ∙ kept [] (λ s m. absurd (member_nil m))
       ]
     where
-      kept : (xs : List (List ℕ)) → ((s : List ℕ) → Member s xs → is_end (low n records) limit s ≡ false) → filter (is_end (low n records) limit) (t ∷ xs) ≡ t ∷ []
+      kept : (xs : List (List ℕ)) → ((s : List ℕ) → Member s xs → is_end (low n records) limit s ≡ false) →
+          filter (is_end (low n records) limit) (t ∷ xs) ≡ t ∷ []
       kept xs h = rw (end-yes t some parent le) (ap (λ r. t ∷ r) (filter-none (is_end (low n records) limit) xs h))
 
-  ends-enters : (t : List ℕ) → low n records t < limit → length t < n → ends_in n records limit (all_ending n t) ≡ ends_in n records limit (flat_map (child n t) (candidates n))
+  ends-enters : (t : List ℕ) → low n records t < limit → length t < n → ends_in n records limit (all_ending n t)
+      ≡ ends_in n records limit (flat_map (child n t) (candidates n))
   ends-enters t l g = ap (ends_in n records limit) (all_ending-step n t g) ∙ (rw (end-no t l) refl)
 
   -- ---- what is gathered, at a suffix whose low is known
-  module _ (cmp : Assertion → Assertion → Ordering) (score : List ℕ → Score) (entries : List (Assertion × ℕ)) (x : ℕ) (t : List ℕ) (known : x ≡ low n records t) where
+  module _ (cmp : Assertion → Assertion → Ordering) (score : List ℕ → Score) (entries : List (Assertion × ℕ)) (x : ℕ) (t : List ℕ)
+      (known : x ≡ low n records t) where
     pub gathered-here : 0 < length t → is_suffix n t ≡ true → is_parent_kept (is_under n records limit) t ≡ true → limit ≤ x →
         gathered cmp score entries (ends_in n records limit (all_ending n t)) ≡ with_score cmp entries (score t)
     gathered-here some proper parent le = ap (gathered cmp score entries) (ends-here t some proper parent (omega arith))
 
-    pub gathered-enters : x < limit → length t < n → gathered cmp score entries (ends_in n records limit (all_ending n t)) ≡ gathered cmp score entries (ends_in n records limit (flat_map (child n t) (candidates n)))
+    pub gathered-enters : x < limit → length t < n → gathered cmp score entries (ends_in n records limit (all_ending n t))
+        ≡ gathered cmp score entries (ends_in n records limit (flat_map (child n t) (candidates n)))
     gathered-enters lt g = ap (gathered cmp score entries) (ends-enters t (omega arith) g)
 
   pub gathered-append : (cmp : Assertion → Assertion → Ordering) (score : List ℕ → Score) (entries : List (Assertion × ℕ)) (xs ys : List (List ℕ)) →
-      gathered cmp score entries (ends_in n records limit (xs ++ ys)) ≡ gathered cmp score (gathered cmp score entries (ends_in n records limit xs)) (ends_in n records limit ys)
+      gathered cmp score entries (ends_in n records limit (xs ++ ys)) ≡ gathered cmp score (gathered cmp score entries (ends_in n records limit xs))
+      (ends_in n records limit ys)
   gathered-append cmp score entries xs ys =
       ap (gathered cmp score entries) (filter-append (is_end (low n records) limit) xs ys)
       ∙ fold-append (λ so_far suffix. with_score cmp so_far (score suffix)) entries (ends_in n records limit xs) (ends_in n records limit ys)

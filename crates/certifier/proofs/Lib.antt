@@ -8,5 +8,3 @@ pub mod Parting
 pub mod Dealing
 pub mod Tabulations
 pub mod Together
-pub mod Bags
-pub mod Contests

@@ -21,10 +21,12 @@ use Rattle.certifier.proofs.Budgets.{none-over, first-over, earlier-within, othe
 
 -- a scan goes on to a candidate where the walks of all before it are gone through
 module _ (n nodes : ℕ) (kept : List ℕ → Bool) (winner : ℕ) where
-  pub scan-passed : (c : ℕ) → c ≤ n → ((d : ℕ) → d < c → d ≢ winner → IsGone (walked n nodes kept 0 (all_ending n (d ∷ [])))) → scan_from n nodes kept winner 0 ≡ scan_from n nodes kept winner c
+  pub scan-passed : (c : ℕ) → c ≤ n → ((d : ℕ) → d < c → d ≢ winner → IsGone (walked n nodes kept 0 (all_ending n (d ∷ [])))) →
+      scan_from n nodes kept winner 0 ≡ scan_from n nodes kept winner c
   scan-passed zero le gone = refl
   scan-passed (suc c) le gone =
-      scan-passed c (omega arith) (λ d l. gone d (omega arith)) ∙ step (cases_eq c winner) ∙ ap (scan_from n nodes kept winner) (let e : c + 1 ≡ suc c = omega arith in e)
+      scan-passed c (omega arith) (λ d l. gone d (omega arith)) ∙ step (cases_eq c winner)
+      ∙ ap (scan_from n nodes kept winner) (let e : c + 1 ≡ suc c = omega arith in e)
     where
       step : (c ≡ winner) ⊎ (c ≢ winner) → scan_from n nodes kept winner c ≡ scan_from n nodes kept winner (c + 1)
       step (inl same) = scan-winner n nodes kept winner c (omega arith) same
@@ -70,7 +72,8 @@ module _ (n : ℕ) (records : List (List ℕ)) (task : Task) where
   pub orders-passed : (c : ℕ) → 0 < n → c ≤ n → AreGone (order_walk n records task) c → IsOrderSoFar None c
   orders-passed c some le gone = sym (scan-passed n task.nodes to_best task.winner c le gone) ∙ scan-start n task.nodes to_best task.winner some
 
-  pub orders-found : (c d : ℕ) (order : List ℕ) → 0 < n → c < n → c ≢ task.winner → AreGone (order_walk n records task) c → order_walk n records task c ≡ Err (stopped.Found order) → IsOrderSoFar (Some order) d
+  pub orders-found : (c d : ℕ) (order : List ℕ) → 0 < n → c < n → c ≢ task.winner → AreGone (order_walk n records task) c →
+      order_walk n records task c ≡ Err (stopped.Found order) → IsOrderSoFar (Some order) d
   orders-found c d order some l ne gone e =
       sym (orders-passed c some (omega arith) gone) ∙ scan-other n task.nodes to_best task.winner c (Err (stopped.Found order)) l ne (sym e)
 
@@ -84,7 +87,8 @@ module _ (n : ℕ) (records : List (List ℕ)) (task : Task) where
         let long : n - 1 + length (c ∷ []) ≡ n = omega arith in
         let it : find under_best (orders_ending n (n - 1) (c ∷ [])) ≡ Some order = find-whole n under_best (n - 1) (c ∷ []) long ∙ run.0 in
         let (m, under) = from_find under_best order (orders_ending n (n - 1) (c ∷ [])) it in
-        let inside : Member order (alternative_orders n task.winner) = member-flat_map (λ d. orders_ending n (n - 1) (d ∷ [])) (other-member n task.winner 0 (λ d. 0) c l ne) m in
+        let inside : Member order (alternative_orders n task.winner) =
+        member-flat_map (λ d. orders_ending n (n - 1) (d ∷ [])) (other-member n task.winner 0 (λ d. 0) c l ne) m in
         let le : task.best ≤ low n records order = reached n task.winner task.nodes records task.best is.best order inside in
         let lt : low n records order < task.best = ltb-true (low n records order) task.best under in
         absurd (omega arith)
@@ -100,19 +104,25 @@ module _ (n : ℕ) (records : List (List ℕ)) (task : Task) where
     covers-within : (c : ℕ) → covers_from c ≡ searched_covers → (d : ℕ) → d < n → d < c → d ≢ task.winner → covers_of d ≤ task.nodes
     covers-within c h = earlier-within n task.nodes under_best task.winner c covers_of None (h ∙ covers_are n task.winner task.nodes records task.best is.best)
 
-    orders-within : (order : List ℕ) → certificate_order n task.winner (low n records) task.best ≡ Some order → (c : ℕ) (o : Option (List ℕ)) → IsOrderSoFar o c → (d : ℕ) → d < n → d < c → d ≢ task.winner → orders_of order d ≤ task.nodes
-    orders-within order e c None h = earlier-within n task.nodes to_best task.winner c (orders_of order) (Some order) (h ∙ orders_are n task.winner task.nodes records task.best is.best order e)
+    orders-within : (order : List ℕ) → certificate_order n task.winner (low n records) task.best ≡ Some order → (c : ℕ) (o : Option (List ℕ)) →
+        IsOrderSoFar o c → (d : ℕ) → d < n → d < c → d ≢ task.winner → orders_of order d ≤ task.nodes
+    orders-within order e c None h = earlier-within n task.nodes to_best task.winner c (orders_of order) (Some order) (h
+        ∙ orders_are n task.winner task.nodes records task.best is.best order e)
     orders-within order e c (Some other) h = λ d k l ne.
         none-over n task.winner task.nodes (orders_of order)
-        (order_is (first_over n task.winner task.nodes (orders_of order)) (Some order) (Some other) (sym (orders_are n task.winner task.nodes records task.best is.best order e) ∙ h)).0 d k ne
+        (order_is (first_over n task.winner task.nodes (orders_of order)) (Some order) (Some other)
+        (sym (orders_are n task.winner task.nodes records task.best is.best order e) ∙ h)).0 d k ne
 
     -- the walk for the assertions is over the budget
-    pub cover-spent : (c : ℕ) (o : Option (List ℕ)) → c < n → c ≢ task.winner → AreGone (cover_walk n records task) c → IsOrderSoFar o c → cover_walk n records task c ≡ Err stopped.Spent →
+    pub cover-spent : (c : ℕ) (o : Option (List ℕ)) → c < n → c ≢ task.winner → AreGone (cover_walk n records task) c → IsOrderSoFar o c →
+        cover_walk n records task c ≡ Err stopped.Spent →
         IsSpent n records task.winner task.best task.nodes c
     cover-spent c o l ne gone so_far e =
         let (order, known) = ordered in
-        let spent : searched_covers ≡ Err c = sym (covers-passed c (omega arith) (omega arith) gone) ∙ scan-other n task.nodes under_best task.winner c (Err stopped.Spent) l ne (sym e) in
-        let first = first-over n task.winner task.nodes covers_of c (spent_is (first_over n task.winner task.nodes covers_of) None c (sym (covers_are n task.winner task.nodes records task.best is.best) ∙ spent)) in
+        let spent : searched_covers ≡ Err c = sym (covers-passed c (omega arith) (omega arith) gone)
+        ∙ scan-other n task.nodes under_best task.winner c (Err stopped.Spent) l ne (sym e) in
+        let first = first-over n task.winner task.nodes covers_of c
+        (spent_is (first_over n task.winner task.nodes covers_of) None c (sym (covers_are n task.winner task.nodes records task.best is.best) ∙ spent)) in
         record {
           order = order;
           order_is = known;
@@ -123,12 +133,16 @@ module _ (n : ℕ) (records : List (List ℕ)) (task : Task) where
         }
 
     -- the walk for the order is
-    pub order-spent : (c : ℕ) → c < n → c ≢ task.winner → AreGone (cover_walk n records task) c → AreGone (order_walk n records task) c → order_walk n records task c ≡ Err stopped.Spent →
+    pub order-spent : (c : ℕ) → c < n → c ≢ task.winner → AreGone (cover_walk n records task) c → AreGone (order_walk n records task) c →
+        order_walk n records task c ≡ Err stopped.Spent →
         IsSpent n records task.winner task.best task.nodes c
     order-spent c l ne covers gone e =
         let (order, known) = ordered in
-        let spent : searched_orders ≡ Err c = sym (orders-passed c (omega arith) (omega arith) gone) ∙ scan-other n task.nodes to_best task.winner c (Err stopped.Spent) l ne (sym e) in
-        let first = first-over n task.winner task.nodes (orders_of order) c (spent_is (first_over n task.winner task.nodes (orders_of order)) (Some order) c (sym (orders_are n task.winner task.nodes records task.best is.best order known) ∙ spent)) in
+        let spent : searched_orders ≡ Err c = sym (orders-passed c (omega arith) (omega arith) gone)
+        ∙ scan-other n task.nodes to_best task.winner c (Err stopped.Spent) l ne (sym e) in
+        let first = first-over n task.winner task.nodes (orders_of order) c
+        (spent_is (first_over n task.winner task.nodes (orders_of order)) (Some order) c
+        (sym (orders_are n task.winner task.nodes records task.best is.best order known) ∙ spent)) in
         record {
           order = order;
           order_is = known;
@@ -159,12 +173,17 @@ module _ (n : ℕ) (records : List (List ℕ)) (task : Task) where
         covers : first_over n task.winner task.nodes covers_of ≡ None
         covers =
             (order_is (first_over n task.winner task.nodes covers_of) None None
-            (sym (covers_are n task.winner task.nodes records task.best is.best) ∙ sym (covers-passed n (omega arith) (omega arith) gone) ∙ scan-end n task.nodes under_best task.winner n (omega arith))).0
+            (sym (covers_are n task.winner task.nodes records task.best is.best) ∙ sym (covers-passed n (omega arith) (omega arith) gone)
+            ∙ scan-end n task.nodes under_best task.winner n (omega arith))).0
 
-        ends : (order : List ℕ) → certificate_order n task.winner (low n records) task.best ≡ Some order → (p : Option (List ℕ)) → IsOrderSoFar p n → (first_over n task.winner task.nodes (orders_of order) ≡ None) × (p ≡ Some order)
+        ends : (order : List ℕ) → certificate_order n task.winner (low n records) task.best ≡ Some order → (p : Option (List ℕ)) → IsOrderSoFar p n →
+            (first_over n task.winner task.nodes (orders_of order) ≡ None) × (p ≡ Some order)
         ends order e None k =
-            let (a, b) = order_is (first_over n task.winner task.nodes (orders_of order)) (Some order) None (sym (orders_are n task.winner task.nodes records task.best is.best order e) ∙ sym k ∙ scan-end n task.nodes to_best task.winner n (omega arith)) in
+            let (a, b) = order_is (first_over n task.winner task.nodes (orders_of order)) (Some order) None
+            (sym (orders_are n task.winner task.nodes records task.best is.best order e) ∙ sym k
+            ∙ scan-end n task.nodes to_best task.winner n (omega arith)) in
             cc
         ends order e (Some other) k =
-            let (a, b) = order_is (first_over n task.winner task.nodes (orders_of order)) (Some order) (Some other) (sym (orders_are n task.winner task.nodes records task.best is.best order e) ∙ k) in
+            let (a, b) = order_is (first_over n task.winner task.nodes (orders_of order)) (Some order) (Some other)
+            (sym (orders_are n task.winner task.nodes records task.best is.best order e) ∙ k) in
             (a, sym b)

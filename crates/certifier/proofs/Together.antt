@@ -8,7 +8,8 @@ use Rattle.certifier.specs.declared.certificate.Certificate.{Certificate}
 use Rattle.certifier.specs.Certified.{IsWithin, IsOver, IsCertified, IsSpent}
 
 module _ (n : ℕ) (records : List (List ℕ)) (winner best nodes : ℕ) where
-  pub certified_is_one : (x y : Certificate) → IsCertified n records winner best nodes x → IsCertified n records winner best nodes y → (x.claims.items ≡ y.claims.items) × (x.margin ≡ y.margin) × (x.order ≡ y.order)
+  pub certified_is_one : (x y : Certificate) → IsCertified n records winner best nodes x → IsCertified n records winner best nodes y →
+      (x.claims.items ≡ y.claims.items) × (x.margin ≡ y.margin) × (x.order ≡ y.order)
   certified_is_one x y a b = (a.claims ∙ sym b.claims, a.margin ∙ sym b.margin, some x.order y.order (sym a.order ∙ b.order)) where
     some : (o p : List ℕ) → Some o ≡ Some p → o ≡ p
     some o p e = cc

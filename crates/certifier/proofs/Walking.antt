@@ -45,26 +45,33 @@ module _ (bag : Kept) (reach : Reach) (s : Scored) (count : ℕ) (ready : CanWal
       walked-dropped s.tail.n reach.nodes (is_under s.tail.n records reach.limit) (under-shrinks s.tail.n records reach.limit) count s.tail.list ready.proper
       (not-under s.tail.n records reach.limit s.low s.tail.list (ready.scored records h).low_is le)
 
-  pub gathered-dropped : (entries : List (Assertion × ℕ)) → reach.limit ≤ s.low → HasGathered bag reach.limit s entries (with_score ghosts.cmp entries (record { low = s.low; by = s.by }))
+  pub gathered-dropped : (entries : List (Assertion × ℕ)) → reach.limit ≤ s.low →
+      HasGathered bag reach.limit s entries (with_score ghosts.cmp entries (record { low = s.low; by = s.by }))
   gathered-dropped entries le records h =
       let scored = ready.scored records h in
       ap (with_score ghosts.cmp entries) (score-from records s scored)
-      ∙ sym (gathered-here s.tail.n records reach.limit ghosts.cmp (score_of s.tail.n records) entries s.low s.tail.list scored.low_is ready.some ready.proper (ready.parent records h) le)
+      ∙ sym (gathered-here s.tail.n records reach.limit ghosts.cmp (score_of s.tail.n records) entries s.low s.tail.list scored.low_is ready.some ready.proper
+      (ready.parent records h) le)
 
-  pub found : s.low < reach.limit → (order : List ℕ) → whole s.tail ≡ Some order → (records : List (List ℕ)) → IsOf bag records → IsWalk reach.last (Ok (Found order)) (walk_of reach s records count)
+  pub found : s.low < reach.limit → (order : List ℕ) → whole s.tail ≡ Some order → (records : List (List ℕ)) → IsOf bag records →
+      IsWalk reach.last (Ok (Found order)) (walk_of reach s records count)
   found lt order w records h =
       let it = from_whole s.tail.n s.tail.list order w in
-      walked-found s.tail.n reach.nodes (is_under s.tail.n records reach.limit) count s.tail.list (from_under s.tail.n records reach.limit s.low s.tail.list (ready.scored records h).low_is lt) it.long
+      walked-found s.tail.n reach.nodes (is_under s.tail.n records reach.limit) count s.tail.list
+      (from_under s.tail.n records reach.limit s.low s.tail.list (ready.scored records h).low_is lt) it.long
       ∙ ap (λ t. Err (stopped.Found t)) it.same
 
-  pub spent : s.low < reach.limit → whole s.tail ≡ None → reach.nodes ≤ count → (records : List (List ℕ)) → IsOf bag records → IsWalk reach.last (Err (Spent reach.last)) (walk_of reach s records count)
+  pub spent : s.low < reach.limit → whole s.tail ≡ None → reach.nodes ≤ count → (records : List (List ℕ)) → IsOf bag records →
+      IsWalk reach.last (Err (Spent reach.last)) (walk_of reach s records count)
   spent lt w le records h = (
     refl,
-    walked-spent s.tail.n reach.nodes (is_under s.tail.n records reach.limit) count s.tail.list (from_under s.tail.n records reach.limit s.low s.tail.list (ready.scored records h).low_is lt) (short-from_none s.tail.n s.tail.list ready.proper w) le,
+    walked-spent s.tail.n reach.nodes (is_under s.tail.n records reach.limit) count s.tail.list
+        (from_under s.tail.n records reach.limit s.low s.tail.list (ready.scored records h).low_is lt) (short-from_none s.tail.n s.tail.list ready.proper w) le,
   )
 
 -- ---- a child of it
-module _ (bag : Kept) (limit : ℕ) (s x : Scored) (c : ℕ) (ready : CanWalk bag limit s) (lt : s.low < limit) (below : c < s.tail.n) (out : is_in s.tail.list c ≡ false) (tail : x.tail ≡ with_front s.tail c) where
+module _ (bag : Kept) (limit : ℕ) (s x : Scored) (c : ℕ) (ready : CanWalk bag limit s) (lt : s.low < limit) (below : c < s.tail.n)
+    (out : is_in s.tail.list c ≡ false) (tail : x.tail ≡ with_front s.tail c) where
   pub child-ready : IsScoredOver bag x → CanWalk bag limit x
   child-ready scored = record {
     contest = ap (λ t. t.n) tail ∙ ready.contest;
@@ -74,9 +81,11 @@ module _ (bag : Kept) (limit : ℕ) (s x : Scored) (c : ℕ) (ready : CanWalk ba
     parent = λ records h. subst (λ t. is_parent_kept (is_under t.n records limit) t.list ≡ true) (sym tail) (kept records h s.tail.list refl ready.some);
   }
     where
-      kept : (records : List (List ℕ)) → IsOf bag records → (t : List ℕ) → t ≡ s.tail.list → 0 < length t → is_parent_kept (is_under s.tail.n records limit) (c ∷ t) ≡ true
+      kept : (records : List (List ℕ)) → IsOf bag records → (t : List ℕ) → t ≡ s.tail.list → 0 < length t →
+          is_parent_kept (is_under s.tail.n records limit) (c ∷ t) ≡ true
       kept records h [] same some = absurd (omega arith)
-      kept records h (d ∷ t) same some = from_under s.tail.n records limit s.low (d ∷ t) ((ready.scored records h).low_is ∙ ap (low s.tail.n records) (sym same)) lt
+      kept records h (d ∷ t) same some = from_under s.tail.n records limit s.low (d ∷ t) ((ready.scored records h).low_is
+          ∙ ap (low s.tail.n records) (sym same)) lt
 
   -- a longer suffix has fewer candidates left
   pub fewer-left : CanWalk bag limit x → x.tail.n - length x.tail.list < s.tail.n - length s.tail.list
@@ -87,23 +96,28 @@ module _ (bag : Kept) (limit : ℕ) (s x : Scored) (c : ℕ) (ready : CanWalk ba
       omega arith
 
 -- ---- as it goes on: what is left of it, from a candidate in front on, is the whole of it
-pub record IsGoing (bag : Kept) (reach : Reach) (s : Scored) (count : ℕ) (before : List (Assertion × ℕ)) (c seen : ℕ) (entries : List (Assertion × ℕ)) : Type 0 where
-  pub walk : (records : List (List ℕ)) → IsOf bag records → rest s.tail.n reach.nodes (is_under s.tail.n records reach.limit) seen s.tail.list c ≡ walk_of reach s records count
+pub record IsGoing (bag : Kept) (reach : Reach) (s : Scored) (count : ℕ) (before : List (Assertion × ℕ)) (c seen : ℕ) (entries : List (Assertion × ℕ)) : Type
+    0 where
+  pub walk : (records : List (List ℕ)) → IsOf bag records → rest s.tail.n reach.nodes (is_under s.tail.n records reach.limit) seen s.tail.list c
+      ≡ walk_of reach s records count
   pub claims : (records : List (List ℕ)) → IsOf bag records →
       gathered ghosts.cmp (score_of s.tail.n records) entries (ends_in s.tail.n records reach.limit (below_from s.tail.n s.tail.list c))
       ≡ gathered ghosts.cmp (score_of s.tail.n records) before (ends_in s.tail.n records reach.limit (all_ending s.tail.n s.tail.list))
 
 module _ (bag : Kept) (reach : Reach) (s : Scored) (count : ℕ) (before : List (Assertion × ℕ)) where
-  pub going-starts : CanWalk bag reach.limit s → s.low < reach.limit → whole s.tail ≡ None → count < reach.nodes → IsGoing bag reach s count before 0 (count + 1) before
+  pub going-starts : CanWalk bag reach.limit s → s.low < reach.limit → whole s.tail ≡ None → count < reach.nodes →
+      IsGoing bag reach s count before 0 (count + 1) before
   going-starts ready lt w room =
       let short : length s.tail.list < s.tail.n = short-from_none s.tail.n s.tail.list ready.proper w in
       record {
         walk = λ records h.
             rest-start s.tail.n reach.nodes (is_under s.tail.n records reach.limit) (count + 1) s.tail.list
-            ∙ sym (walked-enters s.tail.n reach.nodes (is_under s.tail.n records reach.limit) count s.tail.list (from_under s.tail.n records reach.limit s.low s.tail.list (ready.scored records h).low_is lt) short room);
+            ∙ sym (walked-enters s.tail.n reach.nodes (is_under s.tail.n records reach.limit) count s.tail.list
+            (from_under s.tail.n records reach.limit s.low s.tail.list (ready.scored records h).low_is lt) short room);
         claims = λ records h.
             ap (λ xs. gathered ghosts.cmp (score_of s.tail.n records) before (ends_in s.tail.n records reach.limit xs)) (below_from-start s.tail.n s.tail.list)
-            ∙ sym (gathered-enters s.tail.n records reach.limit ghosts.cmp (score_of s.tail.n records) before s.low s.tail.list (ready.scored records h).low_is lt short);
+            ∙ sym (gathered-enters s.tail.n records reach.limit ghosts.cmp (score_of s.tail.n records) before s.low s.tail.list
+            (ready.scored records h).low_is lt short);
       }
 
   module _ (c seen : ℕ) (entries : List (Assertion × ℕ)) (going : IsGoing bag reach s count before c seen entries) where
@@ -112,45 +126,56 @@ module _ (bag : Kept) (reach : Reach) (s : Scored) (count : ℕ) (before : List 
 
     pub gathered-ends : s.tail.n ≤ c → HasGathered bag reach.limit s before entries
     gathered-ends le records h =
-        ap (λ xs. gathered ghosts.cmp (score_of s.tail.n records) entries (ends_in s.tail.n records reach.limit xs)) (sym (below_from-end s.tail.n s.tail.list c le)) ∙ going.claims records h
+        ap (λ xs. gathered ghosts.cmp (score_of s.tail.n records) entries (ends_in s.tail.n records reach.limit xs))
+        (sym (below_from-end s.tail.n s.tail.list c le)) ∙ going.claims records h
 
     module _ (below : c < s.tail.n) where
       pub going-passes : is_in s.tail.list c ≡ true → IsGoing bag reach s count before (c + 1) seen entries
       going-passes inside = record {
-        walk = λ records h. sym (rest-passes s.tail.n reach.nodes (is_under s.tail.n records reach.limit) seen s.tail.list c below inside) ∙ going.walk records h;
+        walk = λ records h. sym (rest-passes s.tail.n reach.nodes (is_under s.tail.n records reach.limit) seen s.tail.list c below inside)
+            ∙ going.walk records h;
         claims = λ records h.
-            ap (λ xs. gathered ghosts.cmp (score_of s.tail.n records) entries (ends_in s.tail.n records reach.limit xs)) (sym (below_from-passes s.tail.n s.tail.list c below inside)) ∙ going.claims records h;
+            ap (λ xs. gathered ghosts.cmp (score_of s.tail.n records) entries (ends_in s.tail.n records reach.limit xs))
+            (sym (below_from-passes s.tail.n s.tail.list c below inside)) ∙ going.claims records h;
       }
 
       -- what a walk answers of a child
       module _ (out : is_in s.tail.list c ≡ false) (x : Scored) (tail : x.tail ≡ with_front s.tail c) where
-        at-child : (records : List (List ℕ)) → walk_of reach x records seen ≡ walked s.tail.n reach.nodes (is_under s.tail.n records reach.limit) seen (all_ending s.tail.n (c ∷ s.tail.list))
+        at-child : (records : List (List ℕ)) → walk_of reach x records seen ≡ walked s.tail.n reach.nodes (is_under s.tail.n records reach.limit) seen
+            (all_ending s.tail.n (c ∷ s.tail.list))
         at-child records = ap (λ t. walked t.n reach.nodes (is_under t.n records reach.limit) seen (all_ending t.n t.list)) tail
 
-        pub going-goes : (more : ℕ) (entries' : List (Assertion × ℕ)) → ((records : List (List ℕ)) → IsOf bag records → IsWalk reach.last (Ok (Counted more)) (walk_of reach x records seen)) →
+        pub going-goes : (more : ℕ) (entries' : List (Assertion × ℕ)) →
+            ((records : List (List ℕ)) → IsOf bag records → IsWalk reach.last (Ok (Counted more)) (walk_of reach x records seen)) →
             HasGathered bag reach.limit x entries entries' → IsGoing bag reach s count before (c + 1) more entries'
         going-goes more entries' told put = record {
           walk = λ records h.
-              sym (rest-goes s.tail.n reach.nodes (is_under s.tail.n records reach.limit) seen more s.tail.list c below out (sym (at-child records) ∙ told records h)) ∙ going.walk records h;
+              sym (rest-goes s.tail.n reach.nodes (is_under s.tail.n records reach.limit) seen more s.tail.list c below out (sym (at-child records)
+              ∙ told records h)) ∙ going.walk records h;
           claims = λ records h.
               let n = s.tail.n in
-              let here : entries' ≡ gathered ghosts.cmp (score_of s.tail.n records) entries (ends_in s.tail.n records reach.limit (all_ending s.tail.n (c ∷ s.tail.list))) =
+              let here : entries' ≡ gathered ghosts.cmp (score_of s.tail.n records) entries
+              (ends_in s.tail.n records reach.limit (all_ending s.tail.n (c ∷ s.tail.list))) =
               put records h ∙ ap (λ t. gathered ghosts.cmp (score_of t.n records) entries (ends_in t.n records reach.limit (all_ending t.n t.list))) tail in
               ap (λ es. gathered ghosts.cmp (score_of n records) es (ends_in n records reach.limit (below_from n s.tail.list (c + 1)))) here
-              ∙ sym (gathered-append n records reach.limit ghosts.cmp (score_of n records) entries (all_ending n (c ∷ s.tail.list)) (below_from n s.tail.list (c + 1)))
+              ∙ sym (gathered-append n records reach.limit ghosts.cmp (score_of n records) entries (all_ending n (c ∷ s.tail.list))
+              (below_from n s.tail.list (c + 1)))
               ∙ ap (λ xs. gathered ghosts.cmp (score_of n records) entries (ends_in n records reach.limit xs)) (sym (below_from-goes n s.tail.list c below out))
               ∙ going.claims records h;
         }
 
-        pub going-finds : (order : List ℕ) → ((records : List (List ℕ)) → IsOf bag records → IsWalk reach.last (Ok (Found order)) (walk_of reach x records seen)) →
+        pub going-finds : (order : List ℕ) → ((records : List (List ℕ)) → IsOf bag records →
+            IsWalk reach.last (Ok (Found order)) (walk_of reach x records seen)) →
             (records : List (List ℕ)) → IsOf bag records → IsWalk reach.last (Ok (Found order)) (walk_of reach s records count)
         going-finds order told records h =
-            sym (going.walk records h) ∙ rest-stops s.tail.n reach.nodes (is_under s.tail.n records reach.limit) seen (stopped.Found order) s.tail.list c below out (sym (at-child records) ∙ told records h)
+            sym (going.walk records h) ∙ rest-stops s.tail.n reach.nodes (is_under s.tail.n records reach.limit) seen (stopped.Found order) s.tail.list c
+            below out (sym (at-child records) ∙ told records h)
 
         pub going-fails : (fault : CertFault) → ((records : List (List ℕ)) → IsOf bag records → IsWalk reach.last (Err fault) (walk_of reach x records seen)) →
             (records : List (List ℕ)) → IsOf bag records → IsWalk reach.last (Err fault) (walk_of reach s records count)
         going-fails (Spent d) told records h = (
           (told records h).0,
-          sym (going.walk records h) ∙ rest-stops s.tail.n reach.nodes (is_under s.tail.n records reach.limit) seen stopped.Spent s.tail.list c below out (sym (at-child records) ∙ (told records h).1),
+          sym (going.walk records h) ∙ rest-stops s.tail.n reach.nodes (is_under s.tail.n records reach.limit) seen stopped.Spent s.tail.list c below out
+              (sym (at-child records) ∙ (told records h).1),
         )
         going-fails Memory told records h = tt

@@ -13,7 +13,8 @@ CertifiedIsOne =
 abbrev pub SpentIsOne : Type 0
 SpentIsOne =
     (n : ℕ) (records : List (List ℕ)) (winner best nodes last other : ℕ) →
-    IsSpent n records winner best nodes last → IsSpent n records winner best nodes other → last ≡ other
+    IsSpent n records winner best nodes last → IsSpent n records winner best nodes other →
+    last ≡ other
 
 abbrev pub NeverBoth : Type 0
 NeverBoth =

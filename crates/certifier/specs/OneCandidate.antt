@@ -23,10 +23,12 @@ pub record IsTask (n : ℕ) (records : List (List ℕ)) (task : Task) : Type 0 w
 
 -- the walk for the assertions goes as far as the best margin isn't reached, that for the order as far as it isn't passed
 abbrev pub cover_walk : ℕ → List (List ℕ) → Task → ℕ → Result ℕ Stop
-cover_walk n records task last = walked n task.nodes (is_under n records task.best) 0 (all_ending n (last ∷ []))
+cover_walk n records task last =
+    walked n task.nodes (is_under n records task.best) 0 (all_ending n (last ∷ []))
 
 abbrev pub order_walk : ℕ → List (List ℕ) → Task → ℕ → Result ℕ Stop
-order_walk n records task last = walked n task.nodes (is_under n records (task.best + 1)) 0 (all_ending n (last ∷ []))
+order_walk n records task last =
+    walked n task.nodes (is_under n records (task.best + 1)) 0 (all_ending n (last ∷ []))
 
 -- a walk comes to no whole order, and is within the budget
 abbrev pub IsGone : Result ℕ Stop → Type 0
@@ -38,11 +40,13 @@ stop_of None = stopped.Spent
 stop_of (Some order) = stopped.Found order
 
 -- the walk for the assertions is over the budget, or else the refuters of the ends that it passes are put in
-abbrev pub IsCovered : ℕ → List (List ℕ) → Task → ℕ → List (Assertion × ℕ) → List (Assertion × ℕ) → Bool → Type 0
+abbrev pub IsCovered : ℕ → List (List ℕ) → Task → ℕ → List (Assertion × ℕ) → List (Assertion × ℕ) →
+    Bool → Type 0
 IsCovered n records task last before after true = cover_walk n records task last ≡ Err stopped.Spent
 IsCovered n records task last before after false =
     (walk : WalkEnd) × IsWalk last (Ok walk) (cover_walk n records task last)
-    × OnCounted walk (after ≡ gathered ghosts.cmp (score_of n records) before (ends_in n records task.best (all_ending n (last ∷ []))))
+    × OnCounted walk (after ≡ gathered ghosts.cmp (score_of n records) before
+    (ends_in n records task.best (all_ending n (last ∷ []))))
 
 -- the end that was there, or else that of this walk, if it comes to one
 abbrev pub IsNextEnd : ℕ → Option OrderEnd → Option OrderEnd → Result ℕ Stop → Type 0
@@ -51,14 +55,18 @@ IsNextEnd last None None walk = IsGone walk
 IsNextEnd last None (Some end) walk = (end.last ≡ last) × (walk ≡ Err (stop_of end.order))
 
 -- what is found of this candidate is put to the part
-pub record IsNextWithin (n : ℕ) (records : List (List ℕ)) (task : Task) (last : ℕ) (part next : Part) : Type 0 where
+pub record IsNextWithin (n : ℕ) (records : List (List ℕ)) (task : Task) (last : ℕ)
+    (part next : Part) : Type 0 where
   pub covered : IsCovered n records task last part.claims.entries next.claims.entries false
   pub end : IsNextEnd last part.end next.end (order_walk n records task last)
 
-pub record IsNextOver (n : ℕ) (records : List (List ℕ)) (task : Task) (last : ℕ) (part next : Part) (over : ℕ) : Type 0 where
+pub record IsNextOver (n : ℕ) (records : List (List ℕ)) (task : Task) (last : ℕ) (part next : Part)
+    (over : ℕ) : Type 0 where
   pub candidate : over ≡ last
   pub covered : IsCovered n records task last part.claims.entries next.claims.entries true
   pub end : next.end ≡ part.end
 
 abbrev pub IsNext : ℕ → List (List ℕ) → Task → ℕ → Part → Part → Type 0
-IsNext n records task last part next = MatchOption next.over (IsNextWithin n records task last part next) (IsNextOver n records task last part next)
+IsNext n records task last part next =
+    MatchOption next.over (IsNextWithin n records task last part next)
+    (IsNextOver n records task last part next)

@@ -68,9 +68,11 @@ module _ (n : ℕ) (records : List (List ℕ)) (task : Task) where
   -- the refuter of an end that ends in one of these candidates
   abbrev pub IsRefuter : (ℕ → Bool) → Assertion → Type 0
   IsRefuter own a =
-      (c : ℕ) × IsOwn own c × (suffix : List ℕ) × Contains (ends_in n records task.best (all_ending n (c ∷ []))) suffix × (refuter n records suffix ≡ Some a)
+      (c : ℕ) × IsOwn own c × (suffix : List ℕ)
+      × Contains (ends_in n records task.best (all_ending n (c ∷ []))) suffix
+      × (refuter n records suffix ≡ Some a)
 
-  -- these refuters, each once, in the fixed order, with their margins
+  -- the entries are these refuters, each once, in the fixed order, with their margins
   pub record AreClaims (own : ℕ → Bool) (entries : List (Assertion × ℕ)) : Type 0 where
     pub keys : List Assertion
     pub marked : entries ≡ map (λ a. (a, true_margin records a)) keys
@@ -92,11 +94,12 @@ module _ (n : ℕ) (records : List (List ℕ)) (task : Task) where
   pub record IsPart (own : ℕ → Bool) (part : Part) : Type 0 where
     pub covers : (c : ℕ) → IsOwn own c → IsBefore c part.over → IsGone (cover_walk n records task c)
     pub over : MatchOption part.over ⊤ (IsOver own)
-    pub orders : (c : ℕ) → IsOwn own c → IsBefore c part.over → IsBefore c (candidate_of part.end) → IsGone (order_walk n records task c)
+    pub orders : (c : ℕ) → IsOwn own c → IsBefore c part.over → IsBefore c (candidate_of part.end) →
+        IsGone (order_walk n records task c)
     pub end : MatchOption part.end ⊤ (IsEndOf own)
     pub claims : part.over ≡ None → AreClaims own part.claims.entries
 
-  -- the same, in a contest with several candidates
+  -- a part of a contest with several candidates
   abbrev pub IsPartOfSeveral : (ℕ → Bool) → Part → Type 0
   IsPartOfSeveral own part = (1 < n) × IsPart own part
 
@@ -105,7 +108,10 @@ module _ (n : ℕ) (records : List (List ℕ)) (task : Task) where
 -- what a worker has after its share; of an `Err` nothing is said
 abbrev pub HasPart : Kept → Task → ℕ → ℕ → Result Part Memory → Type 0
 HasPart bag task workers number part =
-    (records : List (List ℕ)) → IsOf bag records → IsTask bag.n records task → IfOk part (IsPartOfSeveral bag.n records task (is_dealt workers number))
+    (records : List (List ℕ)) → IsOf bag records → IsTask bag.n records task →
+    IfOk part (IsPartOfSeveral bag.n records task (is_dealt workers number))
 
 abbrev pub AreParts : Kept → Task → ℕ → List (Result Part Memory) → Type 0
-AreParts bag task workers parts = (i : ℕ) (d : Result Part Memory) → i < length parts → HasPart bag task workers i (slice_index_or parts i d)
+AreParts bag task workers parts =
+    (i : ℕ) (d : Result Part Memory) → i < length parts →
+    HasPart bag task workers i (slice_index_or parts i d)

@@ -30,25 +30,28 @@ pub record CanWalk (bag : Kept) (limit : ℕ) (s : Scored) : Type 0 where
   pub proper : IsTrue (is_suffix s.tail.n s.tail.list)
   pub some : 0 < length s.tail.list
   pub scored : IsScoredOver bag s
-  pub parent : (records : List (List ℕ)) → IsOf bag records → IsTrue (is_parent_kept (is_under s.tail.n records limit) s.tail.list)
+  pub parent : (records : List (List ℕ)) → IsOf bag records →
+      IsTrue (is_parent_kept (is_under s.tail.n records limit) s.tail.list)
 
 -- a walk over the list of the suffixes that end in this one
 abbrev pub walk_of : Reach → Scored → List (List ℕ) → ℕ → Result ℕ stop.Stop
-walk_of reach s records count = walked s.tail.n reach.nodes (is_under s.tail.n records reach.limit) count (all_ending s.tail.n s.tail.list)
+walk_of reach s records count =
+    walked s.tail.n reach.nodes (is_under s.tail.n records reach.limit) count
+    (all_ending s.tail.n s.tail.list)
 
--- it ends as that walk does; of want of memory nothing is said
+-- the answer is how that walk ends; of want of memory nothing is said
 abbrev pub IsWalk : ℕ → Result WalkEnd CertFault → Result ℕ stop.Stop → Type 0
 IsWalk last (Ok (Counted count)) walk = walk ≡ Ok count
 IsWalk last (Ok (Found order)) walk = walk ≡ Err (stopped.Found order)
 IsWalk last (Err (Spent c)) walk = (c ≡ last) × (walk ≡ Err stopped.Spent)
 IsWalk last (Err Memory) walk = ⊤
 
--- where it comes to no whole order
+-- what holds where the walk comes to no whole order
 abbrev pub OnCounted : WalkEnd → Type 0 → Type 0
 OnCounted (Counted count) fact = fact
 OnCounted (Found order) fact = ⊤
 
--- of these suffixes, the first that reach the limit
+-- the ends among these suffixes: the first that reach the limit
 abbrev pub ends_in : ℕ → List (List ℕ) → ℕ → List (List ℕ) → List (List ℕ)
 ends_in n records limit suffixes = filter (is_end (low n records) limit) suffixes
 
@@ -56,4 +59,6 @@ ends_in n records limit suffixes = filter (is_end (low n records) limit) suffixe
 abbrev pub HasGathered : Kept → ℕ → Scored → List (Assertion × ℕ) → List (Assertion × ℕ) → Type 0
 HasGathered bag limit s before after =
     (records : List (List ℕ)) → IsOf bag records →
-    after ≡ gathered ghosts.cmp (score_of s.tail.n records) before (ends_in s.tail.n records limit (all_ending s.tail.n s.tail.list))
+    after
+    ≡ gathered ghosts.cmp (score_of s.tail.n records) before
+    (ends_in s.tail.n records limit (all_ending s.tail.n s.tail.list))

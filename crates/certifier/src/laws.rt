@@ -6,7 +6,7 @@ pub fn certified_is_one()
     ensures { CertifiedIsOne }
 {}
 
-/// One candidate is named.
+/// A spent budget names one candidate.
 pub fn spent_is_one()
     ensures { SpentIsOne }
 {}

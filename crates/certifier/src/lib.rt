@@ -8,8 +8,6 @@ mod gather;
 pub mod laws;
 mod part;
 mod team;
-#[cfg(test)]
-mod tests;
 mod walk;
 
 pub use certificate::{Certificate, certify};

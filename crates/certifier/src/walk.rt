@@ -14,7 +14,7 @@ use suffix_tree::{Scored, child};
 /// Which suffixes a walk goes through, and how far.
 #[derive(Clone, Copy)]
 pub struct Reach {
-    /// They end in this candidate.
+    /// The candidate that the suffixes end in.
     pub last: Candidate,
     /// Their low is below this number of votes.
     pub limit: u64,
@@ -25,7 +25,7 @@ pub struct Reach {
 /// How a walk ends.
 #[derive(Drop)]
 pub enum WalkEnd {
-    /// It comes to no whole order, and so many suffixes count.
+    /// The walk comes to no whole order, and so many suffixes count.
     Counted(u32),
     /// The first whole order that it comes to.
     Found(Order),

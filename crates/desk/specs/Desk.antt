@@ -10,7 +10,8 @@ pub record File : Type 0 where
 -- what is held under a name: the bytes of the first file that has it
 abbrev pub held_bytes : List ℕ → List File → Option (List ℕ)
 held_bytes name [] = None
-held_bytes name (file ∷ files) = if bytes_eq file.name name then Some file.bytes else held_bytes name files
+held_bytes name (file ∷ files) =
+    if bytes_eq file.name name then Some file.bytes else held_bytes name files
 
 -- `Ok(true)`
 abbrev pub is_ok_true : {E : Type 0} → Result Bool E → Bool

@@ -8,7 +8,8 @@ is_too_long bytes = nat_lt MOST_FILE_BYTES bytes
 
 -- one more where a file that gave so many bytes before has given too many now
 abbrev pub passing : ℕ → ℕ → ℕ → ℕ
-passing before now count = if not (is_too_long before) && is_too_long now then one_more count else count
+passing before now count =
+    if not (is_too_long before) && is_too_long now then one_more count else count
 
 -- one more where a file gave too many bytes in all
 abbrev pub too_long_after : ℕ → ℕ → ℕ

@@ -3,10 +3,10 @@ use Rattle.std.specs.Prelude.{ℕ, ◌≤◌, List, length, take}
 use Rattle.std.specs.Io.KnownBytes.{Appends}
 use Rattle.desk.specs.declared.sink.Sink.{Ghosts}
 
--- it took the text, where that is told
+-- the sink took the text, where that is told
 abbrev pub Took : {S : Type 0} → Ghosts S → S → S → List ℕ → Type 0
 Took sink old new text = Appends (sink.taken old) (sink.taken new) text
 
--- it took a prefix of the text
+-- the sink took a prefix of the text
 abbrev pub TookPrefix : {S : Type 0} → Ghosts S → S → S → List ℕ → Type 0
 TookPrefix sink old new text = (n : ℕ) × (n ≤ length text) × Took sink old new (take n text)

@@ -23,6 +23,3 @@ pub use served::Served;
 pub use sink::Sink;
 pub use stream_sink::StreamSink;
 pub use whole::{DeskFault, read_all, write_all};
-
-#[cfg(test)]
-mod tests;

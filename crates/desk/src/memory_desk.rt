@@ -15,7 +15,9 @@ use std::marker::Model;
 /// A file in memory.
 #[derive(Drop)]
 pub struct Named {
+    /// The name that it is held under.
     pub name: Name,
+    /// What it holds, from its first byte.
     pub bytes: Vec<u8>,
 }
 

@@ -26,7 +26,7 @@ pub struct Served {
 impl Served {
     ghost use Rattle.desk.specs.Served.{nothing};
 
-    /// Nothing yet.
+    /// Nothing was served yet.
     pub fn new() -> Served
         ensures { result ≡ nothing }
     {
@@ -54,7 +54,7 @@ impl Served {
         self.misses = self.misses.saturating_add(1);
     }
 
-    /// So many bytes of it are given.
+    /// So many bytes of the open file are given.
     pub fn give(&mut self, count: usize)
         ensures { let bytes = grown self.old.bytes count in
             self.new ≡ record self.old {

@@ -12,6 +12,7 @@ pub struct StreamSink<W: Write> {
 }
 
 impl<W: Write> StreamSink<W> {
+    /// A sink into this writer, without a fault yet. What the writer has taken before counts as taken.
     pub fn new(writer: W) -> StreamSink<W>
         ensures taken { ⟦<StreamSink<W> as Sink>⟧.taken result ≡ W.contents writer }
         ensures faults { ⟦<StreamSink<W> as Sink>⟧.faults result ≡ 0 }

@@ -54,7 +54,8 @@ has-without s c d h =
       | inr ne ↦
           let none : bit_at (2 ^ c) d ≡ 0 = bit_at-pow_other c d ne in
           let small : bit_at s d + 0 < 2 = omega (arith, bit_at-lt s d) in
-          let bit : bit_at (bit_xor s (2 ^ c)) d ≡ bit_at s d = bit_at_xor s (2 ^ c) d ∙ ap (λ x. (bit_at s d + x) % 2) none ∙ mod-eq_of_lt small ∙ omega arith in
+          let bit : bit_at (bit_xor s (2 ^ c)) d ≡ bit_at s d = bit_at_xor s (2 ^ c) d ∙ ap (λ x. (bit_at s d + x) % 2) none ∙ mod-eq_of_lt small
+          ∙ omega arith in
           ap (λ x. x == 1) bit ∙ sym (ap (λ b. has s d && not b) (ne_eqb d c ne) ∙ and-true (has s d))
     ]
 

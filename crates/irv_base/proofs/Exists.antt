@@ -31,12 +31,14 @@ alone-loses records xs ys c dx m e one dy s = list_all-each (λ d. nat_lt (votes
   set = set_of-same (c ∷ ys) xs dy dx s
 
   shares : (d : ℕ) → Member d xs → tally records (set_of xs) d ≡ least_tally records xs → Member d (sharing_least records xs)
-  shares d k t = member-filter (λ c. tally records (set_of xs) c == least_tally records xs) xs k (eq-eqb (tally records (set_of xs) d) (least_tally records xs) t)
+  shares d k t = member-filter (λ c. tally records (set_of xs) c == least_tally records xs) xs k
+      (eq-eqb (tally records (set_of xs) d) (least_tally records xs) t)
 
   -- two of them would be one too many
   too_many : (d : ℕ) → Member d ys → Member d (sharing_least records xs) → ⊥
   too_many d k t =
-      let apart : Distinct (c ∷ d ∷ []) = more (λ q. elim (member_cases q) [ inl e' ↦ distinct-head dy (subst (λ z. Member z ys) e' k) | inr r ↦ member_nil r ]) (more member_nil none) in
+      let apart : Distinct (c ∷ d ∷ []) =
+      more (λ q. elim (member_cases q) [ inl e' ↦ distinct-head dy (subst (λ z. Member z ys) e' k) | inr r ↦ member_nil r ]) (more member_nil none) in
       let le : 2 ≤ length (sharing_least records xs) = distinct-le (c ∷ d ∷ []) (sharing_least records xs) apart
       (λ z q. elim (member_cases q) [
         | inl e' ↦ subst (λ z. Member z (sharing_least records xs)) e' (shares c m e)

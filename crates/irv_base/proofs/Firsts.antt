@@ -39,11 +39,13 @@ firsts-more (a ∷ cs) c h =
     let (first, rest) = or-false (a == c) (is_in (filter (λ e. not (e == a)) (firsts cs)) c) h in
     let later = sym (is_in-filter (firsts cs) a c first) ∙ rest in
     ap (λ ds. a ∷ filter (λ e. not (e == a)) ds) (firsts-more cs c later)
-    ∙ ap (λ ds. a ∷ ds) (filter-append (λ e. not (e == a)) (firsts cs) (c ∷ []) ∙ ap (λ b. filter (λ e. not (e == a)) (firsts cs) ++ (if b then c ∷ [] else [])) (ap not (eqb-sym c a ∙ first)))
+    ∙ ap (λ ds. a ∷ ds) (filter-append (λ e. not (e == a)) (firsts cs) (c ∷ [])
+    ∙ ap (λ b. filter (λ e. not (e == a)) (firsts cs) ++ (if b then c ∷ [] else [])) (ap not (eqb-sym c a ∙ first)))
 
 filter-last : (cs : List ℕ) (a c : ℕ) → (a == c) ≡ true → filter (λ e. not (e == a)) (cs ++ c ∷ []) ≡ filter (λ e. not (e == a)) cs
 filter-last cs a c h =
-    filter-append (λ e. not (e == a)) cs (c ∷ []) ∙ ap (λ b. filter (λ e. not (e == a)) cs ++ (if b then c ∷ [] else [])) (ap not (eqb-sym c a ∙ h)) ∙ append-nil (filter (λ e. not (e == a)) cs)
+    filter-append (λ e. not (e == a)) cs (c ∷ []) ∙ ap (λ b. filter (λ e. not (e == a)) cs ++ (if b then c ∷ [] else [])) (ap not (eqb-sym c a ∙ h))
+    ∙ append-nil (filter (λ e. not (e == a)) cs)
 
 pub firsts-again : (cs : List ℕ) (c : ℕ) → is_in (firsts cs) c ≡ true → firsts (cs ++ c ∷ []) ≡ firsts cs
 firsts-again [] c h = absurd cc
@@ -52,7 +54,8 @@ firsts-again (a ∷ cs) c h = elim (cases_Bool (a == c)) [
     | inl again ↦ ap (λ ds. a ∷ filter (λ e. not (e == a)) ds) (firsts-again cs c again)
     | inr new ↦ ap (λ ds. a ∷ filter (λ e. not (e == a)) ds) (firsts-more cs c new) ∙ ap (λ ds. a ∷ ds) (filter-last (firsts cs) a c t)
   ]
-  | inr f ↦ ap (λ ds. a ∷ filter (λ e. not (e == a)) ds) (firsts-again cs c (sym (is_in-filter (firsts cs) a c f) ∙ ap (λ b. b || is_in (filter (λ e. not (e == a)) (firsts cs)) c) (sym f) ∙ h))
+  | inr f ↦ ap (λ ds. a ∷ filter (λ e. not (e == a)) ds) (firsts-again cs c (sym (is_in-filter (firsts cs) a c f)
+      ∙ ap (λ b. b || is_in (filter (λ e. not (e == a)) (firsts cs)) c) (sym f) ∙ h))
 ]
 
 -- as the code comes to know it

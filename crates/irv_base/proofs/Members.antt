@@ -77,7 +77,8 @@ member-filter p {x} (y ∷ xs) m t =
 pub from_filter : {X : Type 0} (p : X → Bool) {x : X} (xs : List X) → Member x (filter p xs) → Member x xs × (p x ≡ true)
 from_filter p [] m = absurd (member_nil m)
 from_filter {X} p {x} (y ∷ xs) m = go (p y) refl m (from_filter p xs) where
-  go : (b : Bool) → p y ≡ b → Member x (cond b (y ∷ filter p xs) (filter p xs)) → (Member x (filter p xs) → Member x xs × (p x ≡ true)) → Member x (y ∷ xs) × (p x ≡ true)
+  go : (b : Bool) → p y ≡ b → Member x (cond b (y ∷ filter p xs) (filter p xs)) → (Member x (filter p xs) → Member x xs × (p x ≡ true)) →
+      Member x (y ∷ xs) × (p x ≡ true)
   go true e k ih =
       elim (member_cases k) [
         | inl s ↦ (member_at s, ap p (sym s) ∙ e)
@@ -151,7 +152,8 @@ from_range c a (suc n) m =
 
 pub range-member : (c a n : ℕ) → a ≤ c → c < a + n → Member c (range_with_len a n)
 range-member c a zero l h = absurd (omega arith)
-range-member c a (suc n) l h = elim (Rattle.std.proofs.lemmas.Bool.cases_eq a c) [ inl e ↦ member_at e | inr ne ↦ there (range-member c (a + 1) n (omega arith) (omega arith)) ]
+range-member c a (suc n) l h =
+    elim (Rattle.std.proofs.lemmas.Bool.cases_eq a c) [ inl e ↦ member_at e | inr ne ↦ there (range-member c (a + 1) n (omega arith) (omega arith)) ]
 
 pub from_candidates : {c n : ℕ} → Member c (candidates n) → c < n
 from_candidates {c} {n} m = let h : (0 ≤ c) × (c < 0 + n) = from_range c 0 n m in omega arith

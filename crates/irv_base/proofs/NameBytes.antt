@@ -14,13 +14,15 @@ name-few bytes h =
     let (long, apart) = and_parts (has_name_length bytes) (not (touches_space bytes)) outer in
     leb-true (length bytes) MOST_NAME_BYTES (and_parts (nat_le 1 (length bytes)) (nat_le (length bytes) MOST_NAME_BYTES) long).1
 
-pub name_filled : (bytes copied text : List ℕ) → copied ≡ bytes → text ≡ replicate MOST_NAME_BYTES 0 → is_name bytes ≡ true → IsName (length bytes) (copied ++ drop (length bytes) text)
+pub name_filled : (bytes copied text : List ℕ) → copied ≡ bytes → text ≡ replicate MOST_NAME_BYTES 0 → is_name bytes ≡ true →
+    IsName (length bytes) (copied ++ drop (length bytes) text)
 name_filled bytes copied text e blank h = record {
   few = name-few bytes h;
   long = ap length same;
   padded =
       ap (λ s. s ++ drop (length bytes) text) (e ∙ sym same)
-      ∙ ap (λ s. take (length bytes) (copied ++ drop (length bytes) text) ++ s) (ap (drop (length bytes)) blank ∙ drop-replicate (length bytes) MOST_NAME_BYTES 0);
+      ∙ ap (λ s. take (length bytes) (copied ++ drop (length bytes) text) ++ s) (ap (drop (length bytes)) blank
+      ∙ drop-replicate (length bytes) MOST_NAME_BYTES 0);
   proper = ap is_name same ∙ h;
 }
   where

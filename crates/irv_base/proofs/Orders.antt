@@ -26,7 +26,8 @@ order_facts n order h = record {
     | inl l ↦ l
     | inr g ↦
         let d : Distinct (c ∷ candidates n) = more (λ k. let l : c < n = from_candidates k in absurd (omega arith)) (distinct-range 0 n) in
-        let le : length (c ∷ candidates n) ≤ length order = distinct-le (c ∷ candidates n) order d (λ z k. elim (member_cases k) [ inl e ↦ subst (λ x. Member x order) e m | inr r ↦ whole z (from_candidates r) ]) in
+        let le : length (c ∷ candidates n) ≤ length order = distinct-le (c ∷ candidates n) order d
+        (λ z k. elim (member_cases k) [ inl e ↦ subst (λ x. Member x order) e m | inr r ↦ whole z (from_candidates r) ]) in
         absurd (omega (arith, long, length-range 0 n))
   ];
   whole = whole;
@@ -36,7 +37,8 @@ order_facts n order h = record {
     long = eqb-true (length order) n (and_parts (length order == n) (list_all (λ c. is_in order c) (candidates n)) h).0
 
     whole : (c : ℕ) → c < n → Member c order
-    whole c l = member-from_in c order (from_list_all (λ c. is_in order c) (candidate-member c n l) (and_parts (length order == n) (list_all (λ c. is_in order c) (candidates n)) h).1)
+    whole c l = member-from_in c order (from_list_all (λ c. is_in order c) (candidate-member c n l)
+        (and_parts (length order == n) (list_all (λ c. is_in order c) (candidates n)) h).1)
 
 pub order_test : (n : ℕ) (order : List ℕ) → length order ≡ n → Distinct order → ((c : ℕ) → Member c order → c < n) → is_order n order ≡ true
 order_test n order long d below =
@@ -44,7 +46,9 @@ order_test n order long d below =
     (list_all-each (λ c. is_in order c) (candidates n) (λ c m. elim (cases_Bool (is_in order c)) [
       | inl t ↦ t
       | inr f ↦
-          let le : length (c ∷ order) ≤ length (candidates n) = distinct-le (c ∷ order) (candidates n) (more (none-from_out f) d) (λ z k. elim (member_cases k) [ inl e ↦ subst (λ x. Member x (candidates n)) e m | inr r ↦ candidate-member z n (below z r) ]) in
+          let le : length (c ∷ order) ≤ length (candidates n) =
+          distinct-le (c ∷ order) (candidates n) (more (none-from_out f) d)
+          (λ z k. elim (member_cases k) [ inl e ↦ subst (λ x. Member x (candidates n)) e m | inr r ↦ candidate-member z n (below z r) ]) in
           absurd (omega (arith, length-range 0 n))
     ]))
 

@@ -36,7 +36,11 @@ set-padded xs places room n y long l e =
 pub room-for_more : (room c : ℕ) (xs : List ℕ) → Distinct xs → ((d : ℕ) → Member d xs → d < room) → (Member c xs → ⊥) → c < room → length xs < room
 room-for_more room c xs apart below out l =
     let le : length (c ∷ xs) ≤ length (candidates room) = distinct-le (c ∷ xs) (candidates room) (more out apart)
-    (λ z m. elim (member_cases m) [ inl e ↦ subst (λ x. Member x (candidates room)) e (candidate-member c room l) | inr r ↦ candidate-member z room (below z r) ]) in
+    (λ z m. elim (member_cases m) [
+      | inl e ↦ subst (λ x. Member x (candidates room)) e (candidate-member c room l)
+      | inr r ↦ candidate-member z room
+          (below z r)
+    ]) in
     omega (arith, length-range 0 room)
 
 pub record Pushed (len c : ℕ) (places : List ℕ) : Type 0 where
@@ -66,7 +70,8 @@ ranking_pushed len c places r out l = record {
     apart = distinct-from_test kept r.distinct
 
     room : len < ROOM
-    room = let h = room-for_more ROOM c kept apart (λ d m. All-contains (λ d. d < ROOM) kept d r.below (contains-from_member m)) (none-from_out out) l in omega (arith, h, r.long)
+    room = let h = room-for_more ROOM c kept apart (λ d m. All-contains (λ d. d < ROOM) kept d r.below (contains-from_member m)) (none-from_out out) l in
+        omega (arith, h, r.long)
 
     more : take (len + 1) (set places len c) ≡ kept ++ c ∷ []
     more =
@@ -74,7 +79,8 @@ ranking_pushed len c places r out l = record {
         ∙ take-whole (kept ++ c ∷ []) (replicate (ROOM - (len + 1)) 0) (len + 1) (length-append kept (c ∷ []) ∙ omega (arith, r.long))
 
 -- as the code comes to know it
-pub pushed : (len c : ℕ) (places now : List ℕ) (found : Bool) → IsRanking len places → take len places ≡ now → c < ROOM → found ≡ is_in now c → found ≡ false → Pushed len c places
+pub pushed : (len c : ℕ) (places now : List ℕ) (found : Bool) → IsRanking len places → take len places ≡ now → c < ROOM → found ≡ is_in now c →
+    found ≡ false → Pushed len c places
 pushed len c places now found r e below answer absent = ranking_pushed len c places r (ap (λ s. is_in s c) e ∙ sym answer ∙ absent) below
 
 -- ---- orders
@@ -85,13 +91,15 @@ distinct_places list h (suc i) l =
     subst Distinct (sym (ap (λ k. take k list) (sym (add-one i)) ∙ take_more list i 0 (omega arith)))
     (distinct-push (take i list) (get_or list i 0) (distinct_places list h i (omega arith)) (none-from_out (h i (omega arith))))
 
-pub order-from_places : (n : ℕ) (list : List ℕ) → length list ≡ n → ((k : ℕ) → k < n → (is_in_range n list k ≡ true) × (is_repeated list k ≡ false)) → is_order n list ≡ true
+pub order-from_places : (n : ℕ) (list : List ℕ) → length list ≡ n → ((k : ℕ) → k < n → (is_in_range n list k ≡ true) × (is_repeated list k ≡ false)) →
+    is_order n list ≡ true
 order-from_places n list long h =
     order_test n list long
     (subst Distinct (take-length list) (distinct_places list (λ k l. (h k (omega arith)).1) (length list) (omega arith)))
     (λ c m. let (k, l, e) = contains-from_member m in subst (λ x. x < n) (get_or_default list k 0 c l ∙ e) (ltb-true (get_or list k 0) n (h k (omega arith)).0))
 
-pub filled_order : (list places : List ℕ) → places ≡ list ++ replicate (ROOM - length list) 0 → 0 < length list → length list ≤ ROOM → is_order (length list) list ≡ true →
+pub filled_order : (list places : List ℕ) → places ≡ list ++ replicate (ROOM - length list) 0 → 0 < length list → length list ≤ ROOM →
+    is_order (length list) list ≡ true →
     IsOrder (length list) places × (take (length list) places ≡ list)
 filled_order list places filled some room order =
     let same : take (length list) places ≡ list = ap (take (length list)) filled ∙ take-whole list (replicate (ROOM - length list) 0) (length list) refl in (
@@ -106,7 +114,8 @@ filled_order list places filled some room order =
     )
 
 -- as the code makes it of a list of all
-pub copied_order : (list copied blank : List ℕ) → copied ≡ list → blank ≡ replicate ROOM 0 → 0 < length list → length list ≤ ROOM → is_order (length list) list ≡ true →
+pub copied_order : (list copied blank : List ℕ) → copied ≡ list → blank ≡ replicate ROOM 0 → 0 < length list → length list ≤ ROOM →
+    is_order (length list) list ≡ true →
     let places = copied ++ drop (length list) blank in
     IsOrder (length list) places × (take (length list) places ≡ list)
 copied_order list copied blank e zeros some room order =
@@ -115,8 +124,10 @@ copied_order list copied blank e zeros some room order =
     some room order
 
 -- as the code reads it place by place
-pub order_placed : (n : ℕ) (list places : List ℕ) (i : ℕ) → 1 ≤ n → n ≤ ROOM → length list ≡ n → i ≡ length list → places ≡ take i list ++ replicate (ROOM - i) 0 →
-    ((k : ℕ) → k < i → (is_in_range n list k ≡ true) × (is_repeated list k ≡ false)) → IsOrder (length list) places × (take (length list) places ≡ list) × (is_order n list ≡ true)
+pub order_placed : (n : ℕ) (list places : List ℕ) (i : ℕ) → 1 ≤ n → n ≤ ROOM → length list ≡ n → i ≡ length list →
+    places ≡ take i list ++ replicate (ROOM - i) 0 →
+    ((k : ℕ) → k < i → (is_in_range n list k ≡ true) × (is_repeated list k ≡ false)) → IsOrder (length list) places × (take (length list) places ≡ list) ×
+    (is_order n list ≡ true)
 order_placed n list places i some room long last placed sound =
     let filled : places ≡ list ++ replicate (ROOM - length list) 0 =
     placed ∙ ap (λ k. take k list ++ replicate (ROOM - k) 0) last ∙ ap (λ s. s ++ replicate (ROOM - length list) 0) (take-length list) in

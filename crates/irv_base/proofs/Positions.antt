@@ -103,7 +103,8 @@ none_first p (x ∷ xs) ys h = by (p x) refl (none_first p xs ys) where
   shifted None = refl
   shifted (Some i) = ap Some (omega arith)
 
-  by : (b : Bool) → p x ≡ b → (position p xs ≡ None → position p (xs ++ ys) ≡ option_map (λ i. length xs + i) (position p ys)) → position p (x ∷ (xs ++ ys)) ≡ option_map (λ i. length (x ∷ xs) + i) (position p ys)
+  by : (b : Bool) → p x ≡ b → (position p xs ≡ None → position p (xs ++ ys) ≡ option_map (λ i. length xs + i) (position p ys)) →
+      position p (x ∷ (xs ++ ys)) ≡ option_map (λ i. length (x ∷ xs) + i) (position p ys)
   by true t ih = absurd (let e = sym (first_place p x xs t) ∙ h in cc)
   by false t ih =
       later_place p x (xs ++ ys) t ∙ ap (option_map (λ i. 1 + i)) (ih (of_none (position p xs) (sym (later_place p x xs t) ∙ h))) ∙ shifted (position p ys)

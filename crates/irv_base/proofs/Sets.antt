@@ -71,7 +71,8 @@ has-set_of cs c d =
 
 -- a number that has just these candidates is their set
 pub set_of_is : (s : ℕ) (cs : List ℕ) → Distinct cs → ((c : ℕ) → has s c ≡ is_in cs c) → s ≡ set_of cs
-set_of_is s cs d h = same_from_bits s (set_of cs) (λ c. same_bit (bit_at s c) (bit_at (set_of cs) c) (bit_at-lt s c) (bit_at-lt (set_of cs) c) (h c ∙ sym (has-set_of cs c d)))
+set_of_is s cs d h = same_from_bits s (set_of cs) (λ c. same_bit (bit_at s c) (bit_at (set_of cs) c) (bit_at-lt s c) (bit_at-lt (set_of cs) c) (h c
+    ∙ sym (has-set_of cs c d)))
   where
     same_bit : (a b : ℕ) → a < 2 → b < 2 → (a == 1) ≡ (b == 1) → a ≡ b
     same_bit a b ha hb e =

@@ -29,13 +29,17 @@ set_of-same xs ys dx dy s = set_of_is (set_of xs) ys dy (λ c. has-set_of xs c d
       ]
 
 same-tail : (c : ℕ) (xs ys : List ℕ) → Distinct (c ∷ xs) → Distinct (c ∷ ys) → Same (c ∷ xs) (c ∷ ys) → Same xs ys
-same-tail c xs ys dx dy s = record { left = λ d m. behind d ys (λ e. distinct-head dx (subst (λ x. Member x xs) (sym e) m)) (s.left d (there m)); right = λ d m. behind d xs (λ e. distinct-head dy (subst (λ x. Member x ys) (sym e) m)) (s.right d (there m)) }
+same-tail c xs ys dx dy s = record {
+  left = λ d m. behind d ys (λ e. distinct-head dx (subst (λ x. Member x xs) (sym e) m)) (s.left d (there m));
+  right = λ d m. behind d xs (λ e. distinct-head dy (subst (λ x. Member x ys) (sym e) m)) (s.right d (there m));
+}
   where
     behind : (d : ℕ) (zs : List ℕ) → c ≢ d → Member d (c ∷ zs) → Member d zs
     behind d zs ne m = elim (member_cases m) [ inl e ↦ absurd (ne e) | inr r ↦ r ]
 
 -- ---- the candidate that loses
-fewer : (records : List (List ℕ)) (c : ℕ) (others : List ℕ) (d : ℕ) → loses records c others ≡ true → Member d others → tally records (set_of (c ∷ others)) c < tally records (set_of (c ∷ others)) d
+fewer : (records : List (List ℕ)) (c : ℕ) (others : List ℕ) (d : ℕ) → loses records c others ≡ true → Member d others →
+    tally records (set_of (c ∷ others)) c < tally records (set_of (c ∷ others)) d
 fewer records c others d h m =
     let votes : ℕ → ℕ = tally records (set_of (c ∷ others)) in
     ltb-true (votes c) (votes d) (from_list_all (λ d. nat_lt (votes c) (votes d)) m h)
@@ -50,13 +54,15 @@ loser-same records c d xs ys dx dy s hc hd =
       | inl e ↦ e
       | inr ne ↦
           let set : set_of (c ∷ xs) ≡ set_of (d ∷ ys) = set_of-same (c ∷ xs) (d ∷ ys) dx dy s in
-          let one : tally records (set_of (c ∷ xs)) c < tally records (set_of (c ∷ xs)) d = fewer records c xs d hc (other c d xs (λ e. ne (sym e)) (s.right d here)) in
+          let one : tally records (set_of (c ∷ xs)) c < tally records (set_of (c ∷ xs)) d =
+          fewer records c xs d hc (other c d xs (λ e. ne (sym e)) (s.right d here)) in
           let two : tally records (set_of (d ∷ ys)) d < tally records (set_of (d ∷ ys)) c = fewer records d ys c hd (other d c ys ne (s.left c here)) in
           let two' : tally records (set_of (c ∷ xs)) d < tally records (set_of (c ∷ xs)) c = subst (λ z. tally records z d < tally records z c) (sym set) two in
           absurd (omega arith)
     ]
 
-pub tabulated-same : (records : List (List ℕ)) (xs ys : List ℕ) → Distinct xs → Distinct ys → Same xs ys → is_tabulated records xs ≡ true → is_tabulated records ys ≡ true → xs ≡ ys
+pub tabulated-same : (records : List (List ℕ)) (xs ys : List ℕ) → Distinct xs → Distinct ys → Same xs ys → is_tabulated records xs ≡ true →
+    is_tabulated records ys ≡ true → xs ≡ ys
 tabulated-same records [] [] dx dy s hx hy = refl
 tabulated-same records [] (d ∷ ys) dx dy s hx hy = absurd (member_nil (s.right d here))
 tabulated-same records (c ∷ xs) [] dx dy s hx hy = absurd (member_nil (s.left c here))
@@ -72,7 +78,8 @@ tabulated-same records (c ∷ xs) (d ∷ ys) dx dy s hx hy =
 pub least-le : (records : List (List ℕ)) (cs : List ℕ) (c : ℕ) → Member c cs → least_tally records cs ≤ tally records (set_of cs) c
 least-le records cs c m = least-member (tally records (set_of cs) c) (map (tally records (set_of cs)) cs) (member-map (tally records (set_of cs)) m)
 
-sharer : (records : List (List ℕ)) (cs : List ℕ) (c : ℕ) → Member c (sharing_least records cs) → Member c cs × (tally records (set_of cs) c ≡ least_tally records cs)
+sharer : (records : List (List ℕ)) (cs : List ℕ) (c : ℕ) → Member c (sharing_least records cs) →
+    Member c cs × (tally records (set_of cs) c ≡ least_tally records cs)
 sharer records cs c m =
     let (in', t) = from_filter (λ c. tally records (set_of cs) c == least_tally records cs) cs m in
     (in', eqb-true (tally records (set_of cs) c) (least_tally records cs) t)
@@ -95,17 +102,20 @@ one_apart c (a ∷ b ∷ rest) d l =
     ]
 
 -- where one candidate loses, none shares the least tally with another
-no-tie : (records : List (List ℕ)) (c : ℕ) (xs ys : List ℕ) → Distinct (c ∷ xs) → Distinct ys → Same (c ∷ xs) ys → loses records c xs ≡ true → nat_le 2 (length (sharing_least records ys)) ≡ true → ⊥
+no-tie : (records : List (List ℕ)) (c : ℕ) (xs ys : List ℕ) → Distinct (c ∷ xs) → Distinct ys → Same (c ∷ xs) ys → loses records c xs ≡ true →
+    nat_le 2 (length (sharing_least records ys)) ≡ true → ⊥
 no-tie records c xs ys dx dy s h two =
     let set : set_of (c ∷ xs) ≡ set_of ys = set_of-same (c ∷ xs) ys dx dy s in
-    let (d, m, ne) = one_apart c (sharing_least records ys) (distinct-filter (λ c. tally records (set_of ys) c == least_tally records ys) ys dy) (leb-true 2 (length (sharing_least records ys)) two) in
+    let (d, m, ne) = one_apart c (sharing_least records ys) (distinct-filter (λ c. tally records (set_of ys) c == least_tally records ys) ys dy)
+    (leb-true 2 (length (sharing_least records ys)) two) in
     let (in', e) = sharer records ys d m in
     let lt : tally records (set_of (c ∷ xs)) c < tally records (set_of (c ∷ xs)) d = fewer records c xs d h (other c d xs ne (s.right d in')) in
     let lt' : tally records (set_of ys) c < tally records (set_of ys) d = subst (λ z. tally records z c < tally records z d) set lt in
     let le : least_tally records ys ≤ tally records (set_of ys) c = least-le records ys c (s.left c here) in
     omega arith
 
-pub tabulated-no_tie : (records : List (List ℕ)) (k : ℕ) (xs ys : List ℕ) → Distinct xs → Distinct ys → Same xs ys → is_tabulated records xs ≡ true → ties_after records k ys ≡ true → ⊥
+pub tabulated-no_tie : (records : List (List ℕ)) (k : ℕ) (xs ys : List ℕ) → Distinct xs → Distinct ys → Same xs ys → is_tabulated records xs ≡ true →
+    ties_after records k ys ≡ true → ⊥
 tabulated-no_tie records zero [] ys dx dy s h t = nothing ys s t where
   nothing : (ys : List ℕ) → Same [] ys → nat_le 2 (length (sharing_least records ys)) ≡ true → ⊥
   nothing [] s t = cc
@@ -127,7 +137,8 @@ least-same records xs [] set s = nothing xs s where
   nothing [] s = omega arith
   nothing (x ∷ xs) s = absurd (member_nil (s.left x here))
 least-same records xs (y ∷ ys) set s =
-    let (d, m, e) = from_map (tally records (set_of (y ∷ ys))) (least_tally records (y ∷ ys)) (y ∷ ys) (least_is (member-map (tally records (set_of (y ∷ ys))) here)) in
+    let (d, m, e) = from_map (tally records (set_of (y ∷ ys))) (least_tally records (y ∷ ys)) (y ∷ ys)
+    (least_is (member-map (tally records (set_of (y ∷ ys))) here)) in
     let le : least_tally records xs ≤ tally records (set_of xs) d = least-le records xs d (s.right d m) in
     omega (arith, ap (λ z. tally records z d) set)
 
@@ -137,7 +148,8 @@ record SameTie (records : List (List ℕ)) (xs ys : List ℕ) : Type 0 where
 
 same-tie : (records : List (List ℕ)) (xs ys : List ℕ) → Distinct xs → Distinct ys → Same xs ys → SameTie records xs ys
 same-tie records xs ys dx dy s = record {
-  who = set_of-same (sharing_least records xs) (sharing_least records ys) (distinct-filter (λ c. tally records (set_of xs) c == least_tally records xs) xs dx) (distinct-filter (λ c. tally records (set_of ys) c == least_tally records ys) ys dy)
+  who = set_of-same (sharing_least records xs) (sharing_least records ys) (distinct-filter (λ c. tally records (set_of xs) c == least_tally records xs) xs dx)
+      (distinct-filter (λ c. tally records (set_of ys) c == least_tally records ys) ys dy)
       (record { left = λ c m. over xs ys s set least' c m; right = λ c m. over ys xs (back s) (sym set) (sym least') c m });
   votes = least';
 }
@@ -148,7 +160,8 @@ same-tie records xs ys dx dy s = record {
     least' : least_tally records xs ≡ least_tally records ys
     least' = le_antisymm (least-same records xs ys set s) (least-same records ys xs (sym set) (back s))
 
-    over : (xs ys : List ℕ) → Same xs ys → set_of xs ≡ set_of ys → least_tally records xs ≡ least_tally records ys → (c : ℕ) → Member c (sharing_least records xs) → Member c (sharing_least records ys)
+    over : (xs ys : List ℕ) → Same xs ys → set_of xs ≡ set_of ys → least_tally records xs ≡ least_tally records ys → (c : ℕ) →
+        Member c (sharing_least records xs) → Member c (sharing_least records ys)
     over xs ys s set least' c m =
         let (in', e) = sharer records xs c m in
         member-filter (λ c. tally records (set_of ys) c == least_tally records ys) ys (s.left c in')
@@ -159,12 +172,15 @@ pub record SameFirst (records : List (List ℕ)) (k j : ℕ) (xs ys : List ℕ) 
   pub who : set_of (sharing_least records (drop k xs)) ≡ set_of (sharing_least records (drop j ys))
   pub votes : least_tally records (drop k xs) ≡ least_tally records (drop j ys)
 
-pub first-same : (records : List (List ℕ)) (k j : ℕ) (xs ys : List ℕ) → Distinct xs → Distinct ys → Same xs ys → ties_after records k xs ≡ true → ties_after records j ys ≡ true → SameFirst records k j xs ys
+pub first-same : (records : List (List ℕ)) (k j : ℕ) (xs ys : List ℕ) → Distinct xs → Distinct ys → Same xs ys → ties_after records k xs ≡ true →
+    ties_after records j ys ≡ true → SameFirst records k j xs ys
 first-same records zero zero xs ys dx dy s tx ty = let t = same-tie records xs ys dx dy s in record { round = refl; who = t.who; votes = t.votes }
 first-same records zero (suc j) xs [] dx dy s tx ty = cc
-first-same records zero (suc j) xs (d ∷ ys) dx dy s tx ty = absurd (no-tie records d ys xs dy dx (back s) (and_parts (loses records d ys) (ties_after records j ys) ty).0 tx)
+first-same records zero (suc j) xs (d ∷ ys) dx dy s tx ty =
+    absurd (no-tie records d ys xs dy dx (back s) (and_parts (loses records d ys) (ties_after records j ys) ty).0 tx)
 first-same records (suc k) j [] ys dx dy s tx ty = cc
-first-same records (suc k) zero (c ∷ xs) ys dx dy s tx ty = absurd (no-tie records c xs ys dx dy s (and_parts (loses records c xs) (ties_after records k xs) tx).0 ty)
+first-same records (suc k) zero (c ∷ xs) ys dx dy s tx ty =
+    absurd (no-tie records c xs ys dx dy s (and_parts (loses records c xs) (ties_after records k xs) tx).0 ty)
 first-same records (suc k) (suc j) (c ∷ xs) [] dx dy s tx ty = cc
 first-same records (suc k) (suc j) (c ∷ xs) (d ∷ ys) dx dy s tx ty =
     let (cx, rx) = and_parts (loses records c xs) (ties_after records k xs) tx in
@@ -181,18 +197,23 @@ orders-same n xs ys hx hy =
     let y = order_facts n ys hy in
     record { left = λ c m. y.whole c (x.below c m); right = λ c m. x.whole c (y.below c m) }
 
-pub tabulated_is_one : (n : ℕ) (records : List (List ℕ)) (order other : List ℕ) → is_order n order ≡ true → is_tabulated records order ≡ true → is_order n other ≡ true → is_tabulated records other ≡ true → order ≡ other
-tabulated_is_one n records order other o t o' t' = tabulated-same records order other (order_facts n order o).apart (order_facts n other o').apart (orders-same n order other o o') t t'
+pub tabulated_is_one : (n : ℕ) (records : List (List ℕ)) (order other : List ℕ) → is_order n order ≡ true → is_tabulated records order ≡ true →
+    is_order n other ≡ true → is_tabulated records other ≡ true → order ≡ other
+tabulated_is_one n records order other o t o' t' = tabulated-same records order other (order_facts n order o).apart (order_facts n other o').apart
+    (orders-same n order other o o') t t'
 
 pub first_tie_is_one : (n : ℕ) (records : List (List ℕ)) (round tied votes round' tied' votes' : ℕ) → 1 ≤ round → 1 ≤ round' →
     IsFirstTie n records round tied votes → IsFirstTie n records round' tied' votes' → (round ≡ round') × (tied ≡ tied') × (votes ≡ votes')
 first_tie_is_one n records round tied votes round' tied' votes' l l' t t' =
-    let f = first-same records (round - 1) (round' - 1) t.order t'.order (order_facts n t.order t.permutation).apart (order_facts n t'.order t'.permutation).apart (orders-same n t.order t'.order t.permutation t'.permutation) t.ties t'.ties in (
+    let f = first-same records (round - 1) (round' - 1) t.order t'.order (order_facts n t.order t.permutation).apart
+    (order_facts n t'.order t'.permutation).apart (orders-same n t.order t'.order t.permutation t'.permutation) t.ties t'.ties in (
       omega (arith, f.round),
       t.who ∙ f.who ∙ sym t'.who,
       t.with ∙ f.votes ∙ sym t'.with,
     )
 
-pub tabulated_or_tie : (n : ℕ) (records : List (List ℕ)) (order : List ℕ) (round tied votes : ℕ) → is_order n order ≡ true → is_tabulated records order ≡ true → 1 ≤ round → IsFirstTie n records round tied votes → ⊥
+pub tabulated_or_tie : (n : ℕ) (records : List (List ℕ)) (order : List ℕ) (round tied votes : ℕ) → is_order n order ≡ true →
+    is_tabulated records order ≡ true → 1 ≤ round → IsFirstTie n records round tied votes → ⊥
 tabulated_or_tie n records order round tied votes o h l t =
-    tabulated-no_tie records (round - 1) order t.order (order_facts n order o).apart (order_facts n t.order t.permutation).apart (orders-same n order t.order o t.permutation) h t.ties
+    tabulated-no_tie records (round - 1) order t.order (order_facts n order o).apart (order_facts n t.order t.permutation).apart
+    (orders-same n order t.order o t.permutation) h t.ties

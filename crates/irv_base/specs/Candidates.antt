@@ -23,6 +23,6 @@ set_of cs = sum_by (λ c. 2 ^ c) cs
 abbrev pub has : ℕ → ℕ → Bool
 has set c = (set / 2 ^ c) % 2 == 1
 
--- in rising order
+-- the members of a set, in rising order
 abbrev pub members : ℕ → List ℕ
 members set = filter (has set) (candidates ROOM)

@@ -4,24 +4,29 @@ use Rattle.irv_base.specs.Orders.{is_order}
 use Rattle.irv_base.specs.Tabulation.{is_tabulated, is_possible, IsFirstTie}
 
 abbrev pub HasOrder : ℕ → List (List ℕ) → Type 0
-HasOrder n records = (order : List ℕ) × IsTrue (is_order n order) × IsTrue (is_tabulated records order)
+HasOrder n records =
+    (order : List ℕ) × IsTrue (is_order n order) × IsTrue (is_tabulated records order)
 
 abbrev pub HasTie : ℕ → List (List ℕ) → Type 0
 HasTie n records = (round tied votes : ℕ) × (1 ≤ round) × IsFirstTie n records round tied votes
 
 abbrev pub TabulatedIsPossible : Type 0
-TabulatedIsPossible = (records : List (List ℕ)) (order : List ℕ) → IsTrue (is_tabulated records order) → IsTrue (is_possible records order)
+TabulatedIsPossible =
+    (records : List (List ℕ)) (order : List ℕ) → IsTrue (is_tabulated records order) →
+    IsTrue (is_possible records order)
 
 -- the records determine the tabulated order
 abbrev pub TabulatedIsOne : Type 0
 TabulatedIsOne =
-    (n : ℕ) (records : List (List ℕ)) (order other : List ℕ) → IsTrue (is_order n order) → IsTrue (is_tabulated records order) →
+    (n : ℕ) (records : List (List ℕ)) (order other : List ℕ) → IsTrue (is_order n order) →
+    IsTrue (is_tabulated records order) →
     IsTrue (is_order n other) → IsTrue (is_tabulated records other) → order ≡ other
 
 -- the records determine the first tie
 abbrev pub FirstTieIsOne : Type 0
 FirstTieIsOne =
-    (n : ℕ) (records : List (List ℕ)) (round tied votes round' tied' votes' : ℕ) → 1 ≤ round → 1 ≤ round' →
+    (n : ℕ) (records : List (List ℕ)) (round tied votes round' tied' votes' : ℕ) → 1 ≤ round →
+    1 ≤ round' →
     IsFirstTie n records round tied votes → IsFirstTie n records round' tied' votes' →
     (round ≡ round') × (tied ≡ tied') × (votes ≡ votes')
 
@@ -32,5 +37,6 @@ TabulatedOrTieExists = (n : ℕ) (records : List (List ℕ)) → HasOrder n reco
 -- there is never both
 abbrev pub TabulatedOrTie : Type 0
 TabulatedOrTie =
-    (n : ℕ) (records : List (List ℕ)) (order : List ℕ) (round tied votes : ℕ) → IsTrue (is_order n order) → IsTrue (is_tabulated records order) →
+    (n : ℕ) (records : List (List ℕ)) (order : List ℕ) (round tied votes : ℕ) →
+    IsTrue (is_order n order) → IsTrue (is_tabulated records order) →
     1 ≤ round → IsFirstTie n records round tied votes → ⊥

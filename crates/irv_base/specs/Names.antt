@@ -25,9 +25,10 @@ has_name_length bytes = nat_le 1 (length bytes) && nat_le (length bytes) MOST_NA
 
 -- begins or ends with a space
 abbrev pub touches_space : List ℕ → Bool
-touches_space bytes = (slice_index bytes 0 == space) || (slice_index bytes (length bytes - 1) == space)
+touches_space bytes =
+    (slice_index bytes 0 == space) || (slice_index bytes (length bytes - 1) == space)
 
--- at most MOST_NAME_BYTES such bytes, and at least one, that neither begin nor end with a space
+-- a name has 1 to MOST_NAME_BYTES bytes that a name may have, and neither begins nor ends with a space
 abbrev pub is_name : List ℕ → Bool
 is_name bytes = has_name_length bytes && not (touches_space bytes) && list_all is_name_byte bytes
 

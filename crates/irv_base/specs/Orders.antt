@@ -33,4 +33,5 @@ pub record IsFirstFault (n : ℕ) (list : List ℕ) (i : ℕ) : Type 0 where
 abbrev pub Refuses : ℕ → List ℕ → BadOrder → Type 0
 Refuses n list (Length found) = (found ≡ length list) × (length list ≢ n)
 Refuses n list (Range i) = IsFirstFault n list i × (is_in_range n list i ≡ false)
-Refuses n list (Repeated i) = IsFirstFault n list i × (is_in_range n list i ≡ true) × (is_repeated list i ≡ true)
+Refuses n list (Repeated i) =
+    IsFirstFault n list i × (is_in_range n list i ≡ true) × (is_repeated list i ≡ true)

@@ -7,11 +7,17 @@ use Rattle.irv_base.specs.Records.{tally}
 
 -- c has strictly the least tally among itself and the others
 abbrev pub loses : List (List ℕ) → ℕ → List ℕ → Bool
-loses records c others = list_all (λ d. nat_lt (tally records (set_of (c ∷ others)) c) (tally records (set_of (c ∷ others)) d)) others
+loses records c others =
+    list_all
+    (λ d. nat_lt (tally records (set_of (c ∷ others)) c) (tally records (set_of (c ∷ others)) d))
+    others
 
 -- none of the others has a smaller tally than c
 abbrev pub may_lose : List (List ℕ) → ℕ → List ℕ → Bool
-may_lose records c others = list_all (λ d. nat_le (tally records (set_of (c ∷ others)) c) (tally records (set_of (c ∷ others)) d)) others
+may_lose records c others =
+    list_all
+    (λ d. nat_le (tally records (set_of (c ∷ others)) c) (tally records (set_of (c ∷ others)) d))
+    others
 
 -- the order that the rule of instant runoff gives, where it gives one
 abbrev pub is_tabulated : List (List ℕ) → List ℕ → Bool

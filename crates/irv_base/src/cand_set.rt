@@ -37,6 +37,7 @@ impl CandSet {
         CandSet(0)
     }
 
+    /// Whether `c` is a member.
     pub fn has(self, c: Candidate) -> bool
         ensures { result ≡ has self c }
     {
@@ -82,6 +83,7 @@ impl CandSet {
         count
     }
 
+    /// Whether it has no member.
     pub fn is_empty(self) -> bool
         ensures { result ≡ (self == 0) }
     {

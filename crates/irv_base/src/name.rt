@@ -34,9 +34,16 @@ impl Model for Name {
 
     ghost invariant = { λ s. IsName s.len s.text };
 
-    ghost inverse = { λ v. record { len = length v; text = v ++ replicate (MOST_NAME_BYTES - length v) 0 } };
+    ghost inverse = { λ v. record {
+      len = length v;
+      text = v ++ replicate (MOST_NAME_BYTES - length v) 0;
+    } };
 
-    ghost inverse_ok = { λ s h i. record { len = h.long i; text = (ap (λ n. take s.len s.text ++ replicate (MOST_NAME_BYTES - n) 0) h.long ∙ sym h.padded) i } };
+    ghost inverse_ok = { λ s h i. record {
+      len = h.long i;
+      text = (ap (λ n. take s.len s.text ++ replicate (MOST_NAME_BYTES - n) 0) h.long
+          ∙ sym h.padded) i;
+    } };
 }
 
 fn is_name_byte(b: u8) -> bool
@@ -88,6 +95,7 @@ impl Name {
         })
     }
 
+    /// Its bytes: ASCII, 1 to `MOST_NAME_BYTES` of them.
     pub fn bytes(&self) -> &[u8]
         ensures same { result.now ≡ self.now }
         ensures valid { IsTrue (is_name self.now) }
@@ -95,6 +103,7 @@ impl Name {
         &self.text[..usize::from(self.len)]
     }
 
+    /// Its characters, as a text.
     pub fn text(&self) -> &str
         ensures same { result.now ≡ self.now }
         ensures valid { IsTrue (is_name self.now) }

@@ -54,7 +54,11 @@ impl Model for Order {
 
     ghost inverse = { λ v. record { len = length v; places = v ++ replicate (ROOM - length v) 0 } };
 
-    ghost inverse_ok = { λ o h i. record { len = h.long i; places = (ap (λ n. take o.len o.places ++ replicate (ROOM - n) 0) h.long ∙ sym h.padded) i } };
+    ghost inverse_ok = { λ o h i. record {
+      len = h.long i;
+      places = (ap (λ n. take o.len o.places ++ replicate (ROOM - n) 0) h.long
+          ∙ sym h.padded) i;
+    } };
 }
 
 impl Order {

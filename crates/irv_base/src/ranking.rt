@@ -35,7 +35,11 @@ impl Model for Ranking {
 
     ghost inverse = { λ v. record { len = length v; places = v ++ replicate (ROOM - length v) 0 } };
 
-    ghost inverse_ok = { λ r h i. record { len = h.long i; places = (ap (λ n. take r.len r.places ++ replicate (ROOM - n) 0) h.long ∙ sym h.padded) i } };
+    ghost inverse_ok = { λ r h i. record {
+      len = h.long i;
+      places = (ap (λ n. take r.len r.places ++ replicate (ROOM - n) 0) h.long
+          ∙ sym h.padded) i;
+    } };
 }
 
 fn place_in(candidates: &[Candidate], c: Candidate) -> Option<usize>
@@ -78,6 +82,7 @@ impl Ranking {
         }
     }
 
+    /// Whether it ranks `c`, at whatever place.
     pub fn contains(&self, c: Candidate) -> bool
         ensures { result ≡ is_in self.now c }
     {

@@ -32,9 +32,17 @@ impl Model for Suffix {
 
     ghost invariant = { λ s. IsSuffix s.start s.places s.set };
 
-    ghost inverse = { λ v. record { start = ROOM - length v; set = set_of v; places = replicate (ROOM - length v) 0 ++ v } };
+    ghost inverse = { λ v. record {
+      start = ROOM - length v;
+      set = set_of v;
+      places = replicate (ROOM - length v) 0 ++ v;
+    } };
 
-    ghost inverse_ok = { λ s h i. record { start = h.long i; set = sym h.members i; places = (ap (λ n. replicate n 0 ++ drop s.start s.places) h.long ∙ sym h.padded) i } };
+    ghost inverse_ok = { λ s h i. record {
+      start = h.long i;
+      set = sym h.members i;
+      places = (ap (λ n. replicate n 0 ++ drop s.start s.places) h.long ∙ sym h.padded) i;
+    } };
 }
 
 impl Suffix {
@@ -104,6 +112,7 @@ impl Suffix {
         self.places[usize::from(self.start)]
     }
 
+    /// Whether `c` is one of its candidates.
     pub fn contains(&self, c: Candidate) -> bool
         ensures { result ≡ is_in self.now c }
     {

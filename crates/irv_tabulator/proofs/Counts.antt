@@ -66,13 +66,15 @@ top-in set (d ∷ rest) c e = go (has set d) refl e (top-in set rest c) where
   go true h s later = let at : d ≡ c = cc in ap (has set) (sym at) ∙ h
   go false h s later = later s
 
-pub all-counted : (n : ℕ) (records : List (List ℕ)) (set : ℕ) → ((c : ℕ) → has set c ≡ true → c < n) → sum (tallies records n set) + exhausted_of records set ≡ length records
+pub all-counted : (n : ℕ) (records : List (List ℕ)) (set : ℕ) → ((c : ℕ) → has set c ≡ true → c < n) →
+    sum (tallies records n set) + exhausted_of records set ≡ length records
 all-counted n [] set below = let e = sum-map (tally [] set) (candidates n) in let z = sum-none (tally [] set) (candidates n) (λ x. refl) in omega (arith, e, z)
 all-counted n (r ∷ records) set below =
     let here : ℕ → ℕ = λ c. cond (is_some_of (top r set) c) 1 0 in
     let e = sum-map (tally (r ∷ records) set) (candidates n) in
     let e' = sum-map (tally records set) (candidates n) in
-    let b = sum-both (tally (r ∷ records) set) here (tally records set) (candidates n) (λ c. sum_by-cons (λ ranking. cond (is_some_of (top ranking set) c) 1 0) r records) in
+    let b = sum-both (tally (r ∷ records) set) here (tally records set) (candidates n)
+    (λ c. sum_by-cons (λ ranking. cond (is_some_of (top ranking set) c) 1 0) r records) in
     let x = sum_by-cons (λ ranking. cond (not (is_some (top ranking set))) 1 0) r records in
     let o = counted-once n (top r set) (λ c h. below c (top-in set r c h)) in
     let i = all-counted n records set below in
@@ -80,12 +82,14 @@ all-counted n (r ∷ records) set below =
 
 -- ---- the rounds so far
 abbrev pub Noted : ℕ → List (List ℕ) → List ℕ → ℕ → List Count → Type 0
-Noted n records done set counts = (c : ℕ) (rest : List ℕ) → IsRest set (c ∷ rest) → rounds_of n records (done ++ c ∷ rest) ≡ counts ++ rounds_of n records (c ∷ rest)
+Noted n records done set counts = (c : ℕ) (rest : List ℕ) → IsRest set (c ∷ rest) → rounds_of n records (done ++ c ∷ rest) ≡ counts
+    ++ rounds_of n records (c ∷ rest)
 
 pub first-noted : (n : ℕ) (records : List (List ℕ)) (set : ℕ) → Noted n records [] set []
 first-noted n records set c rest r = refl
 
-pub noted-more : (n : ℕ) (records : List (List ℕ)) (done : List ℕ) (set c less : ℕ) (counts : List Count) → IsWithout set c less → Noted n records done set counts →
+pub noted-more : (n : ℕ) (records : List (List ℕ)) (done : List ℕ) (set c less : ℕ) (counts : List Count) → IsWithout set c less →
+    Noted n records done set counts →
     Noted n records (done ++ c ∷ []) less (counts ++ count_of n records set ∷ [])
 noted-more n records done set c less counts w h d rest r =
     let more = rest-more set c less (d ∷ rest) w r in
@@ -103,14 +107,17 @@ pub record IsCounted (n : ℕ) (records : List (List ℕ)) (set : ℕ) (row : Li
   pub tallied : row ≡ tallies records n set
   pub left : exhausted ≡ all - sum row
 
-counted : (n : ℕ) (records : List (List ℕ)) (set : ℕ) (row : List ℕ) (exhausted : ℕ) → IsCounted n records set row exhausted → count_of n records set ≡ record { votes = row; exhausted = exhausted }
+counted : (n : ℕ) (records : List (List ℕ)) (set : ℕ) (row : List ℕ) (exhausted : ℕ) → IsCounted n records set row exhausted →
+    count_of n records set ≡ record { votes = row; exhausted = exhausted }
 counted n records set row exhausted h =
     let whole = all-counted n records set h.below in
     let same : sum row ≡ sum (tallies records n set) = ap sum h.tallied in
     let spent : exhausted_of records set ≡ exhausted = omega (arith, whole, same, h.every, h.left) in
     ap₂ (λ (v : List ℕ) (e : ℕ). let count : Count = record { votes = v; exhausted = e } in count) (sym h.tallied) spent
 
-pub noted-counted : (n : ℕ) (records : List (List ℕ)) (done : List ℕ) (set c less : ℕ) (counts : List Count) (row : List ℕ) (exhausted : ℕ) → IsCounted n records set row exhausted → IsWithout set c less →
+pub noted-counted : (n : ℕ) (records : List (List ℕ)) (done : List ℕ) (set c less : ℕ) (counts : List Count) (row : List ℕ) (exhausted : ℕ) →
+    IsCounted n records set row exhausted → IsWithout set c less →
     Noted n records done set counts → Noted n records (done ++ c ∷ []) less (counts ++ (record { votes = row; exhausted = exhausted }) ∷ [])
 noted-counted n records done set c less counts row exhausted h w s =
-    subst (λ x. Noted n records (done ++ c ∷ []) less (counts ++ x ∷ [])) (counted n records set row exhausted h) (noted-more n records done set c less counts w s)
+    subst (λ x. Noted n records (done ++ c ∷ []) less (counts ++ x ∷ [])) (counted n records set row exhausted h)
+    (noted-more n records done set c less counts w s)

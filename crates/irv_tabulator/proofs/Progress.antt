@@ -6,6 +6,7 @@ use Rattle.irv_base.specs.Candidates.{candidates, has, is_in, members}
 use Rattle.irv_base.specs.Orders.{is_order, Refuses}
 use Rattle.irv_base.specs.declared.order.BadOrder.{BadOrder}
 use Rattle.irv_base.specs.declared.order.BadOrder.TheVariants.{Length, Range, Repeated}
+use Rattle.irv_base.specs.declared.limits.TheConstants.{ROOM}
 use Rattle.irv_base.specs.Tabulation.{is_tabulated, loses, ties_after}
 use Rattle.irv_base.proofs.Members.{Member, here, there, member_cases, member_nil, member-filter, from_filter, member-from_in, in-from_member, out-from_none, none-from_out, from_candidates, candidate-member, member-from_contains, member_at, member-append_right}
 use Rattle.irv_base.proofs.Distinct.{Distinct, none, more, distinct-head, distinct-tail, distinct-le, distinct-range, length-range, distinct-split}
@@ -26,23 +27,23 @@ pub record Rounds (records : List (List ℕ)) (done : List ℕ) (set : ℕ) : Ty
   pub ties : (rest : List ℕ) (k : ℕ) → IsRest set rest → ties_after records k rest ≡ true → ties_after records (length done + k) (done ++ rest) ≡ true
 
 -- ---- the members in rising order
-distinct_filter : (p : ℕ → Bool) (xs : List ℕ) → Distinct xs → Distinct (filter p xs)
+pub distinct_filter : (p : ℕ → Bool) (xs : List ℕ) → Distinct xs → Distinct (filter p xs)
 distinct_filter p [] d = none
 distinct_filter p (x ∷ xs) d = kept (p x) (distinct_filter p xs (distinct-tail d)) where
   kept : (b : Bool) → Distinct (filter p xs) → Distinct (cond b (x ∷ filter p xs) (filter p xs))
   kept true k = more (λ m. distinct-head d (from_filter p xs m).0) k
   kept false k = k
 
-pub members-rest : (n set : ℕ) → n ≤ 32 → ((c : ℕ) → has set c ≡ true → c < n) → IsRest set (members set)
+pub members-rest : (n set : ℕ) → n ≤ ROOM → ((c : ℕ) → has set c ≡ true → c < n) → IsRest set (members set)
 members-rest n set room below = record {
-  apart = distinct_filter (has set) (candidates 32) (distinct-range 0 32);
+  apart = distinct_filter (has set) (candidates ROOM) (distinct-range 0 ROOM);
   same = λ c. elim (cases_Bool (has set c)) [
-    | inl t ↦ let l : c < n = below c t in t ∙ sym (in-from_member (member-filter (has set) (candidates 32) (candidate-member c 32 (omega arith)) t))
-    | inr f ↦ f ∙ sym (out-from_none c (members set) (λ m. both_ways (has set c) f (from_filter (has set) (candidates 32) m).1))
+    | inl t ↦ let l : c < n = below c t in t ∙ sym (in-from_member (member-filter (has set) (candidates ROOM) (candidate-member c ROOM (omega arith)) t))
+    | inr f ↦ f ∙ sym (out-from_none c (members set) (λ m. both_ways (has set c) f (from_filter (has set) (candidates ROOM) m).1))
   ];
 }
 
-pub set-below : (n set : ℕ) → n ≤ 32 → ((c : ℕ) → has set c ≡ true → c < n) → set < 2 ^ n
+pub set-below : (n set : ℕ) → n ≤ ROOM → ((c : ℕ) → has set c ≡ true → c < n) → set < 2 ^ n
 set-below n set room below =
     let r = members-rest n set room below in
     subst (λ s. s < 2 ^ n) (sym (set_of_is set (members set) r.apart r.same)) (set_of-lt n (members set) r.apart (λ c m. below c (r.same c ∙ in-from_member m)))
@@ -99,7 +100,8 @@ shape-more n done set c less w s = record {
   below = λ d h. s.below d (and_parts (has set d) (not (d == c)) (sym (w.others d) ∙ h)).0;
 }
 
-pub rounds-more : (records : List (List ℕ)) (done : List ℕ) (set c less : ℕ) → IsWithout set c less → ((rest : List ℕ) → IsRest less rest → loses records c rest ≡ true) →
+pub rounds-more : (records : List (List ℕ)) (done : List ℕ) (set c less : ℕ) → IsWithout set c less →
+    ((rest : List ℕ) → IsRest less rest → loses records c rest ≡ true) →
     Rounds records done set → Rounds records (done ++ c ∷ []) less
 rounds-more records done set c less w loser s = record {
   tabulated = λ rest r h.
@@ -114,7 +116,7 @@ rounds-more records done set c less w loser s = record {
 }
 
 -- ---- how many remain
-pub remaining : (n : ℕ) (done : List ℕ) (set : ℕ) → n ≤ 32 → Shape n done set → length done + length (members set) ≡ n
+pub remaining : (n : ℕ) (done : List ℕ) (set : ℕ) → n ≤ ROOM → Shape n done set → length done + length (members set) ≡ n
 remaining n done set room s =
     let r = members-rest n set room s.below in
     sym (length-append done (members set)) ∙ (order_facts n (done ++ members set) (s.order (members set) r)).long
@@ -129,10 +131,11 @@ take-long zero xs l = refl
 take-long (suc k) [] l = absurd (omega arith)
 take-long (suc k) (x ∷ xs) l = ap suc (take-long k xs (omega arith))
 
-pub place-more : (places : List ℕ) (round c : ℕ) → 1 ≤ round → round ≤ 32 → length places ≡ 32 → take (round + 1 - 1) (set places (round - 1) c) ≡ take (round - 1) places ++ c ∷ []
+pub place-more : (places : List ℕ) (round c : ℕ) → 1 ≤ round → round ≤ ROOM → length places ≡ ROOM →
+    take (round + 1 - 1) (set places (round - 1) c) ≡ take (round - 1) places ++ c ∷ []
 place-more places round c some few wide = ap (λ k. take k (set places (round - 1) c)) (omega arith) ∙ take_more_set places (round - 1) c (omega arith)
 
-pub place-last : (places : List ℕ) (n c : ℕ) → 1 ≤ n → n ≤ 32 → length places ≡ 32 → take n (set places (n - 1) c) ≡ take (n - 1) places ++ c ∷ []
+pub place-last : (places : List ℕ) (n c : ℕ) → 1 ≤ n → n ≤ ROOM → length places ≡ ROOM → take n (set places (n - 1) c) ≡ take (n - 1) places ++ c ∷ []
 place-last places n c some few wide = ap (λ k. take k (set places (n - 1) c)) (omega arith) ∙ take_more_set places (n - 1) c (omega arith)
 
 -- ---- the last one
@@ -141,7 +144,8 @@ single [] w l e = absurd (omega arith)
 single (x ∷ []) w l e = let s : x ≡ w = cc in ap (λ y. y ∷ []) s
 single (x ∷ y ∷ xs) w l e = absurd (omega arith)
 
-pub last-one : (n : ℕ) (done : List ℕ) (set w : ℕ) → n ≤ 32 → Shape n done set → length done + 1 ≡ n → slice_get (members set) 0 ≡ Some w → IsRest set (w ∷ [])
+pub last-one : (n : ℕ) (done : List ℕ) (set w : ℕ) → n ≤ ROOM → Shape n done set → length done + 1 ≡ n → slice_get (members set) 0 ≡ Some w →
+    IsRest set (w ∷ [])
 last-one n done set w room s long e =
     let one : length (members set) ≡ 1 = omega (arith, remaining n done set room s, long) in
     subst (IsRest set) (single (members set) w one e) (members-rest n set room s.below)
@@ -152,10 +156,13 @@ not-refused n list (Length found) o r = r.1 (order_facts n list o).long
 not-refused n list (Range i) o r =
     let f = order_facts n list o in
     let l : i < length list = omega (arith, f.long, r.0.within) in
-    let m : Member (slice_index list i) list = member-from_contains (slice_index list i) list (i, l, Rattle.std.proofs.lemmas.List.get_or_default list i (slice_index list i) 0 l) in
+    let m : Member (slice_index list i) list = member-from_contains (slice_index list i) list
+    (i, l, Rattle.std.proofs.lemmas.List.get_or_default list i (slice_index list i) 0 l) in
     both_ways (nat_lt (slice_index list i) n) r.1 (lt-ltb (slice_index list i) n (f.below (slice_index list i) m))
 not-refused n list (Repeated i) o r =
     let f = order_facts n list o in
     let l : i < length list = omega (arith, f.long, r.0.within) in
-    let split : list ≡ take i list ++ slice_index list i ∷ drop (i + 1) list = sym (Rattle.std.proofs.Common.take-append-drop i list) ∙ ap (λ ys. take i list ++ ys) (Rattle.std.proofs.lemmas.List.drop_more list i 0 l) in
-    (distinct-split (take i list) (slice_index list i) (drop (i + 1) list) (subst Distinct split f.apart)).1 (member-from_in (slice_index list i) (take i list) r.2)
+    let split : list ≡ take i list ++ slice_index list i ∷ drop (i + 1) list = sym (Rattle.std.proofs.Common.take-append-drop i list)
+    ∙ ap (λ ys. take i list ++ ys) (Rattle.std.proofs.lemmas.List.drop_more list i 0 l) in
+    (distinct-split (take i list) (slice_index list i) (drop (i + 1) list) (subst Distinct split f.apart)).1
+    (member-from_in (slice_index list i) (take i list) r.2)

@@ -6,7 +6,7 @@ use Rattle.set_tallies.specs.Bags.{tallies}
 use Rattle.irv_tabulator.specs.declared.tabulated.Round.{Round}
 
 pub record Count : Type 0 where
-  -- one for each candidate of the contest, 0 for those who don't remain
+  -- a tally for each candidate of the contest, 0 for those who don't remain
   pub votes : List ℕ
   pub exhausted : ℕ
 
@@ -15,13 +15,15 @@ abbrev pub exhausted_of : List (List ℕ) → ℕ → ℕ
 exhausted_of records set = count_by (λ ranking. not (is_some (top ranking set))) records
 
 abbrev pub count_of : ℕ → List (List ℕ) → ℕ → Count
-count_of n records set = record { votes = tallies records n set; exhausted = exhausted_of records set }
+count_of n records set =
+    record { votes = tallies records n set; exhausted = exhausted_of records set }
 
--- of an order of n candidates: a round for each place but the last, in which those from there on remain
+-- the rounds of an order of n candidates: one for each place but the last, in which those from there on remain
 abbrev pub rounds_of : ℕ → List (List ℕ) → List ℕ → List Count
 rounds_of n records [] = []
 rounds_of n records (winner ∷ []) = []
-rounds_of n records (c ∷ d ∷ rest) = count_of n records (set_of (c ∷ d ∷ rest)) ∷ rounds_of n records (d ∷ rest)
+rounds_of n records (c ∷ d ∷ rest) =
+    count_of n records (set_of (c ∷ d ∷ rest)) ∷ rounds_of n records (d ∷ rest)
 
 -- what a round says
 abbrev pub count_in : Round → Count
@@ -32,8 +34,9 @@ counts_in rounds = map count_in rounds
 
 -- one round more is noted
 abbrev pub Notes : List Round → List ℕ → ℕ → List Round → Type 0
-Notes old votes exhausted new = counts_in new ≡ counts_in old ++ (record { votes = votes; exhausted = exhausted }) ∷ []
+Notes old votes exhausted new =
+    counts_in new ≡ counts_in old ++ (record { votes = votes; exhausted = exhausted }) ∷ []
 
--- those of the set who have this tally in the row
+-- the candidates of the set who have this tally in the row
 abbrev pub sharing : List ℕ → ℕ → ℕ → List ℕ
 sharing row set tally = filter (λ c. slice_index row c == tally) (members set)

@@ -33,10 +33,12 @@ pub fn lowest(row: &[u32], remaining: CandSet) -> Candidate
     lowest
 }
 
-/// Those with a given tally, and how many they are.
+/// The candidates with a given tally, and how many they are.
 #[derive(Clone, Copy)]
 pub struct Tied {
+    /// Those who have the tally.
     pub candidates: CandSet,
+    /// How many they are.
     pub count: u32,
 }
 

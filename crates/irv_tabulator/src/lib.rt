@@ -10,6 +10,3 @@ mod tabulated;
 pub use fault::TabFault;
 pub use rounds::tabulate;
 pub use tabulated::{Round, Tabulated};
-
-#[cfg(test)]
-mod tests;

@@ -14,7 +14,10 @@ pub struct Round {
 /// The tabulated order, the winner, who stands last in it, and the rounds, one for each elimination.
 #[derive(Drop)]
 pub struct Tabulated {
+    /// The tabulated order.
     pub order: Order,
+    /// Who stands last in the order.
     pub winner: Candidate,
+    /// A round for each elimination, the first one first.
     pub rounds: Vec<Round>,
 }

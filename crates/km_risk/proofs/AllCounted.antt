@@ -1,8 +1,7 @@
 -- The counts of draws count each draw once.
-use Rattle.std.proofs.Common.{◌≡◌, ℕ, zero, suc, ◌+◌, ◌≤◌, ◌==◌, cond, List, [], ◌∷◌, length, All, refl, arith}
+use Rattle.std.proofs.Common.{◌≡◌, ℕ, zero, suc, ◌+◌, ◌≤◌, ◌==◌, cond, [], ◌∷◌, refl, arith}
 use Rattle.std.proofs.lemmas.List.Elements.{All-head, All-tail}
 use Rattle.std.proofs.lemmas.List.Sums.{sum_by-cons}
-use Rattle.km_risk.specs.Counts.{counts_of, draws_in}
 use Rattle.km_risk.specs.Laws.{AllCountedLaw}
 
 one_each : (d : ℕ) → d ≤ 4 → cond (d == 0) 1 0 + cond (d == 1) 1 0 + cond (d == 2) 1 0 + cond (d == 3) 1 0 + cond (d == 4) 1 0 ≡ 1

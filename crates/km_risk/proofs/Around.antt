@@ -1,11 +1,10 @@
 -- Bounds of the exact risk of clean draws, and what they say of the printed risk.
-use Rattle.std.proofs.Common.{◌≡◌, ◌∙◌, ℕ, zero, suc, ◌+◌, ◌-◌, ◌*◌, ◌/◌, ◌^◌, ◌<◌, ◌≤◌, min, cond, Bool, true, false, nat_lt, ltb-true, Option, Some, None, MatchOption, List, [], ◌∷◌, ◌++◌, filter, length, map, replicate, nat_le, refl, sym, ap, subst, arith, inl, inr}
+use Rattle.std.proofs.Common.{◌≡◌, ◌∙◌, ℕ, zero, suc, ◌+◌, ◌-◌, ◌*◌, ◌/◌, ◌^◌, ◌<◌, ◌≤◌, min, Bool, true, false, nat_lt, ltb-true, Option, Some, None, MatchOption, List, [], length, map, replicate, nat_le, refl, sym, ap, subst, arith, inl, inr}
 use Rattle.std.proofs.Math.Nat.{mul-le-mul_left, mul-le-mul_right, mul-pos, le_of_mul-le-mul_right, le_trans, pow-zero, pow-succ'}
 use Rattle.std.proofs.lemmas.Nat.{mul-le, pow-add}
 use Rattle.std.specs.Bool.{OnTrue}
 use Rattle.std.proofs.lemmas.Bool.{cases_lt, leb-true}
-use Rattle.std.proofs.lemmas.List.{append-nil, length-replicate}
-use Rattle.irv_base.specs.declared.limits.TheConstants.{MOST_DRAWS}
+use Rattle.std.proofs.lemmas.List.{length-replicate}
 use Rattle.km_risk.specs.declared.limits.TheConstants.{ONE, MILLIONTH}
 use Rattle.km_risk.specs.declared.bounds.TheConstants.{SCALE}
 use Rattle.km_risk.specs.Around.{IsAround}
@@ -16,8 +15,8 @@ use Rattle.km_risk.specs.Exact.{exact_numerator, exact_denominator, product}
 use Rattle.km_risk.specs.Factor.{numerator, denominator}
 use Rattle.km_risk.specs.Printed.{printed_risk}
 use Rattle.km_risk.proofs.CleanDraws.{in_order-clean, least_law, more_draws_law}
-use Rattle.km_risk.proofs.Factors.{denominator_pos, high_factor, numerator_pos, stays}
-use Rattle.km_risk.proofs.Products.{product-append-replicate, product_pos}
+use Rattle.km_risk.proofs.Factors.{denominator_pos, high_factor, stays}
+use Rattle.km_risk.proofs.Products.{product-append-replicate}
 use Rattle.km_risk.proofs.RiskBounds.{not_below_law, not_far_above_law}
 
 power_pos : (x n : ℕ) → 0 < x → 0 < x ^ n
@@ -98,7 +97,8 @@ none_overstated (suc n) = none_overstated n
 
 module _ (cards margin gamma : ℕ) (some : 1 ≤ cards) (smaller : margin ≤ cards) (lasting : 1 ≤ gamma) where
   numerator-clean : (n : ℕ) → exact_numerator cards margin gamma (in_order (clean n)) ≡ numerator cards margin gamma ^ n
-  numerator-clean n = ap (λ draws. numerator cards margin gamma ^ length draws) (in_order-clean n) ∙ ap (λ k. numerator cards margin gamma ^ k) (length-replicate n 2)
+  numerator-clean n = ap (λ draws. numerator cards margin gamma ^ length draws) (in_order-clean n)
+      ∙ ap (λ k. numerator cards margin gamma ^ k) (length-replicate n 2)
 
   denominator-clean : (n : ℕ) → exact_denominator cards margin gamma (in_order (clean n)) ≡ denominator cards margin gamma 2 ^ n
   denominator-clean n =
@@ -140,13 +140,15 @@ module _ (cards margin gamma : ℕ) (some : 1 ≤ cards) (smaller : margin ≤ c
   pub above_law : (n least most limit : ℕ) → IsAround cards margin gamma n least most → limit * MILLIONTH * SCALE < least * ONE →
       limit * MILLIONTH < printed_risk cards margin gamma (clean n)
   above_law n least most limit around above =
-      above_by (limit * MILLIONTH) SCALE ONE least (printed_risk cards margin gamma (clean n)) (numerator cards margin gamma ^ n) (denominator cards margin gamma 2 ^ n)
+      above_by (limit * MILLIONTH) SCALE ONE least (printed_risk cards margin gamma (clean n)) (numerator cards margin gamma ^ n)
+      (denominator cards margin gamma 2 ^ n)
       (omega arith) (power_pos (denominator cards margin gamma 2) n (denominator_pos cards margin gamma some smaller lasting 2)) above around.lower (below n)
 
   pub within_law : (n least most limit : ℕ) → IsAround cards margin gamma n least most → most * ONE + n * SCALE ≤ limit * MILLIONTH * SCALE →
       printed_risk cards margin gamma (clean n) ≤ limit * MILLIONTH
   within_law n least most limit around within =
-      within_by (limit * MILLIONTH) SCALE ONE most n (printed_risk cards margin gamma (clean n)) (numerator cards margin gamma ^ n) (denominator cards margin gamma 2 ^ n)
+      within_by (limit * MILLIONTH) SCALE ONE most n (printed_risk cards margin gamma (clean n)) (numerator cards margin gamma ^ n)
+      (denominator cards margin gamma 2 ^ n)
       (omega arith) (power_pos (denominator cards margin gamma 2) n (denominator_pos cards margin gamma some smaller lasting 2)) within around.upper (far n)
 
   -- ---- bounds that are computed
@@ -198,7 +200,8 @@ module _ (cards margin gamma : ℕ) (some : 1 ≤ cards) (smaller : margin ≤ c
     | inl last ↦ let same : k ≡ suc n = omega arith in rw same (omega arith)
     | inr earlier ↦
         let next : n + 1 ≡ suc n = omega arith in
-        let one = subst (λ j. printed_risk cards margin gamma (clean j) ≤ printed_risk cards margin gamma (clean n)) next (more_draws_law cards margin gamma n some smaller lasting) in
+        let one = subst (λ j. printed_risk cards margin gamma (clean j) ≤ printed_risk cards margin gamma (clean n)) next
+        (more_draws_law cards margin gamma n some smaller lasting) in
         le_trans one (falls_to n k earlier)
   ]
 

@@ -54,11 +54,14 @@ module _ (cards margin gamma limit : ℕ) (ds : List ℕ) (pos : 0 < numerator c
       ≤ limit * product (map (denominator cards margin gamma) h) * cards ^ suc n
   counting_step n h longer =
       rw (pow-suc cards n)
-      (next_step _ (sum_by (denominator cards margin gamma) ds) millionths_in_one (numerator cards margin gamma ^ length h) (numerator cards margin gamma) limit (cards ^ n) cards
+      (next_step _ (sum_by (denominator cards margin gamma) ds) millionths_in_one (numerator cards margin gamma ^ length h) (numerator cards margin gamma)
+      limit (cards ^ n) cards
       (product (map (denominator cards margin gamma) h)) pos
       (sum_within (λ d. reach cards margin gamma limit ds (h ++ d ∷ []) n) (denominator cards margin gamma)
-      (millionths_in_one * (numerator cards margin gamma ^ length h * numerator cards margin gamma)) (limit * cards ^ n * product (map (denominator cards margin gamma) h))
-      (λ d. let next = rw (power-push (numerator cards margin gamma) h d, product-push (denominator cards margin gamma) h d) at (longer d) in omega arith) ds) mean)
+      (millionths_in_one * (numerator cards margin gamma ^ length h * numerator cards margin gamma))
+      (limit * cards ^ n * product (map (denominator cards margin gamma) h))
+      (λ d. let next = rw (power-push (numerator cards margin gamma) h d, product-push (denominator cards margin gamma) h d) at (longer d) in omega arith) ds)
+      mean)
 
   counting_from : (n : ℕ) (h : List ℕ) →
       reach cards margin gamma limit ds h n * millionths_in_one * numerator cards margin gamma ^ length h

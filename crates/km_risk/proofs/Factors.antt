@@ -46,7 +46,8 @@ pub step-capped : (cards margin gamma r d : ℕ) → 1 ≤ cards → margin ≤ 
 step-capped cards margin gamma r d some smaller lasting most =
     let pos = denominator_pos cards margin gamma some smaller lasting d in
     capped (divided_up (r * numerator cards margin gamma) (denominator cards margin gamma d)) d
-    (λ large. le_trans (stays r (numerator cards margin gamma) (denominator cards margin gamma d) _ pos (high_factor cards margin gamma some smaller lasting d large)
+    (λ large. le_trans (stays r (numerator cards margin gamma) (denominator cards margin gamma d) _ pos
+    (high_factor cards margin gamma some smaller lasting d large)
     (divided_up-most (r * numerator cards margin gamma) (denominator cards margin gamma d) pos)) most)
     (nat_le d 1) refl
 

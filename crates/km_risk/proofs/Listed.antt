@@ -67,7 +67,8 @@ different-range a (suc n) = more (λ m. let h = from_range a (a + 1) n m in absu
 pairs : {X : Type 0} (xs : List X) → Different xs → AllPairs (λ a b. a ≢ b) xs
 pairs {X = X} [] d = λ i j e before within. absurd (omega arith)
 pairs {X = X} (x ∷ xs) (more out d) =
-    AllPairs-cons (λ a b. a ≢ b) x xs (λ k e within same. out (subst (λ z. Member z xs) (sym same) (member-from_contains (get_or xs k e) xs (Contains-get_or xs k e within)))) (pairs xs d)
+    AllPairs-cons (λ a b. a ≢ b) x xs (λ k e within same. out
+    (subst (λ z. Member z xs) (sym same) (member-from_contains (get_or xs k e) xs (Contains-get_or xs k e within)))) (pairs xs d)
 
 -- a listed sequence is one
 sequence-of : (cards : List ℕ) (k : ℕ) (draws : List ℕ) → Member draws (sequences cards k) → (length draws ≡ k) × ((c : ℕ) → Member c draws → Member c cards)
@@ -93,9 +94,11 @@ listed_law cards k = (
         let (long, each) = sequence-of (range_with_len 1 cards) k draws (member-from_contains draws (sequences (range_with_len 1 cards) k) contains) in
         record {
           long = long;
-          some = λ j c below. (from_range (get_or draws j c) 1 cards (each (get_or draws j c) (member-from_contains (get_or draws j c) draws (Contains-get_or draws j c below)))).0;
+          some = λ j c below. (from_range (get_or draws j c) 1 cards
+              (each (get_or draws j c) (member-from_contains (get_or draws j c) draws (Contains-get_or draws j c below)))).0;
           within = λ j c below.
-              let in' = from_range (get_or draws j c) 1 cards (each (get_or draws j c) (member-from_contains (get_or draws j c) draws (Contains-get_or draws j c below))) in
+              let in' = from_range (get_or draws j c) 1 cards
+              (each (get_or draws j c) (member-from_contains (get_or draws j c) draws (Contains-get_or draws j c below))) in
               omega (arith, in'.1);
         },
     λ is.

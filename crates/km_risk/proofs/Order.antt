@@ -29,13 +29,15 @@ product-in_order e c =
 
 -- one draw more
 weight_more : (e : ℕ → ℕ) (d : ℕ) → d ≤ 4 → (n0 n1 n2 n3 n4 : ℕ) →
-    weight e (cond (d == 0) 1 0 + n0) (cond (d == 1) 1 0 + n1) (cond (d == 2) 1 0 + n2) (cond (d == 3) 1 0 + n3) (cond (d == 4) 1 0 + n4) ≡ e d * weight e n0 n1 n2 n3 n4
+    weight e (cond (d == 0) 1 0 + n0) (cond (d == 1) 1 0 + n1) (cond (d == 2) 1 0 + n2) (cond (d == 3) 1 0 + n3) (cond (d == 4) 1 0 + n4)
+    ≡ e d * weight e n0 n1 n2 n3 n4
 unfolding weight
 weight_more e zero h n0 n1 n2 n3 n4 = rw (one-add n0, zero-add n1, zero-add n2, zero-add n3, zero-add n4, pow-suc (e 0) n0) (omega arith)
 weight_more e (suc zero) h n0 n1 n2 n3 n4 = rw (zero-add n0, one-add n1, zero-add n2, zero-add n3, zero-add n4, pow-suc (e 1) n1) (omega arith)
 weight_more e (suc (suc zero)) h n0 n1 n2 n3 n4 = rw (zero-add n0, zero-add n1, one-add n2, zero-add n3, zero-add n4, pow-suc (e 2) n2) (omega arith)
 weight_more e (suc (suc (suc zero))) h n0 n1 n2 n3 n4 = rw (zero-add n0, zero-add n1, zero-add n2, one-add n3, zero-add n4, pow-suc (e 3) n3) (omega arith)
-weight_more e (suc (suc (suc (suc zero)))) h n0 n1 n2 n3 n4 = rw (zero-add n0, zero-add n1, zero-add n2, zero-add n3, one-add n4, pow-suc (e 4) n4) (omega arith)
+weight_more e (suc (suc (suc (suc zero)))) h n0 n1 n2 n3 n4 =
+    rw (zero-add n0, zero-add n1, zero-add n2, zero-add n3, one-add n4, pow-suc (e 4) n4) (omega arith)
 weight_more e (suc (suc (suc (suc (suc d))))) h n0 n1 n2 n3 n4 = absurd (omega arith)
 
 counted : ℕ → List ℕ → ℕ

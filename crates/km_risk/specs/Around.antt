@@ -7,7 +7,8 @@ use Rattle.km_risk.specs.Factor.{numerator, denominator}
 
 -- the exact risk of n clean draws is at least least / SCALE and at most most / SCALE
 pub record IsAround (cards margin gamma n least most : ℕ) : Type 0 where
-  pub lower : least * denominator cards margin gamma 2 ^ n ≤ SCALE * numerator cards margin gamma ^ n
+  pub lower :
+      least * denominator cards margin gamma 2 ^ n ≤ SCALE * numerator cards margin gamma ^ n
   pub upper : SCALE * numerator cards margin gamma ^ n ≤ most * denominator cards margin gamma 2 ^ n
   pub least_few : least ≤ SCALE
   pub most_few : most ≤ SCALE

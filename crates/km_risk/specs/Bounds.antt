@@ -22,4 +22,5 @@ module _ (cards margin gamma : ℕ) (draws : List ℕ) (risk : ℕ) where
       let under = exact_denominator cards margin gamma draws in
       let growth_over = exact_numerator cards margin gamma (overstated draws) in
       let growth_under = exact_denominator cards margin gamma (overstated draws) in
-      risk * under * growth_under ≤ ONE * min over under * growth_under + length draws * growth_over * under
+      risk * under * growth_under
+      ≤ ONE * min over under * growth_under + length draws * growth_over * under

@@ -11,7 +11,8 @@ module _ (cards margin gamma limit : ℕ) where
   -- the most draws, is tried
   unfoldable pub clean_draws : Option ℕ
   clean_draws =
-      find (λ n. nat_le (printed_risk cards margin gamma (clean n)) (limit * MILLIONTH)) (range_with_len 0 (min cards MOST_DRAWS + 1))
+      find (λ n. nat_le (printed_risk cards margin gamma (clean n)) (limit * MILLIONTH))
+      (range_with_len 0 (min cards MOST_DRAWS + 1))
 
   -- n clean draws are enough, and no fewer are
   pub record IsLeast (n : ℕ) : Type 0 where
@@ -22,4 +23,6 @@ module _ (cards margin gamma limit : ℕ) where
 
   -- no number of clean draws up to the cards and the most draws is enough
   abbrev pub IsNeverWithinMost : Type 0
-  IsNeverWithinMost = (n : ℕ) → n ≤ cards → n ≤ MOST_DRAWS → limit * MILLIONTH < printed_risk cards margin gamma (clean n)
+  IsNeverWithinMost =
+      (n : ℕ) → n ≤ cards → n ≤ MOST_DRAWS →
+      limit * MILLIONTH < printed_risk cards margin gamma (clean n)

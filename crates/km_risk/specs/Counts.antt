@@ -9,7 +9,8 @@ draws_in counts = counts.n0 + counts.n1 + counts.n2 + counts.n3 + counts.n4
 -- the draws as a list: those with d of 4 first, then 3, 2, 1 and 0
 abbrev pub in_order : Counts → List ℕ
 in_order counts =
-    replicate counts.n4 4 ++ replicate counts.n3 3 ++ replicate counts.n2 2 ++ replicate counts.n1 1 ++ replicate counts.n0 0
+    replicate counts.n4 4 ++ replicate counts.n3 3 ++ replicate counts.n2 2 ++ replicate counts.n1 1
+    ++ replicate counts.n0 0
 
 -- the counts of a list of draws
 abbrev pub counts_of : List ℕ → Counts

@@ -19,4 +19,5 @@ module _ (cards margin gamma : ℕ) where
 
   -- the exact risk is at most limit millionths
   abbrev pub is_within : ℕ → List ℕ → Bool
-  is_within limit draws = nat_le (exact_numerator draws * millionths_in_one) (limit * exact_denominator draws)
+  is_within limit draws =
+      nat_le (exact_numerator draws * millionths_in_one) (limit * exact_denominator draws)

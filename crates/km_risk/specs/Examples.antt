@@ -43,5 +43,7 @@ two_of_four = refl
 all_prefixes : prefixes {X = ℕ} (3 ∷ 0 ∷ []) ≡ [] ∷ (3 ∷ []) ∷ (3 ∷ 0 ∷ []) ∷ []
 all_prefixes = refl
 
-all_sequences : sequences {X = ℕ} (0 ∷ 3 ∷ []) 2 ≡ (0 ∷ 0 ∷ []) ∷ (0 ∷ 3 ∷ []) ∷ (3 ∷ 0 ∷ []) ∷ (3 ∷ 3 ∷ []) ∷ []
+all_sequences :
+    sequences {X = ℕ} (0 ∷ 3 ∷ []) 2
+    ≡ (0 ∷ 0 ∷ []) ∷ (0 ∷ 3 ∷ []) ∷ (3 ∷ 0 ∷ []) ∷ (3 ∷ 3 ∷ []) ∷ []
 all_sequences = refl

@@ -27,18 +27,23 @@ FactorLaw =
 abbrev pub OrderLaw : Type 0
 OrderLaw =
     (cards margin gamma : ℕ) (draws : List ℕ) → All (λ d. d ≤ 4) draws →
-    (exact_numerator cards margin gamma (in_order (counts_of draws)) ≡ exact_numerator cards margin gamma draws)
-    × (exact_denominator cards margin gamma (in_order (counts_of draws)) ≡ exact_denominator cards margin gamma draws)
+    (exact_numerator cards margin gamma (in_order (counts_of draws))
+    ≡ exact_numerator cards margin gamma draws)
+    × (exact_denominator cards margin gamma (in_order (counts_of draws))
+    ≡ exact_denominator cards margin gamma draws)
 
 -- the counts of draws are of as many
 abbrev pub AllCountedLaw : Type 0
-AllCountedLaw = (draws : List ℕ) → All (λ d. d ≤ 4) draws → draws_in (counts_of draws) ≡ length draws
+AllCountedLaw =
+    (draws : List ℕ) → All (λ d. d ≤ 4) draws → draws_in (counts_of draws) ≡ length draws
 
 -- at larger discrepancies of the cards, the exact risk of the same draws is no larger
 abbrev pub LargerDiscrepanciesLaw : Type 0
 LargerDiscrepanciesLaw =
-    (cards margin gamma limit : ℕ) (smaller larger : ℕ → ℕ) → ((card : ℕ) → smaller card ≤ larger card) → (drawn : List ℕ) →
-    IsTrue (is_within cards margin gamma limit (map smaller drawn)) → IsTrue (is_within cards margin gamma limit (map larger drawn))
+    (cards margin gamma limit : ℕ) (smaller larger : ℕ → ℕ) →
+    ((card : ℕ) → smaller card ≤ larger card) → (drawn : List ℕ) →
+    IsTrue (is_within cards margin gamma limit (map smaller drawn)) →
+    IsTrue (is_within cards margin gamma limit (map larger drawn))
 
 -- the printed risk is at most one
 abbrev pub AtMostOneLaw : Type 0
@@ -63,7 +68,8 @@ abbrev pub ConfirmedLaw : Type 0
 ConfirmedLaw =
     (cards margin gamma limit : ℕ) (draws : List ℕ) →
     1 ≤ cards → margin ≤ cards → 1 ≤ gamma → limit < millionths_in_one → All (λ d. d ≤ 4) draws →
-    IsTrue (is_printed_within cards margin gamma limit draws) → IsTrue (is_within cards margin gamma limit draws)
+    IsTrue (is_printed_within cards margin gamma limit draws) →
+    IsTrue (is_within cards margin gamma limit draws)
 
 -- of a number of cards there are that number ^ n sequences of n draws, and the discrepancies along them are the sequences of
 -- the cards' discrepancies
@@ -71,14 +77,16 @@ abbrev pub SequencesLaw : Type 0
 SequencesLaw =
     (cards : List ℕ) (discrepancy : ℕ → ℕ) (n : ℕ) →
     (length (sequences cards n) ≡ length cards ^ n)
-    × (map (λ drawn. map discrepancy drawn) (sequences cards n) ≡ sequences (map discrepancy cards) n)
+    × (map (λ drawn. map discrepancy drawn) (sequences cards n)
+    ≡ sequences (map discrepancy cards) n)
 
 -- the sequences are all there are, each once
 abbrev pub ListedLaw : Type 0
 ListedLaw =
     (cards n : ℕ) →
     AllPairs ◌≢◌ (sequences (range_with_len 1 cards) n)
-    × ((draws : List ℕ) → Contains (sequences (range_with_len 1 cards) n) draws ↔ IsSequence cards n draws)
+    × ((draws : List ℕ) →
+    Contains (sequences (range_with_len 1 cards) n) draws ↔ IsSequence cards n draws)
 
 -- reach counts the sequences of draws of which some prefix has an exact risk within the limit
 abbrev pub ReachLaw : Type 0
@@ -92,24 +100,30 @@ ReachLaw =
 abbrev pub CountingLaw : Type 0
 CountingLaw =
     (cards margin gamma limit : ℕ) (discrepancies : List ℕ) →
-    1 ≤ cards → margin ≤ cards → length discrepancies ≡ cards → sum discrepancies ≤ threshold cards margin →
-    (n : ℕ) → reach cards margin gamma limit discrepancies [] n * millionths_in_one ≤ limit * cards ^ n
+    1 ≤ cards → margin ≤ cards → length discrepancies ≡ cards →
+    sum discrepancies ≤ threshold cards margin →
+    (n : ℕ) →
+    reach cards margin gamma limit discrepancies [] n * millionths_in_one ≤ limit * cards ^ n
 
--- and so are those of which some prefix has a printed risk within the limit: however often the audit looks at its risk, it
--- confirms such an assertion on no more than limit millionths of all sequences
+-- where the assertion isn't true of the cards, some prefix has a printed risk within the limit in at most limit millionths of all
+-- sequences: however often the audit looks at its risk, it confirms such an assertion on no more of them
 abbrev pub RiskLimitLaw : Type 0
 RiskLimitLaw =
     (cards margin gamma limit : ℕ) (discrepancies : List ℕ) →
     1 ≤ cards → margin ≤ cards → 1 ≤ gamma → limit < millionths_in_one →
-    length discrepancies ≡ cards → All (λ d. d ≤ 4) discrepancies → sum discrepancies ≤ threshold cards margin →
+    length discrepancies ≡ cards → All (λ d. d ≤ 4) discrepancies →
+    sum discrepancies ≤ threshold cards margin →
     (n : ℕ) →
-    count_by (some_prefix (is_printed_within cards margin gamma limit)) (sequences discrepancies n) * millionths_in_one ≤ limit * cards ^ n
+    count_by (some_prefix (is_printed_within cards margin gamma limit)) (sequences discrepancies n)
+    * millionths_in_one
+    ≤ limit * cards ^ n
 
 -- the clean draws are the least number that is enough
 abbrev pub LeastLaw : Type 0
 LeastLaw =
     (cards margin gamma limit : ℕ) →
-    MatchOption (clean_draws cards margin gamma limit) (IsNeverWithinMost cards margin gamma limit) (IsLeast cards margin gamma limit)
+    MatchOption (clean_draws cards margin gamma limit) (IsNeverWithinMost cards margin gamma limit)
+    (IsLeast cards margin gamma limit)
 
 -- one clean draw more never raises the printed risk
 abbrev pub MoreDrawsLaw : Type 0
@@ -120,8 +134,10 @@ MoreDrawsLaw =
 -- an assertion with a larger margin never needs more clean draws
 abbrev pub LargerMarginLaw : Type 0
 LargerMarginLaw =
-    (cards margin larger gamma limit : ℕ) → 1 ≤ cards → margin ≤ larger → larger ≤ cards → 1 ≤ gamma →
-    IfSome (clean_draws cards margin gamma limit) (λ n. IsSomeAnd (clean_draws cards larger gamma limit) (λ k. k ≤ n))
+    (cards margin larger gamma limit : ℕ) →
+    1 ≤ cards → margin ≤ larger → larger ≤ cards → 1 ≤ gamma →
+    IfSome (clean_draws cards margin gamma limit)
+    (λ n. IsSomeAnd (clean_draws cards larger gamma limit) (λ k. k ≤ n))
 
 -- with a larger margin, the printed risk of the same clean draws is no larger, however many they are
 abbrev pub SameDrawsLaw : Type 0

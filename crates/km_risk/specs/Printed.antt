@@ -13,7 +13,8 @@ module _ (cards margin gamma : ℕ) where
   -- the risk after one more draw: times its factor, rounded up, and after a draw with d of 0 or 1 at most one
   abbrev pub step : ℕ → ℕ → ℕ
   step risk d =
-      let scaled = divided_up (risk * numerator cards margin gamma) (denominator cards margin gamma d) in
+      let scaled =
+      divided_up (risk * numerator cards margin gamma) (denominator cards margin gamma d) in
       if nat_le d 1 then min ONE scaled else scaled
 
   -- the risk after all draws: those with d of 4 first, then 3, 2, 1 and 0

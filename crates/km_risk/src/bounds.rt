@@ -16,17 +16,20 @@ pub const SCALE: u64 = 1_152_921_504_606_846_976;
 /// A number of clean draws, and bounds of their exact risk.
 #[derive(Clone, Copy)]
 pub struct Bounds {
+    /// How many clean draws.
     pub draws: u32,
+    /// Not above their risk, in units of a `SCALE`-th.
     pub least: u64,
+    /// Not below their risk, in the same units.
     pub most: u64,
 }
 
-/// No draws, whose risk is one.
+/// No draws, and bounds of their risk, which is one.
 pub fn no_draws(setting: Setting) -> Bounds
     ensures around { AreAround setting result }
     ensures none { result.draws ≡ 0 }
 {
-    let _cards = setting.cards;
+    prove!(setting.margin <= setting.cards);
     Bounds {
         draws: 0,
         least: SCALE,
@@ -34,7 +37,7 @@ pub fn no_draws(setting: Setting) -> Bounds
     }
 }
 
-/// One draw.
+/// One clean draw, and the bounds of its risk.
 pub fn one_draw(setting: Setting) -> Bounds
     ensures around { AreAround setting result }
     ensures one { result.draws ≡ 1 }
@@ -53,7 +56,7 @@ pub fn one_draw(setting: Setting) -> Bounds
 }
 
 impl Bounds {
-    /// These draws and others.
+    /// These draws and the others, taken together.
     pub fn joined(self, setting: Setting, other: Bounds) -> Bounds
         requires few { self.draws + other.draws < 2 ^ 32 }
         requires around { AreAround setting self }
@@ -61,7 +64,7 @@ impl Bounds {
         ensures around { AreAround setting result }
         ensures draws { result.draws ≡ self.draws + other.draws }
     {
-        let _cards = setting.cards;
+        prove!(setting.margin <= setting.cards);
         let scale = u128::from(SCALE);
         let least = u128::from(self.least) * u128::from(other.least) / scale;
         let most = (u128::from(self.most) * u128::from(other.most) + scale - 1) / scale;
@@ -80,7 +83,7 @@ impl Bounds {
             (limit * MILLIONTH < printed_risk setting.cards setting.margin setting.gamma
             (clean self.draws)) }
     {
-        let _cards = setting.cards;
+        prove!(setting.margin <= setting.cards);
         let allowed = u128::from(u64::from(limit) * MILLIONTH);
         allowed * u128::from(SCALE) < u128::from(self.least) * u128::from(ONE)
     }
@@ -93,7 +96,7 @@ impl Bounds {
             (printed_risk setting.cards setting.margin setting.gamma
             (clean self.draws) ≤ limit * MILLIONTH) }
     {
-        let _cards = setting.cards;
+        prove!(setting.margin <= setting.cards);
         let allowed = u128::from(u64::from(limit) * MILLIONTH);
         let scale = u128::from(SCALE);
         u128::from(self.most) * u128::from(ONE) + u128::from(self.draws) * scale <= allowed * scale

@@ -12,10 +12,15 @@ use crate::setting::Setting;
 /// How many draws have each discrepancy d, from 0 to 4. Without a discrepancy d is 2.
 #[derive(Clone, Copy, Debug, Default, PartialEq, Eq)]
 pub struct Counts {
+    /// Draws that support the assertion by two votes less than recorded.
     pub n0: u32,
+    /// Draws that support it by one vote less.
     pub n1: u32,
+    /// Clean draws: seen as recorded, for what the assertion is about.
     pub n2: u32,
+    /// Draws that support it by one vote more.
     pub n3: u32,
+    /// Draws that support it by two votes more.
     pub n4: u32,
 }
 

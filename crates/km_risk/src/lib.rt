@@ -11,8 +11,6 @@ mod draws;
 pub mod laws;
 mod limits;
 mod setting;
-#[cfg(test)]
-mod tests;
 
 pub use clean::clean_draws;
 pub use draws::{Counts, risk};

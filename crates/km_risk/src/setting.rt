@@ -7,8 +7,11 @@ use crate::limits::ONE;
 /// The cards of the manifest, the margin of the assertion in votes, and gamma in thousandths.
 #[derive(Clone, Copy)]
 pub struct Setting {
+    /// How many cards the manifest has.
     pub cards: u32,
+    /// The margin of the assertion, in votes.
     pub margin: u32,
+    /// Gamma, in thousandths.
     pub gamma: u32,
     ghost within_limits: { IsSetting cards margin gamma },
 }

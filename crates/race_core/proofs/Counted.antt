@@ -32,8 +32,10 @@ module _ (ps : List Piece) (cs : List ℕ) (es : List Entry) (n b closed lowest 
       let inside : k < length es = h.taken_by_some p (h.marked_taken p mark) in
       let entry : Entry = get_or es k record { seen = 0; posted = 0; looks = 0; done = false } in
       let at : slice_get (numbered f 0 es) k ≡ Some (f k entry) =
-      slice_get-numbered f 0 es k ∙ ap (option_map (f (0 + k))) (slice_get-get_or es k record { seen = 0; posted = 0; looks = 0; done = false } inside) ∙ ap (λ i. Some (f i entry)) (zero-add k) in
-      let closed_by : is_in (f k entry).closed p ≡ true = is_in-filter (is_taker ts k) p (take closed cs) ∙ and_from _ _ (eq-eqb k k refl) (h.marked p ∙ mark) in
+      slice_get-numbered f 0 es k ∙ ap (option_map (f (0 + k))) (slice_get-get_or es k record { seen = 0; posted = 0; looks = 0; done = false } inside)
+      ∙ ap (λ i. Some (f i entry)) (zero-add k) in
+      let closed_by : is_in (f k entry).closed p ≡ true = is_in-filter (is_taker ts k) p (take closed cs)
+      ∙ and_from _ _ (eq-eqb k k refl) (h.marked p ∙ mark) in
       list_any_at (λ w. is_in w.closed p) (numbered f 0 es) k (f k entry) (slice_get_within (numbered f 0 es) k (f k entry) at)
       (ap (λ (w : Worker). is_in w.closed p) (get_or_from_slice_get (numbered f 0 es) k (f k entry) (f k entry) at) ∙ closed_by)
 
@@ -53,6 +55,7 @@ module _ (ps : List Piece) (cs : List ℕ) (es : List Entry) (n b closed lowest 
   closed_counted =
       let add : ℕ → Bool → ℕ = λ a mark. a + cond mark 1 0 in
       let marks = map (λ (q : Piece). q.is_closed) ps in
-      let tests : marks ≡ map (is_closed shown) (range_with_len 0 (length ps)) = fill_by_all (is_closed shown) marks (length ps) false (length-map ps (λ (q : Piece). q.is_closed)) (λ k below. sym (closed_is k)) in
+      let tests : marks ≡ map (is_closed shown) (range_with_len 0 (length ps)) =
+      fill_by_all (is_closed shown) marks (length ps) false (length-map ps (λ (q : Piece). q.is_closed)) (λ k below. sym (closed_is k)) in
       h.counted ∙ sym (fold-map add (λ (q : Piece). q.is_closed) 0 ps) ∙ ap (fold add 0) tests ∙ fold-map add (is_closed shown) 0 (range_with_len 0 (length ps))
       ∙ ap (λ m. count_by (is_closed shown) (range_with_len 0 m)) (sym (length-map ps (λ (q : Piece). q.value)))

@@ -39,7 +39,8 @@ abbrev AfterIsReached : List ℕ → Option Race → Type 0
 AfterIsReached values o = IfSome o (IsReached values)
 
 -- at the worker that an event names
-at_worker : (values : List ℕ) (f : Worker → Option Race) (o : Option Worker) → ((w : Worker) → o ≡ Some w → AfterIsReached values (f w)) → AfterIsReached values (option_and_then f o)
+at_worker : (values : List ℕ) (f : Worker → Option Race) (o : Option Worker) → ((w : Worker) → o ≡ Some w → AfterIsReached values (f w)) →
+    AfterIsReached values (option_and_then f o)
 at_worker values f None h = tt
 at_worker values f (Some w) h = h w refl
 
@@ -49,7 +50,8 @@ below_at values r k w h e =
     (All-get_or (IsBelowClosed values r.bound) r.workers k w (slice_get_within r.workers k w e) h.below)
 
 -- a worker that closed one piece more
-closed_more : (values : List ℕ) (bound p : ℕ) (closed : List ℕ) → bound ≤ slice_index values p → ((q : ℕ) → is_in closed q ≡ true → bound ≤ slice_index values q) →
+closed_more : (values : List ℕ) (bound p : ℕ) (closed : List ℕ) → bound ≤ slice_index values p →
+    ((q : ℕ) → is_in closed q ≡ true → bound ≤ slice_index values q) →
     (q : ℕ) → is_in (closed ++ p ∷ []) q ≡ true → bound ≤ slice_index values q
 closed_more values bound p closed here h q found =
     elim (or_cases (is_in closed q) (is_in (p ∷ []) q) (sym (list_any-append (λ d. d == q) closed (p ∷ [])) ∙ found)) [
@@ -82,7 +84,8 @@ post_reached values r k m h =
       same = h.same;
       above = le-min h.above (subst (λ vs. least vs ≤ m) h.same (leb-true (least r.values) m true_bound));
       below = All-set (IsBelowClosed values (min r.bound m)) r.workers k _ (λ p c. le_trans (min-le_left r.bound m) (below_at values r k w h e p c))
-          (All-weaker (IsBelowClosed values r.bound) (IsBelowClosed values (min r.bound m)) (λ w' low p c. le_trans (min-le_left r.bound m) (low p c)) r.workers h.below);
+          (All-weaker (IsBelowClosed values r.bound) (IsBelowClosed values (min r.bound m)) (λ w' low p c. le_trans (min-le_left r.bound m) (low p c))
+          r.workers h.below);
     })
     (λ false_bound. tt))
 
@@ -94,7 +97,8 @@ close_reached values r k p h =
       same = h.same;
       above = h.above;
       below = All-set (IsBelowClosed values r.bound) r.workers k _
-          (closed_more values r.bound p w.closed (subst (λ vs. r.bound ≤ slice_index vs p) h.same (leb-true r.bound (slice_index r.values p) (and_parts _ _ enabled).1)) (below_at values r k w h e)) h.below;
+          (closed_more values r.bound p w.closed (subst (λ vs. r.bound ≤ slice_index vs p) h.same
+          (leb-true r.bound (slice_index r.values p) (and_parts _ _ enabled).1)) (below_at values r k w h e)) h.below;
     })
     (λ disabled. tt))
 
@@ -105,7 +109,8 @@ after_reached values r (Post k m) h = post_reached values r k m h
 after_reached values r (Close k p) h = close_reached values r k p h
 
 -- what holds of a race goes on through a function that keeps it
-onwards : (values : List ℕ) (f : Race → Option Race) (o : Option Race) → AfterIsReached values o → ((r : Race) → IsReached values r → AfterIsReached values (f r)) → AfterIsReached values (option_and_then f o)
+onwards : (values : List ℕ) (f : Race → Option Race) (o : Option Race) → AfterIsReached values o →
+    ((r : Race) → IsReached values r → AfterIsReached values (f r)) → AfterIsReached values (option_and_then f o)
 onwards values f None h keeps = tt
 onwards values f (Some r) h keeps = keeps r h
 
@@ -133,5 +138,6 @@ all_above values r h closed k d inside =
 
 pub racing : RaceLaw
 racing values first workers events r some small ran closed =
-    let reached : IsReached values r = subst (AfterIsReached values) ran (run_reached values (start values first workers) events (start_reached values first workers small)) in
+    let reached : IsReached values r =
+    subst (AfterIsReached values) ran (run_reached values (start values first workers) events (start_reached values first workers small)) in
     le_antisymm (least_above r.bound values some (all_above values r reached closed)) reached.above

@@ -5,10 +5,12 @@ use Rattle.race_core.specs.declared.event.Event.{Event}
 use Rattle.race_core.specs.Race.{Race, worker_of, is_out_of_looks, after, run, step, taken_count}
 
 pub run_push : (r : Race) (es : List Event) (e : Event) (s t : Race) → run r es ≡ Some s → after s e ≡ Some t → run r (es ++ e ∷ []) ≡ Some t
-run_push r [] e s t ran next = let same : r ≡ s = cc in ap (λ (u : Race). option_and_then (λ v. Some v) (after u e)) same ∙ ap (option_and_then (λ v. Some v)) next
+run_push r [] e s t ran next = let same : r ≡ s = cc in ap (λ (u : Race). option_and_then (λ v. Some v) (after u e)) same
+    ∙ ap (option_and_then (λ v. Some v)) next
 run_push r (d ∷ es) e s t ran next = onwards (after r d) (λ u begun. run_push u es e s t begun next) ran
   where
-    onwards : (o : Option Race) → ((u : Race) → run u es ≡ Some s → run u (es ++ e ∷ []) ≡ Some t) → option_and_then (λ u. run u es) o ≡ Some s → option_and_then (λ u. run u (es ++ e ∷ [])) o ≡ Some t
+    onwards : (o : Option Race) → ((u : Race) → run u es ≡ Some s → run u (es ++ e ∷ []) ≡ Some t) → option_and_then (λ u. run u es) o ≡ Some s →
+        option_and_then (λ u. run u (es ++ e ∷ [])) o ≡ Some t
     onwards None go begun = cc
     onwards (Some u) go begun = go u begun
 

@@ -31,7 +31,8 @@ module _ (f : ℕ → Entry → Worker) where
     pub numbered_set : (j : ℕ) (es : List Entry) (i : ℕ) (e : Entry) (w : Worker) → ((k : ℕ) (d : Entry) → k ≢ j + i → g k d ≡ f k d) → g (j + i) e ≡ w
         → numbered g j (set es i e) ≡ set (numbered f j es) i w
     numbered_set j [] i e w others here = refl
-    numbered_set j (d ∷ es) zero e w others here = λ x. (ap (λ n. g n e) (sym (add-zero j)) ∙ here) x ∷ numbered_same (suc j) es (λ k c h. others k c (λ same. omega (arith, add-zero j))) x
+    numbered_set j (d ∷ es) zero e w others here = λ x. (ap (λ n. g n e) (sym (add-zero j)) ∙ here) x ∷
+        numbered_same (suc j) es (λ k c h. others k c (λ same. omega (arith, add-zero j))) x
     numbered_set j (d ∷ es) (suc i) e w others here =
         λ x. others j d (λ same. omega arith) x
         ∷ numbered_set (suc j) es i e w (λ k c apart. others k c (λ same. apart (omega arith))) (ap (λ n. g n e) (omega arith) ∙ here) x
@@ -62,8 +63,11 @@ ready_at es k e is = at (slice_get es k) is
       | inl last ↦ let none : Some e ≡ None = is ∙ cond-true _ None (Some d) last in cc
       | inr more ↦
           let same : Some e ≡ Some d = is ∙ cond-false _ None (Some d) more in
-          let equal : e ≡ d = cc in
-          (ap Some (sym equal), λ last. let again : (d.looks == 2 ^ 64 - 1) ≡ true = eq-eqb d.looks (2 ^ 64 - 1) (ap (λ (x : Entry). x.looks) (sym equal) ∙ last) in cc)
+          let equal : e ≡ d = cc in (
+            ap Some (sym equal),
+            λ last. let again : (d.looks == 2 ^ 64 - 1) ≡ true = eq-eqb d.looks (2 ^ 64 - 1) (ap (λ (x : Entry). x.looks) (sym equal)
+                ∙ last) in cc,
+          )
     ]
 
 pub ready_within : (es : List Entry) (k : ℕ) (e : Entry) → Some e ≡ ready_entry es k → k < length es
@@ -114,7 +118,8 @@ all_below n k d inside = let below : k < n = rw (length-range_with_len 0 n) at i
 filter_same : (f g : ℕ → Bool) (xs : List ℕ) → All (λ x. f x ≡ g x) xs → filter f xs ≡ filter g xs
 filter_same f g [] same = refl
 filter_same f g (x ∷ xs) same =
-    ap (λ b. cond b (x ∷ filter f xs) (filter f xs)) (All-head (λ y. f y ≡ g y) x xs same) ∙ ap (λ ys. cond (g x) (x ∷ ys) ys) (filter_same f g xs (All-tail (λ y. f y ≡ g y) x xs same))
+    ap (λ b. cond b (x ∷ filter f xs) (filter f xs)) (All-head (λ y. f y ≡ g y) x xs same)
+    ∙ ap (λ ys. cond (g x) (x ∷ ys) ys) (filter_same f g xs (All-tail (λ y. f y ≡ g y) x xs same))
 
 -- the piece n was taken by k
 module _ (ts : List ℕ) (n k : ℕ) where
@@ -126,7 +131,8 @@ module _ (ts : List ℕ) (n k : ℕ) where
   pub closed_after_take : (i : ℕ) (cs : List ℕ) → All (λ p. p < n) cs → filter (is_taker (set ts n k) i) cs ≡ filter (is_taker ts i) cs
   closed_after_take i cs low = same_taker i cs low
 
-  pub taken_after_take : (i : ℕ) → n < length ts → filter (is_taker (set ts n k) i) (range_with_len 0 (n + 1)) ≡ filter (is_taker ts i) (range_with_len 0 n) ++ cond (k == i) (n ∷ []) []
+  pub taken_after_take : (i : ℕ) → n < length ts → filter (is_taker (set ts n k) i) (range_with_len 0 (n + 1)) ≡ filter (is_taker ts i) (range_with_len 0 n)
+      ++ cond (k == i) (n ∷ []) []
   taken_after_take i inside =
       ap (filter (is_taker (set ts n k) i)) (range_more 0 n ∙ ap (λ m. range_with_len 0 n ++ m ∷ []) (zero-add n))
       ∙ filter-append (is_taker (set ts n k) i) (range_with_len 0 n) (n ∷ [])
@@ -134,5 +140,6 @@ module _ (ts : List ℕ) (n k : ℕ) where
       ∙ ap (λ t. filter (is_taker ts i) (range_with_len 0 n) ++ cond (t == i) (n ∷ []) []) (get_or-set_same ts n k 0 inside)
 
 -- a piece was closed
-pub closed_after_close : (ts : List ℕ) (cs : List ℕ) (p i : ℕ) → filter (is_taker ts i) (cs ++ p ∷ []) ≡ filter (is_taker ts i) cs ++ cond (is_taker ts i p) (p ∷ []) []
+pub closed_after_close : (ts : List ℕ) (cs : List ℕ) (p i : ℕ) → filter (is_taker ts i) (cs ++ p ∷ []) ≡ filter (is_taker ts i) cs
+    ++ cond (is_taker ts i p) (p ∷ []) []
 closed_after_close ts cs p i = filter-append (is_taker ts i) cs (p ∷ [])

@@ -37,8 +37,10 @@ module _ (ps : List Piece) (cs : List ℕ) (es : List Entry) (n closed lowest : 
       let q' : Piece = record { value = q.value; taker = k; is_closed = q.is_closed } in
       let ts = takers ps in
       let takers' : takers (set ps n q') ≡ set ts n k = map-set (λ (d : Piece). d.taker) ps n q' in
-      let values' : map (λ (d : Piece). d.value) (set ps n q') ≡ map (λ (d : Piece). d.value) ps = map-set (λ (d : Piece). d.value) ps n q' ∙ same_field (λ (d : Piece). d.value) ps n q left at in
-      let marks' : map (λ (d : Piece). d.is_closed) (set ps n q') ≡ map (λ (d : Piece). d.is_closed) ps = map-set (λ (d : Piece). d.is_closed) ps n q' ∙ same_field (λ (d : Piece). d.is_closed) ps n q left at in
+      let values' : map (λ (d : Piece). d.value) (set ps n q') ≡ map (λ (d : Piece). d.value) ps = map-set (λ (d : Piece). d.value) ps n q'
+      ∙ same_field (λ (d : Piece). d.value) ps n q left at in
+      let marks' : map (λ (d : Piece). d.is_closed) (set ps n q') ≡ map (λ (d : Piece). d.is_closed) ps = map-set (λ (d : Piece). d.is_closed) ps n q'
+      ∙ same_field (λ (d : Piece). d.is_closed) ps n q left at in
       let within : n < length ts = rw (length-map ps (λ (d : Piece). d.taker)) left in
       let count = sum_by-set mark ps n q' q left in
       let same : mark (get_or ps n q) ≡ mark q = ap mark (sym at) in
@@ -52,13 +54,15 @@ module _ (ps : List Piece) (cs : List ℕ) (es : List Entry) (n closed lowest : 
           | inr other ↦ rw (get_or-set_other ts n p k 0 other) (h.taken_by_some p (omega arith))
         ]);
         marked = λ p. h.marked p ∙ ap (λ (ms : List Bool). get_or ms p false) (sym marks');
-        marked_taken = λ p is. let before : is_marked ps p ≡ true = ap (λ (ms : List Bool). get_or ms p false) (sym marks') ∙ is in let low = h.marked_taken p before in omega arith;
+        marked_taken = λ p is. let before : is_marked ps p ≡ true = ap (λ (ms : List Bool). get_or ms p false) (sym marks') ∙ is in let low =
+            h.marked_taken p before in omega arith;
         counted = omega (arith, h.counted, count, same);
         lowest_is = h.lowest_is ∙ ap least (sym values');
       }
 
   pub mark_at : (p : ℕ) (q : Piece) → p < n → q ≡ get_or ps p q → is_in (take closed cs) p ≡ q.is_closed
-  mark_at p q taken at = let inside : p < length ps = omega (arith, h.next_within) in h.marked p ∙ get_or-map (λ (d : Piece). d.is_closed) ps p q false inside ∙ ap (λ (d : Piece). d.is_closed) (sym at)
+  mark_at p q taken at = let inside : p < length ps = omega (arith, h.next_within) in h.marked p ∙ get_or-map (λ (d : Piece). d.is_closed) ps p q false inside
+      ∙ ap (λ (d : Piece). d.is_closed) (sym at)
 
   -- an open piece leaves room for its closing
   pub room_left : (p : ℕ) (q : Piece) → p < n → q ≡ get_or ps p q → q.is_closed ≡ false → closed < length cs
@@ -67,7 +71,8 @@ module _ (ps : List Piece) (cs : List ℕ) (es : List Entry) (n closed lowest : 
       let inside : p < length ps = omega (arith, h.next_within) in
       let count = sum_by-set mark ps p q' q inside in
       let before : mark (get_or ps p q) ≡ 0 = ap mark (sym at) ∙ ap number open_piece in
-      let most : count_by (λ (d : Piece). d.is_closed) (set ps p q') ≤ length ps = rw (length-set ps p q') at (count_by-le-length (λ (d : Piece). d.is_closed) (set ps p q')) in
+      let most : count_by (λ (d : Piece). d.is_closed) (set ps p q') ≤ length ps =
+      rw (length-set ps p q') at (count_by-le-length (λ (d : Piece). d.is_closed) (set ps p q')) in
       omega (arith, h.counted, h.room, count, before, most)
 
   pub sound_close : (p : ℕ) (q : Piece) → p < n → q ≡ get_or ps p q → q.is_closed ≡ false
@@ -76,7 +81,8 @@ module _ (ps : List Piece) (cs : List ℕ) (es : List Entry) (n closed lowest : 
       let q' : Piece = record { value = q.value; taker = q.taker; is_closed = true } in
       let inside : p < length ps = omega (arith, h.next_within) in
       let takers' : takers (set ps p q') ≡ takers ps = map-set (λ (d : Piece). d.taker) ps p q' ∙ same_field (λ (d : Piece). d.taker) ps p q inside at in
-      let values' : map (λ (d : Piece). d.value) (set ps p q') ≡ map (λ (d : Piece). d.value) ps = map-set (λ (d : Piece). d.value) ps p q' ∙ same_field (λ (d : Piece). d.value) ps p q inside at in
+      let values' : map (λ (d : Piece). d.value) (set ps p q') ≡ map (λ (d : Piece). d.value) ps = map-set (λ (d : Piece). d.value) ps p q'
+      ∙ same_field (λ (d : Piece). d.value) ps p q inside at in
       let marks = map (λ (d : Piece). d.is_closed) ps in
       let marks' : map (λ (d : Piece). d.is_closed) (set ps p q') ≡ set marks p true = map-set (λ (d : Piece). d.is_closed) ps p q' in
       let within : p < length marks = rw (length-map ps (λ (d : Piece). d.is_closed)) inside in
@@ -90,10 +96,13 @@ module _ (ps : List Piece) (cs : List ℕ) (es : List Entry) (n closed lowest : 
         next_within = rw (length-set ps p q') h.next_within;
         taken_by_some = λ i below. rw takers' (h.taken_by_some i below);
         marked = λ i.
-            ap (λ (xs : List ℕ). is_in xs i) (take_more_set cs closed p closed_in) ∙ list_any-append (λ d. d == i) (take closed cs) (p ∷ []) ∙ ap (λ b. b || ((p == i) || false)) (h.marked i)
+            ap (λ (xs : List ℕ). is_in xs i) (take_more_set cs closed p closed_in) ∙ list_any-append (λ d. d == i) (take closed cs) (p ∷ [])
+            ∙ ap (λ b. b || ((p == i) || false)) (h.marked i)
             ∙ elim (cases_eq i p) [
-              | inl here ↦ rw (here, eq-eqb p p refl) (either_way (is_marked ps p) ∙ sym (get_or-set_same marks p true false within) ∙ ap (λ (ms : List Bool). get_or ms p false) (sym marks'))
-              | inr other ↦ rw (ne_eqb p i (λ same. other (sym same))) (or_nothing (is_marked ps i) ∙ sym (get_or-set_other marks p i true false other) ∙ ap (λ (ms : List Bool). get_or ms i false) (sym marks'))
+              | inl here ↦ rw (here, eq-eqb p p refl) (either_way (is_marked ps p) ∙ sym (get_or-set_same marks p true false within)
+                  ∙ ap (λ (ms : List Bool). get_or ms p false) (sym marks'))
+              | inr other ↦ rw (ne_eqb p i (λ same. other (sym same))) (or_nothing (is_marked ps i) ∙ sym (get_or-set_other marks p i true false other)
+                  ∙ ap (λ (ms : List Bool). get_or ms i false) (sym marks'))
             ];
         marked_taken = λ i is. elim (cases_eq i p) [
           | inl here ↦ omega arith

@@ -9,8 +9,9 @@ abbrev pub RaceLaw : Type 0
 RaceLaw =
     (values : List ℕ) (first workers : ℕ) (events : List Event) (r : Race) →
     1 ≤ length values → least values ≤ first →
-    run (start values first workers) events ≡ Some r → IsTrue (all_closed r) → r.bound ≡ least values
+    run (start values first workers) events ≡ Some r → IsTrue (all_closed r) →
+    r.bound ≡ least values
 
--- as many pieces are closed as there are, exactly where all are
+-- as many pieces are closed as there are, exactly where each of them is
 abbrev pub ClosedLaw : Type 0
 ClosedLaw = (r : Race) → IsTrue (all_closed r) ↔ (closed_count r ≡ length r.values)

@@ -26,15 +26,23 @@ pub record Race : Type 0 where
 -- ---- the start
 
 abbrev pub new_worker : ℕ → Worker
-new_worker first = record { taken = []; closed = []; seen = first; posted = first; looks = 0; done = false }
+new_worker first =
+    record { taken = []; closed = []; seen = first; posted = first; looks = 0; done = false }
 
 abbrev pub start : List ℕ → ℕ → ℕ → Race
-start values first workers = record { values = values; next = 0; bound = first; workers = replicate workers (new_worker first) }
+start values first workers =
+    record {
+      values = values;
+      next = 0;
+      bound = first;
+      workers = replicate workers (new_worker first);
+    }
 
 -- ---- the four events, at the worker w of number k: the race afterwards, or none where the event is not enabled
 
 abbrev pub with_worker : Race → ℕ → Worker → Race
-with_worker r k w = record { values = r.values; next = r.next; bound = r.bound; workers = slice_set r.workers k w }
+with_worker r k w =
+    record { values = r.values; next = r.next; bound = r.bound; workers = slice_set r.workers k w }
 
 -- the next piece is the worker's; where none is left, the worker is done
 abbrev pub take_next : Race → ℕ → Worker → Option Race
@@ -67,7 +75,8 @@ post r k m w =
 abbrev pub close : Race → ℕ → ℕ → Worker → Option Race
 close r k p w =
     if is_in w.taken p && not (is_in w.closed p) && nat_le r.bound (slice_index r.values p)
-    then Some (with_worker r k record w { closed = w.closed ++ p ∷ []; seen = r.bound; looks = w.looks + 1 })
+    then Some (with_worker r k
+    record w { closed = w.closed ++ p ∷ []; seen = r.bound; looks = w.looks + 1 })
     else None
 
 -- ---- events in a row

@@ -42,7 +42,8 @@ shown_race pieces closings entries next bound = record {
 }
 
 -- what the fields keep: the first `closed` of `closings` are the pieces that are marked as closed
-pub record IsSound (pieces : List Piece) (closings : List ℕ) (entries : List Entry) (next closed lowest : ℕ) : Type 0 where
+pub record IsSound (pieces : List Piece) (closings : List ℕ) (entries : List Entry)
+    (next closed lowest : ℕ) : Type 0 where
   pub few : length pieces < 2 ^ 32
   pub some : 1 ≤ length pieces
   pub room : length closings ≡ length pieces
@@ -55,7 +56,9 @@ pub record IsSound (pieces : List Piece) (closings : List ℕ) (entries : List E
 
 -- the entry of the worker k, where it has looks left
 abbrev pub ready_entry : List Entry → ℕ → Option Entry
-ready_entry entries k = option_and_then (λ entry. if entry.looks == 2 ^ 64 - 1 then None else Some entry) (slice_get entries k)
+ready_entry entries k =
+    option_and_then (λ entry. if entry.looks == 2 ^ 64 - 1 then None else Some entry)
+    (slice_get entries k)
 
 -- a piece of this value that nobody took
 abbrev pub open_piece : ℕ → Piece

@@ -4,8 +4,6 @@
 mod event;
 pub mod laws;
 mod state;
-#[cfg(test)]
-mod tests;
 
 pub use event::Event;
 pub use state::State;

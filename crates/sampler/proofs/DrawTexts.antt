@@ -9,10 +9,12 @@ no_comma : (before digits : List ℕ) → AllDigits 10 (before ++ comma ∷ digi
 no_comma [] digits h = omega (arith, h.0)
 no_comma (b ∷ before) digits h = no_comma before digits h.1
 
-parted : (before other digits others : List ℕ) → AllDigits 10 digits → AllDigits 10 others → before ++ comma ∷ digits ≡ other ++ comma ∷ others → (before ≡ other) × (digits ≡ others)
+parted : (before other digits others : List ℕ) → AllDigits 10 digits → AllDigits 10 others → before ++ comma ∷ digits ≡ other ++ comma ∷ others →
+    (before ≡ other) × (digits ≡ others)
 parted [] [] digits others d d' e = (refl, cc)
 parted [] (c ∷ other) digits others d d' e = absurd (no_comma other others (let tail : digits ≡ other ++ comma ∷ others = cc in subst (AllDigits 10) tail d))
-parted (b ∷ before) [] digits others d d' e = absurd (no_comma before digits (let tail : others ≡ before ++ comma ∷ digits = cc in subst (AllDigits 10) tail d'))
+parted (b ∷ before) [] digits others d d' e =
+    absurd (no_comma before digits (let tail : others ≡ before ++ comma ∷ digits = cc in subst (AllDigits 10) tail d'))
 parted (b ∷ before) (c ∷ other) digits others d d' e =
     let tail : before ++ comma ∷ digits ≡ other ++ comma ∷ others = cc in
     let (same, number) = parted before other digits others d d' tail in (cc, number)

@@ -26,4 +26,5 @@ pub remainder_more : (bytes : List ℕ) (i cards remainder byte : ℕ) → remai
 remainder_more bytes i cards remainder byte so_far e l =
     ap (λ n. (n * 256 + byte) % cards) so_far
     ∙ remainder-next (number_of (take i bytes)) byte cards
-    ∙ ap (λ n. n % cards) (ap (λ b. number_of (take i bytes) * 256 + b) e ∙ sym (ap number_of (take_more bytes i 0 l) ∙ number_of-push (take i bytes) (get_or bytes i 0)))
+    ∙ ap (λ n. n % cards) (ap (λ b. number_of (take i bytes) * 256 + b) e
+    ∙ sym (ap number_of (take_more bytes i 0 l) ∙ number_of-push (take i bytes) (get_or bytes i 0)))

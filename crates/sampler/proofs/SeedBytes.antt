@@ -9,6 +9,7 @@ use Rattle.std.proofs.lemmas.List.Folds.{list_all_at}
 use Rattle.std.proofs.lemmas.List.Quantifiers.{position-Some}
 use Rattle.std.proofs.lemmas.List.Sums.{list_all-from_AllPass, fails_before_first}
 use Rattle.sampler.specs.Seeds.{is_seed, is_seed_byte, has_seed_length, first_bad_byte}
+use Rattle.sampler.specs.declared.limits.TheConstants.{MOST_SEED_BYTES}
 use Rattle.sampler.specs.SeedArray.{HoldsSeed}
 
 bad-some : (text : List ℕ) (place : ℕ) → first_bad_byte text ≡ Some place → list_all is_seed_byte text ≡ false
@@ -40,11 +41,13 @@ pub accepted : (text : List ℕ) → has_seed_length text ≡ true → first_bad
 accepted text long bad = and_from (has_seed_length text) (list_all is_seed_byte text) long (bad-none text bad)
 
 -- the bytes are copied to the front of an array of zeros
-pub seed_held : (text copied blank : List ℕ) → copied ≡ text → blank ≡ replicate 64 0 → is_seed text ≡ true → HoldsSeed (length text) (copied ++ drop (length text) blank)
+pub seed_held : (text copied blank : List ℕ) → copied ≡ text → blank ≡ replicate MOST_SEED_BYTES 0 → is_seed text ≡ true →
+    HoldsSeed (length text) (copied ++ drop (length text) blank)
 seed_held text copied blank e zeros valid = record {
-  few = leb-true (length text) 64 (and_parts (nat_le 1 (length text)) (nat_le (length text) 64) long).1;
+  few = leb-true (length text) MOST_SEED_BYTES (and_parts (nat_le 1 (length text)) (nat_le (length text) MOST_SEED_BYTES) long).1;
   long = ap length same;
-  padded = ap (λ s. s ++ drop (length text) blank) (e ∙ sym same) ∙ ap (λ s. take (length text) filled ++ s) (ap (drop (length text)) zeros ∙ drop-replicate (length text) 64 0);
+  padded = ap (λ s. s ++ drop (length text) blank) (e ∙ sym same)
+      ∙ ap (λ s. take (length text) filled ++ s) (ap (drop (length text)) zeros ∙ drop-replicate (length text) MOST_SEED_BYTES 0);
   valid = ap is_seed same ∙ valid;
 }
   where

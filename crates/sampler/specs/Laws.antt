@@ -1,6 +1,6 @@
 -- The laws of seeds and draws.
 use Rattle.std.specs.Prelude.{◌≡◌, ◌<◌, ◌^◌, ℕ, List}
-use Rattle.sampler.specs.declared.seed.TheConstants.{MOST_SEED_BYTES}
+use Rattle.sampler.specs.declared.limits.TheConstants.{MOST_SEED_BYTES}
 use Rattle.sampler.specs.Draws.{draw_text}
 
 -- the most bytes of a seed
@@ -10,4 +10,5 @@ LimitsLaw = MOST_SEED_BYTES ≡ 64
 -- what is hashed tells the seed and the number of the draw, though a seed may have commas too
 abbrev pub TextTellsDraw : Type 0
 TextTellsDraw =
-    (seed other : List ℕ) (k k' : ℕ) → k < 2 ^ 64 → k' < 2 ^ 64 → draw_text seed k ≡ draw_text other k' → (seed ≡ other) × (k ≡ k')
+    (seed other : List ℕ) (k k' : ℕ) → k < 2 ^ 64 → k' < 2 ^ 64 →
+    draw_text seed k ≡ draw_text other k' → (seed ≡ other) × (k ≡ k')

@@ -1,7 +1,7 @@
 -- A seed that is kept in an array with room for the longest, padded with 0.
 use Rattle.std.specs.Prelude.{◌≡◌, ◌-◌, ◌≤◌, ◌++◌, ℕ, List, take, length, replicate, IsTrue}
 use Rattle.sampler.specs.Seeds.{is_seed}
-use Rattle.sampler.specs.declared.seed.TheConstants.{MOST_SEED_BYTES}
+use Rattle.sampler.specs.declared.limits.TheConstants.{MOST_SEED_BYTES}
 
 pub record HoldsSeed (len : ℕ) (text : List ℕ) : Type 0 where
   pub few : len ≤ MOST_SEED_BYTES

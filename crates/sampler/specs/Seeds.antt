@@ -3,7 +3,7 @@ use Rattle.std.specs.Prelude.{◌≡◌, ℕ, Bool, true, false, not, ◌&&◌, 
 use Rattle.std.specs.List.{list_all}
 use Rattle.sampler.specs.declared.seed.BadSeed.{BadSeed}
 use Rattle.sampler.specs.declared.seed.BadSeed.TheVariants.{Length, Byte}
-use Rattle.sampler.specs.declared.seed.TheConstants.{MOST_SEED_BYTES}
+use Rattle.sampler.specs.declared.limits.TheConstants.{MOST_SEED_BYTES}
 
 abbrev pub space : ℕ
 space = 0x20

@@ -4,9 +4,9 @@
 
 mod card;
 pub mod laws;
+mod limits;
 mod seed;
-#[cfg(test)]
-mod tests;
 
 pub use card::{draw, reduce};
-pub use seed::{BadSeed, MOST_SEED_BYTES, Seed};
+pub use limits::MOST_SEED_BYTES;
+pub use seed::{BadSeed, Seed};

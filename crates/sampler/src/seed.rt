@@ -2,12 +2,10 @@
 ghost use Rattle.std.specs.Prelude.{◌≡◌, IfOk, IfErr, IsTrue, is_ok};
 ghost use Rattle.sampler.specs.Seeds.{is_seed, is_seed_byte, has_seed_length, first_bad_byte, Refuses};
 
+use crate::MOST_SEED_BYTES;
 use std::error::Error;
 use std::fmt;
 use std::marker::Model;
-
-/// The most bytes of a seed.
-pub const MOST_SEED_BYTES: usize = 64;
 
 /// Why a text is no seed.
 #[derive(Clone, Copy, Debug, PartialEq, Eq)]
@@ -48,7 +46,7 @@ impl Model for Seed {
     ghost use Rattle.std.specs.Prelude.{ℕ, List, ◌-◌, ◌++◌, take, length, replicate};
     ghost use Rattle.std.proofs.Common.{ap, sym, ◌∙◌};
     ghost use Rattle.sampler.specs.SeedArray.{HoldsSeed};
-    ghost use Rattle.sampler.specs.declared.seed.TheConstants.{MOST_SEED_BYTES};
+    ghost use Rattle.sampler.specs.declared.limits.TheConstants.{MOST_SEED_BYTES};
 
     ghost Value = { List ℕ };
 
@@ -56,9 +54,16 @@ impl Model for Seed {
 
     ghost invariant = { λ s. HoldsSeed s.len s.text };
 
-    ghost inverse = { λ v. record { len = length v; text = v ++ replicate (MOST_SEED_BYTES - length v) 0 } };
+    ghost inverse = { λ v. record {
+      len = length v;
+      text = v ++ replicate (MOST_SEED_BYTES - length v) 0;
+    } };
 
-    ghost inverse_ok = { λ s h i. record { len = h.long i; text = (ap (λ n. take s.len s.text ++ replicate (MOST_SEED_BYTES - n) 0) h.long ∙ sym h.padded) i } };
+    ghost inverse_ok = { λ s h i. record {
+      len = h.long i;
+      text = (ap (λ n. take s.len s.text ++ replicate (MOST_SEED_BYTES - n) 0) h.long
+          ∙ sym h.padded) i;
+    } };
 }
 
 fn is_seed_byte(b: u8) -> bool
@@ -101,6 +106,7 @@ impl Seed {
         })
     }
 
+    /// Its bytes: ASCII, as they are hashed.
     pub fn bytes(&self) -> &[u8]
         ensures same { result.now ≡ self.now }
         ensures valid { IsTrue (is_seed self.now) }

@@ -63,8 +63,10 @@ abbrev pub at : ℕ → List ℕ → ℕ → ℕ
 at set table other = cond (misses set other) (get_or table other 0) 0
 
 module _ (n : ℕ) (without having : List ℕ) (w : length without ≡ 2 ^ n) (h : length having ≡ 2 ^ n) (set : ℕ) (small : set < 2 ^ n) where
-  halves : (s : ℕ) → apart s (without ++ having) ≡ sum_by (at s (without ++ having)) (candidates (2 ^ n)) + sum_by (λ i. at s (without ++ having) (i + 2 ^ n)) (candidates (2 ^ n))
-  halves s = ap (λ k. sum_by (at s (without ++ having)) (candidates k)) (length-append without having ∙ ap₂ (λ a b. a + b) w h) ∙ total-split (at s (without ++ having)) (2 ^ n) (2 ^ n)
+  halves : (s : ℕ) → apart s (without ++ having) ≡ sum_by (at s (without ++ having)) (candidates (2 ^ n))
+      + sum_by (λ i. at s (without ++ having) (i + 2 ^ n)) (candidates (2 ^ n))
+  halves s = ap (λ k. sum_by (at s (without ++ having)) (candidates k)) (length-append without having ∙ ap₂ (λ a b. a + b) w h)
+      ∙ total-split (at s (without ++ having)) (2 ^ n) (2 ^ n)
 
   left : (i : ℕ) → i < 2 ^ n → get_or (without ++ having) i 0 ≡ get_or without i 0
   left i l = get_or_append_left without having 0 i (omega (arith, w, l))
@@ -76,15 +78,20 @@ module _ (n : ℕ) (without having : List ℕ) (w : length without ≡ 2 ^ n) (h
   apart-both =
       halves set
       ∙ ap₂ (λ a b. a + b)
-      (total-same (at set (without ++ having)) (at set without) 0 (2 ^ n) (λ i a l. ap (λ v. cond (misses set i) v 0) (left i (omega (arith, l)))) ∙ ap (λ k. sum_by (at set without) (candidates k)) (sym w))
-      (total-same (λ i. at set (without ++ having) (i + 2 ^ n)) (at set having) 0 (2 ^ n) (λ i a l. ap₂ (λ b v. cond b v 0) (misses-moved n set small i (omega (arith, l))) (right i)) ∙ ap (λ k. sum_by (at set having) (candidates k)) (sym h))
+      (total-same (at set (without ++ having)) (at set without) 0 (2 ^ n) (λ i a l. ap (λ v. cond (misses set i) v 0) (left i (omega (arith, l))))
+      ∙ ap (λ k. sum_by (at set without) (candidates k)) (sym w))
+      (total-same (λ i. at set (without ++ having) (i + 2 ^ n)) (at set having) 0 (2 ^ n)
+      (λ i a l. ap₂ (λ b v. cond b v 0) (misses-moved n set small i (omega (arith, l))) (right i)) ∙ ap (λ k. sum_by (at set having) (candidates k)) (sym h))
 
   pub apart-first : apart (set + 2 ^ n) (without ++ having) ≡ apart set without
   apart-first =
       halves (set + 2 ^ n)
       ∙ ap₂ (λ a b. a + b)
-      (total-same (at (set + 2 ^ n) (without ++ having)) (at set without) 0 (2 ^ n) (λ i a l. ap₂ (λ b v. cond b v 0) (misses-with n set small i (omega (arith, l))) (left i (omega (arith, l)))) ∙ ap (λ k. sum_by (at set without) (candidates k)) (sym w))
-      (total-none (λ i. at (set + 2 ^ n) (without ++ having) (i + 2 ^ n)) 0 (2 ^ n) (λ i a l. ap (λ b. cond b (get_or (without ++ having) (i + 2 ^ n) 0) 0) (misses-both n set small i (omega (arith, l)))))
+      (total-same (at (set + 2 ^ n) (without ++ having)) (at set without) 0 (2 ^ n)
+      (λ i a l. ap₂ (λ b v. cond b v 0) (misses-with n set small i (omega (arith, l))) (left i (omega (arith, l))))
+      ∙ ap (λ k. sum_by (at set without) (candidates k)) (sym w))
+      (total-none (λ i. at (set + 2 ^ n) (without ++ having) (i + 2 ^ n)) 0 (2 ^ n)
+      (λ i a l. ap (λ b. cond b (get_or (without ++ having) (i + 2 ^ n) 0) 0) (misses-both n set small i (omega (arith, l)))))
       ∙ omega arith
 
 -- ---- bounds
@@ -142,7 +149,9 @@ module _ (n : ℕ) (without having : List ℕ) (w : length without ≡ 2 ^ n) (h
       let wide : length (without ++ having) ≡ 2 ^ n + 2 ^ n = length-append without having ∙ ap₂ (λ a b. a + b) w h in
       ap₂ (λ xs ys. xs ++ ys)
       (map-same (λ i. get_or (sums_of without) i 0 + get_or (sums_of having) i 0) f 0 (2 ^ n) (λ i l. both-at i (omega arith)))
-      (ap (λ k. map (λ s. apart s without) (candidates k)) w ∙ sym (map-same (λ s. f (s + 2 ^ n)) (λ s. apart s without) 0 (2 ^ n) (λ i l. apart-first n without having w h i (omega arith))) ∙ sym (map-shift f 0 (2 ^ n) (2 ^ n)))
+      (ap (λ k. map (λ s. apart s without) (candidates k)) w
+      ∙ sym (map-same (λ s. f (s + 2 ^ n)) (λ s. apart s without) 0 (2 ^ n) (λ i l. apart-first n without having w h i (omega arith)))
+      ∙ sym (map-shift f 0 (2 ^ n) (2 ^ n)))
       ∙ sym (map-append f (range_with_len 0 (2 ^ n)) (range_with_len (0 + 2 ^ n) (2 ^ n)))
       ∙ ap (map f) (sym (range-split 0 (2 ^ n) (2 ^ n)))
       ∙ ap (λ k. map f (candidates k)) (sym wide)

@@ -37,11 +37,13 @@ still set b d h = elim (cases_Bool (has set d)) [ inl t ↦ misses-member set b 
 pub missed-not : (set seen : ℕ) (ranking : List ℕ) (c : ℕ) → misses set seen ≡ false → is_missed set (before_after seen ranking c) ≡ false
 missed-not set seen [] c h = refl
 missed-not set seen (d ∷ rest) c h = go (d == c) (missed-not set (bit_or seen (2 ^ d)) rest c (still set seen d h)) where
-  go : (b : Bool) → is_missed set (before_after (bit_or seen (2 ^ d)) rest c) ≡ false → is_missed set (cond b (Some seen) (before_after (bit_or seen (2 ^ d)) rest c)) ≡ false
+  go : (b : Bool) → is_missed set (before_after (bit_or seen (2 ^ d)) rest c) ≡ false →
+      is_missed set (cond b (Some seen) (before_after (bit_or seen (2 ^ d)) rest c)) ≡ false
   go true ih = h
   go false ih = ih
 
-pub missed_top : (set seen : ℕ) (ranking : List ℕ) (c : ℕ) → misses set seen ≡ true → has set c ≡ true → is_missed set (before_after seen ranking c) ≡ is_some_of (top ranking set) c
+pub missed_top : (set seen : ℕ) (ranking : List ℕ) (c : ℕ) → misses set seen ≡ true → has set c ≡ true →
+    is_missed set (before_after seen ranking c) ≡ is_some_of (top ranking set) c
 missed_top set seen [] c m h = refl
 missed_top set seen (d ∷ rest) c m h = go (d == c) refl (has set d) refl (λ n. missed_top set (bit_or seen (2 ^ d)) rest c n h) where
   go : (b : Bool) → (d == c) ≡ b → (t : Bool) → has set d ≡ t →

@@ -26,7 +26,8 @@ module _ (n k : ℕ) (table : List ℕ) (c : ℕ) where
   column-at s l = get_or-map-range_with_len (λ s. get_or table (s * n + c) 0) 0 (2 ^ k) s s 0 l (omega arith)
 
 -- what stands in a table stands in one of its columns
-pub place-at : (n k : ℕ) (table : List ℕ) (i : ℕ) → 1 ≤ n → i < n * 2 ^ k → (i % n < n) × (i / n < 2 ^ k) × (get_or (column n k table (i % n)) (i / n) 0 ≡ get_or table i 0)
+pub place-at : (n k : ℕ) (table : List ℕ) (i : ℕ) → 1 ≤ n → i < n * 2 ^ k → (i % n < n) × (i / n < 2 ^ k) ×
+    (get_or (column n k table (i % n)) (i / n) 0 ≡ get_or table i 0)
 place-at n k table i some l =
     let row : i / n < 2 ^ k = (div-lt_iff_lt-mul some).1 (omega (arith, l)) in
     (mod-lt i some, row, column-at n k table (i % n) (i / n) row ∙ ap (λ j. get_or table j 0) (div-add-mod' i n))
@@ -40,7 +41,8 @@ cells n k few small =
     mod-eq_of_lt (omega (arith, product))
 
 -- ---- one number more
-pub apart-more : (s : ℕ) (numbers : List ℕ) (k v : ℕ) → k < length numbers → apart s (set numbers k (get_or numbers k 0 + v)) ≡ apart s numbers + cond (misses s k) v 0
+pub apart-more : (s : ℕ) (numbers : List ℕ) (k v : ℕ) → k < length numbers → apart s (set numbers k (get_or numbers k 0 + v))
+    ≡ apart s numbers + cond (misses s k) v 0
 apart-more s numbers k v l =
     let new : List ℕ = set numbers k (get_or numbers k 0 + v) in
     let long : length new ≡ length numbers = length-set numbers k (get_or numbers k 0 + v) in
@@ -77,7 +79,8 @@ module _ (n k : ℕ) (table : List ℕ) (long : length table ≡ n * 2 ^ k) (s c
       ext_get_or 0 (column n k more c) new (column-long n k more c ∙ sym (length-set old s (get_or old s 0 + v) ∙ column-long n k table c))
       (λ i l. let m : i < 2 ^ k = omega (arith, l, column-long n k more c) in column-at n k more c i m ∙ go i m (cases_Bool (i == s)))
     where
-      go : (i : ℕ) → i < 2 ^ k → ((i == s) ≡ true) ⊎ ((i == s) ≡ false) → get_or more (i * n + c) 0 ≡ get_or (set (column n k table c) s (get_or (column n k table c) s 0 + v)) i 0
+      go : (i : ℕ) → i < 2 ^ k → ((i == s) ≡ true) ⊎ ((i == s) ≡ false) → get_or more (i * n + c) 0
+          ≡ get_or (set (column n k table c) s (get_or (column n k table c) s 0 + v)) i 0
       go i m (inl t) =
           let at : i ≡ s = eqb-true i s t in
           ap (λ j. get_or more (j * n + c) 0) at
@@ -96,13 +99,16 @@ module _ (n k : ℕ) (table : List ℕ) (long : length table ≡ n * 2 ^ k) (s c
   column-other d l ne = map-same (λ t. get_or more (t * n + d) 0) (λ t. get_or table (t * n + d) 0) 0 (2 ^ k)
       (λ t m. get_or-set_other table there (t * n + d) (get_or table there 0 + v) 0 (other-place t d l (λ e f. ne f)))
 
-  pub table-more : (w d : ℕ) → d < n → apart w (column n k (set table (s * n + c) (get_or table (s * n + c) 0 + v)) d) ≡ apart w (column n k table d) + cond (d == c && misses w s) v 0
+  pub table-more : (w d : ℕ) → d < n → apart w (column n k (set table (s * n + c) (get_or table (s * n + c) 0 + v)) d)
+      ≡ apart w (column n k table d) + cond (d == c && misses w s) v 0
   unfolding there more
   table-more w d l = go (d == c) refl where
     go : (b : Bool) → (d == c) ≡ b → apart w (column n k more d) ≡ apart w (column n k table d) + cond (b && misses w s) v 0
     go true e =
         let at : d ≡ c = eqb-true d c e in
-        ap (λ x. apart w (column n k more x)) at ∙ ap (apart w) column-own ∙ apart-more w (column n k table c) s v (omega (arith, row, column-long n k table c)) ∙ ap (λ x. apart w (column n k table x) + cond (misses w s) v 0) (sym at)
+        ap (λ x. apart w (column n k more x)) at ∙ ap (apart w) column-own
+        ∙ apart-more w (column n k table c) s v (omega (arith, row, column-long n k table c))
+        ∙ ap (λ x. apart w (column n k table x) + cond (misses w s) v 0) (sym at)
     go false e = let ne = eqb-false d c e in ap (apart w) (column-other d l ne) ∙ omega arith
 
   -- it fits where all that the column sums up to does
@@ -135,7 +141,8 @@ module _ (n m : ℕ) (without having : List ℕ) (w : length without ≡ n * 2 ^
       ap (map f) (range-split 0 (2 ^ m) (2 ^ m))
       ∙ map-append f (range_with_len 0 (2 ^ m)) (range_with_len (0 + 2 ^ m) (2 ^ m))
       ∙ ap₂ (λ xs ys. xs ++ ys)
-      (map-same f (λ s. get_or without (s * n + c) 0) 0 (2 ^ m) (λ s j. get_or_append_left without having 0 (s * n + c) (omega (arith, w, place-below n m s c (omega (arith, j)) l))))
+      (map-same f (λ s. get_or without (s * n + c) 0) 0 (2 ^ m)
+      (λ s j. get_or_append_left without having 0 (s * n + c) (omega (arith, w, place-below n m s c (omega (arith, j)) l))))
       (map-shift f 0 (2 ^ m) (2 ^ m) ∙ map-same (λ s. f (s + 2 ^ m)) (λ s. get_or having (s * n + c) 0) 0 (2 ^ m) (λ s j. second s))
     where
       moved : (s : ℕ) → (s + 2 ^ m) * n + c ≡ n * 2 ^ m + (s * n + c)
@@ -143,14 +150,16 @@ module _ (n m : ℕ) (without having : List ℕ) (w : length without ≡ n * 2 ^
 
       second : (s : ℕ) → get_or (without ++ having) ((s + 2 ^ m) * n + c) 0 ≡ get_or having (s * n + c) 0
       second s =
-          get_or-append_right without having (n * 2 ^ m) ((s + 2 ^ m) * n + c) 0 w (omega (arith, moved s)) ∙ ap (λ i. get_or having i 0) (omega (arith, moved s))
+          get_or-append_right without having (n * 2 ^ m) ((s + 2 ^ m) * n + c) 0 w (omega (arith, moved s))
+          ∙ ap (λ i. get_or having i 0) (omega (arith, moved s))
 
 pub record AreHalves (n k : ℕ) (table without having : List ℕ) : Type 0 where
   pub first : length without ≡ n * 2 ^ (k - 1)
   pub second : length having ≡ n * 2 ^ (k - 1)
   pub own : (c : ℕ) → c < n → column n k table c ≡ column n (k - 1) without c ++ column n (k - 1) having c
 
-pub halved : (n k : ℕ) (table without having : List ℕ) → (k ≡ 0 → ⊥) → length table ≡ n * 2 ^ k → table ≡ without ++ having → length without ≡ n * 2 ^ (k - 1) → length having + n * 2 ^ (k - 1) ≡ length table → AreHalves n k table without having
+pub halved : (n k : ℕ) (table without having : List ℕ) → (k ≡ 0 → ⊥) → length table ≡ n * 2 ^ k → table ≡ without ++ having →
+    length without ≡ n * 2 ^ (k - 1) → length having + n * 2 ^ (k - 1) ≡ length table → AreHalves n k table without having
 halved n k table without having some long parts front back = record {
   first = front;
   second = second;
@@ -164,14 +173,17 @@ halved n k table without having some long parts front back = record {
     second = omega (arith, back, long, double)
 
 -- ---- the sums of the halves together
-module _ (n k most : ℕ) (table without having : List ℕ) (s : AreHalves n k table without having) (fit : (c : ℕ) → c < n → apart 0 (column n k table c) ≤ most) where
+module _ (n k most : ℕ) (table without having : List ℕ) (s : AreHalves n k table without having) (fit : (c : ℕ) → c < n →
+    apart 0 (column n k table c) ≤ most) where
   whole : (c : ℕ) → c < n → apart 0 (column n (k - 1) without c ++ column n (k - 1) having c) ≤ most
   whole c l = subst (λ xs. apart 0 xs ≤ most) (s.own c l) (fit c l)
 
   pub halves-fit : (c : ℕ) → c < n → (apart 0 (column n (k - 1) without c) ≤ most) × (apart 0 (column n (k - 1) having c) ≤ most)
-  halves-fit c l = half-fits (k - 1) (column n (k - 1) without c) (column n (k - 1) having c) (column-long n (k - 1) without c) (column-long n (k - 1) having c) most (whole c l)
+  halves-fit c l = half-fits (k - 1) (column n (k - 1) without c) (column n (k - 1) having c) (column-long n (k - 1) without c)
+      (column-long n (k - 1) having c) most (whole c l)
 
-  module _ (a b : List ℕ) (la : length a ≡ n * 2 ^ (k - 1)) (lb : length b ≡ n * 2 ^ (k - 1)) (sa : (c : ℕ) → c < n → column n (k - 1) a c ≡ sums_of (column n (k - 1) without c)) (sb : (c : ℕ) → c < n → column n (k - 1) b c ≡ sums_of (column n (k - 1) having c)) where
+  module _ (a b : List ℕ) (la : length a ≡ n * 2 ^ (k - 1)) (lb : length b ≡ n * 2 ^ (k - 1)) (sa : (c : ℕ) → c < n →
+      column n (k - 1) a c ≡ sums_of (column n (k - 1) without c)) (sb : (c : ℕ) → c < n → column n (k - 1) b c ≡ sums_of (column n (k - 1) having c)) where
     -- each number of the one half and that of the other fit together
     pub both-fit : (i : ℕ) → 1 ≤ n → i < length a → get_or a i 0 + get_or b i 0 ≤ most
     both-fit i some l =
@@ -190,13 +202,15 @@ module _ (n k most : ℕ) (table without having : List ℕ) (s : AreHalves n k t
           sums-fit (k - 1) wo ha (column-long n (k - 1) without c) (column-long n (k - 1) having c) most (i / n) (whole c pa.0) pa.1,
         )
 
-    pub both-are : (k ≡ 0 → ⊥) → (c : ℕ) → c < n → column n k (map (λ i. get_or a i 0 + get_or b i 0) (candidates (length a)) ++ a) c ≡ sums_of (column n k table c)
+    pub both-are : (k ≡ 0 → ⊥) → (c : ℕ) → c < n → column n k (map (λ i. get_or a i 0 + get_or b i 0) (candidates (length a)) ++ a) c
+        ≡ sums_of (column n k table c)
     both-are some c l =
         let wo = column n (k - 1) without c in
         let ha = column n (k - 1) having c in
         ap (λ p. map (λ s. get_or (sum ++ a) (s * n + c) 0) (candidates p)) (twice k some)
         ∙ column-halves n (k - 1) sum a long la c l
-        ∙ ap₂ (λ xs ys. xs ++ ys) (map-same (λ s. get_or sum (s * n + c) 0) (λ i. get_or (sums_of wo) i 0 + get_or (sums_of ha) i 0) 0 (2 ^ (k - 1)) (λ i j. apiece i (omega (arith, j)))) (sa c l)
+        ∙ ap₂ (λ xs ys. xs ++ ys) (map-same (λ s. get_or sum (s * n + c) 0) (λ i. get_or (sums_of wo) i 0 + get_or (sums_of ha) i 0) 0 (2 ^ (k - 1))
+        (λ i j. apiece i (omega (arith, j)))) (sa c l)
         ∙ joined-is (k - 1) wo ha (column-long n (k - 1) without c) (column-long n (k - 1) having c)
         ∙ ap sums_of (sym (s.own c l))
       where
@@ -206,7 +220,10 @@ module _ (n k most : ℕ) (table without having : List ℕ) (s : AreHalves n k t
         long : length sum ≡ n * 2 ^ (k - 1)
         long = length-map-range_with_len (λ i. get_or a i 0 + get_or b i 0) 0 (length a) ∙ la
 
-        apiece : (i : ℕ) → i < 2 ^ (k - 1) → get_or sum (i * n + c) 0 ≡ get_or (sums_of (column n (k - 1) without c)) i 0 + get_or (sums_of (column n (k - 1) having c)) i 0
+        apiece : (i : ℕ) → i < 2 ^ (k - 1) → get_or sum (i * n + c) 0 ≡ get_or (sums_of (column n (k - 1) without c)) i 0
+            + get_or (sums_of (column n (k - 1) having c)) i 0
         apiece i j =
-            get_or-map-range_with_len (λ x. get_or a x 0 + get_or b x 0) 0 (length a) (i * n + c) (i * n + c) 0 (omega (arith, la, place-below n (k - 1) i c j l)) (omega arith)
-            ∙ ap₂ (λ x y. x + y) (sym (column-at n (k - 1) a c i j) ∙ ap (λ xs. get_or xs i 0) (sa c l)) (sym (column-at n (k - 1) b c i j) ∙ ap (λ xs. get_or xs i 0) (sb c l))
+            get_or-map-range_with_len (λ x. get_or a x 0 + get_or b x 0) 0 (length a) (i * n + c) (i * n + c) 0
+            (omega (arith, la, place-below n (k - 1) i c j l)) (omega arith)
+            ∙ ap₂ (λ x y. x + y) (sym (column-at n (k - 1) a c i j) ∙ ap (λ xs. get_or xs i 0) (sa c l)) (sym (column-at n (k - 1) b c i j)
+            ∙ ap (λ xs. get_or xs i 0) (sb c l))

@@ -32,7 +32,8 @@ count-none p [] h = refl
 count-none p (x ∷ xs) h = sum_by-cons (λ y. cond (p y) 1 0) x xs ∙ ap₂ (λ b n. cond b 1 0 + n) (h x) (count-none p xs h)
 
 -- ---- the entries of each candidate
-pub counted-push : (n : ℕ) (lists : List (List Entry)) (entries : List Entry) (records : List (List ℕ)) (k : ℕ) → length lists ≡ k → AllCounted n lists records → Counted entries records n k → AllCounted n (lists ++ entries ∷ []) records
+pub counted-push : (n : ℕ) (lists : List (List Entry)) (entries : List Entry) (records : List (List ℕ)) (k : ℕ) → length lists ≡ k →
+    AllCounted n lists records → Counted entries records n k → AllCounted n (lists ++ entries ∷ []) records
 counted-push n lists entries records k long h last c l =
     elim (cases_lt c (length lists)) [
       | inl m ↦ subst (λ es. Counted es records n c) (sym (get_or_append_left lists (entries ∷ []) [] c m)) (h c m)
@@ -42,10 +43,12 @@ counted-push n lists entries records k long h last c l =
           subst (λ es. Counted es records n c) (sym (get_or_push lists entries [] c (long ∙ at))) (subst (Counted entries records n) at last)
     ]
 
-pub lists-say : (n : ℕ) (lists : List (List Entry)) (records : List (List ℕ)) → length lists ≡ n → AllCounted n lists records → (set c : ℕ) → c < n → missing set (get_or lists c []) ≡ count_by (has_missed set c) records
+pub lists-say : (n : ℕ) (lists : List (List Entry)) (records : List (List ℕ)) → length lists ≡ n → AllCounted n lists records → (set c : ℕ) → c < n →
+    missing set (get_or lists c []) ≡ count_by (has_missed set c) records
 lists-say n lists records long h set c l = (h c (omega (arith, long, l))).missing set
 
-pub are-entries : (n : ℕ) (lists : List (List Entry)) (records : List (List ℕ)) → length lists ≡ n → AllCounted n lists records → AreEntries n (length records) lists
+pub are-entries : (n : ℕ) (lists : List (List Entry)) (records : List (List ℕ)) → length lists ≡ n → AllCounted n lists records →
+    AreEntries n (length records) lists
 are-entries n lists records long h = record {
   one_each = long;
   few = λ k d l. subst (λ es. total es ≤ length records) (get_or_default lists k [] d l) (h k l).few;
@@ -65,13 +68,17 @@ votes-read n f set c s l =
     ap (λ xs. get_or xs c 0) (get_or-map-range_with_len (λ t. map (f t) (candidates n)) 0 (2 ^ n) set set [] s (omega arith))
     ∙ get_or-map-range_with_len (f set) 0 n c c 0 l (omega arith)
 
-pub bag-of : (n : ℕ) (votes : ℕ → ℕ → ℕ) (records : List (List ℕ)) → All (All (λ c. c < n)) records → ((set c : ℕ) → set < 2 ^ n → c < n → votes set c ≡ count_by (has_missed set c) records) →
+pub bag-of : (n : ℕ) (votes : ℕ → ℕ → ℕ) (records : List (List ℕ)) → All (All (λ c. c < n)) records →
+    ((set c : ℕ) → set < 2 ^ n → c < n → votes set c ≡ count_by (has_missed set c) records) →
     IsOf (record { n = n; records = length records; votes = all_votes n votes }) records
 bag-of n votes records below says = record {
   all = refl;
-  tallies = λ set c s l inside. h set c s l ∙ count-same (λ r. is_missed set (before r c)) (λ r. is_some_of (top r set) c) records (λ k d w. missed_top set 0 (get_or records k d) c (misses-none set) inside);
-  firsts = λ w l. h (everyone n) w (omega (arith, pow_pos n)) l ∙ count-same (λ r. is_missed (everyone n) (before r w)) (λ r. is_first r w) records (λ k d m. missed_first n (get_or records k d) w (below k d m));
-  ahead = λ l w k m. h (2 ^ w) l (pow-lt m) k ∙ count-same (λ r. is_missed (2 ^ w) (before r l)) (λ r. is_ahead r l w) records (λ j d i. missed_ahead w 0 (get_or records j d) l (misses-none (2 ^ w)));
+  tallies = λ set c s l inside. h set c s l ∙ count-same (λ r. is_missed set (before r c)) (λ r. is_some_of (top r set) c) records
+      (λ k d w. missed_top set 0 (get_or records k d) c (misses-none set) inside);
+  firsts = λ w l. h (everyone n) w (omega (arith, pow_pos n)) l
+      ∙ count-same (λ r. is_missed (everyone n) (before r w)) (λ r. is_first r w) records (λ k d m. missed_first n (get_or records k d) w (below k d m));
+  ahead = λ l w k m. h (2 ^ w) l (pow-lt m) k ∙ count-same (λ r. is_missed (2 ^ w) (before r l)) (λ r. is_ahead r l w) records
+      (λ j d i. missed_ahead w 0 (get_or records j d) l (misses-none (2 ^ w)));
 }
   where
     h : (set c : ℕ) → set < 2 ^ n → c < n → get_or (get_or (all_votes n votes) set []) c 0 ≡ count_by (has_missed set c) records
@@ -102,7 +109,8 @@ at-place P f xs k d l h at =
 pub own-entries : {X : Type 0} (f : X → List Entry) (xs : List X) (k : ℕ) (d : X) → k < length xs → d ≡ get_or xs k d → get_or (map f xs) k [] ≡ f d
 own-entries f xs k d l at = get_or-map f xs k d [] l ∙ ap f (sym at)
 
-pub cell : {X : Type 0} (f : X → List ℕ) (xs : List X) (k j v : ℕ) (d : X) → k < length xs → d ≡ get_or xs k d → j < length (f d) → v ≡ get_or (f d) j v → get_or (get_or (map f xs) k []) j 0 ≡ v
+pub cell : {X : Type 0} (f : X → List ℕ) (xs : List X) (k j v : ℕ) (d : X) → k < length xs → d ≡ get_or xs k d → j < length (f d) → v ≡ get_or (f d) j v →
+    get_or (get_or (map f xs) k []) j 0 ≡ v
 cell f xs k j v d l at m e = ap (λ r. get_or r j 0) (get_or-map f xs k d [] l ∙ ap f (sym at)) ∙ get_or_default (f d) j 0 v m ∙ sym e
 
 -- ---- rows
@@ -111,7 +119,8 @@ map-same f g a zero h = refl
 map-same f g a (suc n) h = ap₂ (λ x xs. x ∷ xs) (h a (omega arith)) (map-same f g (a + 1) n (λ c l. h c (omega arith)))
 
 pub row-tallies : (bag : Kept) (records : List (List ℕ)) (set : ℕ) → set < 2 ^ bag.n → IsOf bag records → votes_of bag set ≡ tallies records bag.n set
-row-tallies bag records set below h = map-same (λ c. if has set c then votes_at bag set c else 0) (tally records set) 0 bag.n (λ c l. go c (omega arith) (has set c) refl)
+row-tallies bag records set below h = map-same (λ c. if has set c then votes_at bag set c else 0) (tally records set) 0 bag.n
+    (λ c l. go c (omega arith) (has set c) refl)
   where
     go : (c : ℕ) → c < bag.n → (b : Bool) → has set c ≡ b → cond b (votes_at bag set c) 0 ≡ tally records set c
     go c l true e = h.tallies set c below l e
@@ -121,18 +130,22 @@ pub row-long : (bag : Kept) (set : ℕ) → length (votes_of bag set) ≡ bag.n
 row-long bag set = length-map-range_with_len (λ c. if has set c then votes_at bag set c else 0) 0 bag.n
 
 -- the row that is read from sums
-pub summed-row : (bag : Kept) (sums : Sums) (set : ℕ) → set < 2 ^ bag.n → AreSums bag sums → map (λ c. if has set c then sum_at sums set c else 0) (candidates sums.n) ≡ votes_of bag set
+pub summed-row : (bag : Kept) (sums : Sums) (set : ℕ) → set < 2 ^ bag.n → AreSums bag sums →
+    map (λ c. if has set c then sum_at sums set c else 0) (candidates sums.n) ≡ votes_of bag set
 summed-row bag sums set below made =
     ap (λ n. map (λ c. if has set c then sum_at sums set c else 0) (candidates n)) made.table.same
-    ∙ map-same (λ c. if has set c then sum_at sums set c else 0) (λ c. if has set c then votes_at bag set c else 0) 0 bag.n (λ c l. ap (λ v. if has set c then v else 0) (made.says set c below (omega (arith, l))))
+    ∙ map-same (λ c. if has set c then sum_at sums set c else 0) (λ c. if has set c then votes_at bag set c else 0) 0 bag.n
+    (λ c l. ap (λ v. if has set c then v else 0) (made.says set c below (omega (arith, l))))
 
 -- the row that stands at the place of its set
-pub row-kept : (bag : Kept) (places : List (Option Row)) (row : Row) (set : ℕ) → 0 < length places → AreRows bag places → row.set ≡ set → get_or places (set % length places) None ≡ Some row → row.votes.items ≡ votes_of bag set
+pub row-kept : (bag : Kept) (places : List (Option Row)) (row : Row) (set : ℕ) → 0 < length places → AreRows bag places → row.set ≡ set →
+    get_or places (set % length places) None ≡ Some row → row.votes.items ≡ votes_of bag set
 row-kept bag places row set some rows own there =
     subst (λ place. IfSome place (IsRow bag)) there (rows (set % length places) None (mod-lt set some)) ∙ ap (votes_of bag) own
 
 -- no row is kept
-pub are-tallies : (bag : Kept) (counts : Counts) (n : ℕ) (places : List (Option Row)) → 0 < n → n ≤ MOST_ROWS → places ≡ replicate n None → AreFilledFrom bag counts → AreTallies bag counts places None
+pub are-tallies : (bag : Kept) (counts : Counts) (n : ℕ) (places : List (Option Row)) → 0 < n → n ≤ MOST_ROWS → places ≡ replicate n None →
+    AreFilledFrom bag counts → AreTallies bag counts places None
 are-tallies bag counts n places some few empty filled = record {
   filled = filled;
   sums = tt;
@@ -157,11 +170,13 @@ pub filled-from : (bag : Kept) (counts : Counts) → Filled bag counts → AreFi
 filled-from bag counts f = record {
   same = f.same;
   own = λ records h. record {
-    firsts = λ w l. ap (λ xs. get_or xs w 0) f.firsts ∙ get_or-map-range_with_len (λ w. votes_at bag (everyone bag.n) w) 0 counts.n w w 0 l (omega arith) ∙ h.firsts w (omega (arith, f.same, l));
+    firsts = λ w l. ap (λ xs. get_or xs w 0) f.firsts ∙ get_or-map-range_with_len (λ w. votes_at bag (everyone bag.n) w) 0 counts.n w w 0 l (omega arith)
+        ∙ h.firsts w (omega (arith, f.same, l));
     ahead = λ c w k l.
         ap (λ xs. get_or (get_or xs c []) w 0) f.ahead
         ∙ ap (λ xs. get_or xs w 0) (get_or-map-range_with_len (λ c. map (λ w. votes_at bag (2 ^ w) c) (candidates counts.n)) 0 counts.n c c [] k (omega arith))
-        ∙ get_or-map-range_with_len (λ w. votes_at bag (2 ^ w) c) 0 counts.n w w 0 l (omega arith) ∙ h.ahead c w (omega (arith, f.same, k)) (omega (arith, f.same, l));
+        ∙ get_or-map-range_with_len (λ w. votes_at bag (2 ^ w) c) 0 counts.n w w 0 l (omega arith)
+        ∙ h.ahead c w (omega (arith, f.same, k)) (omega (arith, f.same, l));
   };
 }
 

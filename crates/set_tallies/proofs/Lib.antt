@@ -6,3 +6,4 @@ pub mod Columns
 pub mod Tables
 pub mod Distincts
 pub mod Filled
+pub mod Sharing

@@ -27,10 +27,12 @@ pub record Joined (entries : List Entry) (runs : List Entry) (run : Entry) (i : 
   pub total : total (runs ++ run ∷ []) ≡ total (take i entries)
   pub before : (test : ℕ → Bool) → test 0 ≡ true → Pass test entries → Pass test runs × (test run.before ≡ true)
 
-more : (f : Entry → ℕ) (entries : List Entry) (i : ℕ) (e : Entry) → i < length entries → e ≡ get_or entries i e → sum_by f (take (i + 1) entries) ≡ sum_by f (take i entries) + f e
+more : (f : Entry → ℕ) (entries : List Entry) (i : ℕ) (e : Entry) → i < length entries → e ≡ get_or entries i e →
+    sum_by f (take (i + 1) entries) ≡ sum_by f (take i entries) + f e
 more f entries i e l at = sum_by_more f entries i e l ∙ ap (λ x. sum_by f (take i entries) + f x) (sym at)
 
-passes-at : (test : ℕ → Bool) (entries : List Entry) (i : ℕ) (e : Entry) → i < length entries → e ≡ get_or entries i e → Pass test entries → test e.before ≡ true
+passes-at : (test : ℕ → Bool) (entries : List Entry) (i : ℕ) (e : Entry) → i < length entries → e ≡ get_or entries i e → Pass test entries →
+    test e.before ≡ true
 passes-at test entries i e l at h = ap (λ x. test x.before) at ∙ h i e l
 
 -- the set again
@@ -38,7 +40,8 @@ pub run-longer : (entries runs : List Entry) (run : Entry) (i : ℕ) (e : Entry)
     Joined entries runs run i → Joined entries runs (record { before = run.before; count = run.count + e.count }) (i + 1)
 run-longer entries runs run i e l at same h = record {
   missing = λ set.
-      let apiece : votes set longer ≡ votes set run + votes set e = both (misses set run.before) run.count e.count ∙ ap (λ b. votes set run + cond (misses set b) e.count 0) (sym same) in
+      let apiece : votes set longer ≡ votes set run + votes set e = both (misses set run.before) run.count e.count
+      ∙ ap (λ b. votes set run + cond (misses set b) e.count 0) (sym same) in
       omega (arith, sum_by_push (votes set) runs run, sum_by_push (votes set) runs longer, apiece, more (votes set) entries i e l at, h.missing set);
   total = omega (arith, sum_by_push (λ x. x.count) runs run, sum_by_push (λ x. x.count) runs longer, more (λ x. x.count) entries i e l at, h.total);
   before = h.before;
@@ -73,7 +76,8 @@ pub total-push : (entries : List Entry) (run : Entry) → total (entries ++ run 
 total-push entries run = sum_by_push (λ e. e.count) entries run
 
 -- the votes so far and the next count are within the total
-pub votes-within : (set : ℕ) (entries : List Entry) (i : ℕ) (d : Entry) → i < length entries → missing set (take i entries) + (get_or entries i d).count ≤ total entries
+pub votes-within : (set : ℕ) (entries : List Entry) (i : ℕ) (d : Entry) → i < length entries →
+    missing set (take i entries) + (get_or entries i d).count ≤ total entries
 votes-within set entries i d l =
     sum_by_more_le_part (λ e. cond (misses set e.before) e.count 0) (λ e. e.count) entries i d l (λ e. part (misses set e.before) e.count)
   where
@@ -99,7 +103,8 @@ is-other n c set h = turned (has set c) (and_parts (nat_lt set (2 ^ n)) (not (ha
     turned true e = sym e
     turned false e = refl
 
-pub before-is : (n c seen : ℕ) (ranking : List ℕ) (set : ℕ) → seen < 2 ^ n → has seen c ≡ false → All (λ d. d < n) ranking → before_after seen ranking c ≡ Some set → is_before n c set ≡ true
+pub before-is : (n c seen : ℕ) (ranking : List ℕ) (set : ℕ) → seen < 2 ^ n → has seen c ≡ false → All (λ d. d < n) ranking →
+    before_after seen ranking c ≡ Some set → is_before n c set ≡ true
 before-is n c seen [] set l out below h = cc
 before-is n c seen (d ∷ rest) set l out below h =
     elim (cases_Bool (d == c)) [
@@ -118,10 +123,12 @@ before-is n c seen (d ∷ rest) set l out below h =
     some-same a b e = cc
 
 -- ---- one ranking more
-count-more : (k : ℕ) (test : List ℕ → Bool) (rankings : List (List ℕ)) (counts : List ℕ) → count_of_first (k + 1) test rankings counts ≡ count_of_first k test rankings counts + cond (test (get_or rankings k [])) (get_or counts k 0) 0
+count-more : (k : ℕ) (test : List ℕ → Bool) (rankings : List (List ℕ)) (counts : List ℕ) → count_of_first (k + 1) test rankings counts
+    ≡ count_of_first k test rankings counts + cond (test (get_or rankings k [])) (get_or counts k 0) 0
 count-more k test rankings counts = total-last (λ i. cond (test (get_or rankings i [])) (get_or counts i 0) 0) k
 
-pub first-some : (k c : ℕ) (rankings : List (List ℕ)) (counts : List ℕ) (entries : List Entry) (set v : ℕ) → k < length rankings → before (get_or rankings k []) c ≡ Some set → v ≡ get_or counts k 0 →
+pub first-some : (k c : ℕ) (rankings : List (List ℕ)) (counts : List ℕ) (entries : List Entry) (set v : ℕ) → k < length rankings →
+    before (get_or rankings k []) c ≡ Some set → v ≡ get_or counts k 0 →
     AreOfFirst k c rankings counts entries → AreOfFirst (k + 1) c rankings counts (entries ++ record { before = set; count = v } ∷ [])
 first-some k c rankings counts entries set v l here at h = record {
   missing = λ s.
@@ -152,13 +159,15 @@ pub of-first : (k c : ℕ) (rankings : List (List ℕ)) (counts : List ℕ) (ent
 of-first k c rankings counts entries sorted seen runs h p s same = record {
   missing = λ set. same.missing set ∙ ap (missing set) s ∙ sum_by-IsPermutation (votes set) entries sorted p ∙ h.missing set;
   few = omega (arith, same.total, ap total s, sum_by-IsPermutation (λ e. e.count) entries sorted p, h.few);
-  before = λ n below. same.before (is_before n c) (empty n) (subst (Pass (is_before n c)) (sym s) (All-permutation (λ entry. is_before n c entry.before ≡ true) entries sorted p (h.before n below)));
+  before = λ n below. same.before (is_before n c) (empty n) (subst (Pass (is_before n c)) (sym s)
+      (All-permutation (λ entry. is_before n c entry.before ≡ true) entries sorted p (h.before n below)));
 }
   where
     empty : (n : ℕ) → is_before n c 0 ≡ true
     empty n = both-sides n 0 c (pow_pos n) (ap (λ x. x == 1) (bit_at-zero c))
 
-pub counted-from : (n c : ℕ) (rankings : List (List ℕ)) (counts : List ℕ) (records : List (List ℕ)) (entries : List Entry) → AreCounted rankings counts records → All (All (λ d. d < n)) rankings →
+pub counted-from : (n c : ℕ) (rankings : List (List ℕ)) (counts : List ℕ) (records : List (List ℕ)) (entries : List Entry) →
+    AreCounted rankings counts records → All (All (λ d. d < n)) rankings →
     AreOfFirst (length rankings) c rankings counts entries → Counted entries records n c
 counted-from n c rankings counts records entries all below h = record {
   missing = λ set. h.missing set ∙ all.tests (has_missed set c);
@@ -166,5 +175,6 @@ counted-from n c rankings counts records entries all below h = record {
   before = h.before n below;
 }
 
-pub all-few : (rankings : List (List ℕ)) (counts : List ℕ) (records : List (List ℕ)) (m : ℕ) → AreCounted rankings counts records → length records ≤ m → count_of_first (length rankings) every rankings counts ≤ m
+pub all-few : (rankings : List (List ℕ)) (counts : List ℕ) (records : List (List ℕ)) (m : ℕ) → AreCounted rankings counts records → length records ≤ m →
+    count_of_first (length rankings) every rankings counts ≤ m
 all-few rankings counts records m all few = omega (arith, all.tests every, count_by-le-length every records, few)

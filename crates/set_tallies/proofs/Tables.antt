@@ -24,7 +24,8 @@ pub all-written : (n : ℕ) (new items : List ℕ) → length new ≡ n → take
 all-written n new items long = take_at new (drop (length new) items) n long
 
 -- what is read from the sums
-pub says-sum : (n : ℕ) (table sums : List ℕ) (s c : ℕ) → s < 2 ^ n → column n n sums c ≡ sums_of (column n n table c) → get_or sums (s * n + c) 0 ≡ apart s (column n n table c)
+pub says-sum : (n : ℕ) (table sums : List ℕ) (s c : ℕ) → s < 2 ^ n → column n n sums c ≡ sums_of (column n n table c) →
+    get_or sums (s * n + c) 0 ≡ apart s (column n n table c)
 says-sum n table sums s c l made =
     sym (column-at n n sums c s l) ∙ ap (λ xs. get_or xs s 0) made ∙ sum-at (column n n table c) s (omega (arith, l, column-long n n table c))
 
@@ -46,22 +47,27 @@ left-none set seen c = go (has seen c) where
   go true = refl
   go false = refl
 
-pub left-next : (set seen d : ℕ) (rest : List ℕ) (c : ℕ) → has seen d ≡ false → left set seen (d ∷ rest) c ≡ cond (c == d && misses set seen) 1 0 + left set (bit_or seen (2 ^ d)) rest c
+pub left-next : (set seen d : ℕ) (rest : List ℕ) (c : ℕ) → has seen d ≡ false → left set seen (d ∷ rest) c
+    ≡ cond (c == d && misses set seen) 1 0 + left set (bit_or seen (2 ^ d)) rest c
 left-next set seen d rest c out = go (has seen c) refl (c == d) refl (d == c) refl where
   after : (b t : Bool) → has seen c ≡ b → (c == d) ≡ t → has (bit_or seen (2 ^ d)) c ≡ (b || t)
   after b t e f = has-with seen d c ∙ ap₂ (λ x y. x || y) e f
 
   go : (b : Bool) → has seen c ≡ b → (t : Bool) → (c == d) ≡ t → (u : Bool) → (d == c) ≡ u →
-      cond b 0 (cond (is_missed set (cond u (Some seen) (before_after (bit_or seen (2 ^ d)) rest c))) 1 0) ≡ cond (t && misses set seen) 1 0 + left set (bit_or seen (2 ^ d)) rest c
+      cond b 0 (cond (is_missed set (cond u (Some seen) (before_after (bit_or seen (2 ^ d)) rest c))) 1 0)
+      ≡ cond (t && misses set seen) 1 0 + left set (bit_or seen (2 ^ d)) rest c
   go true e true f u g = absurd (both_ways (has seen c) (ap (has seen) (eqb-true c d f) ∙ out) e)
   go true e false f u g = sym (ap (λ x. 0 + cond x 0 (cond (is_missed set (before_after (bit_or seen (2 ^ d)) rest c)) 1 0)) (after true false e f))
-  go false e true f true g = sym (ap (λ x. cond (misses set seen) 1 0 + cond x 0 (cond (is_missed set (before_after (bit_or seen (2 ^ d)) rest c)) 1 0)) (after false true e f) ∙ omega arith)
+  go false e true f true g = sym (ap (λ x. cond (misses set seen) 1 0 + cond x 0 (cond (is_missed set (before_after (bit_or seen (2 ^ d)) rest c)) 1 0))
+      (after false true e f) ∙ omega arith)
   go false e true f false g = absurd (eqb-false d c g (sym (eqb-true c d f)))
   go false e false f true g = absurd (eqb-false c d f (sym (eqb-true d c g)))
-  go false e false f false g = sym (ap (λ x. 0 + cond x 0 (cond (is_missed set (before_after (bit_or seen (2 ^ d)) rest c)) 1 0)) (after false false e f) ∙ omega arith)
+  go false e false f false g = sym (ap (λ x. 0 + cond x 0 (cond (is_missed set (before_after (bit_or seen (2 ^ d)) rest c)) 1 0)) (after false false e f)
+      ∙ omega arith)
 
 -- those of the rest haven't been seen
-pub unseen-next : (seen d : ℕ) (rest : List ℕ) → IsTrue (is_distinct (d ∷ rest)) → ((e : ℕ) → is_in (d ∷ rest) e ≡ true → has seen e ≡ false) → (e : ℕ) → is_in rest e ≡ true → has (bit_or seen (2 ^ d)) e ≡ false
+pub unseen-next : (seen d : ℕ) (rest : List ℕ) → IsTrue (is_distinct (d ∷ rest)) → ((e : ℕ) → is_in (d ∷ rest) e ≡ true → has seen e ≡ false) → (e : ℕ) →
+    is_in rest e ≡ true → has (bit_or seen (2 ^ d)) e ≡ false
 unseen-next seen d rest apart h e there = has-with seen d e ∙ ap₂ (λ x y. x || y) (h e (either (d == e) there)) (other (cases_Bool (e == d)))
   where
     either : (b : Bool) → is_in rest e ≡ true → (b || is_in rest e) ≡ true
@@ -73,14 +79,16 @@ unseen-next seen d rest apart h e there = has-with seen d e ∙ ap₂ (λ x y. x
     negated false t = refl
 
     other : ((e == d) ≡ true) ⊎ ((e == d) ≡ false) → (e == d) ≡ false
-    other (inl t) = absurd (both_ways (is_in rest d) (negated (is_in rest d) (and_parts (not (is_in rest d)) (is_distinct rest) apart).0) (ap (is_in rest) (sym (eqb-true e d t)) ∙ there))
+    other (inl t) = absurd (both_ways (is_in rest d) (negated (is_in rest d) (and_parts (not (is_in rest d)) (is_distinct rest) apart).0)
+        (ap (is_in rest) (sym (eqb-true e d t)) ∙ there))
     other (inr f) = f
 
 pub unseen-first : (seen d : ℕ) (rest : List ℕ) → ((e : ℕ) → is_in (d ∷ rest) e ≡ true → has seen e ≡ false) → has seen d ≡ false
 unseen-first seen d rest h = h d (ap (λ b. b || is_in rest d) (eq-eqb d d refl))
 
 -- ---- one entry more
-pub one-more : (entries : List Entry) (i : ℕ) (e : Entry) → i < length entries → e ≡ get_or entries i e → (s : ℕ) → missing s (take (i + 1) entries) ≡ missing s (take i entries) + cond (misses s e.before) e.count 0
+pub one-more : (entries : List Entry) (i : ℕ) (e : Entry) → i < length entries → e ≡ get_or entries i e → (s : ℕ) →
+    missing s (take (i + 1) entries) ≡ missing s (take i entries) + cond (misses s e.before) e.count 0
 one-more entries i e l at s =
     let votes : Entry → ℕ = λ x. cond (misses s x.before) x.count 0 in
     sum_by_more votes entries i e l ∙ ap (λ x. missing s (take i entries) + votes x) (sym at)

@@ -27,8 +27,23 @@ pub total-le : (f g : ℕ → ℕ) (a n : ℕ) → ((i : ℕ) → f i ≤ g i) �
 total-le f g a zero h = omega arith
 total-le f g a (suc n) h = omega (arith, first f a n, first g a n, h a, total-le f g (a + 1) n h)
 
+-- the third gives what the two give together
+pub total-plus : (f g h : ℕ → ℕ) (a n : ℕ) → ((i : ℕ) → a ≤ i → i < a + n → h i ≡ f i + g i) → total_from h a n ≡ total_from f a n + total_from g a n
+total-plus f g h a zero is = refl
+total-plus f g h a (suc n) is =
+    omega (
+      arith,
+      first f a n,
+      first g a n,
+      first h a n,
+      is a (omega arith) (omega arith),
+      total-plus f g h (a + 1) n
+          (λ i l m. is i (omega arith) (omega arith)),
+    )
+
 -- the second gives more at one number alone
-pub total-more : (f g : ℕ → ℕ) (k d a n : ℕ) → a ≤ k → k < a + n → g k ≡ f k + d → ((i : ℕ) → (i == k) ≡ false → g i ≡ f i) → total_from g a n ≡ total_from f a n + d
+pub total-more : (f g : ℕ → ℕ) (k d a n : ℕ) → a ≤ k → k < a + n → g k ≡ f k + d → ((i : ℕ) → (i == k) ≡ false → g i ≡ f i) →
+    total_from g a n ≡ total_from f a n + d
 total-more f g k d a zero l m here there = absurd (omega arith)
 total-more f g k d a (suc n) l m here there = go (a == k) refl (λ above. total-more f g k d (a + 1) n above (omega arith) here there) where
   other : (i : ℕ) → k < i → (i == k) ≡ false

@@ -28,9 +28,12 @@ everyone n = 2 ^ n - 1
 -- the bag is one of these records, whatever their order: it has their number, their tallies, and the two numbers of NEB's margin
 pub record IsOf (bag : Kept) (records : List (List ℕ)) : Type 0 where
   pub all : bag.records ≡ length records
-  pub tallies : (set c : ℕ) → set < 2 ^ bag.n → c < bag.n → has set c ≡ true → votes_at bag set c ≡ tally records set c
-  pub firsts : (w : ℕ) → w < bag.n → votes_at bag (everyone bag.n) w ≡ count_by (λ ranking. is_first ranking w) records
-  pub ahead : (l w : ℕ) → l < bag.n → w < bag.n → votes_at bag (2 ^ w) l ≡ count_by (λ ranking. is_ahead ranking l w) records
+  pub tallies : (set c : ℕ) → set < 2 ^ bag.n → c < bag.n → has set c ≡ true →
+      votes_at bag set c ≡ tally records set c
+  pub firsts : (w : ℕ) → w < bag.n →
+      votes_at bag (everyone bag.n) w ≡ count_by (λ ranking. is_first ranking w) records
+  pub ahead : (l w : ℕ) → l < bag.n → w < bag.n →
+      votes_at bag (2 ^ w) l ≡ count_by (λ ranking. is_ahead ranking l w) records
 
 -- what every bag keeps
 pub record IsKept (bag : Kept) : Type 0 where
@@ -63,7 +66,8 @@ is_before n c set = nat_lt set (2 ^ n) && not (has set c)
 pub record AreEntries (n records : ℕ) (lists : List (List Entry)) : Type 0 where
   pub one_each : length lists ≡ n
   pub few : All (λ entries. total entries ≤ records) lists
-  pub before : (c : ℕ) → c < n → All (λ entry. is_before n c entry.before ≡ true) (get_or lists c [])
+  pub before : (c : ℕ) → c < n →
+      All (λ entry. is_before n c entry.before ≡ true) (get_or lists c [])
 
 -- ---- the two numbers of NEB's margin, for all candidates
 
@@ -74,10 +78,12 @@ pub record Counts : Type 0 where
 
 -- as they are of the records
 pub record AreOf (counts : Counts) (records : List (List ℕ)) : Type 0 where
-  pub firsts : (w : ℕ) → w < counts.n → get_or counts.firsts w 0 ≡ count_by (λ ranking. is_first ranking w) records
-  pub ahead : (l w : ℕ) → l < counts.n → w < counts.n → get_or (get_or counts.ahead l []) w 0 ≡ count_by (λ ranking. is_ahead ranking l w) records
+  pub firsts : (w : ℕ) → w < counts.n →
+      get_or counts.firsts w 0 ≡ count_by (λ ranking. is_first ranking w) records
+  pub ahead : (l w : ℕ) → l < counts.n → w < counts.n →
+      get_or (get_or counts.ahead l []) w 0 ≡ count_by (λ ranking. is_ahead ranking l w) records
 
--- those of the records that the bag is of
+-- the counts are those of the records that the bag is of
 pub record AreFilledFrom (bag : Kept) (counts : Counts) : Type 0 where
   pub same : counts.n ≡ bag.n
   pub own : (records : List (List ℕ)) → IsOf bag records → AreOf counts records

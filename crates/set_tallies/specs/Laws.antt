@@ -4,4 +4,6 @@ use Rattle.set_tallies.specs.Bags.{Kept, IsOf}
 
 -- a bag of records is one of the same records in another order
 abbrev pub OrderIsFree : Type 0
-OrderIsFree = (bag : Kept) (records others : List (List ℕ)) → IsPermutation records others → IsOf bag records → IsOf bag others
+OrderIsFree =
+    (bag : Kept) (records others : List (List ℕ)) → IsPermutation records others →
+    IsOf bag records → IsOf bag others

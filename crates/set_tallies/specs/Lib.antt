@@ -2,4 +2,5 @@ pub mod Bags
 pub mod Befores
 pub mod Laws
 pub mod Rows
+pub mod Shares
 pub mod Sums

@@ -21,7 +21,8 @@ abbrev pub AreRows : Kept → List (Option Row) → Type 0
 AreRows bag places = All (λ place. IfSome place (IsRow bag)) places
 
 -- what tallies keep
-pub record AreTallies (bag : Kept) (counts : Counts) (places : List (Option Row)) (made : Option Sums) : Type 0 where
+pub record AreTallies
+    (bag : Kept) (counts : Counts) (places : List (Option Row)) (made : Option Sums) : Type 0 where
   pub filled : AreFilledFrom bag counts
   pub sums : IfSome made (AreSums bag)
   pub some : 0 < length places

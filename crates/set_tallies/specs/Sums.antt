@@ -1,9 +1,10 @@
 -- A table has a number for each set of candidates and each candidate, set by set, the candidates side by side: that of the set and
 -- the candidate c of n stands at the place set * n + c. First it says how many ballots have just that set before c, then, summed,
 -- how many have c with nobody of it before.
-use Rattle.std.specs.Prelude.{◌≡◌, ℕ, ◌+◌, ◌*◌, ◌<◌, ◌≤◌, ◌^◌, List, [], length, map, sum_by, slice_index, get_or, if◌then◌else◌}
+use Rattle.std.specs.Prelude.{◌≡◌, ℕ, ◌+◌, ◌*◌, ◌<◌, ◌≤◌, ◌^◌, List, [], length, map, sum_by, count_by, slice_index, get_or, if◌then◌else◌}
 use Rattle.irv_base.specs.Candidates.{candidates}
 use Rattle.set_tallies.specs.Bags.{Kept, AreEntries, votes_at, misses, missing}
+use Rattle.set_tallies.specs.Befores.{has_missed}
 use Rattle.set_tallies.specs.declared.sums.TheConstants.{MOST_SUMMED}
 use Rattle.set_tallies.specs.declared.sums.Sums.{Sums}
 use Rattle.set_tallies.specs.declared.bag.Votes.{Votes}
@@ -15,10 +16,18 @@ column n k table c = map (λ set. slice_index table (set * n + c)) (candidates (
 
 -- the sum of what stands in the column at the places of those sets that have nobody of this set
 abbrev pub apart : ℕ → List ℕ → ℕ
-apart set numbers = sum_by (λ other. if misses set other then slice_index numbers other else 0) (candidates (length numbers))
+apart set numbers =
+    sum_by (λ other. if misses set other then slice_index numbers other else 0)
+    (candidates (length numbers))
 
 abbrev pub sums_of : List ℕ → List ℕ
 sums_of numbers = map (λ set. apart set numbers) (candidates (length numbers))
+
+-- the table counts these ballots: its numbers apart are those of the ballots that have a candidate with nobody of a set before
+pub record IsCountOf (n : ℕ) (rankings : List (List ℕ)) (table : List ℕ) : Type 0 where
+  pub long : length table ≡ n * 2 ^ n
+  pub says : (set c : ℕ) → c < n →
+      apart set (column n n table c) ≡ count_by (has_missed set c) rankings
 
 -- a table of n candidates
 pub record IsSummed (n : ℕ) (sums : Sums) : Type 0 where

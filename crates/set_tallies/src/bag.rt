@@ -13,6 +13,7 @@ use crate::sums::{MOST_SUMMED, Sums};
 use irv_base::{Candidate, Memory, Ranking};
 use std::alloc::Global;
 use std::marker::Model;
+use std::thread::Threads;
 
 /// So many candidates have sums whatever the number of the records.
 pub const ALWAYS_SUMMED: u32 = 12;
@@ -47,13 +48,21 @@ impl Model for Bag {
 
     ghost Value = { Kept };
 
-    ghost view = { λ b. record { n = b.n; records = b.records; votes = all_votes b.n (votes_in b.votes) } };
+    ghost view = { λ b. record {
+      n = b.n;
+      records = b.records;
+      votes = all_votes b.n (votes_in b.votes);
+    } };
 
-    ghost invariant = { λ b. IsKept (record { n = b.n; records = b.records; votes = all_votes b.n (votes_in b.votes) })
-        × AreHeld b.n b.records b.votes };
+    ghost invariant = { λ b. IsKept (record {
+      n = b.n;
+      records = b.records;
+      votes = all_votes b.n (votes_in b.votes);
+    }) × AreHeld b.n b.records b.votes };
 }
 
-// Whether a table of sums takes about what the records take to count, or little.
+// Whether the records are kept as the sums over all sets: their table is small, or has at most `SETS_A_RECORD` sets for each record,
+// so that a search gains by it, which asks for many rows.
 fn has_sums(n: u32, records: usize) -> bool
     requires { n ≤ ROOM }
     ensures { IsTrue result → n ≤ MOST_SUMMED }
@@ -86,20 +95,26 @@ fn lists_of(alloc: Global, n: u32, rankings: &[Ranking]) -> Result<Vec<Vec<Entry
 }
 
 impl Bag {
-    /// The bag of these records, of a contest with `n` candidates.
-    pub fn of(alloc: Global, n: u32, rankings: &[Ranking]) -> Result<Bag, Memory>
+    /// The bag of these records, of a contest with `n` candidates, counted by at most so many workers.
+    pub fn of<R: AllocGlobal + Threads + Sync>(
+        rt: &R,
+        n: u32,
+        rankings: &[Ranking],
+        workers: u32,
+    ) -> Result<Bag, Memory>
         requires fewest { FEWEST_CANDIDATES ≤ n }
         requires room { n ≤ ROOM }
         requires most { length rankings.now ≤ MOST_RECORDS }
         requires below { All (λ ranking. All (λ c. c < n) ranking) rankings.now }
+        requires workers { 1 ≤ workers }
         ensures candidates { IfOk result (λ bag. bag.n ≡ n) }
         ensures records { IfOk result (λ bag. IsOf bag rankings.now) }
     {
         let records = rankings.len() as u32;
         let votes = if has_sums(n, rankings.len()) {
-            Votes::Summed(Sums::of(alloc, n, rankings)?)
+            Votes::Summed(Sums::of(rt, n, rankings, workers)?)
         } else {
-            Votes::Listed(lists_of(alloc, n, rankings)?)
+            Votes::Listed(lists_of(rt.alloc(), n, rankings)?)
         };
         Ok(Bag { n, records, votes })
     }

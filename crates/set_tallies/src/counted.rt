@@ -9,6 +9,7 @@ use crate::tallies::Tallies;
 use irv_base::{Memory, Ranking};
 use std::alloc::Global;
 use std::marker::Model;
+use std::thread::Threads;
 
 /// The records of a contest, counted: their bag, and the two numbers of NEB's margin over them.
 ///
@@ -31,16 +32,23 @@ impl Model for Counted {
 }
 
 impl Counted {
-    /// The records, of a contest with `n` candidates, counted.
-    pub fn of(alloc: Global, n: u32, rankings: &[Ranking]) -> Result<Counted, Memory>
+    /// The records, of a contest with `n` candidates, counted by at most so many workers.
+    pub fn of<R: AllocGlobal + Threads + Sync>(
+        rt: &R,
+        n: u32,
+        rankings: &[Ranking],
+        workers: u32,
+    ) -> Result<Counted, Memory>
         requires fewest { FEWEST_CANDIDATES ≤ n }
         requires room { n ≤ ROOM }
         requires most { length rankings.now ≤ MOST_RECORDS }
         requires below { All (λ ranking. All (λ c. c < n) ranking) rankings.now }
+        requires workers { 1 ≤ workers }
         ensures candidates { IfOk result (λ counted. counted.bag.n ≡ n) }
         ensures records { IfOk result (λ counted. IsOf counted.bag rankings.now) }
     {
-        let bag = Bag::of(alloc, n, rankings)?;
+        let alloc = rt.alloc();
+        let bag = Bag::of(rt, n, rankings, workers)?;
         let ahead = Ahead::fill(alloc, &bag)?;
         Ok(Counted { alloc, bag, ahead })
     }

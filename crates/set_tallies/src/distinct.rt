@@ -7,10 +7,12 @@ use indexmap::IndexSet;
 use irv_base::{Memory, Ranking};
 use std::alloc::Global;
 
-/// The different rankings of records in the order in which they were first seen, and for each the number of the records that have it.
+/// The different rankings of records, each with the number of the records that have it.
 #[derive(Drop)]
 pub struct Distinct {
+    /// Each ranking once, in the order in which they were first seen.
     pub rankings: IndexSet<Ranking>,
+    /// For each of them how many records have it.
     pub counts: Vec<u32>,
 }
 

@@ -1,8 +1,10 @@
 // What is kept of the records of a contest, for one candidate.
 
-/// A set of candidates, as a number with a bit each, and on how many ballots just they stand before the candidate.
+/// A set of candidates, and on how many ballots just they stand before the candidate.
 #[derive(Clone, Copy)]
 pub struct Entry {
+    /// The number of the set.
     pub before: u32,
+    /// On how many ballots just its candidates stand before the one.
     pub count: u32,
 }

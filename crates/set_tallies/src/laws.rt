@@ -3,6 +3,7 @@ ghost use Rattle.std.specs.Prelude.{◌≡◌};
 ghost use Rattle.set_tallies.specs.Laws.{OrderIsFree};
 ghost use Rattle.set_tallies.specs.declared.bag.TheConstants.{ALWAYS_SUMMED, SETS_A_RECORD};
 ghost use Rattle.set_tallies.specs.declared.rows.TheConstants.{MOST_ROWS};
+ghost use Rattle.set_tallies.specs.declared.shares.TheConstants.{FEWEST_IN_A_SHARE};
 ghost use Rattle.set_tallies.specs.declared.sums.TheConstants.{MOST_SUMMED};
 
 /// A bag stands for its records whatever their order.
@@ -16,4 +17,5 @@ pub fn limits()
     ensures summed { MOST_SUMMED ≡ 20 }
     ensures always_summed { ALWAYS_SUMMED ≡ 12 }
     ensures sets_a_record { SETS_A_RECORD ≡ 16 }
+    ensures fewest_in_a_share { FEWEST_IN_A_SHARE ≡ 4096 }
 {}

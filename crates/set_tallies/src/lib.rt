@@ -10,13 +10,12 @@ mod distinct;
 mod entry;
 pub mod laws;
 mod rows;
+mod shares;
 mod sums;
+mod table;
 mod tallies;
 
 pub use ahead::Ahead;
 pub use bag::Bag;
 pub use counted::Counted;
 pub use tallies::Tallies;
-
-#[cfg(test)]
-mod tests;

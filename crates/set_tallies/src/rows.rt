@@ -7,10 +7,12 @@ use std::alloc::Global;
 /// The most rows that are kept: as many as 18 candidates have sets.
 pub const MOST_ROWS: usize = 262_144;
 
-/// The tallies of the set with this number: one for each candidate.
+/// The tallies of a set.
 #[derive(Drop)]
 pub struct Row {
+    /// The number of the set.
     pub set: u32,
+    /// Its tallies, one for each candidate.
     pub votes: Vec<u32>,
 }
 

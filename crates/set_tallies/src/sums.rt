@@ -7,8 +7,11 @@ ghost use Rattle.set_tallies.specs.Befores.{has_missed};
 ghost use Rattle.set_tallies.specs.Sums.{IsSummed, column, apart, sums_of, sum_at};
 
 use crate::entry::Entry;
+use crate::shares::counted;
+use crate::table::{add, place, zeros};
 use irv_base::{CandSet, Candidate, Memory, Ranking};
 use std::alloc::Global;
+use std::thread::Threads;
 
 /// The most candidates for whom the sums over all sets are made.
 pub const MOST_SUMMED: u32 = 20;
@@ -17,47 +20,10 @@ pub const MOST_SUMMED: u32 = 20;
 /// candidate with nobody of the set before.
 #[derive(Drop)]
 pub struct Sums {
+    /// How many candidates there are.
     pub n: u32,
+    /// The numbers, set by set.
     pub table: Vec<u32>,
-}
-
-// The place of the number of the set and the candidate.
-fn place(n: u32, set: u32, c: Candidate) -> usize
-    requires { n ≤ MOST_SUMMED }
-    ensures { result ≡ set * n + c }
-{
-    set as usize * n as usize + c.index()
-}
-
-// Counts so many ballots more that have just this set before the candidate.
-fn add(table: &mut [u32], n: u32, set: u32, c: Candidate, count: u32)
-    requires few { n ≤ MOST_SUMMED }
-    requires long { length table.old ≡ n * 2 ^ n }
-    requires set { set < 2 ^ n }
-    requires candidate { c < n }
-    requires fit { apart 0 (column n n table.old c) + count ≤ MOST_RECORDS }
-    ensures long { length table.new ≡ n * 2 ^ n }
-    ensures more { (s d : ℕ) → d < n → apart s (column n n table.new d)
-        ≡ apart s (column n n table.old d) + (if d == c && misses s set then count else 0) }
-{
-    table[place(n, set, c)] += count;
-}
-
-// Counts a ballot.
-fn count(table: &mut [u32], n: u32, ranking: &Ranking)
-    requires few { n ≤ MOST_SUMMED }
-    requires long { length table.old ≡ n * 2 ^ n }
-    requires below { All (λ c. c < n) ranking.now }
-    requires fit { (c : ℕ) → c < n → apart 0 (column n n table.old c) < MOST_RECORDS }
-    ensures long { length table.new ≡ n * 2 ^ n }
-    ensures more { (s c : ℕ) → c < n → apart s (column n n table.new c)
-        ≡ apart s (column n n table.old c) + (if has_missed s c ranking.now then 1 else 0) }
-{
-    let mut seen = 0u32;
-    for d in ranking.candidates() {
-        add(table, n, seen, *d, 1);
-        seen |= 1 << d.index();
-    }
 }
 
 // Counts the ballots of the entries of `c`.
@@ -113,31 +79,24 @@ fn sum_apart(table: &mut [u32], n: u32, k: u32)
     add_halves(without, having);
 }
 
-// A table of zeros.
-fn zeros(alloc: Global, n: u32) -> Result<Vec<u32>, Memory>
-    requires { n ≤ MOST_SUMMED }
-    ensures long { IfOk result (λ table. length table.items ≡ n * 2 ^ n) }
-    ensures zeros { IfOk result (λ table.
-        (s c : ℕ) → c < n → apart s (column n n table.items c) ≡ 0) }
-{
-    Ok(vec![in alloc; 0; (n as usize) << n]?)
-}
-
 impl Sums {
-    /// The sums over the ballots with these rankings.
-    pub fn of(alloc: Global, n: u32, rankings: &[Ranking]) -> Result<Sums, Memory>
+    /// The sums over the ballots with these rankings, counted by at most so many workers.
+    pub fn of<R: AllocGlobal + Threads + Sync>(
+        rt: &R,
+        n: u32,
+        rankings: &[Ranking],
+        workers: u32,
+    ) -> Result<Sums, Memory>
         requires some { 1 ≤ n }
         requires few { n ≤ MOST_SUMMED }
         requires most { length rankings.now ≤ MOST_RECORDS }
         requires below { All (λ ranking. All (λ c. c < n) ranking) rankings.now }
+        requires workers { 1 ≤ workers }
         ensures table { IfOk result (IsSummed n) }
         ensures says { IfOk result (λ sums. (set c : ℕ) → set < 2 ^ n → c < n
             → sum_at sums set c ≡ count_by (has_missed set c) rankings.now) }
     {
-        let mut table = zeros(alloc, n)?;
-        for ranking in rankings {
-            count(&mut table, n, ranking);
-        }
+        let mut table = counted(rt, n, rankings, workers)?;
         sum_apart(&mut table, n, n);
         Ok(Sums { n, table })
     }

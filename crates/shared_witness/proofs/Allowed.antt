@@ -39,7 +39,11 @@ module _ (t : Terms) (slots id : ℕ) (me : Me ℕ View) where
       let next : (n + 1) % 2 ^ 64 ≡ n + 1 = omega (arith, most, h.1.0, h.1.2) in
       let two : 0 < length s.words = omega (arith, h.0) in
       let w = view_after_take t.pieces n me.0 in
-      let comes : ◌≡◌ {A = Moment} record { ticket = get_or (set s.words 0 ((n + 1) % 2 ^ 64)) 0 0; bound = get_or (set s.words 0 ((n + 1) % 2 ^ 64)) 1 0; views = set s.views id w } (after_take t m id me.0) =
+      let comes : ◌≡◌ {A = Moment} record {
+        ticket = get_or (set s.words 0 ((n + 1) % 2 ^ 64)) 0 0;
+        bound = get_or (set s.words 0 ((n + 1) % 2 ^ 64)) 1 0;
+        views = set s.views id w;
+      } (after_take t m id me.0) =
       λ x. record {
         ticket = (get_or-set_same s.words 0 ((n + 1) % 2 ^ 64) 0 two ∙ next) x;
         bound = get_or-set_other s.words 0 1 ((n + 1) % 2 ^ 64) 0 (λ same. omega arith) x;
@@ -54,10 +58,16 @@ module _ (t : Terms) (slots id : ℕ) (me : Me ℕ View) where
 
   -- a step on the bound, which becomes b, and the view w
   bound_step : (s : State ℕ View) (b : ℕ) (w : View) → length s.words ≡ 2
-      → ◌≡◌ {A = Moment} record { ticket = get_or (set s.words 1 b) 0 0; bound = get_or (set s.words 1 b) 1 0; views = set s.views id w } record { ticket = get_or s.words 0 0; bound = b; views = set s.views id w }
+      → ◌≡◌ {A = Moment} record { ticket = get_or (set s.words 1 b) 0 0; bound = get_or (set s.words 1 b) 1 0; views = set s.views id w }
+      record { ticket = get_or s.words 0 0; bound = b; views = set s.views id w }
   bound_step s b w two =
       let inside : 1 < length s.words = omega (arith, two) in
-      λ x. record { ticket = get_or-set_other s.words 1 0 b 0 (λ same. omega arith) x; bound = get_or-set_same s.words 1 b 0 inside x; views = set s.views id w }
+      λ x. record {
+        ticket = get_or-set_other s.words 1 0 b 0 (λ same. omega arith) x;
+        bound = get_or-set_same s.words 1 b 0 inside x;
+        views = set s.views id
+            w;
+      }
 
   module _ (left : share me.0 ≢ 0) where
     pub look_allowed : Allows (Holds t) slots id me 1 (λ n. n) (λ found after. (after.1 ≡ me.1) × Looks t me.0 found after.0)
@@ -90,7 +100,8 @@ module _ (t : Terms) (slots id : ℕ) (me : Me ℕ View) where
           (refl, (m, id, refl, record { held = h.2; holds = kept; had = at'; has = slice_get-set_same s.views id w me.0 at' })),
         )
 
-    pub close_allowed : (piece : ℕ) → times me.0.closed piece < times me.0.taken piece → Allows (Holds t) slots id me 1 (λ n. n) (λ found after. (after.1 ≡ me.1) × Closes t me.0 found after.0 piece)
+    pub close_allowed : (piece : ℕ) → times me.0.closed piece < times me.0.taken piece →
+        Allows (Holds t) slots id me 1 (λ n. n) (λ found after. (after.1 ≡ me.1) × Closes t me.0 found after.0 piece)
     unfolding Closes
     close_allowed piece open_piece s h homes at small =
         let m = moment_of s in
@@ -111,7 +122,8 @@ split_allowed t id v two s h at = (h.0, h.1, split_keeps t h.1 (moment_of s) id 
 pub join_allowed : (t : Terms) (id other : ℕ) (v w : View) → share v ≢ 0 → Joins (Holds t) id v other w (joined v w) spent_view
 join_allowed t id other v w left s h at apart there =
     let here = at_place s.views id v at in
-    let there' : slice_get s.views other ≡ Some w = sym (slice_get-set_other s.views id other (joined v w) apart) ∙ at_place (set s.views id (joined v w)) other w there in
+    let there' : slice_get s.views other ≡ Some w = sym (slice_get-set_other s.views id other (joined v w) apart)
+    ∙ at_place (set s.views id (joined v w)) other w there in
     (h.0, h.1, join_keeps t h.1 (moment_of s) id v h.2 here other w there' apart left)
 
 pub opening_allowed : (t : Terms) → AreTerms t → 1 ≤ t.workers → Holds t (opening (0 ∷ t.first ∷ []) [] (new_view t.workers))

@@ -29,7 +29,8 @@ none_left f zero_spent (v ∷ vs) spent none =
     let rest = none_left f zero_spent vs (All-tail spent_if_none v vs spent) (omega (arith, shares, none)) in
     omega (arith, sum_by-cons f v vs, here, rest)
 
-sum_alone : (f : View → ℕ) → f spent_view ≡ 0 → (vs : List View) (k : ℕ) (v : View) → slice_get vs k ≡ Some v → All spent_if_none vs → sum_by share vs ≡ share v → sum_by f vs ≡ f v
+sum_alone : (f : View → ℕ) → f spent_view ≡ 0 → (vs : List View) (k : ℕ) (v : View) → slice_get vs k ≡ Some v → All spent_if_none vs →
+    sum_by share vs ≡ share v → sum_by f vs ≡ f v
 sum_alone f zero_spent [] k v at spent all = cc
 sum_alone f zero_spent (u ∷ us) zero v at spent all =
     let same : u ≡ v = cc in
@@ -55,7 +56,8 @@ least_none first (v ∷ vs) low spent none =
     let rest = least_none first vs low (All-tail spent_if_none v vs spent) (omega (arith, shares, none)) in
     omega (arith, top, rest)
 
-least_alone : (first : ℕ) (vs : List View) (k : ℕ) (v : View) → first ≤ highest → slice_get vs k ≡ Some v → All spent_if_none vs → sum_by share vs ≡ share v → least_posted first vs ≡ min first v.posted
+least_alone : (first : ℕ) (vs : List View) (k : ℕ) (v : View) → first ≤ highest → slice_get vs k ≡ Some v → All spent_if_none vs → sum_by share vs ≡ share v →
+    least_posted first vs ≡ min first v.posted
 least_alone first [] k v low at spent all = cc
 least_alone first (u ∷ us) zero v low at spent all =
     let same : u ≡ v = cc in
@@ -72,25 +74,26 @@ least_alone first (u ∷ us) (suc k) v low at spent all =
     let rest = least_alone first us k v low at (All-tail spent_if_none u us spent) (omega (arith, shares, most, all)) in
     omega (arith, top, rest)
 
-module _ (t : Terms) (fits : AreTerms t) (m : Moment) (k : ℕ) (v : View) (h : RaceRule t m) (at : slice_get m.views k ≡ Some v) (all : share v ≡ t.workers) where
-  alone : sum_by share m.views ≡ share v
-  alone = h.ends_are_shared.0 ∙ sym all
+module _ (t : Terms) (fits : AreTerms t) (m : Moment) (k : ℕ) (v : View) (h : RaceRule t m) (at : slice_get m.views k ≡ Some v) (all : share v ≡ t.workers)
+  where
+    alone : sum_by share m.views ≡ share v
+    alone = h.ends_are_shared.0 ∙ sym all
 
-  pub end_bound : m.bound ≡ min t.first v.posted
-  end_bound = h.bound_is_least ∙ least_alone t.first m.views k v (omega (arith, fits.1)) at h.ends_are_shared.1 alone
+    pub end_bound : m.bound ≡ min t.first v.posted
+    end_bound = h.bound_is_least ∙ least_alone t.first m.views k v (omega (arith, fits.1)) at h.ends_are_shared.1 alone
 
-  pub end_seen : m.bound ≤ v.seen
-  end_seen = (All-at (between m.bound) m.views k v at h.seen_between).0
+    pub end_seen : m.bound ≤ v.seen
+    end_seen = (All-at (between m.bound) m.views k v at h.seen_between).0
 
-  pub end_taken : EachOnce (min m.ticket t.pieces) v.taken
-  end_taken p = sym (times-taken m.views p ∙ sum_alone (λ u. times u.taken p) refl m.views k v at h.ends_are_shared.1 alone) ∙ h.taken_once p
+    pub end_taken : EachOnce (min m.ticket t.pieces) v.taken
+    end_taken p = sym (times-taken m.views p ∙ sum_alone (λ u. times u.taken p) refl m.views k v at h.ends_are_shared.1 alone) ∙ h.taken_once p
 
-  pub end_all_taken : 1 ≤ v.ends → EachOnce t.pieces v.taken
-  end_all_taken some_end =
-      let ended = sum_alone (λ (u : View). u.ends) refl m.views k v at h.ends_are_shared.1 alone in
-      let full = h.ticket_counts.1 (λ none. absurd (omega (arith, none, ended, some_end))) in
-      let past : min m.ticket t.pieces ≡ t.pieces = omega (arith, full, h.ticket_counts.0) in
-      subst (λ n. EachOnce n v.taken) past end_taken
+    pub end_all_taken : 1 ≤ v.ends → EachOnce t.pieces v.taken
+    end_all_taken some_end =
+        let ended = sum_alone (λ (u : View). u.ends) refl m.views k v at h.ends_are_shared.1 alone in
+        let full = h.ticket_counts.1 (λ none. absurd (omega (arith, none, ended, some_end))) in
+        let past : min m.ticket t.pieces ≡ t.pieces = omega (arith, full, h.ticket_counts.0) in
+        subst (λ n. EachOnce n v.taken) past end_taken
 
 -- ---- seats that are joined in turn
 
@@ -128,7 +131,8 @@ joined_share v (w ∷ ws) ones =
 
 -- ---- the words at the end
 
-module _ (t : Terms) (s : State ℕ View) (ns : List ℕ) (k : ℕ) (v : View) (n : ℕ) (h : Holds t s) (at : get_elem? s.views k ≡ some v) (words : s.words ≡ ns) (word : get_elem? ns 1 ≡ some n) (all : share v ≡ t.workers) where
+module _ (t : Terms) (s : State ℕ View) (ns : List ℕ) (k : ℕ) (v : View) (n : ℕ) (h : Holds t s) (at : get_elem? s.views k ≡ some v) (words : s.words ≡ ns)
+    (word : get_elem? ns 1 ≡ some n) (all : share v ≡ t.workers) where
   last_word : get_or s.words 1 0 ≡ n
   last_word = get_or_from_slice_get s.words 1 n 0 (at_place s.words 1 n (subst (λ ms. get_elem? ms 1 ≡ some n) (sym words) word))
 
@@ -163,11 +167,13 @@ module _ (seats : List Seated) (s : Seated) (rest : List Seated) (v : View) (who
       let others = All-tail (λ (u : View). all_joined.seen ≤ u.seen) v (views_of rest) each in
       let same : v.seen ≡ s.view.seen = ap (λ (u : View). u.seen) is in
       All-same (λ (d : Seated). n ≤ d.view.seen) seats (s ∷ rest) whole
-      (All-cons (λ (d : Seated). n ≤ d.view.seen) s rest (omega (arith, low, own, same)) (λ k d inside. let here = All-view rest (λ (u : View). all_joined.seen ≤ u.seen) others k d inside in omega (arith, low, here)))
+      (All-cons (λ (d : Seated). n ≤ d.view.seen) s rest (omega (arith, low, own, same))
+      (λ k d inside. let here = All-view rest (λ (u : View). all_joined.seen ≤ u.seen) others k d inside in omega (arith, low, here)))
     where
       All-view : (ds : List Seated) (P : View → Type 0) → All P (views_of ds) → All (λ (d : Seated). P d.view) ds
       All-view [] P all = All-nil (λ (d : Seated). P d.view)
-      All-view (d ∷ ds) P all = All-cons (λ (e : Seated). P e.view) d ds (All-head P d.view (views_of ds) all) (All-view ds P (All-tail P d.view (views_of ds) all))
+      All-view (d ∷ ds) P all = All-cons (λ (e : Seated). P e.view) d ds (All-head P d.view (views_of ds) all)
+          (All-view ds P (All-tail P d.view (views_of ds) all))
 
   pub seats_ended : All (λ (d : Seated). 1 ≤ d.view.ends) seats → 1 ≤ all_joined.ends
   seats_ended each =

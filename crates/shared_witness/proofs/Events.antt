@@ -20,12 +20,20 @@ map_replicate : {A B : Type 0} (f : A → B) (n : ℕ) (x : A) → map f (replic
 map_replicate f zero x = refl
 map_replicate f (suc n) x = λ i. f x ∷ map_replicate f n x i
 
-pub start_is_shown : (t : Terms) (values : List ℕ) → AreTerms t → shown_race values t record { ticket = 0; bound = t.first; views = replicate t.workers (new_view 1) } ≡ start values t.first t.workers
+pub start_is_shown : (t : Terms) (values : List ℕ) → AreTerms t →
+    shown_race values t record { ticket = 0; bound = t.first; views = replicate t.workers (new_view 1) } ≡ start values t.first t.workers
 start_is_shown t values fits =
     let low : min t.first highest ≡ t.first = omega (arith, fits.1) in
     let none : min 0 t.pieces ≡ 0 = omega arith in
-    let worker : shown_worker t.first (new_view 1) ≡ new_worker t.first = λ x. record { taken = []; closed = []; seen = low x; posted = low x; looks = 0; done = false } in
-    λ x. record { values = values; next = none x; bound = t.first; workers = (map_replicate (shown_worker t.first) t.workers (new_view 1) ∙ ap (replicate t.workers) worker) x }
+    let worker : shown_worker t.first (new_view 1) ≡ new_worker t.first =
+    λ x. record { taken = []; closed = []; seen = low x; posted = low x; looks = 0; done = false } in
+    λ x. record {
+      values = values;
+      next = none x;
+      bound = t.first;
+      workers = (map_replicate (shown_worker t.first) t.workers (new_view 1)
+          ∙ ap (replicate t.workers) worker) x;
+    }
 
 module _ (t : Terms) (m : Moment) (k : ℕ) (v : View) (values : List ℕ) (h : RaceRule t m) (at : slice_get m.views k ≡ Some v) where
   abbrev shown : Race
@@ -50,7 +58,13 @@ module _ (t : Terms) (m : Moment) (k : ℕ) (v : View) (values : List ℕ) (h : 
       let u : Worker = record worker { seen = m.bound; looks = v.looks + 1 } in
       let is : shown_worker t.first (view_after_look m.bound v) ≡ u =
       λ x. record { taken = v.taken; closed = v.closed; seen = bound x; posted = min t.first v.posted; looks = v.looks + 1; done = not (v.ends == 0) } in
-      at_worker (look shown k) ∙ (λ x. Some record { values = values; next = min m.ticket t.pieces; bound = m.bound; workers = workers (view_after_look m.bound v) u is x })
+      at_worker (look shown k) ∙ (λ x. Some record {
+        values = values;
+        next = min m.ticket t.pieces;
+        bound = m.bound;
+        workers = workers
+            (view_after_look m.bound v) u is x;
+      })
 
   pub post_is_event : (value : ℕ) → least values ≤ value → after shown (Post k value) ≡ Some (shown_race values t (after_post m k v value))
   post_is_event value high =
@@ -60,15 +74,31 @@ module _ (t : Terms) (m : Moment) (k : ℕ) (v : View) (values : List ℕ) (h : 
       let is : shown_worker t.first (view_after_post m.bound value v) ≡ u =
       λ x. record { taken = v.taken; closed = v.closed; seen = bound x; posted = least_is x; looks = v.looks; done = not (v.ends == 0) } in
       at_worker (post shown k value) ∙ cond-true (nat_le (least values) value) _ None (le-leb (least values) value high)
-      ∙ (λ x. Some record { values = values; next = min m.ticket t.pieces; bound = min m.bound value; workers = workers (view_after_post m.bound value v) u is x })
+      ∙ (λ x. Some record {
+        values = values;
+        next = min m.ticket t.pieces;
+        bound = min m.bound value;
+        workers = workers (view_after_post m.bound value v) u is
+            x;
+      })
 
-  pub close_is_event : (piece : ℕ) → is_in v.taken piece ≡ true → not (is_in v.closed piece) ≡ true → m.bound ≤ slice_index values piece → after shown (Close k piece) ≡ Some (shown_race values t (after_close m k v piece))
+  pub close_is_event : (piece : ℕ) → is_in v.taken piece ≡ true → not (is_in v.closed piece) ≡ true → m.bound ≤ slice_index values piece →
+      after shown (Close k piece) ≡ Some (shown_race values t (after_close m k v piece))
   close_is_event piece taken open_piece high =
       let bound : min t.first m.bound ≡ m.bound = omega (arith, low) in
       let u : Worker = record worker { closed = v.closed ++ piece ∷ []; seen = m.bound; looks = v.looks + 1 } in
       let is : shown_worker t.first (view_after_close m.bound piece v) ≡ u =
-      λ x. record { taken = v.taken; closed = v.closed ++ piece ∷ []; seen = bound x; posted = min t.first v.posted; looks = v.looks + 1; done = not (v.ends == 0) } in
-      let enabled : (is_in v.taken piece && not (is_in v.closed piece) && nat_le m.bound (slice_index values piece)) ≡ true = and_from _ _ (and_from _ _ taken open_piece) (le-leb m.bound (slice_index values piece) high) in
+      λ x. record {
+        taken = v.taken;
+        closed = v.closed ++ piece ∷ [];
+        seen = bound x;
+        posted = min t.first v.posted;
+        looks = v.looks
+            + 1;
+        done = not (v.ends == 0);
+      } in
+      let enabled : (is_in v.taken piece && not (is_in v.closed piece) && nat_le m.bound (slice_index values piece)) ≡ true =
+      and_from _ _ (and_from _ _ taken open_piece) (le-leb m.bound (slice_index values piece) high) in
       at_worker (close shown k piece) ∙ cond-true _ _ None enabled
       ∙ (λ x. Some record { values = values; next = min m.ticket t.pieces; bound = m.bound; workers = workers (view_after_close m.bound piece v) u is x })
 
@@ -84,7 +114,8 @@ module _ (t : Terms) (m : Moment) (k : ℕ) (v : View) (values : List ℕ) (h : 
             let took : w ≡ w' = cond-true (nat_lt m.ticket t.pieces) _ _ (lt-ltb m.ticket t.pieces left) in
             let u : Worker = record worker { taken = v.taken ++ min m.ticket t.pieces ∷ [] } in
             let is : shown_worker t.first w ≡ u = ap (shown_worker t.first) took ∙ ap (λ n. record worker { taken = v.taken ++ n ∷ [] }) (sym here) in
-            cond-true (nat_lt (min m.ticket t.pieces) (length values)) _ _ (lt-ltb _ _ (omega arith)) ∙ (λ x. Some record { values = values; next = next x; bound = m.bound; workers = workers w u is x })
+            cond-true (nat_lt (min m.ticket t.pieces) (length values)) _ _ (lt-ltb _ _ (omega arith))
+            ∙ (λ x. Some record { values = values; next = next x; bound = m.bound; workers = workers w u is x })
         | inr past ↦
             let here : min m.ticket t.pieces ≡ min (m.ticket + 1) t.pieces = omega arith in
             let w = view_after_take t.pieces m.ticket v in
@@ -93,5 +124,6 @@ module _ (t : Terms) (m : Moment) (k : ℕ) (v : View) (values : List ℕ) (h : 
             let done : not (v.ends + 1 == 0) ≡ true = ap not (ne_eqb (v.ends + 1) 0 (λ none. omega arith)) in
             let u : Worker = record worker { done = true } in
             let is : shown_worker t.first w ≡ u = ap (shown_worker t.first) took ∙ ap (λ d. record worker { done = d }) done in
-            cond-false (nat_lt (min m.ticket t.pieces) (length values)) _ _ (le-ltb _ _ (omega arith)) ∙ (λ x. Some record { values = values; next = here x; bound = m.bound; workers = workers w u is x })
+            cond-false (nat_lt (min m.ticket t.pieces) (length values)) _ _ (le-ltb _ _ (omega arith))
+            ∙ (λ x. Some record { values = values; next = here x; bound = m.bound; workers = workers w u is x })
       ]

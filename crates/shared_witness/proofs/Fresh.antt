@@ -22,7 +22,8 @@ take_is_fresh t m h =
     λ all. let count = length_of_once t.pieces (taken_pieces m.views) all in omega (arith, count, h.ticket_counts.0) in
     (fresh, (past, back))
 
-pub takes_piece : (t : Terms) (old : View) (found : ℕ) (new : View) (piece : ℕ) → piece ≡ min found t.pieces → Takes t old found new → TakesPiece t old piece new
+pub takes_piece : (t : Terms) (old : View) (found : ℕ) (new : View) (piece : ℕ) → piece ≡ min found t.pieces → Takes t old found new →
+    TakesPiece t old piece new
 unfolding Takes TakesPiece
 takes_piece t old found new piece answers (m, k, is, step) =
     let here : piece ≡ min m.ticket t.pieces = answers ∙ ap (λ n. min n t.pieces) is in
@@ -47,7 +48,8 @@ module _ (t : Terms) (old : View) (piece : ℕ) (new : View) where
   fresh_piece takes left = none_in old.taken piece (fresh_here takes left)
 
   -- it is the seat's now, and open
-  pub open_piece : TakesPiece t old piece new → new ≡ view_after_take t.pieces piece old → piece < t.pieces → (is_in new.taken piece ≡ true) × (not (is_in new.closed piece) ≡ true)
+  pub open_piece : TakesPiece t old piece new → new ≡ view_after_take t.pieces piece old → piece < t.pieces →
+      (is_in new.taken piece ≡ true) × (not (is_in new.closed piece) ≡ true)
   unfolding TakesPiece
   open_piece (m, k, here, fresh, all, step) view left =
       let none = fresh_here (m, k, here, fresh, all, step) left in

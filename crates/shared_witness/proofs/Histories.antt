@@ -49,7 +49,8 @@ seated_holds t fits =
 -- ---- one step
 
 -- the view at which the step was made
-seat_of : (o : Option View) (test : View → Bool) (go : View → Moment) (n : Moment) → option_and_then (λ v. cond (test v) (Some (go v)) None) o ≡ Some n → (v : View) × (o ≡ Some v) × (test v ≡ true) × (go v ≡ n)
+seat_of : (o : Option View) (test : View → Bool) (go : View → Moment) (n : Moment) → option_and_then (λ v. cond (test v) (Some (go v)) None) o ≡ Some n →
+    (v : View) × (o ≡ Some v) × (test v ≡ true) × (go v ≡ n)
 seat_of None test go n is = cc
 seat_of (Some v) test go n is = elim (cases_Bool (test v)) [
   | inl passes ↦ let same : Some (go v) ≡ Some n = sym (cond-true (test v) (Some (go v)) None passes) ∙ is in (v, refl, passes, cc)
@@ -73,12 +74,18 @@ module _ (t : Terms) (values : List ℕ) (pieces : length values ≡ t.pieces) w
       let parts = and_parts (v.ends == 0) (nat_lt 0 v.may) passes in
       let may : 1 ≤ v.may = let more = ltb-true 0 v.may parts.1 in omega (arith, more) in
       let event = take_is_event t m k v values h at pieces (eqb-true v.ends 0 parts.0) in
-      subst (Follows (after (shown_race values t m) (Take k))) ends_in (take_keeps t m k v h at may, shows (after (shown_race values t m) (Take k)) (after_take t m k v) event)
+      subst (Follows (after (shown_race values t m) (Take k))) ends_in (
+        take_keeps t m k v h at may,
+        shows (after (shown_race values t m) (Take k)) (after_take t m k v) event,
+      )
   event_follows m n (Look k) h is =
       let (v, at, passes, ends_in) = seat_of (slice_get m.views k) (λ v. nat_lt 0 (v.ends + v.may)) (after_look m k) n is in
       let left : share v ≢ 0 = λ none. let more = ltb-true 0 (v.ends + v.may) passes in omega (arith, more, none) in
       let event = look_is_event t m k v values h at in
-      subst (Follows (after (shown_race values t m) (Look k))) ends_in (look_keeps t m k v h at left, shows (after (shown_race values t m) (Look k)) (after_look m k v) event)
+      subst (Follows (after (shown_race values t m) (Look k))) ends_in (
+        look_keeps t m k v h at left,
+        shows (after (shown_race values t m) (Look k)) (after_look m k v) event,
+      )
   event_follows m n (Post k value) h is =
       let (v, at, passes, ends_in) = seat_of (slice_get m.views k) (λ v. nat_lt 0 (v.ends + v.may)) (λ v. after_post m k v value) n is in
       let left : share v ≢ 0 = λ none. let more = ltb-true 0 (v.ends + v.may) passes in omega (arith, more, none) in
@@ -86,19 +93,23 @@ module _ (t : Terms) (values : List ℕ) (pieces : length values ≡ t.pieces) w
       let shown : IfSome o (λ r. r ≡ shown_race values t (after_post m k v value)) =
       elim (cases_Bool (nat_le (least values) value)) [
         | inl high ↦ shows o (after_post m k v value) (post_is_event t m k v values h at value (leb-true (least values) value high))
-        | inr low ↦ shows_none o (after_post m k v value) (at_worker t m k v values h at (post (shown_race values t m) k value) ∙ cond-false (nat_le (least values) value) _ None low)
+        | inr low ↦ shows_none o (after_post m k v value) (at_worker t m k v values h at (post (shown_race values t m) k value)
+            ∙ cond-false (nat_le (least values) value) _ None low)
       ] in
       subst (Follows o) ends_in (post_keeps t m k v h at left value, shown)
   event_follows m n (Close k piece) h is =
-      let (v, at, passes, ends_in) = seat_of (slice_get m.views k) (λ v. nat_lt 0 (v.ends + v.may) && is_in v.taken piece && not (is_in v.closed piece)) (λ v. after_close m k v piece) n is in
+      let (v, at, passes, ends_in) = seat_of (slice_get m.views k) (λ v. nat_lt 0 (v.ends + v.may) && is_in v.taken piece && not (is_in v.closed piece))
+      (λ v. after_close m k v piece) n is in
       let parts = and_parts (nat_lt 0 (v.ends + v.may) && is_in v.taken piece) (not (is_in v.closed piece)) passes in
       let first_parts = and_parts (nat_lt 0 (v.ends + v.may)) (is_in v.taken piece) parts.0 in
       let left : share v ≢ 0 = λ none. let more = ltb-true 0 (v.ends + v.may) first_parts.0 in omega (arith, more, none) in
       let o = after (shown_race values t m) (Close k piece) in
       let shown : IfSome o (λ r. r ≡ shown_race values t (after_close m k v piece)) =
       elim (cases_Bool (nat_le m.bound (slice_index values piece))) [
-        | inl high ↦ shows o (after_close m k v piece) (close_is_event t m k v values h at piece first_parts.1 parts.1 (leb-true m.bound (slice_index values piece) high))
-        | inr low ↦ shows_none o (after_close m k v piece) (at_worker t m k v values h at (close (shown_race values t m) k piece) ∙ cond-false _ _ None (and_right _ _ low))
+        | inl high ↦ shows o (after_close m k v piece) (close_is_event t m k v values h at piece first_parts.1 parts.1
+            (leb-true m.bound (slice_index values piece) high))
+        | inr low ↦ shows_none o (after_close m k v piece) (at_worker t m k v values h at (close (shown_race values t m) k piece)
+            ∙ cond-false _ _ None (and_right _ _ low))
       ] in
       subst (Follows o) ends_in (close_keeps t m k v h at left piece (open_times v piece first_parts.1 parts.1), shown)
 
@@ -107,18 +118,23 @@ module _ (t : Terms) (values : List ℕ) (pieces : length values ≡ t.pieces) w
   events_follow : (m n : Moment) (es : List Event) → RaceRule t m → after_events t m es ≡ Some n → Follows (run (shown_race values t m) es) n
   events_follow m n [] h is = let same : m ≡ n = cc in subst (Follows (Some (shown_race values t m))) same (h, refl)
   events_follow m n (e ∷ es) h is =
-      onwards (after_event t m e) (λ u comes rest. let first = event_follows m u e h comes in let others = events_follow u n es first.0 rest in (others.0, joined (after (shown_race values t m) e) u first.1 others.1)) is
+      onwards (after_event t m e) (λ u comes rest. let first = event_follows m u e h comes in let others = events_follow u n es first.0 rest in
+      (others.0, joined (after (shown_race values t m) e) u first.1 others.1)) is
     where
-      onwards : (o : Option Moment) → ((u : Moment) → o ≡ Some u → after_events t u es ≡ Some n → Follows (run (shown_race values t m) (e ∷ es)) n) → option_and_then (λ u. after_events t u es) o ≡ Some n
+      onwards : (o : Option Moment) → ((u : Moment) → o ≡ Some u → after_events t u es ≡ Some n → Follows (run (shown_race values t m) (e ∷ es)) n) →
+          option_and_then (λ u. after_events t u es) o ≡ Some n
           → Follows (run (shown_race values t m) (e ∷ es)) n
       onwards None go begun = cc
       onwards (Some u) go begun = go u refl begun
 
-      joined : (o : Option Race) (u : Moment) → IfSome o (λ r. r ≡ shown_race values t u) → IfSome (run (shown_race values t u) es) (λ r. r ≡ shown_race values t n) → IfSome (option_and_then (λ r. run r es) o) (λ r. r ≡ shown_race values t n)
+      joined : (o : Option Race) (u : Moment) → IfSome o (λ r. r ≡ shown_race values t u) →
+          IfSome (run (shown_race values t u) es) (λ r. r ≡ shown_race values t n) →
+          IfSome (option_and_then (λ r. run r es) o) (λ r. r ≡ shown_race values t n)
       joined None u first others = tt
       joined (Some r) u first others = subst (λ x. IfSome (run x es) (λ y. y ≡ shown_race values t n)) (sym first) others
 
-pub history_is_shown : (t : Terms) (values : List ℕ) (events : List Event) (m : Moment) → AreTerms t → length values ≡ t.pieces → after_events t (seated t) events ≡ Some m
+pub history_is_shown : (t : Terms) (values : List ℕ) (events : List Event) (m : Moment) → AreTerms t → length values ≡ t.pieces →
+    after_events t (seated t) events ≡ Some m
     → RaceRule t m × IfSome (run (start values t.first t.workers) events) (λ r. r ≡ shown_race values t m)
 history_is_shown t values events m fits pieces is =
     let follows = events_follow t values pieces (seated t) m events (seated_holds t fits) is in

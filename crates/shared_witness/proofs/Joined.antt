@@ -21,13 +21,15 @@ holder (v ∷ vs) p some =
           (suc k, u, at, took)
     ]
 
-pub taker : (n : ℕ) (views : List View) → EachOnce n (taken_pieces views) → (p : ℕ) → p < n → (k : ℕ) × (v : View) × (slice_get views k ≡ Some v) × (is_in v.taken p ≡ true)
+pub taker : (n : ℕ) (views : List View) → EachOnce n (taken_pieces views) → (p : ℕ) → p < n →
+    (k : ℕ) × (v : View) × (slice_get views k ≡ Some v) × (is_in v.taken p ≡ true)
 taker n views once p low =
     let one : ◌≡◌ {A = ℕ} (cond (nat_lt p n) 1 0) 1 = ap (λ b. cond b 1 0) (lt-ltb p n low) in
     holder views p (omega (arith, once p, one))
 
 -- the least post is nobody's, or somebody's
-pub poster : (first : ℕ) (views : List View) → (least_posted first views ≡ first) ⊎ ((k : ℕ) × (v : View) × (slice_get views k ≡ Some v) × (least_posted first views ≡ v.posted))
+pub poster : (first : ℕ) (views : List View) → (least_posted first views ≡ first) ⊎ ((k : ℕ) × (v : View) × (slice_get views k ≡ Some v) ×
+    (least_posted first views ≡ v.posted))
 poster first [] = inl refl
 poster first (v ∷ vs) =
     elim (cases_lt v.posted (least_posted first vs)) [
@@ -62,4 +64,5 @@ module _ (m : Moment) (k : ℕ) (v : View) (i : ℕ) (w : View) (here : slice_ge
       times-closed : (vs : List View) → times (closed_pieces vs) p ≡ sum_by (λ u. times u.closed p) vs
       times-closed [] = refl
       times-closed (u ∷ us) =
-          times-append u.closed (closed_pieces us) p ∙ ap (λ n. times u.closed p + n) (times-closed us) ∙ sym (sum_by-cons (λ (x : View). times x.closed p) u us)
+          times-append u.closed (closed_pieces us) p ∙ ap (λ n. times u.closed p + n) (times-closed us)
+          ∙ sym (sum_by-cons (λ (x : View). times x.closed p) u us)

@@ -46,11 +46,13 @@ module _ (f : View → ℕ) where
 
 pub times-taken : (vs : List View) (p : ℕ) → times (taken_pieces vs) p ≡ sum_by (λ v. times v.taken p) vs
 times-taken [] p = refl
-times-taken (v ∷ vs) p = sum_by-append (λ q. cond (q == p) 1 0) v.taken (taken_pieces vs) ∙ ap (λ n. times v.taken p + n) (times-taken vs p) ∙ sym (sum_by-cons (λ (u : View). times u.taken p) v vs)
+times-taken (v ∷ vs) p = sum_by-append (λ q. cond (q == p) 1 0) v.taken (taken_pieces vs) ∙ ap (λ n. times v.taken p + n) (times-taken vs p)
+    ∙ sym (sum_by-cons (λ (u : View). times u.taken p) v vs)
 
 pub length-taken : (vs : List View) → length (taken_pieces vs) ≡ sum_by (λ v. length v.taken) vs
 length-taken [] = refl
-length-taken (v ∷ vs) = length-append v.taken (taken_pieces vs) ∙ ap (λ n. length v.taken + n) (length-taken vs) ∙ sym (sum_by-cons (λ (u : View). length u.taken) v vs)
+length-taken (v ∷ vs) = length-append v.taken (taken_pieces vs) ∙ ap (λ n. length v.taken + n) (length-taken vs)
+    ∙ sym (sum_by-cons (λ (u : View). length u.taken) v vs)
 
 pub times-append : (xs ys : List ℕ) (p : ℕ) → times (xs ++ ys) p ≡ times xs p + times ys p
 times-append xs ys p = sum_by-append (λ q. cond (q == p) 1 0) xs ys
@@ -60,7 +62,8 @@ times-push xs n p = sum_by_push (λ q. cond (q == p) 1 0) xs n
 
 -- ---- the least post
 
-pub least-set : (first : ℕ) (vs : List View) (k : ℕ) (v w : View) → slice_get vs k ≡ Some v → w.posted ≤ v.posted → least_posted first (set vs k w) ≡ min w.posted (least_posted first vs)
+pub least-set : (first : ℕ) (vs : List View) (k : ℕ) (v w : View) → slice_get vs k ≡ Some v → w.posted ≤ v.posted →
+    least_posted first (set vs k w) ≡ min w.posted (least_posted first vs)
 least-set first [] k v w at low = cc
 least-set first (u ∷ us) zero v w at low = let same : u ≡ v = cc in let p : u.posted ≡ v.posted = ap (λ (x : View). x.posted) same in omega arith
 least-set first (u ∷ us) (suc k) v w at low = let h = least-set first us k v w at low in omega (arith, h)
@@ -79,9 +82,11 @@ least-push first [] w = refl
 least-push first (v ∷ vs) w = let h = least-push first vs w in omega (arith, h)
 
 -- where one post is lifted to the top, the others are left
-pub least-lift : (first : ℕ) (vs : List View) (k : ℕ) (v w : View) → first ≤ highest → w.posted ≡ highest → slice_get vs k ≡ Some v → least_posted first vs ≡ min v.posted (least_posted first (set vs k w))
+pub least-lift : (first : ℕ) (vs : List View) (k : ℕ) (v w : View) → first ≤ highest → w.posted ≡ highest → slice_get vs k ≡ Some v →
+    least_posted first vs ≡ min v.posted (least_posted first (set vs k w))
 least-lift first [] k v w low top at = cc
-least-lift first (u ∷ us) zero v w low top at = let same : u ≡ v = cc in let p : u.posted ≡ v.posted = ap (λ (x : View). x.posted) same in let h = least-first first us in omega (arith, h)
+least-lift first (u ∷ us) zero v w low top at = let same : u ≡ v = cc in let p : u.posted ≡ v.posted = ap (λ (x : View). x.posted) same in let h =
+    least-first first us in omega (arith, h)
 least-lift first (u ∷ us) (suc k) v w low top at = let h = least-lift first us k v w low top at in omega (arith, h)
 
 -- ---- how often a piece stands in a list
@@ -133,7 +138,8 @@ below_more n (x ∷ xs) =
 
 below_none : (xs : List ℕ) → below 0 xs ≡ 0
 below_none [] = refl
-below_none (x ∷ xs) = sum_by-cons (λ q. cond (nat_lt q 0) 1 0) x xs ∙ ap (λ b. cond b 1 0 + below 0 xs) (le-ltb x 0 (omega arith)) ∙ ap (λ n. 0 + n) (below_none xs)
+below_none (x ∷ xs) = sum_by-cons (λ q. cond (nat_lt q 0) 1 0) x xs ∙ ap (λ b. cond b 1 0 + below 0 xs) (le-ltb x 0 (omega arith))
+    ∙ ap (λ n. 0 + n) (below_none xs)
 
 below_all : (n : ℕ) (xs : List ℕ) → All (λ q. q < n) xs → below n xs ≡ length xs
 below_all n [] low = refl
@@ -167,4 +173,5 @@ module _ (n : ℕ) (xs : List ℕ) (once : EachOnce n xs) where
 
 -- what stands in the middle of a list
 pub All-middle : {A : Type 0} (P : A → Type 0) (xs : List A) (x : A) (ys : List A) → All P (xs ++ x ∷ ys) → P x
-All-middle P xs x ys all = subst P (get_or_at xs x ys x (length xs) refl) (All-get_or P (xs ++ x ∷ ys) (length xs) x (let longer = length-append xs (x ∷ ys) in omega (arith, longer)) all)
+All-middle P xs x ys all = subst P (get_or_at xs x ys x (length xs) refl)
+    (All-get_or P (xs ++ x ∷ ys) (length xs) x (let longer = length-append xs (x ∷ ys) in omega (arith, longer)) all)

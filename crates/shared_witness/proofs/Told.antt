@@ -17,7 +17,8 @@ set_view vs k old w new had has = let same : Some w ≡ Some new = sym (slice_ge
 module _ (t : Terms) (old : View) (found : ℕ) (new : View) where
   pub took : Takes t old found new → new ≡ view_after_take t.pieces found old
   unfolding Takes
-  took (m, k, is, step) = set_view m.views k old (view_after_take t.pieces m.ticket old) new step.had step.has ∙ ap (λ n. view_after_take t.pieces n old) (sym is)
+  took (m, k, is, step) = set_view m.views k old (view_after_take t.pieces m.ticket old) new step.had step.has
+      ∙ ap (λ n. view_after_take t.pieces n old) (sym is)
 
   pub looked : Looks t old found new → new ≡ view_after_look found old
   unfolding Looks
@@ -25,11 +26,13 @@ module _ (t : Terms) (old : View) (found : ℕ) (new : View) where
 
   pub posted : (value : ℕ) → Posts t old found new value → new ≡ view_after_post found value old
   unfolding Posts
-  posted value (m, k, is, step) = set_view m.views k old (view_after_post m.bound value old) new step.had step.has ∙ ap (λ n. view_after_post n value old) (sym is)
+  posted value (m, k, is, step) = set_view m.views k old (view_after_post m.bound value old) new step.had step.has
+      ∙ ap (λ n. view_after_post n value old) (sym is)
 
   pub closed : (piece : ℕ) → Closes t old found new piece → new ≡ view_after_close found piece old
   unfolding Closes
-  closed piece (m, k, is, step) = set_view m.views k old (view_after_close m.bound piece old) new step.had step.has ∙ ap (λ n. view_after_close n piece old) (sym is)
+  closed piece (m, k, is, step) = set_view m.views k old (view_after_close m.bound piece old) new step.had step.has
+      ∙ ap (λ n. view_after_close n piece old) (sym is)
 
   -- the bound is at most the first, and at most what the seat had seen
   bound_low : (m : Moment) (k : ℕ) → RaceRule t m → slice_get m.views k ≡ Some old → found ≡ m.bound → (found ≤ t.first) × (found ≤ old.seen)
@@ -56,7 +59,8 @@ take_by_piece pieces found v = elim (cases_lt found pieces) [
   | inl left ↦ let same : min found pieces ≡ found = omega arith in ap (λ n. view_after_take pieces n v) same
   | inr past ↦
       let same : min found pieces ≡ pieces = omega arith in
-      cond-false (nat_lt (min found pieces) pieces) _ _ (le-ltb (min found pieces) pieces (omega arith)) ∙ sym (cond-false (nat_lt found pieces) _ _ (le-ltb found pieces past))
+      cond-false (nat_lt (min found pieces) pieces) _ _ (le-ltb (min found pieces) pieces (omega arith))
+      ∙ sym (cond-false (nat_lt found pieces) _ _ (le-ltb found pieces past))
 ]
 
 pub take_share : (pieces found : ℕ) (v : View) → 1 ≤ v.may → share (view_after_take pieces found v) ≡ share v

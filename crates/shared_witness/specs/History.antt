@@ -13,11 +13,20 @@ seated t = record { ticket = 0; bound = t.first; views = replicate t.workers (ne
 
 -- the moment after a step of the seat that an event names, or none where the seat may not make it
 abbrev pub after_event : Terms → Moment → Event → Option Moment
-after_event t m (Take k) = option_and_then (λ v. if v.ends == 0 && nat_lt 0 v.may then Some (after_take t m k v) else None) (slice_get m.views k)
-after_event t m (Look k) = option_and_then (λ v. if nat_lt 0 (v.ends + v.may) then Some (after_look m k v) else None) (slice_get m.views k)
-after_event t m (Post k value) = option_and_then (λ v. if nat_lt 0 (v.ends + v.may) then Some (after_post m k v value) else None) (slice_get m.views k)
+after_event t m (Take k) =
+    option_and_then (λ v. if v.ends == 0 && nat_lt 0 v.may then Some (after_take t m k v) else None)
+    (slice_get m.views k)
+after_event t m (Look k) =
+    option_and_then (λ v. if nat_lt 0 (v.ends + v.may) then Some (after_look m k v) else None)
+    (slice_get m.views k)
+after_event t m (Post k value) =
+    option_and_then (λ v. if nat_lt 0 (v.ends + v.may) then Some (after_post m k v value) else None)
+    (slice_get m.views k)
 after_event t m (Close k piece) =
-    option_and_then (λ v. if nat_lt 0 (v.ends + v.may) && is_in v.taken piece && not (is_in v.closed piece) then Some (after_close m k v piece) else None) (slice_get m.views k)
+    option_and_then
+    (λ v. if nat_lt 0 (v.ends + v.may) && is_in v.taken piece && not (is_in v.closed piece)
+    then Some (after_close m k v piece) else None)
+    (slice_get m.views k)
 
 -- the moment after all of the steps
 abbrev pub after_events : Terms → Moment → List Event → Option Moment

@@ -53,11 +53,15 @@ module _ (t : Terms) (m : Moment) where
   ClosedWereTaken = All (λ v. (p : ℕ) → times v.closed p ≤ times v.taken p) m.views
 
   abbrev pub TicketCountsTakes : Type 0
-  TicketCountsTakes = (m.ticket ≡ length (taken_pieces m.views) + ended_takes m.views) × (ended_takes m.views ≢ 0 → length (taken_pieces m.views) ≡ t.pieces)
+  TicketCountsTakes =
+      (m.ticket ≡ length (taken_pieces m.views) + ended_takes m.views)
+      × (ended_takes m.views ≢ 0 → length (taken_pieces m.views) ≡ t.pieces)
 
   -- each worker may end once, and a seat with no such end, past or to come, is spent
   abbrev pub EndsAreShared : Type 0
-  EndsAreShared = (sum_by (λ v. v.ends + v.may) m.views ≡ t.workers) × All (λ v. v.ends + v.may ≡ 0 → v ≡ spent_view) m.views
+  EndsAreShared =
+      (sum_by (λ v. v.ends + v.may) m.views ≡ t.workers)
+      × All (λ v. v.ends + v.may ≡ 0 → v ≡ spent_view) m.views
 
   pub record RaceRule : Type 0 where
     pub bound_is_least : BoundIsLeastPosted
@@ -73,21 +77,51 @@ abbrev pub opening : Terms → Moment
 opening t = record { ticket = 0; bound = t.first; views = new_view t.workers ∷ [] }
 
 abbrev pub after_take : Terms → Moment → ℕ → View → Moment
-after_take t m k v = record { ticket = m.ticket + 1; bound = m.bound; views = slice_set m.views k (view_after_take t.pieces m.ticket v) }
+after_take t m k v =
+    record {
+      ticket = m.ticket + 1;
+      bound = m.bound;
+      views = slice_set m.views k (view_after_take t.pieces m.ticket v);
+    }
 
 abbrev pub after_look : Moment → ℕ → View → Moment
-after_look m k v = record { ticket = m.ticket; bound = m.bound; views = slice_set m.views k (view_after_look m.bound v) }
+after_look m k v =
+    record {
+      ticket = m.ticket;
+      bound = m.bound;
+      views = slice_set m.views k (view_after_look m.bound v);
+    }
 
 abbrev pub after_post : Moment → ℕ → View → ℕ → Moment
-after_post m k v value = record { ticket = m.ticket; bound = min m.bound value; views = slice_set m.views k (view_after_post m.bound value v) }
+after_post m k v value =
+    record {
+      ticket = m.ticket;
+      bound = min m.bound value;
+      views = slice_set m.views k (view_after_post m.bound value v);
+    }
 
 abbrev pub after_close : Moment → ℕ → View → ℕ → Moment
-after_close m k v piece = record { ticket = m.ticket; bound = m.bound; views = slice_set m.views k (view_after_close m.bound piece v) }
+after_close m k v piece =
+    record {
+      ticket = m.ticket;
+      bound = m.bound;
+      views = slice_set m.views k (view_after_close m.bound piece v);
+    }
 
 -- the new seat comes last
 abbrev pub after_split : Moment → ℕ → View → Moment
-after_split m k v = record { ticket = m.ticket; bound = m.bound; views = slice_set m.views k (view_after_split v) ++ new_view 1 ∷ [] }
+after_split m k v =
+    record {
+      ticket = m.ticket;
+      bound = m.bound;
+      views = slice_set m.views k (view_after_split v) ++ new_view 1 ∷ [];
+    }
 
 -- the seat of number i, whose view is w, is joined to that of number k
 abbrev pub after_join : Moment → ℕ → View → ℕ → View → Moment
-after_join m k v i w = record { ticket = m.ticket; bound = m.bound; views = slice_set (slice_set m.views k (joined v w)) i spent_view }
+after_join m k v i w =
+    record {
+      ticket = m.ticket;
+      bound = m.bound;
+      views = slice_set (slice_set m.views k (joined v w)) i spent_view;
+    }

@@ -33,12 +33,15 @@ new_seat race = record { race = race.id; view = new_view 1 }
 -- At some moment the seat took the piece, which no seat had taken; or the number of pieces, exactly where all were taken, each once.
 unfoldable pub TakesPiece : Terms → View → ℕ → View → Type 0
 TakesPiece t old piece new =
-    (m : Moment) × (k : ℕ) × (piece ≡ min m.ticket t.pieces) × (piece < t.pieces → times (taken_pieces m.views) piece ≡ 0) × ((piece ≡ t.pieces) ↔ EachOnce t.pieces (taken_pieces m.views))
+    (m : Moment) × (k : ℕ) × (piece ≡ min m.ticket t.pieces)
+    × (piece < t.pieces → times (taken_pieces m.views) piece ≡ 0)
+    × ((piece ≡ t.pieces) ↔ EachOnce t.pieces (taken_pieces m.views))
     × IsStep t k old new m (after_take t m k old)
 
 -- the bound that a post answers: the smaller of the bound found and the value
 unfoldable pub PostsValue : Terms → View → ℕ → ℕ → View → Type 0
-PostsValue t old value bound new = (found : ℕ) × (bound ≡ min found value) × Posts t old found new value
+PostsValue t old value bound new =
+    (found : ℕ) × (bound ≡ min found value) × Posts t old found new value
 
 abbrev pub views_of : List Seated → List View
 views_of seats = map (λ s. s.view) seats

@@ -17,4 +17,10 @@ shown_worker first v = record {
 }
 
 abbrev pub shown_race : List ℕ → Terms → Moment → Race
-shown_race values t m = record { values = values; next = min m.ticket t.pieces; bound = m.bound; workers = map (shown_worker t.first) m.views }
+shown_race values t m =
+    record {
+      values = values;
+      next = min m.ticket t.pieces;
+      bound = m.bound;
+      workers = map (shown_worker t.first) m.views;
+    }

@@ -20,7 +20,9 @@ module _ (t : Terms) (old : View) (found : ℕ) (new : View) where
   Looks = (m : Moment) × (k : ℕ) × (found ≡ m.bound) × IsStep t k old new m (after_look m k old)
 
   unfoldable pub Posts : ℕ → Type 0
-  Posts value = (m : Moment) × (k : ℕ) × (found ≡ m.bound) × IsStep t k old new m (after_post m k old value)
+  Posts value =
+      (m : Moment) × (k : ℕ) × (found ≡ m.bound) × IsStep t k old new m (after_post m k old value)
 
   unfoldable pub Closes : ℕ → Type 0
-  Closes piece = (m : Moment) × (k : ℕ) × (found ≡ m.bound) × IsStep t k old new m (after_close m k old piece)
+  Closes piece =
+      (m : Moment) × (k : ℕ) × (found ≡ m.bound) × IsStep t k old new m (after_close m k old piece)

@@ -5,9 +5,18 @@ use Rattle.shared_witness.specs.declared.view.View.{View}
 abbrev pub highest : ℕ
 highest = 2 ^ 32 - 1
 
--- nothing taken, closed, seen or posted, where so many takes may find no piece
+-- the view that has taken, closed, seen and posted nothing, where so many takes may find no piece
 abbrev pub new_view : ℕ → View
-new_view may = record { taken = []; closed = []; seen = highest; posted = highest; looks = 0; ends = 0; may = may }
+new_view may =
+    record {
+      taken = [];
+      closed = [];
+      seen = highest;
+      posted = highest;
+      looks = 0;
+      ends = 0;
+      may = may;
+    }
 
 -- what is left of a seat that was joined to another
 abbrev pub spent_view : View
@@ -26,7 +35,8 @@ abbrev pub view_after_post : ℕ → ℕ → View → View
 view_after_post bound value v = record v { seen = min bound value; posted = min v.posted value }
 
 abbrev pub view_after_close : ℕ → ℕ → View → View
-view_after_close bound piece v = record v { seen = bound; looks = v.looks + 1; closed = v.closed ++ piece ∷ [] }
+view_after_close bound piece v =
+    record v { seen = bound; looks = v.looks + 1; closed = v.closed ++ piece ∷ [] }
 
 -- a seat that gave one take that may find no piece to a new seat
 abbrev pub view_after_split : View → View

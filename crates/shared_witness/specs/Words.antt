@@ -8,7 +8,8 @@ use Rattle.shared_witness.specs.Moment.{Moment, RaceRule}
 
 -- the first word is the ticket, and the second the bound
 abbrev pub moment_of : State ℕ View → Moment
-moment_of s = record { ticket = slice_index s.words 0; bound = slice_index s.words 1; views = s.views }
+moment_of s =
+    record { ticket = slice_index s.words 0; bound = slice_index s.words 1; views = s.views }
 
 abbrev pub AreTerms : Terms → Type 0
 AreTerms t = (t.pieces < 2 ^ 32) × (t.first < 2 ^ 32) × (t.workers ≤ MOST_WORKERS)

@@ -4,8 +4,6 @@
 pub mod laws;
 mod race;
 mod steps;
-#[cfg(test)]
-mod tests;
 mod view;
 
 pub use race::{Race, RaceSeat, Seats};

@@ -55,7 +55,9 @@ impl Model for RaceSeat {
 /// A race that was just made, with a seat for each worker.
 #[derive(Drop)]
 pub struct Seats {
+    /// The race, which all workers share.
     pub race: Race,
+    /// A seat for each worker, none of which was used yet.
     pub seats: Vec<RaceSeat>,
 }
 

@@ -7,8 +7,11 @@ use std::collections::LinkedList;
 /// What is fixed when a race is made: the number of its pieces, the first bound, and the number of workers.
 #[derive(Clone, Copy, Debug)]
 pub struct Terms {
+    /// How many pieces there are: numbers 0, 1 and so on below this.
     pub pieces: u32,
+    /// The bound at the start, in votes.
     pub first: u32,
+    /// How many workers have a seat.
     pub workers: u32,
 }
 

@@ -28,7 +28,8 @@ none-scored bag t e = λ records h. record {
 pub nebs_by_set : (n c : ℕ) (t : List ℕ) → is_suffix n t ≡ true → map (λ w. Neb w c) (filter (λ w. not (has (set_of t) w)) (candidates n)) ≡ nebs_against n c t
 nebs_by_set n c t h = ap (λ p. map (λ w. Neb w c) (filter p (candidates n))) (fun_ext (λ w. ap not (suffix-has n t w h)))
 
-pub score-more : (n c set : ℕ) (records : List (List ℕ)) (t : List ℕ) (from with_nebs with_nens : Score) → is_suffix n (c ∷ t) ≡ true → set ≡ set_of (c ∷ t) → from ≡ score_of n records t →
+pub score-more : (n c set : ℕ) (records : List (List ℕ)) (t : List ℕ) (from with_nebs with_nens : Score) → is_suffix n (c ∷ t) ≡ true → set ≡ set_of (c ∷ t) →
+    from ≡ score_of n records t →
     with_nebs ≡ all_offered records from (map (λ w. Neb w c) (filter (λ w. not (has set w)) (candidates n))) →
     with_nens ≡ all_offered records with_nebs (nens_for c set t) → with_nens ≡ score_of n records (c ∷ t)
 score-more n c set records t from with_nebs with_nens h same e e1 e2 =
@@ -69,7 +70,8 @@ filter-more f p n =
     ∙ map-append f (filter p (candidates n)) (filter p (n ∷ []))
     ∙ last (p n)
   where
-    last : (b : Bool) → map f (filter p (candidates n)) ++ map f (cond b (n ∷ []) []) ≡ (if b then map f (filter p (candidates n)) ++ f n ∷ [] else map f (filter p (candidates n)))
+    last : (b : Bool) → map f (filter p (candidates n)) ++ map f (cond b (n ∷ []) [])
+        ≡ (if b then map f (filter p (candidates n)) ++ f n ∷ [] else map f (filter p (candidates n)))
     last true = refl
     last false = append-nil (map f (filter p (candidates n)))
 
@@ -77,7 +79,8 @@ abbrev pub children_below : ℕ → Suffix → List Suffix
 children_below k t = map (with_front t) (filter (λ c. not (is_in t.list c)) (candidates k))
 
 pub pushed_child : (t : Suffix) (k : ℕ) (items : List Scored) (x : Scored) →
-    map (λ s. s.tail) items ≡ children_below k t → is_in t.list k ≡ false → x.tail ≡ with_front t k → map (λ s. s.tail) (items ++ x ∷ []) ≡ children_below (k + 1) t
+    map (λ s. s.tail) items ≡ children_below k t → is_in t.list k ≡ false → x.tail ≡ with_front t k →
+    map (λ s. s.tail) (items ++ x ∷ []) ≡ children_below (k + 1) t
 pushed_child t k items x h out e =
     let passes : not (is_in t.list k) ≡ true = ap not out in
     map-append (λ s. s.tail) items (x ∷ [])

@@ -21,7 +21,8 @@ not_sooner x y h = go (nat_cmp y.low x.low) refl h where
   rest : Ordering
   rest = slice_cmp nat_cmp (reverse y.tail.list) (reverse x.tail.list)
 
-  go : (o : Ordering) → nat_cmp y.low x.low ≡ o → is_lt (search_cmp y x) ≡ false → (x.low < y.low) ⊎ ((x.low ≡ y.low) × (comes_before y.tail.list x.tail.list ≡ false))
+  go : (o : Ordering) → nat_cmp y.low x.low ≡ o → is_lt (search_cmp y x) ≡ false →
+      (x.low < y.low) ⊎ ((x.low ≡ y.low) × (comes_before y.tail.list x.tail.list ≡ false))
   go Less e h = let e' : is_lt (search_cmp y x) ≡ true = rw e refl in cc
   go Equal e h =
       let later : is_lt rest ≡ false = not_less rest _ (rw e at h) in

@@ -21,29 +21,35 @@ nebs_from set c w n = map (λ w. Neb w c) (filter (λ w. not (has set w)) (range
 
 pub nebs-next : (set c w n : ℕ) → w < n → nebs_from set c w n ≡ cond (not (has set w)) (Neb w c ∷ nebs_from set c (w + 1) n) (nebs_from set c (w + 1) n)
 nebs-next set c w n l = ap (λ s. map (λ w. Neb w c) (filter (λ w. not (has set w)) s)) (range-next w n l) ∙ go (not (has set w)) where
-  go : (b : Bool) → map (λ w. Neb w c) (cond b (w ∷ filter (λ w. not (has set w)) (range_with_len (w + 1) (n - (w + 1)))) (filter (λ w. not (has set w)) (range_with_len (w + 1) (n - (w + 1)))))
+  go : (b : Bool) → map (λ w. Neb w c) (cond b (w ∷ filter (λ w. not (has set w)) (range_with_len (w + 1) (n - (w + 1))))
+      (filter (λ w. not (has set w)) (range_with_len (w + 1) (n - (w + 1)))))
       ≡ cond b (Neb w c ∷ nebs_from set c (w + 1) n) (nebs_from set c (w + 1) n)
   go true = refl
   go false = refl
 
 pub neb-taken : (records : List (List ℕ)) (set c w n : ℕ) (score : Score) → w < n → has set w ≡ false →
     all_offered records (offered score (true_margin records (Neb w c)) (Neb w c)) (nebs_from set c (w + 1) n) ≡ all_offered records score (nebs_from set c w n)
-neb-taken records set c w n score l out = ap (all_offered records score) (sym (nebs-next set c w n l ∙ ap (λ b. cond (not b) (Neb w c ∷ nebs_from set c (w + 1) n) (nebs_from set c (w + 1) n)) out))
+neb-taken records set c w n score l out =
+    ap (all_offered records score) (sym (nebs-next set c w n l
+    ∙ ap (λ b. cond (not b) (Neb w c ∷ nebs_from set c (w + 1) n) (nebs_from set c (w + 1) n)) out))
 
 pub neb-left : (records : List (List ℕ)) (set c w n : ℕ) (score : Score) → w < n → has set w ≡ true →
     all_offered records score (nebs_from set c (w + 1) n) ≡ all_offered records score (nebs_from set c w n)
-neb-left records set c w n score l is = ap (all_offered records score) (sym (nebs-next set c w n l ∙ ap (λ b. cond (not b) (Neb w c ∷ nebs_from set c (w + 1) n) (nebs_from set c (w + 1) n)) is))
+neb-left records set c w n score l is =
+    ap (all_offered records score) (sym (nebs-next set c w n l ∙ ap (λ b. cond (not b) (Neb w c ∷ nebs_from set c (w + 1) n) (nebs_from set c (w + 1) n)) is))
 
 -- a row of tallies at a candidate
 pub row-at : (records : List (List ℕ)) (row : List ℕ) (n set c : ℕ) → row ≡ tallies records n set → c < n → get_or row c 0 ≡ tally records set c
 row-at records row n set c e l = ap (λ r. get_or r c 0) e ∙ get_or-map-range_with_len (tally records set) 0 n c c 0 l (omega arith)
 
-pub nen-taken : (records : List (List ℕ)) (row behind : List ℕ) (n set c i l : ℕ) (score next : Score) → row ≡ tallies records n set → c < n → All (λ l. l < n) behind → i < length behind →
+pub nen-taken : (records : List (List ℕ)) (row behind : List ℕ) (n set c i l : ℕ) (score next : Score) → row ≡ tallies records n set → c < n →
+    All (λ l. l < n) behind → i < length behind →
     get_or behind i 0 ≡ l → next ≡ offered score (get_or row c 0 - get_or row l 0) (Nen c l set) →
     all_offered records next (nens_for c set (drop (i + 1) behind)) ≡ all_offered records score (nens_for c set (drop i behind))
 nen-taken records row behind n set c i l score next e below all within at is =
     let loser : l < n = subst (λ x. x < n) at (all i 0 within) in
-    let margin : get_or row c 0 - get_or row l 0 ≡ true_margin records (Nen c l set) = ap₂ (λ x y. x - y) (row-at records row n set c e below) (row-at records row n set l e loser) in
+    let margin : get_or row c 0 - get_or row l 0 ≡ true_margin records (Nen c l set) =
+    ap₂ (λ x y. x - y) (row-at records row n set c e below) (row-at records row n set l e loser) in
     let split : drop i behind ≡ l ∷ drop (i + 1) behind = drop_more behind i 0 within ∙ ap (λ x. x ∷ drop (i + 1) behind) at in
     ap (λ s. all_offered records s (nens_for c set (drop (i + 1) behind))) (is ∙ ap (λ m. offered score m (Nen c l set)) margin)
     ∙ sym (ap (λ xs. all_offered records score (nens_for c set xs)) split)

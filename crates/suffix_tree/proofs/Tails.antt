@@ -21,11 +21,13 @@ pub suffix-all : (n : ℕ) (t : List ℕ) → is_suffix n t ≡ true → All (λ
 suffix-all n t h k d l = below-from_test n t (suffix-below n t h) (get_or t k d) (at-member t k d l)
 
 -- the candidate before a place isn't at it or behind it
-pub before-out : (n at c : ℕ) (list : List ℕ) → is_suffix n list ≡ true → 0 < at → at ≤ length list → c ≡ get_or list (at - 1) c → is_in (drop at list) c ≡ false
+pub before-out : (n at c : ℕ) (list : List ℕ) → is_suffix n list ≡ true → 0 < at → at ≤ length list → c ≡ get_or list (at - 1) c →
+    is_in (drop at list) c ≡ false
 before-out n at c list h some within e =
     let lt : at - 1 < length list = omega arith in
     let next : at - 1 + 1 ≡ at = omega arith in
-    let split : drop (at - 1) list ≡ c ∷ drop at list = drop_more list (at - 1) c lt ∙ ap (λ x. x ∷ drop (at - 1 + 1) list) (sym e) ∙ ap (λ k. c ∷ drop k list) next in
+    let split : drop (at - 1) list ≡ c ∷ drop at list = drop_more list (at - 1) c lt ∙ ap (λ x. x ∷ drop (at - 1 + 1) list) (sym e)
+    ∙ ap (λ k. c ∷ drop k list) next in
     (suffix-head n c (drop at list) (ap (is_suffix n) (sym split) ∙ suffix-drop n (at - 1) list h)).1
 
 -- the same where more candidates stand behind the list
@@ -37,6 +39,7 @@ before-front n at c list behind h some within e =
     let lt' : at - 1 < length (list ++ behind) = omega (arith, length-append list behind) in
     let next : at - 1 + 1 ≡ at = omega arith in
     let e' : c ≡ get_or (list ++ behind) (at - 1) c = e ∙ sym (get_or_append_left list behind c (at - 1) lt) in
-    let split : drop (at - 1) (list ++ behind) ≡ c ∷ drop at (list ++ behind) = drop_more (list ++ behind) (at - 1) c lt' ∙ ap (λ x. x ∷ drop (at - 1 + 1) (list ++ behind)) (sym e') ∙ ap (λ k. c ∷ drop k (list ++ behind)) next in
+    let split : drop (at - 1) (list ++ behind) ≡ c ∷ drop at (list ++ behind) = drop_more (list ++ behind) (at - 1) c lt'
+    ∙ ap (λ x. x ∷ drop (at - 1 + 1) (list ++ behind)) (sym e') ∙ ap (λ k. c ∷ drop k (list ++ behind)) next in
     let parts = suffix-head n c (drop at (list ++ behind)) (ap (is_suffix n) (sym split) ∙ suffix-drop n (at - 1) (list ++ behind) h) in
     (parts.0, parts.1, sym split)

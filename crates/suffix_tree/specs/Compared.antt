@@ -11,4 +11,5 @@ search_total =
     back_total
     (then_total (on_total (λ (s : Scored). s.low) nat_cmp_total)
     (then_total (on_total (λ (s : Scored). reverse s.tail.list) nat_list_cmp_total)
-    (then_total (on_total (λ (s : Scored). s.tail.n) nat_cmp_total) (on_total (λ (s : Scored). s.by) (options_total cmp_total)))))
+    (then_total (on_total (λ (s : Scored). s.tail.n) nat_cmp_total)
+    (on_total (λ (s : Scored). s.by) (options_total cmp_total)))))

@@ -7,7 +7,7 @@ pub record Suffix : Type 0 where
   pub n : ℕ
   pub list : List ℕ
 
--- with one more candidate in front
+-- the suffix with one more candidate in front
 abbrev pub with_front : Suffix → ℕ → Suffix
 with_front t c = record { n = t.n; list = c ∷ t.list }
 

@@ -9,6 +9,3 @@ mod tail;
 
 pub use scored::{Scored, child, expand, score};
 pub use tail::Tail;
-
-#[cfg(test)]
-mod tests;

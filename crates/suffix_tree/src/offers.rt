@@ -15,7 +15,9 @@ use std::marker::Model;
 /// A margin and the assertion that has it, or 0 and none.
 #[derive(Clone, Copy)]
 pub struct Score {
+    /// The margin, in votes.
     pub low: u32,
+    /// The assertion, none exactly where `low` is 0.
     pub by: Option<Assertion>,
 }
 
@@ -52,7 +54,8 @@ pub fn offer(score: Score, margin: u32, a: Assertion) -> Score
 fn neb_margin(ahead: &Ahead, w: Candidate, l: Candidate) -> u32
     requires winner { w < ahead.now.n }
     requires loser { l < ahead.now.n }
-    ensures { (records : List (List ℕ)) → AreOf ahead.now records → result ≡ true_margin records (Neb w l) }
+    ensures { (records : List (List ℕ)) → AreOf ahead.now records
+        → result ≡ true_margin records (Neb w l) }
 {
     ahead.first(w).saturating_sub(ahead.ahead(l, w))
 }
@@ -62,7 +65,10 @@ pub fn offer_nebs(start: Score, c: Candidate, set: CandSet, n: u32, ahead: &Ahea
     requires same { n ≡ ahead.now.n }
     requires room { n ≤ ROOM }
     requires below { c < n }
-    ensures { (records : List (List ℕ)) → AreOf ahead.now records → result ≡ all_offered records start (map (λ w. Neb w c) (filter (λ w. not (has set w)) (candidates n))) }
+    ensures { (records : List (List ℕ)) → AreOf ahead.now records
+        → result
+        ≡ all_offered records start
+        (map (λ w. Neb w c) (filter (λ w. not (has set w)) (candidates n))) }
 {
     let mut score = start;
     for w in 0..n {
@@ -93,7 +99,9 @@ pub fn offer_nens(
     set: CandSet,
     row: &[u32],
 ) -> Score
-    ensures { (n : ℕ) (records : List (List ℕ)) → row.now ≡ tallies records n set → c < n → All (λ l. l < n) behind.now → result ≡ all_offered records start (nens_for c set behind.now) }
+    ensures { (n : ℕ) (records : List (List ℕ)) → row.now ≡ tallies records n set → c < n
+        → All (λ l. l < n) behind.now
+        → result ≡ all_offered records start (nens_for c set behind.now) }
 {
     let for_winner = votes(row, c);
     let mut score = start;

@@ -22,6 +22,7 @@ use std::sync::ledger::Ledger;
 /// has it. Where nothing true refutes the suffix, they are 0 and none.
 #[derive(Drop)]
 pub struct Scored {
+    /// The suffix, with the number of candidates.
     pub tail: Tail,
     /// The margin, in votes.
     pub low: u32,
@@ -80,7 +81,8 @@ impl Ord for Scored {
 impl PartialOrd for Scored {
     ghost partial_cmp = { as_partial_cmp first_is_greatest };
 
-    ghost laws = { partial_order_from_agreeing_total first_is_greatest search_total (λ x y. refl) (λ x y. refl) };
+    ghost laws = { partial_order_from_agreeing_total first_is_greatest search_total
+        (λ x y. refl) (λ x y. refl) };
 
     fn partial_cmp(&self, other: &Scored) -> Option<Ordering> {
         Some(self.cmp(other))
@@ -149,7 +151,8 @@ pub fn expand<L: Ledger>(
 ) -> Result<Vec<Scored>, Memory>
     requires contest { s.now.tail.n ≡ tallies.old.bag.n }
     requires scored { IsScoredOver tallies.old.bag s.now }
-    ensures tails { IfOk result (λ longer. map (λ child. child.tail) longer.items ≡ children s.now.tail) }
+    ensures tails { IfOk result
+        (λ longer. map (λ child. child.tail) longer.items ≡ children s.now.tail) }
     ensures scored { IfOk result (λ longer. All (IsScoredOver tallies.old.bag) longer.items) }
     ensures step { steps.new ≡ steps.old + 1 }
     ensures same { tallies.new ≡ tallies.old }

@@ -55,7 +55,7 @@ impl Tail {
         Tail::none(n).front(c)
     }
 
-    /// These candidates, of a contest with `n` candidates.
+    /// The suffix of these candidates, of a contest with `n` candidates.
     pub fn of(n: u32, list: &[Candidate]) -> Tail
         requires some { 1 ≤ n }
         requires room { n ≤ ROOM }

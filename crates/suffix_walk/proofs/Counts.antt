@@ -31,7 +31,8 @@ count-none p (x ∷ xs) h =
 pub count-filter : {X : Type 0} (p q : X → Bool) (xs : List X) → count_by p (filter q xs) ≡ count_by (λ x. q x && p x) xs
 count-filter p q [] = refl
 count-filter {X} p q (x ∷ xs) = go (q x) (count-filter p q xs) ∙ sym (count-cons (λ x. q x && p x) x xs) where
-  go : (b : Bool) → count_by p (filter q xs) ≡ count_by (λ x. q x && p x) xs → count_by p (cond b (x ∷ filter q xs) (filter q xs)) ≡ (if b && p x then 1 else 0) + count_by (λ x. q x && p x) xs
+  go : (b : Bool) → count_by p (filter q xs) ≡ count_by (λ x. q x && p x) xs → count_by p (cond b (x ∷ filter q xs) (filter q xs))
+      ≡ (if b && p x then 1 else 0) + count_by (λ x. q x && p x) xs
   go true e = count-cons p x (filter q xs) ∙ ap (λ k. (if p x then 1 else 0) + k) e
   go false e = e ∙ omega arith
 
@@ -73,7 +74,8 @@ module _ (n nodes : ℕ) (kept : List ℕ → Bool) where
   Ran count xs (Err (Found s)) = (find (is_whole n kept) xs ≡ Some s) × (count + seen n kept xs ≤ nodes)
   Ran count xs (Err Spent) = nodes < count + seen n kept xs
 
-  ran-moves : (count count' : ℕ) (xs xs' : List (List ℕ)) (r : Result ℕ Stop) → find (is_whole n kept) xs ≡ find (is_whole n kept) xs' → count + seen n kept xs ≡ count' + seen n kept xs' → Ran count xs r → Ran count' xs' r
+  ran-moves : (count count' : ℕ) (xs xs' : List (List ℕ)) (r : Result ℕ Stop) → find (is_whole n kept) xs ≡ find (is_whole n kept) xs' →
+      count + seen n kept xs ≡ count' + seen n kept xs' → Ran count xs r → Ran count' xs' r
   ran-moves count count' xs xs' (Ok j) e f h = (sym e ∙ h.0, let le : count + seen n kept xs ≤ nodes = h.1 in omega arith)
   ran-moves count count' xs xs' (Err (Found s)) e f h = (sym e ∙ h.0, let le : count + seen n kept xs ≤ nodes = h.1 in omega arith)
   ran-moves count count' xs xs' (Err Spent) e f h = let lt : nodes < count + seen n kept xs = h in omega arith
@@ -87,8 +89,10 @@ module _ (n nodes : ℕ) (kept : List ℕ → Bool) where
             let f : find (is_whole n kept) (s ∷ xs) ≡ find (is_whole n kept) xs = rw gone refl in
             let g : until (is_whole n kept) (s ∷ xs) ≡ s ∷ until (is_whole n kept) xs = rw gone refl in
             let p : (is_part n kept) s ≡ false = Rattle.std.proofs.lemmas.Bool.and_right (nat_lt (length s) n) (kept s) gone in
-            let k : seen n kept (s ∷ xs) ≡ seen n kept xs = ap (count_by (is_part n kept)) g ∙ count-cons (is_part n kept) s (until (is_whole n kept) xs) ∙ ap (λ b. (if b then 1 else 0) + seen n kept xs) p ∙ omega arith in
-            subst (Ran count (s ∷ xs)) (sym e) (ran-moves count count xs (s ∷ xs) (walked n nodes kept count xs) (sym f) (ap (λ z. count + z) (sym k)) (ran count xs le))
+            let k : seen n kept (s ∷ xs) ≡ seen n kept xs = ap (count_by (is_part n kept)) g ∙ count-cons (is_part n kept) s (until (is_whole n kept) xs)
+            ∙ ap (λ b. (if b then 1 else 0) + seen n kept xs) p ∙ omega arith in
+            subst (Ran count (s ∷ xs)) (sym e) (ran-moves count count xs (s ∷ xs) (walked n nodes kept count xs) (sym f) (ap (λ z. count + z) (sym k))
+            (ran count xs le))
         | inl keep ↦ elim (cases_Bool (nat_lt (length s) n)) [
           | inr whole ↦
               let e : walked n nodes kept count (s ∷ xs) ≡ Err (Found s) = rw (keep, whole) refl in
@@ -100,12 +104,14 @@ module _ (n nodes : ℕ) (kept : List ℕ → Bool) where
               let f : find (is_whole n kept) (s ∷ xs) ≡ find (is_whole n kept) xs = rw (keep, short) refl in
               let g : until (is_whole n kept) (s ∷ xs) ≡ s ∷ until (is_whole n kept) xs = rw (keep, short) refl in
               let p : (is_part n kept) s ≡ true = Rattle.std.proofs.lemmas.Bool.and_from (nat_lt (length s) n) (kept s) short keep in
-              let k : seen n kept (s ∷ xs) ≡ 1 + seen n kept xs = ap (count_by (is_part n kept)) g ∙ count-cons (is_part n kept) s (until (is_whole n kept) xs) ∙ ap (λ b. (if b then 1 else 0) + seen n kept xs) p in
+              let k : seen n kept (s ∷ xs) ≡ 1 + seen n kept xs = ap (count_by (is_part n kept)) g
+              ∙ count-cons (is_part n kept) s (until (is_whole n kept) xs) ∙ ap (λ b. (if b then 1 else 0) + seen n kept xs) p in
               elim (cases_Bool (nat_lt count nodes)) [
                 | inl room ↦
                     let l : count < nodes = ltb-true count nodes room in
                     let e : walked n nodes kept count (s ∷ xs) ≡ walked n nodes kept (count + 1) xs = rw (keep, short, room) refl in
-                    subst (Ran count (s ∷ xs)) (sym e) (ran-moves (count + 1) count xs (s ∷ xs) (walked n nodes kept (count + 1) xs) (sym f) (omega arith) (ran (count + 1) xs (omega arith)))
+                    subst (Ran count (s ∷ xs)) (sym e) (ran-moves (count + 1) count xs (s ∷ xs) (walked n nodes kept (count + 1) xs) (sym f) (omega arith)
+                    (ran (count + 1) xs (omega arith)))
                 | inr full ↦
                     let l : nodes ≤ count = ltb-false count nodes full in
                     let e : walked n nodes kept count (s ∷ xs) ≡ Err Spent = rw (keep, short, full) refl in

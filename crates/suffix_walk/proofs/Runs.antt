@@ -1,5 +1,5 @@
 -- How a walk goes on from one list of suffixes to the next.
-use Rattle.std.proofs.Common.{◌≡◌, ℕ, zero, suc, ◌+◌, ◌-◌, ◌<◌, ◌≤◌, Bool, true, false, nat_lt, inl, inr, List, [], ◌∷◌, ◌++◌, length, flat_map, if◌then◌else◌, Option, Some, None, Result, Ok, Err, refl, sym, ap, arith, ltb-true, lt-ltb, le-ltb, eq-eqb, ne_eqb, ◌∙◌}
+use Rattle.std.proofs.Common.{◌≡◌, ℕ, zero, suc, ◌+◌, ◌-◌, ◌<◌, ◌≤◌, Bool, true, false, nat_lt, inl, inr, List, [], ◌∷◌, ◌++◌, length, flat_map, if◌then◌else◌, Some, None, Result, Ok, Err, refl, sym, ap, arith, ltb-true, lt-ltb, le-ltb, eq-eqb, ne_eqb, ◌∙◌}
 use Rattle.std.specs.List.{range_with_len}
 use Rattle.std.proofs.lemmas.Bool.{cases_Bool, cases_eq, both_ways, false_from_ne_true}
 use Rattle.irv_base.specs.Candidates.{candidates, is_in}
@@ -75,13 +75,16 @@ after (Ok count) rest = rest count
 after (Err stop) rest = Err stop
 
 module _ (n nodes : ℕ) (kept : List ℕ → Bool) where
-  pub walked-append : (count : ℕ) (xs ys : List (List ℕ)) → walked n nodes kept count (xs ++ ys) ≡ after (walked n nodes kept count xs) (λ j. walked n nodes kept j ys)
+  pub walked-append : (count : ℕ) (xs ys : List (List ℕ)) → walked n nodes kept count (xs ++ ys)
+      ≡ after (walked n nodes kept count xs) (λ j. walked n nodes kept j ys)
   walked-append count [] ys = refl
   walked-append count (s ∷ xs) ys = go (kept s) (nat_lt (length s) n) (nat_lt count nodes) (walked-append count xs ys) (walked-append (count + 1) xs ys) where
     go : (a b d : Bool) → walked n nodes kept count (xs ++ ys) ≡ after (walked n nodes kept count xs) (λ j. walked n nodes kept j ys) →
         walked n nodes kept (count + 1) (xs ++ ys) ≡ after (walked n nodes kept (count + 1) xs) (λ j. walked n nodes kept j ys) →
-        (if a then (if b then (if d then walked n nodes kept (count + 1) (xs ++ ys) else Err Spent) else Err (Found s)) else walked n nodes kept count (xs ++ ys))
-        ≡ after (if a then (if b then (if d then walked n nodes kept (count + 1) xs else Err Spent) else Err (Found s)) else walked n nodes kept count xs) (λ j. walked n nodes kept j ys)
+        (if a then (if b then (if d then walked n nodes kept (count + 1) (xs ++ ys) else Err Spent) else Err (Found s)) else walked n nodes kept count
+        (xs ++ ys))
+        ≡ after (if a then (if b then (if d then walked n nodes kept (count + 1) xs else Err Spent) else Err (Found s)) else walked n nodes kept count xs)
+        (λ j. walked n nodes kept j ys)
     go true true true e f = f
     go true true false e f = refl
     go true false d e f = refl
@@ -142,7 +145,8 @@ module _ (n nodes : ℕ) (kept : List ℕ → Bool) where
   pub rest-start : (count : ℕ) (t : List ℕ) → rest count t 0 ≡ walked n nodes kept count (flat_map (child n t) (candidates n))
   rest-start count t = ap (walked n nodes kept count) (below_from-start n t)
 
-  pub rest-step : (count : ℕ) (t : List ℕ) (c : ℕ) → c < n → is_in t c ≡ false → rest count t c ≡ after (walked n nodes kept count (all_ending n (c ∷ t))) (λ j. rest j t (c + 1))
+  pub rest-step : (count : ℕ) (t : List ℕ) (c : ℕ) → c < n → is_in t c ≡ false → rest count t c
+      ≡ after (walked n nodes kept count (all_ending n (c ∷ t))) (λ j. rest j t (c + 1))
   rest-step count t c l out = ap (walked n nodes kept count) (below_from-goes n t c l out) ∙ walked-append count (all_ending n (c ∷ t)) (below_from n t (c + 1))
 
   pub rest-end : (count : ℕ) (t : List ℕ) (c : ℕ) → n ≤ c → rest count t c ≡ Ok count
@@ -151,8 +155,10 @@ module _ (n nodes : ℕ) (kept : List ℕ → Bool) where
   pub rest-passes : (count : ℕ) (t : List ℕ) (c : ℕ) → c < n → is_in t c ≡ true → rest count t c ≡ rest count t (c + 1)
   rest-passes count t c l h = ap (walked n nodes kept count) (below_from-passes n t c l h)
 
-  pub rest-goes : (count j : ℕ) (t : List ℕ) (c : ℕ) → c < n → is_in t c ≡ false → walked n nodes kept count (all_ending n (c ∷ t)) ≡ Ok j → rest count t c ≡ rest j t (c + 1)
+  pub rest-goes : (count j : ℕ) (t : List ℕ) (c : ℕ) → c < n → is_in t c ≡ false → walked n nodes kept count (all_ending n (c ∷ t)) ≡ Ok j →
+      rest count t c ≡ rest j t (c + 1)
   rest-goes count j t c l out e = rest-step count t c l out ∙ ap (λ r. after r (λ j. rest j t (c + 1))) e
 
-  pub rest-stops : (count : ℕ) (stop : Stop) (t : List ℕ) (c : ℕ) → c < n → is_in t c ≡ false → walked n nodes kept count (all_ending n (c ∷ t)) ≡ Err stop → rest count t c ≡ Err stop
+  pub rest-stops : (count : ℕ) (stop : Stop) (t : List ℕ) (c : ℕ) → c < n → is_in t c ≡ false → walked n nodes kept count (all_ending n (c ∷ t)) ≡ Err stop →
+      rest count t c ≡ Err stop
   rest-stops count stop t c l out e = rest-step count t c l out ∙ ap (λ r. after r (λ j. rest j t (c + 1))) e

@@ -27,10 +27,12 @@ pub agrees : (a b : ℕ) (r : Bool) → r ≡ not (a == b) → r ≡ false → a
 agrees a b r h f = elim (cases_Bool (a == b)) [ inl t ↦ eqb-true a b t | inr o ↦ absurd (both_ways r f (h ∙ not_from_false (a == b) o)) ]
 
 -- ---- whole orders among the suffixes
-find-flat_map : {X : Type 0} (p q : X → Bool) (f g : ℕ → List X) (cs : List ℕ) → ((c : ℕ) → find p (f c) ≡ find q (g c)) → find p (flat_map f cs) ≡ find q (flat_map g cs)
+find-flat_map : {X : Type 0} (p q : X → Bool) (f g : ℕ → List X) (cs : List ℕ) → ((c : ℕ) → find p (f c) ≡ find q (g c)) →
+    find p (flat_map f cs) ≡ find q (flat_map g cs)
 find-flat_map p q f g [] h = refl
 find-flat_map p q f g (c ∷ cs) h =
-    find-append p (f c) (flat_map f cs) ∙ ap (λ o. option_or o (find p (flat_map f cs))) (h c) ∙ ap (option_or (find q (g c))) (find-flat_map p q f g cs h) ∙ sym (find-append q (g c) (flat_map g cs))
+    find-append p (f c) (flat_map f cs) ∙ ap (λ o. option_or o (find p (flat_map f cs))) (h c) ∙ ap (option_or (find q (g c))) (find-flat_map p q f g cs h)
+    ∙ sym (find-append q (g c) (flat_map g cs))
 
 find-skip : {X : Type 0} (q : X → Bool) (x : X) (xs : List X) → q x ≡ false → find q (x ∷ xs) ≡ find q xs
 find-skip q x xs h = rw h refl
@@ -38,7 +40,8 @@ find-skip q x xs h = rw h refl
 find-first : {X : Type 0} (q : X → Bool) (x : X) (xs : List X) → q x ≡ true → find q (x ∷ xs) ≡ Some x
 find-first q x xs h = rw h refl
 
-pub find-whole : (n : ℕ) (kept : List ℕ → Bool) (k : ℕ) (t : List ℕ) → k + length t ≡ n → find kept (orders_ending n k t) ≡ find (is_whole n kept) (suffixes_ending n k t)
+pub find-whole : (n : ℕ) (kept : List ℕ → Bool) (k : ℕ) (t : List ℕ) → k + length t ≡ n → find kept (orders_ending n k t)
+    ≡ find (is_whole n kept) (suffixes_ending n k t)
 find-whole n kept zero t long =
     let whole : nat_lt (length t) n ≡ false = le-ltb (length t) n (omega arith) in
     same (kept t) (nat_lt (length t) n) whole
@@ -50,12 +53,14 @@ find-whole n kept zero t long =
 find-whole n kept (suc k) t long =
     let short : nat_lt (length t) n ≡ true = lt-ltb (length t) n (omega arith) in
     let skip : is_whole n kept t ≡ false = and_right (kept t) (not (nat_lt (length t) n)) (not_from_true (nat_lt (length t) n) short) in
-    find-flat_map kept (is_whole n kept) (λ c. if is_in t c then [] else orders_ending n k (c ∷ t)) (λ c. if is_in t c then [] else suffixes_ending n k (c ∷ t)) (candidates n)
+    find-flat_map kept (is_whole n kept) (λ c. if is_in t c then [] else orders_ending n k (c ∷ t))
+    (λ c. if is_in t c then [] else suffixes_ending n k (c ∷ t)) (candidates n)
     (λ c. elim (cases_Bool (is_in t c)) [ inl in' ↦ rw in' refl | inr out ↦ rw out (find-whole n kept k (c ∷ t) (omega arith)) ])
     ∙ sym (find-skip (is_whole n kept) t (flat_map (λ c. if is_in t c then [] else suffixes_ending n k (c ∷ t)) (candidates n)) skip)
 
 -- ---- what stands before the first of a sorted list
-sorted-split : (s : List ℕ) (xs rest : List (List ℕ)) → Sorted IsBefore (xs ++ s ∷ rest) → ((x : List ℕ) → Member x xs → IsBefore x s) × ((y : List ℕ) → Member y rest → IsBefore s y)
+sorted-split : (s : List ℕ) (xs rest : List (List ℕ)) → Sorted IsBefore (xs ++ s ∷ rest) → ((x : List ℕ) → Member x xs → IsBefore x s) ×
+    ((y : List ℕ) → Member y rest → IsBefore s y)
 sorted-split s [] rest (more f r) = (λ x m. absurd (member_nil m), f)
 sorted-split s (x ∷ xs) rest (more f r) =
     let (a, b) = sorted-split s xs rest r in
@@ -137,7 +142,8 @@ module _ (n nodes : ℕ) (kept : List ℕ → Bool) where
   order_of-cons : (c : ℕ) (cs : List ℕ) → order_of (c ∷ cs) ≡ option_or (find (is_whole n kept) (piece n kept c)) (order_of cs)
   order_of-cons c cs = find-append (is_whole n kept) (piece n kept c) (flat_map (piece n kept) cs)
 
-  earlier : (c : ℕ) (cs : List ℕ) → ((d : ℕ) → Member d cs → c < d) → (o : Option (List ℕ)) → order_of cs ≡ o → (x : List ℕ) → Member x (piece n kept c) → is_passed o x ≡ true
+  earlier : (c : ℕ) (cs : List ℕ) → ((d : ℕ) → Member d cs → c < d) → (o : Option (List ℕ)) → order_of cs ≡ o → (x : List ℕ) → Member x (piece n kept c) →
+      is_passed o x ≡ true
   earlier c cs least None e x m = refl
   earlier c cs least (Some s) e x m =
       let (k, t) = from_find (is_whole n kept) s (flat_map (piece n kept) cs) e in
@@ -146,42 +152,47 @@ module _ (n nodes : ℕ) (kept : List ℕ → Bool) where
 
   scan_is : {cs : List ℕ} → Sorted ◌<◌ cs → scan cs ≡ answer (order_of cs) cs
   scan_is none = refl
-  scan_is (more {x = c} {xs = cs} least r) = go (walked n nodes kept 0 (all_ending n (c ∷ []))) (ran n nodes kept 0 (piece n kept c) (omega arith)) (scan_is r) where
-    found : (s : List ℕ) → find (is_whole n kept) (piece n kept c) ≡ Some s → order_of (c ∷ cs) ≡ Some s
-    found s h = order_of-cons c cs ∙ ap (λ o. option_or o (order_of cs)) h
+  scan_is (more {x = c} {xs = cs} least r) = go (walked n nodes kept 0 (all_ending n (c ∷ []))) (ran n nodes kept 0 (piece n kept c) (omega arith))
+      (scan_is r) where
+        found : (s : List ℕ) → find (is_whole n kept) (piece n kept c) ≡ Some s → order_of (c ∷ cs) ≡ Some s
+        found s h = order_of-cons c cs ∙ ap (λ o. option_or o (order_of cs)) h
 
-    missed : find (is_whole n kept) (piece n kept c) ≡ None → order_of (c ∷ cs) ≡ order_of cs
-    missed h = order_of-cons c cs ∙ ap (λ o. option_or o (order_of cs)) h
+        missed : find (is_whole n kept) (piece n kept c) ≡ None → order_of (c ∷ cs) ≡ order_of cs
+        missed h = order_of-cons c cs ∙ ap (λ o. option_or o (order_of cs)) h
 
-    -- the count for c, whichever order it is taken to
-    counted : (o : Option (List ℕ)) → find (is_whole n kept) (piece n kept c) ≡ o → kept_count n kept (order_of (c ∷ cs)) c ≡ seen n kept (piece n kept c)
-    counted None h =
-        ap (λ o. kept_count n kept o c) (missed h) ∙ count-earlier n kept (order_of cs) c h (earlier c cs least (order_of cs) refl)
-    counted (Some s) h = ap (λ o. kept_count n kept o c) (found s h) ∙ count-here n kept c s h
+        -- the count for c, whichever order it is taken to
+        counted : (o : Option (List ℕ)) → find (is_whole n kept) (piece n kept c) ≡ o → kept_count n kept (order_of (c ∷ cs)) c ≡ seen n kept (piece n kept c)
+        counted None h =
+            ap (λ o. kept_count n kept o c) (missed h) ∙ count-earlier n kept (order_of cs) c h (earlier c cs least (order_of cs) refl)
+        counted (Some s) h = ap (λ o. kept_count n kept o c) (found s h) ∙ count-here n kept c s h
 
-    go : (w : Result ℕ Stop) → Ran n nodes kept 0 (piece n kept c) w → scan cs ≡ answer (order_of cs) cs → chosen n kept c w (scan cs) ≡ answer (order_of (c ∷ cs)) (c ∷ cs)
-    go (Ok j) h ih =
-        let k : kept_count n kept (order_of (c ∷ cs)) c ≡ seen n kept (piece n kept c) = counted None h.0 in
-        let le : 0 + seen n kept (piece n kept c) ≤ nodes = h.1 in
-        let f : over (order_of (c ∷ cs)) c ≡ false = le-ltb nodes (kept_count n kept (order_of (c ∷ cs)) c) (omega arith) in
-        ih ∙ ap (λ o. answer o cs) (sym (missed h.0)) ∙ ap (λ o. or_spent o (order_of (c ∷ cs))) (sym (find-skip (over (order_of (c ∷ cs))) c cs f))
-    go (Err (Found s)) h ih =
-        let k : kept_count n kept (order_of (c ∷ cs)) c ≡ seen n kept (piece n kept c) = counted (Some s) h.0 in
-        let le : 0 + seen n kept (piece n kept c) ≤ nodes = h.1 in
-        let f : over (order_of (c ∷ cs)) c ≡ false = le-ltb nodes (kept_count n kept (order_of (c ∷ cs)) c) (omega arith) in
-        let (m, t) = from_find (is_whole n kept) s (piece n kept c) h.0 in
-        let z : find (over (Some s)) cs ≡ None = find-none_later s cs (λ d q. count-later n kept s d (λ x k. pieces-across n (n - 1) c d s x (least d q) m k)) in
-        sym (ap (λ o. or_spent o (order_of (c ∷ cs))) (find-skip (over (order_of (c ∷ cs))) c cs f) ∙ ap (λ o. answer o cs) (found s h.0) ∙ ap (λ o. or_spent o (Some s)) z)
-    go (Err Spent) h ih =
-        let k : kept_count n kept (order_of (c ∷ cs)) c ≡ seen n kept (piece n kept c) = counted (find (is_whole n kept) (piece n kept c)) refl in
-        let lt : nodes < 0 + seen n kept (piece n kept c) = h in
-        let t : over (order_of (c ∷ cs)) c ≡ true = lt-ltb nodes (kept_count n kept (order_of (c ∷ cs)) c) (omega arith) in
-        sym (ap (λ o. or_spent o (order_of (c ∷ cs))) (find-first (over (order_of (c ∷ cs))) c cs t))
+        go : (w : Result ℕ Stop) → Ran n nodes kept 0 (piece n kept c) w → scan cs ≡ answer (order_of cs) cs →
+            chosen n kept c w (scan cs) ≡ answer (order_of (c ∷ cs)) (c ∷ cs)
+        go (Ok j) h ih =
+            let k : kept_count n kept (order_of (c ∷ cs)) c ≡ seen n kept (piece n kept c) = counted None h.0 in
+            let le : 0 + seen n kept (piece n kept c) ≤ nodes = h.1 in
+            let f : over (order_of (c ∷ cs)) c ≡ false = le-ltb nodes (kept_count n kept (order_of (c ∷ cs)) c) (omega arith) in
+            ih ∙ ap (λ o. answer o cs) (sym (missed h.0)) ∙ ap (λ o. or_spent o (order_of (c ∷ cs))) (sym (find-skip (over (order_of (c ∷ cs))) c cs f))
+        go (Err (Found s)) h ih =
+            let k : kept_count n kept (order_of (c ∷ cs)) c ≡ seen n kept (piece n kept c) = counted (Some s) h.0 in
+            let le : 0 + seen n kept (piece n kept c) ≤ nodes = h.1 in
+            let f : over (order_of (c ∷ cs)) c ≡ false = le-ltb nodes (kept_count n kept (order_of (c ∷ cs)) c) (omega arith) in
+            let (m, t) = from_find (is_whole n kept) s (piece n kept c) h.0 in
+            let z : find (over (Some s)) cs ≡ None =
+            find-none_later s cs (λ d q. count-later n kept s d (λ x k. pieces-across n (n - 1) c d s x (least d q) m k)) in
+            sym (ap (λ o. or_spent o (order_of (c ∷ cs))) (find-skip (over (order_of (c ∷ cs))) c cs f) ∙ ap (λ o. answer o cs) (found s h.0)
+            ∙ ap (λ o. or_spent o (Some s)) z)
+        go (Err Spent) h ih =
+            let k : kept_count n kept (order_of (c ∷ cs)) c ≡ seen n kept (piece n kept c) = counted (find (is_whole n kept) (piece n kept c)) refl in
+            let lt : nodes < 0 + seen n kept (piece n kept c) = h in
+            let t : over (order_of (c ∷ cs)) c ≡ true = lt-ltb nodes (kept_count n kept (order_of (c ∷ cs)) c) (omega arith) in
+            sym (ap (λ o. or_spent o (order_of (c ∷ cs))) (find-first (over (order_of (c ∷ cs))) c cs t))
 
   pub scan-first_within : (winner : ℕ) → 0 < n → scan (all_but n winner) ≡ first_within n winner nodes kept
   scan-first_within winner some =
       let same : order_of (all_but n winner) ≡ first_kept n winner kept =
-      sym (find-flat_map kept (is_whole n kept) (λ c. orders_ending n (n - 1) (c ∷ [])) (piece n kept) (all_but n winner) (λ c. find-whole n kept (n - 1) (c ∷ []) (long c))) in
+      sym (find-flat_map kept (is_whole n kept) (λ c. orders_ending n (n - 1) (c ∷ [])) (piece n kept) (all_but n winner)
+      (λ c. find-whole n kept (n - 1) (c ∷ []) (long c))) in
       scan_is (sorted-filter ◌<◌ (λ c. not (c == winner)) (sorted-range 0 n)) ∙ ap (λ o. answer o (all_but n winner)) same
     where
       long : (c : ℕ) → n - 1 + length (c ∷ []) ≡ n
@@ -204,7 +215,8 @@ module _ (n nodes : ℕ) (kept : List ℕ → Bool) where
   pub scan-winner : (winner c : ℕ) → c < n → c ≡ winner → scan_from winner c ≡ scan_from winner (c + 1)
   scan-winner winner c l e = scan-range winner c l ∙ (rw (eq-eqb c winner e) refl)
 
-  pub scan-other : (winner c : ℕ) (w : Result ℕ Stop) → c < n → (c ≡ winner → ⊥) → w ≡ walked n nodes kept 0 (all_ending n (c ∷ [])) → scan_from winner c ≡ chosen n kept c w (scan_from winner (c + 1))
+  pub scan-other : (winner c : ℕ) (w : Result ℕ Stop) → c < n → (c ≡ winner → ⊥) → w ≡ walked n nodes kept 0 (all_ending n (c ∷ [])) →
+      scan_from winner c ≡ chosen n kept c w (scan_from winner (c + 1))
   scan-other winner c w l ne e = scan-range winner c l ∙ (rw (ne_eqb c winner ne) (ap (λ r. chosen n kept c r (scan_from winner (c + 1))) (sym e)))
 
   pub scan-end : (winner c : ℕ) → n ≤ c → scan_from winner c ≡ Ok None
@@ -213,6 +225,7 @@ module _ (n nodes : ℕ) (kept : List ℕ → Bool) where
       ap (λ k. scan (filter (λ d. not (d == winner)) (range_with_len c k))) e
 
   -- the walk stops
-  pub scan-stops : (winner c : ℕ) (stop : Stop) → c < n → (c ≡ winner → ⊥) → Err stop ≡ walked n nodes kept 0 (all_ending n (c ∷ [])) → scan_from winner c ≡ stopped_at c stop
+  pub scan-stops : (winner c : ℕ) (stop : Stop) → c < n → (c ≡ winner → ⊥) → Err stop ≡ walked n nodes kept 0 (all_ending n (c ∷ [])) →
+      scan_from winner c ≡ stopped_at c stop
   scan-stops winner c (Found order) l ne e = scan-other winner c (Err (Found order)) l ne e
   scan-stops winner c Spent l ne e = scan-other winner c (Err Spent) l ne e

@@ -5,7 +5,7 @@ use Rattle.suffix_walk.specs.declared.walk.Stop.{Stop}
 use Rattle.suffix_walk.specs.declared.walk.Stop.TheVariants.{Found, Spent}
 use Rattle.assertions.specs.Suffixes.{alternative_orders, parts_ending, comes_before}
 
--- of the alternative orders that are kept, the least when read backwards
+-- the alternative order that is kept and is the least when read backwards
 abbrev pub first_kept : ℕ → ℕ → (List ℕ → Bool) → Option (List ℕ)
 first_kept n winner kept = find kept (alternative_orders n winner)
 
@@ -16,13 +16,14 @@ is_passed (Some order) suffix = comes_before suffix order
 
 -- the suffixes that count for c: they end in it, aren't whole orders, are kept, and come before that order
 abbrev pub kept_count : ℕ → (List ℕ → Bool) → Option (List ℕ) → ℕ → ℕ
-kept_count n kept order c = count_by (λ suffix. kept suffix && is_passed order suffix) (parts_ending n c)
+kept_count n kept order c =
+    count_by (λ suffix. kept suffix && is_passed order suffix) (parts_ending n c)
 
 -- the least candidate but the winner for whom more than nodes count
 abbrev pub first_over : ℕ → ℕ → ℕ → (ℕ → ℕ) → Option ℕ
 first_over n winner nodes count = find (λ c. nat_lt nodes (count c)) (all_but n winner)
 
--- that candidate, if there is one, and else the order
+-- the candidate over the budget, if there is one, and else the order
 abbrev pub or_spent : Option ℕ → Option (List ℕ) → Result (Option (List ℕ)) ℕ
 or_spent (Some last) order = Err last
 or_spent None order = Ok order

@@ -8,5 +8,7 @@ abbrev pub walked : ℕ → ℕ → (List ℕ → Bool) → ℕ → List (List �
 walked n nodes kept count [] = Ok count
 walked n nodes kept count (suffix ∷ rest) =
     if kept suffix
-    then (if nat_lt (length suffix) n then (if nat_lt count nodes then walked n nodes kept (count + 1) rest else Err Spent) else Err (Found suffix))
+    then (if nat_lt (length suffix) n
+    then (if nat_lt count nodes then walked n nodes kept (count + 1) rest else Err Spent)
+    else Err (Found suffix))
     else walked n nodes kept count rest

@@ -5,7 +5,8 @@ use Rattle.irv_base.specs.Candidates.{is_in}
 use Rattle.trial.specs.Records.{drawn, next, after, places_of, chosen, with_choice, ballot, ballots_from}
 
 -- ---- one choice more
-pub chosen-step : (n places i state : ℕ) → i < places → chosen n (places - i) state ≡ min (drawn state % n) (drawn (next state) % n) ∷ chosen n (places - (i + 1)) (after 2 state)
+pub chosen-step : (n places i state : ℕ) → i < places → chosen n (places - i) state ≡ min (drawn state % n) (drawn (next state) % n) ∷
+    chosen n (places - (i + 1)) (after 2 state)
 chosen-step n places i state l =
     let e : places - i ≡ suc (places - (i + 1)) = omega arith in
     ap (λ k. chosen n k state) e
@@ -22,7 +23,8 @@ pushed old new c added kept = go (is_in old c) refl where
   go false e = added e
 
 -- ---- one ballot more
-pub ballots-step : (n ballots i state : ℕ) → i < ballots → ballots_from n (ballots - i) state ≡ ballot n state ∷ ballots_from n (ballots - (i + 1)) (after (1 + 2 * places_of n state) state)
+pub ballots-step : (n ballots i state : ℕ) → i < ballots → ballots_from n (ballots - i) state ≡ ballot n state ∷
+    ballots_from n (ballots - (i + 1)) (after (1 + 2 * places_of n state) state)
 ballots-step n ballots i state l =
     let e : ballots - i ≡ suc (ballots - (i + 1)) = omega arith in
     ap (λ k. ballots_from n k state) e
@@ -55,7 +57,8 @@ module _ (n : ℕ) (some : 0 < n) where
       fold-below rest (with_choice ranking c) (λ k d l. h (suc k) d (omega (arith, l))) (with-below ranking c r (h 0 c (omega arith)))
 
   pub ballot-below : (state : ℕ) → Below (ballot n state)
-  ballot-below state = fold-below (chosen n (places_of n state) (next state)) [] (chosen-below (places_of n state) (next state)) (λ k d l. absurd (omega (arith, l)))
+  ballot-below state = fold-below (chosen n (places_of n state) (next state)) [] (chosen-below (places_of n state) (next state))
+      (λ k d l. absurd (omega (arith, l)))
 
   pub ballots-below : (ballots state : ℕ) → All (λ ranking. All (λ c. c < n) ranking) (ballots_from n ballots state)
   ballots-below zero state = λ k d l. absurd (omega (arith, l))

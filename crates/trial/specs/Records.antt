@@ -26,9 +26,10 @@ places_of n state = 1 + drawn state % n
 -- the candidates of so many places, each the smaller of two that are drawn
 abbrev pub chosen : ℕ → ℕ → ℕ → List ℕ
 chosen n zero state = []
-chosen n (suc places) state = min (drawn state % n) (drawn (next state) % n) ∷ chosen n places (after 2 state)
+chosen n (suc places) state =
+    min (drawn state % n) (drawn (next state) % n) ∷ chosen n places (after 2 state)
 
--- with a candidate at the end, unless it is there already
+-- a ranking with a candidate put at its end, unless it is there already
 abbrev pub with_choice : List ℕ → ℕ → List ℕ
 with_choice ranking c = if is_in ranking c then ranking else ranking ++ c ∷ []
 
@@ -43,7 +44,8 @@ ballot n state = ranking_of (chosen n (places_of n state) (next state))
 
 abbrev pub ballots_from : ℕ → ℕ → ℕ → List (List ℕ)
 ballots_from n zero state = []
-ballots_from n (suc ballots) state = ballot n state ∷ ballots_from n ballots (after (1 + 2 * places_of n state) state)
+ballots_from n (suc ballots) state =
+    ballot n state ∷ ballots_from n ballots (after (1 + 2 * places_of n state) state)
 
 -- the first state is the number of the trial
 abbrev pub trial_records : ℕ → ℕ → ℕ → List (List ℕ)

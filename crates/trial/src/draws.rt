@@ -4,13 +4,13 @@ ghost use Rattle.trial.specs.Records.{next, drawn};
 
 use std::marker::Model;
 
-/// The state is multiplied by this at each draw.
+/// What the state is multiplied by at each draw.
 pub const MULTIPLIER: u64 = 6_364_136_223_846_793_005;
 
-/// This is added to it.
+/// What is then added to the state, at each draw.
 pub const INCREMENT: u64 = 1_442_695_040_888_963_407;
 
-/// So many low bits of the new state are no part of the answer.
+/// How many low bits of the new state are no part of the number drawn.
 pub const DROPPED_BITS: u32 = 33;
 
 /// A generator of numbers: a linear congruential one, modulo `2 ^ 64`.
@@ -30,6 +30,7 @@ impl Model for Draws {
 }
 
 impl Draws {
+    /// The generator that starts from this number.
     pub fn new(number: u32) -> Draws
         ensures { result ≡ number }
     {

@@ -11,7 +11,8 @@ loop-end-preserved c =
     let i = c.loop-end.end-index in
     let x = c.end-item.result in
     let piece = c.args.piece in
-    let next = ap (λ (ps : List PieceEnd). is_in (map (λ (p : PieceEnd). p.piece) ps) piece) (sym (drop_next items i x c.loop-end-test.true c.end-item.is)) ∙ c.loop-end.invariant in
+    let next = ap (λ (ps : List PieceEnd). is_in (map (λ (p : PieceEnd). p.piece) ps) piece) (sym (drop_next items i x c.loop-end-test.true c.end-item.is))
+    ∙ c.loop-end.invariant in
     elim (or_cases (x.piece == piece) (is_in (map (λ (p : PieceEnd). p.piece) (drop (i + 1) items)) piece) next) [
       | inl same ↦ absurd (c.if-end-piece.false (eqb-true x.piece piece same))
       | inr later ↦ later

@@ -34,10 +34,22 @@ loop-worker-preserved c =
       whole = whole ∙ sym (append_assoc c.loop-worker.yielded (worker ∷ []) rest);
       made = seats ∙ ap (λ (ss : List Seated). ss ++ worker.seat ∷ []) inv.made ∙ sym (map_push (λ (w : Worker). w.seat) c.loop-worker.yielded worker);
       joined = λ bag nodes tails race all.
-          let so_far : IsJoined bag nodes tails race c.args.start (record { seats = c.loop-worker.seats; ends = c.loop-worker.ends; reports = c.loop-worker.reports; best = c.loop-worker.best; spent = c.loop-worker.spent }) = inv.joined bag nodes tails race all in
-          let number : length c.loop-worker.yielded ≡ length c.loop-worker.reports.items = sym (so_far.count ∙ ap length inv.made ∙ length-map c.loop-worker.yielded (λ (w : Worker). w.seat)) in
-          let ran : WorkerRan bag nodes tails race (length c.loop-worker.reports.items) worker = subst (λ k. WorkerRan bag nodes tails race k worker) number (worker_at bag nodes tails race c.args.team.items c.loop-worker.yielded rest worker whole all) in
+          let so_far : IsJoined bag nodes tails race c.args.start
+          (record {
+            seats = c.loop-worker.seats;
+            ends = c.loop-worker.ends;
+            reports = c.loop-worker.reports;
+            best = c.loop-worker.best;
+            spent = c.loop-worker.spent;
+          }) = inv.joined bag nodes tails race all in
+          let number : length c.loop-worker.yielded ≡ length c.loop-worker.reports.items =
+          sym (so_far.count ∙ ap length inv.made ∙ length-map c.loop-worker.yielded (λ (w : Worker). w.seat)) in
+          let ran : WorkerRan bag nodes tails race (length c.loop-worker.reports.items) worker =
+          subst (λ k. WorkerRan bag nodes tails race k worker) number
+          (worker_at bag nodes tails race c.args.team.items c.loop-worker.yielded rest worker whole all) in
           let end = IfOk-at_ok (IsWorkerEnd bag race.terms.first nodes (length c.loop-worker.reports.items) tails worker.seat.view) c.in_ok-end.was ran.end in
-          join_more bag nodes tails race c.args.start worker c.in_ok-end.end _ _ c.report_of.result so_far ran end seats (c.in_ok-extend_from_slice.ensures.items ∙ ap (λ (ps : List PieceEnd). c.loop-worker.ends.items ++ ps) c.deref-in-loop-worker.ensures.value)
-          c.in_ok-push.ensures.items c.report_of.ensures.pieces c.report_of.ensures.expanded c.report_of.ensures.looks c.better-best.ensures.margin c.better-best.ensures.one (c.first_of-spent.ensures ∙ ap (λ (xs : List ℕ). first_of c.loop-worker.spent xs) c.deref.ensures.value);
+          join_more bag nodes tails race c.args.start worker c.in_ok-end.end _ _ c.report_of.result so_far ran end seats
+          (c.in_ok-extend_from_slice.ensures.items ∙ ap (λ (ps : List PieceEnd). c.loop-worker.ends.items ++ ps) c.deref-in-loop-worker.ensures.value)
+          c.in_ok-push.ensures.items c.report_of.ensures.pieces c.report_of.ensures.expanded c.report_of.ensures.looks c.better-best.ensures.margin
+          c.better-best.ensures.one (c.first_of-spent.ensures ∙ ap (λ (xs : List ℕ). first_of c.loop-worker.spent xs) c.deref.ensures.value);
     }

@@ -12,7 +12,8 @@ loop-piece-preserved c =
     let x = c.piece-item.result in
     let same = c.deref-piece-items.ensures.value in
     let inside : i < length items = omega (arith, c.loop-piece-test.true, ap length same) in
-    let next = ap (sum_by (λ (p : PieceEnd). p.expanded)) (drop_next items i x inside (c.piece-item.is ∙ ap (λ (ps : List PieceEnd). get_or ps i x) same)) ∙ sum_by-cons (λ (p : PieceEnd). p.expanded) x (drop (i + 1) items) in
+    let next = ap (sum_by (λ (p : PieceEnd). p.expanded)) (drop_next items i x inside (c.piece-item.is ∙ ap (λ (ps : List PieceEnd). get_or ps i x) same))
+    ∙ sum_by-cons (λ (p : PieceEnd). p.expanded) x (drop (i + 1) items) in
     record {
       expanded = omega (arith, inv.expanded, next, c.from-expanded.ensures);
       most = omega (arith, inv.most, c.from-expanded.ensures);

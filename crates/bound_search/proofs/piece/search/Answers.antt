@@ -4,9 +4,34 @@ use Rattle.shared_witness.specs.declared.view.View.{View}
 use Rattle.suffix_tree.specs.Suffixes.{Suffix}
 use Rattle.bound_search.specs.Fronts.{IsFront, Grows, IsTurn, IsFound}
 use Rattle.bound_search.specs.Reached.{IsNewest, IsInWork, IsOverBudget, IsClosedAt}
-use Rattle.bound_search.proofs.Racing.{over, under_front, under_turn, under_most, after_closed, after_found, after_more, after_spent, expanded_le}
+use Rattle.bound_search.proofs.Racing.{IsUnder, over, under_front, under_turn, under_most, after_closed, after_found, after_more, after_spent, expanded_le}
 use Rattle.bound_search.proofs.Views.{posted_view, closed_view}
 use Rattle.bound_search.proofs.piece.search.Goals as goal
+use Rattle.bound_search.proofs.piece.search.Goals.{In_ok-turn}
+
+-- ---- a turn, over the tallies that the search began with
+
+turned : (g : _) (c : In_ok-turn g) → IsTurn c.args.tallies.now.bag (c.args.nodes - c.expanded.result) c.turns.front c.turn.new.self c.in_ok-turn.field-0
+turned g c =
+    over (λ b. IsTurn b (c.args.nodes - c.expanded.result) c.turns.front c.turn.new.self c.in_ok-turn.field-0) c.turns.invariant.same c.in_ok-turn.ensures.turn
+
+grown : (g : _) (c : In_ok-turn g) → Grows c.args.tallies.now.bag c.look-bound.result c.turns.front c.turn.new.self
+grown g c = over (λ b. Grows b c.look-bound.result c.turns.front c.turn.new.self) c.turns.invariant.same c.in_ok-turn.ensures.grows
+
+suffix : (g : _) (c : In_ok-turn g) → is_suffix c.args.tallies.now.bag.n c.args.tail.now.list ≡ true
+suffix g c =
+    subst (λ n. is_suffix n c.args.tail.now.list ≡ true) c.requires.contest
+    (subst (λ (s : Suffix). is_suffix s.n s.list ≡ true) (c.in_ok-front.ensures.piece ∙ c.in_ok-score.ensures.tail) c.in_ok-front.ensures.suffix)
+
+below : (g : _) (c : In_ok-turn g) → IsUnder c.args.tallies.now.bag c.args.race.now.terms.first c.turn.new.self
+below g c =
+    let bag = c.args.tallies.now.bag in
+    let inv = c.turns.invariant in
+    let low = c.look-bound.ensures.least in
+    let proper = ap (λ (s : Suffix). is_suffix bag.n s.list) inv.piece ∙ suffix g c in
+    under_turn bag c.args.race.now.terms.first c.look-bound.result c.turns.front c.turn.new.self proper inv.under low.0 (omega (arith, low.1, inv.least))
+    (grown g c)
+    c.in_ok-turn.ensures.piece
 
 pub returns-in-Closed-clause-searched : goal.returns-in-Closed-clause-searched
 returns-in-Closed-clause-searched g c =
@@ -20,16 +45,15 @@ returns-in-Closed-clause-searched g c =
     let bound = c.look-bound.result in
     let v = c.turns.seat.view in
     let w = c.close_piece.new.seat.view in
-    let turn = over (λ b. IsTurn b left old new c.in_ok-turn.field-0) inv.same c.in_ok-turn.ensures.turn in
+    let t = (goal.at.returns-in-Closed-clause-searched g c).In_ok-turn in
+    let turn = turned g t in
     let front = over (λ b. IsFront b new) inv.same c.in_ok-turn.ensures.front in
-    let grows = over (λ b. Grows b bound old new) inv.same c.in_ok-turn.ensures.grows in
     let of_tail : new.piece ≡ tail = c.in_ok-turn.ensures.piece ∙ inv.piece in
     let list : new.piece.list ≡ tail.list = ap (λ (s : Suffix). s.list) of_tail in
-    let proper : is_suffix bag.n tail.list ≡ true = ap (λ n. is_suffix n tail.list) (sym c.requires.contest) ∙ c.list-suffix.ensures.suffix in
-    let proper_old : is_suffix bag.n old.piece.list ≡ true = ap (λ (s : Suffix). is_suffix bag.n s.list) inv.piece ∙ proper in
+    let proper = suffix g t in
     let proper_new : is_suffix bag.n new.piece.list ≡ true = ap (is_suffix bag.n) list ∙ proper in
     let low = c.look-bound.ensures.least in
-    let under = under_turn bag first bound old new proper_old inv.under low.0 (omega (arith, low.1, inv.least)) grows c.in_ok-turn.ensures.piece in
+    let under = below g t in
     let expanded = c.expanded-in-Closed.ensures in
     let is = closed_view bound c.close_piece.result v c.look-bound.new.seat.view w c.look-bound.ensures.view c.args.piece c.close_piece.ensures.view in
     let closing = c.close_piece.ensures.least.1 in
@@ -39,7 +63,8 @@ returns-in-Closed-clause-searched g c =
     let looks = ap (λ (u : View). u.looks) is in
     let within = c.in_ok-turn.ensures.within in
     let closed_at : IsClosedAt bag w.seen new.piece.list new.expanded =
-    after_closed bag left w.seen old new c.in_ok-turn.field-0 c.in-Closed.is turn front proper_new (omega (arith, seen, closing, looked, c.in_ok-turn.ensures.bound)) (omega (arith, seen, closing, looked, low.1, inv.least)) in
+    after_closed bag left w.seen old new c.in_ok-turn.field-0 c.in-Closed.is turn front proper_new
+    (omega (arith, seen, closing, looked, c.in_ok-turn.ensures.bound)) (omega (arith, seen, closing, looked, low.1, inv.least)) in
     record {
       taken = ap (λ (u : View). u.taken) is ∙ inv.taken;
       ends = ap (λ (u : View). u.ends) is ∙ inv.ends;
@@ -64,11 +89,13 @@ turns-smaller-in-Found g c =
     let bound = c.look-bound.result in
     let left = c.args.nodes - c.expanded.result in
     let bag = c.args.tallies.now.bag in
-    let turn = over (λ b. IsTurn b left old new c.in_ok-turn.field-0) inv.same c.in_ok-turn.ensures.turn in
-    let grows = over (λ b. Grows b bound old new) inv.same c.in_ok-turn.ensures.grows in
+    let t = (goal.at.turns-smaller-in-Found g c).In_ok-turn in
+    let turn = turned g t in
+    let grows = grown g t in
     let more = expanded_le bag bound old new (under_front bag c.args.race.now.terms.first old inv.under) grows in
     let f = after_found bag left old new c.in_ok-turn.field-0 c.in-Found.order c.in-Found.margin c.in-Found.is turn in
-    let is = posted_view bound c.post.result c.turns.seat.view c.look-bound.new.seat.view c.post.new.seat.view c.look-bound.ensures.view c.in-Found.margin c.post.ensures.view in
+    let is = posted_view bound c.post.result c.turns.seat.view c.look-bound.new.seat.view c.post.new.seat.view c.look-bound.ensures.view c.in-Found.margin
+    c.post.ensures.view in
     let seen = ap (λ (u : View). u.seen) is in
     omega (arith, more, f.1, seen, c.look-bound.ensures.least.1, c.in_ok-turn.ensures.bound, c.post.ensures.least.0)
 
@@ -85,9 +112,8 @@ turns-preserved-in-Found g c =
     let margin = c.in-Found.margin in
     let v = c.turns.seat.view in
     let w = c.post.new.seat.view in
-    let turn = over (λ b. IsTurn b left old new c.in_ok-turn.field-0) inv.same c.in_ok-turn.ensures.turn in
-    let grows = over (λ b. Grows b bound old new) inv.same c.in_ok-turn.ensures.grows in
-    let proper_old : is_suffix bag.n old.piece.list ≡ true = ap (λ (s : Suffix). is_suffix bag.n s.list) inv.piece ∙ ap (λ n. is_suffix n tail.list) (sym c.requires.contest) ∙ c.list-suffix.ensures.suffix in
+    let t = (goal.at.turns-preserved-in-Found g c).In_ok-turn in
+    let turn = turned g t in
     let low = c.look-bound.ensures.least in
     let f = after_found bag left old new c.in_ok-turn.field-0 c.in-Found.order margin c.in-Found.is turn in
     let is = posted_view bound c.post.result v c.look-bound.new.seat.view w c.look-bound.ensures.view margin c.post.ensures.view in
@@ -97,10 +123,10 @@ turns-preserved-in-Found g c =
     let under_bound = c.in_ok-turn.ensures.bound in
     let lowered : w.seen < v.seen = omega (arith, seen, c.post.ensures.least.0, f.1, under_bound, low.1) in
     let newest : w.posted ≡ margin = omega (arith, posted, f.1, under_bound, low.1, inv.between) in
-    let more = expanded_le bag bound old new (under_front bag first old inv.under) grows in
+    let more = expanded_le bag bound old new (under_front bag first old inv.under) (grown g t) in
     record {
       of_race = c.post.ensures.race;
-      under = under_turn bag first bound old new proper_old inv.under low.0 (omega (arith, low.1, inv.least)) grows c.in_ok-turn.ensures.piece;
+      under = below g t;
       piece = c.in_ok-turn.ensures.piece ∙ inv.piece;
       falls = omega (arith, seen, c.post.ensures.least.0, f.1);
       least = omega (arith, seen, c.post.ensures.least.0, f.2, lowered, inv.least);
@@ -110,7 +136,11 @@ turns-preserved-in-Found g c =
       looked = omega (arith, looks, inv.looked);
       lower = omega (arith, lowered, inv.lower);
       between = omega (arith, seen, posted, c.post.ensures.least.0, lowered, inv.between);
-      newest = (subst (λ (p : Suffix). IsFound bag p.list c.in-Found.order margin) inv.piece f.0, sym newest, omega (arith, newest, f.1, under_bound, low.1, inv.lower, c.requires.seen.0));
+      newest = (
+        subst (λ (p : Suffix). IsFound bag p.list c.in-Found.order margin) inv.piece f.0,
+        sym newest,
+        omega (arith, newest, f.1, under_bound, low.1, inv.lower, c.requires.holds.seen),
+      );
       within = omega (arith, c.in_ok-turn.ensures.within, inv.within, c.expanded.ensures);
       paced = omega (arith, c.in_ok-turn.ensures.most, inv.paced);
       few_looks = omega (arith, lowered, inv.few_looks, more);
@@ -127,9 +157,8 @@ turns-preserved g c =
     let old = c.turns.front in
     let new = c.turn.new.self in
     let bound = c.look-bound.result in
-    let turn = over (λ b. IsTurn b left old new c.in_ok-turn.field-0) inv.same c.in_ok-turn.ensures.turn in
-    let grows = over (λ b. Grows b bound old new) inv.same c.in_ok-turn.ensures.grows in
-    let proper_old : is_suffix bag.n old.piece.list ≡ true = ap (λ (s : Suffix). is_suffix bag.n s.list) inv.piece ∙ ap (λ n. is_suffix n tail.list) (sym c.requires.contest) ∙ c.list-suffix.ensures.suffix in
+    let t = (goal.at.turns-preserved g c).In_ok-turn in
+    let turn = turned g t in
     let low = c.look-bound.ensures.least in
     let m = after_more bag left old new c.in_ok-turn.field-0 c.in-More.is turn in
     let is = c.look-bound.ensures.view in
@@ -138,7 +167,7 @@ turns-preserved g c =
     let looks = ap (λ (u : View). u.looks) is in
     record {
       of_race = c.look-bound.ensures.race;
-      under = under_turn bag first bound old new proper_old inv.under low.0 (omega (arith, low.1, inv.least)) grows c.in_ok-turn.ensures.piece;
+      under = below g t;
       piece = c.in_ok-turn.ensures.piece ∙ inv.piece;
       falls = omega (arith, seen, c.in_ok-turn.ensures.bound);
       least = omega (arith, seen, m.0, low.1, inv.least);
@@ -165,22 +194,23 @@ returns-in-Spent-clause-searched g c =
     let old = c.turns.front in
     let new = c.turn.new.self in
     let bound = c.look-bound.result in
-    let turn = over (λ b. IsTurn b left old new c.in_ok-turn.field-0) inv.same c.in_ok-turn.ensures.turn in
-    let grows = over (λ b. Grows b bound old new) inv.same c.in_ok-turn.ensures.grows in
+    let t = (goal.at.returns-in-Spent-clause-searched g c).In_ok-turn in
+    let turn = turned g t in
     let of_tail : new.piece ≡ tail = c.in_ok-turn.ensures.piece ∙ inv.piece in
     let list : new.piece.list ≡ tail.list = ap (λ (s : Suffix). s.list) of_tail in
-    let proper : is_suffix bag.n tail.list ≡ true = ap (λ n. is_suffix n tail.list) (sym c.requires.contest) ∙ c.list-suffix.ensures.suffix in
-    let proper_old : is_suffix bag.n old.piece.list ≡ true = ap (λ (s : Suffix). is_suffix bag.n s.list) inv.piece ∙ proper in
+    let proper = suffix g t in
     let proper_new : is_suffix bag.n new.piece.list ≡ true = ap (is_suffix bag.n) list ∙ proper in
     let low = c.look-bound.ensures.least in
-    let under = under_turn bag first bound old new proper_old inv.under low.0 (omega (arith, low.1, inv.least)) grows c.in_ok-turn.ensures.piece in
+    let under = below g t in
     let expanded = c.expanded-in-Spent.ensures in
     let is = c.look-bound.ensures.view in
     let seen = ap (λ (u : View). u.seen) is in
     let posted = ap (λ (u : View). u.posted) is in
     let looks = ap (λ (u : View). u.looks) is in
     let spent : IsOverBudget bag first c.args.nodes new.piece.list =
-    after_spent bag left c.args.nodes first old new c.in_ok-turn.field-0 c.in-Spent.is turn under proper_new (omega (arith, c.in_ok-turn.ensures.bound, low.0)) (omega (arith, c.in_ok-turn.ensures.bound, low.1, inv.least)) (omega (arith, inv.within, c.expanded.ensures)) in
+    after_spent bag left c.args.nodes first old new c.in_ok-turn.field-0 c.in-Spent.is turn under proper_new
+    (omega (arith, c.in_ok-turn.ensures.bound, low.0)) (omega (arith, c.in_ok-turn.ensures.bound, low.1, inv.least))
+    (omega (arith, inv.within, c.expanded.ensures)) in
     record {
       taken = ap (λ (u : View). u.taken) is ∙ inv.taken;
       ends = ap (λ (u : View). u.ends) is ∙ inv.ends;

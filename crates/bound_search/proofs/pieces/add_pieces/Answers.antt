@@ -19,7 +19,8 @@ loop-other-preserved c =
     let other = ne_eqb c.loop-other.other c.args.last (λ e. c.if-other-own.false (omega (arith, e, c.from-own.ensures))) in
     let items = c.in_ok-push.ensures.items in
     record {
-      added = electing_more c.args.n c.args.last c.loop-other.other c.args.tails.now.items c.loop-other.tails.items _ c.last-end.result c.front.result inv.added other c.last-end.ensures.number c.last-end.ensures.alone c.front.ensures items;
+      added = electing_more c.args.n c.args.last c.loop-other.other c.args.tails.now.items c.loop-other.tails.items _ c.last-end.result c.front.result
+          inv.added other c.last-end.ensures.number c.last-end.ensures.alone c.front.ensures items;
       few = omega (arith, ap length items ∙ length_push c.loop-other.tails.items c.front.result, inv.few);
     }
 

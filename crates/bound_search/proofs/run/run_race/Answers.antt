@@ -9,6 +9,7 @@ use Rattle.bound_search.specs.Team.{waiting, WorkerWaits, HasFewEnds, IsJoined, 
 use Rattle.bound_search.specs.declared.team.Worker.{Worker}
 use Rattle.bound_search.proofs.Raced.{whole_team, few_of_all, is_raced}
 use Rattle.bound_search.proofs.run.run_race.Goals as goal
+use Rattle.bound_search.proofs.run.run_race.Goals.{In_ok-seats}
 
 pub run_team-requires-clause-cut : goal.run_team-requires-clause-cut
 run_team-requires-clause-cut g c κs within = record {
@@ -20,8 +21,10 @@ run_team-requires-clause-cut g c κs within = record {
 pub run_team-requires-clause-waits : goal.run_team-requires-clause-waits
 run_team-requires-clause-waits g c κs within =
     let race : SharedRace = c.in_ok-race.field-0.race in
-    let made : c.in_ok-team.team.items ≡ map waiting (replicate c.args.workers (new_seat race)) = c.in_ok-team.ensures ∙ ap (λ (ss : List Seated). map waiting ss) c.in_ok-race.ensures.seats in
-    let each : All (λ (s : Seated). WorkerWaits race (waiting s)) (replicate c.args.workers (new_seat race)) = All-replicate (λ (s : Seated). WorkerWaits race (waiting s)) c.args.workers (new_seat race) refl in
+    let made : c.in_ok-team.team.items ≡ map waiting (replicate c.args.workers (new_seat race)) = c.in_ok-team.ensures
+    ∙ ap (λ (ss : List Seated). map waiting ss) c.in_ok-race.ensures.seats in
+    let each : All (λ (s : Seated). WorkerWaits race (waiting s)) (replicate c.args.workers (new_seat race)) =
+    All-replicate (λ (s : Seated). WorkerWaits race (waiting s)) c.args.workers (new_seat race) refl in
     All-same (WorkerWaits race) _ _ (c.as_mut_slice.ensures.value ∙ made) (All-map (WorkerWaits race) waiting (replicate c.args.workers (new_seat race)) each)
 
 pub join-requires : goal.join-requires
@@ -32,15 +35,17 @@ join-requires g c =
     let whole = whole_team c.in_ok-team.team.len team _ (c.run_team.ensures.len ∙ c.as_mut_slice.ensures.len) in
     record { few = All-same HasFewEnds _ _ whole (few_of_all bag c.args.nodes c.args.tails.now race team c.requires.few c.run_team.ensures.ran) }
 
-pub finish-requires-clause-race : goal.finish-requires-clause-race
-finish-requires-clause-race g c =
+joined-is : (g : _) (c : In_ok-seats g) → IsJoined c.args.counted.now.bag c.args.nodes c.args.tails.now c.in_ok-race.field-0.race c.args.first
+    c.in_ok-seats.field-0
+joined-is g c =
     let bag = c.args.counted.now.bag in
     let race : SharedRace = c.in_ok-race.field-0.race in
-    let team = c.run_team.new.team in
-    let whole = whole_team c.in_ok-team.team.len team _ (c.run_team.ensures.len ∙ c.as_mut_slice.ensures.len) in
-    let joined : IsJoined bag c.args.nodes c.args.tails.now race c.args.first c.in_ok-seats.field-0 =
-    c.in_ok-seats.ensures.joined bag c.args.nodes c.args.tails.now race (subst (TeamRan bag c.args.nodes c.args.tails.now race) (sym whole) c.run_team.ensures.ran) in
-    joined.of_race
+    let whole = whole_team c.in_ok-team.team.len c.run_team.new.team _ (c.run_team.ensures.len ∙ c.as_mut_slice.ensures.len) in
+    c.in_ok-seats.ensures.joined bag c.args.nodes c.args.tails.now race
+    (subst (TeamRan bag c.args.nodes c.args.tails.now race) (sym whole) c.run_team.ensures.ran)
+
+pub finish-requires-clause-race : goal.finish-requires-clause-race
+finish-requires-clause-race g c = (joined-is g (goal.at.finish-requires-clause-race g c).In_ok-seats).of_race
 
 pub returns : goal.returns
 returns g c =
@@ -49,13 +54,15 @@ returns g c =
     let team = c.run_team.new.team in
     let j = c.in_ok-seats.field-0 in
     let whole = whole_team c.in_ok-team.team.len team _ (c.run_team.ensures.len ∙ c.as_mut_slice.ensures.len) in
-    let joined : IsJoined bag c.args.nodes c.args.tails.now race c.args.first j =
-    c.in_ok-seats.ensures.joined bag c.args.nodes c.args.tails.now race (subst (TeamRan bag c.args.nodes c.args.tails.now race) (sym whole) c.run_team.ensures.ran) in
-    let made : c.in_ok-team.team.items ≡ map waiting (replicate c.args.workers (new_seat race)) = c.in_ok-team.ensures ∙ ap (λ (ss : List Seated). map waiting ss) c.in_ok-race.ensures.seats in
+    let joined = joined-is g (goal.at.returns g c).In_ok-seats in
+    let made : c.in_ok-team.team.items ≡ map waiting (replicate c.args.workers (new_seat race)) = c.in_ok-team.ensures
+    ∙ ap (λ (ss : List Seated). map waiting ss) c.in_ok-race.ensures.seats in
     let all = ap length made ∙ length-map (replicate c.args.workers (new_seat race)) waiting ∙ length-replicate c.args.workers (new_seat race) in
     let seats = ap length c.in_ok-seats.ensures.seats ∙ length-map _ (λ (w : Worker). w.seat) ∙ ap length whole in
     let first_is : race.terms.first ≡ c.args.first.margin = ap (λ (t : Terms). t.first) c.in_ok-race.ensures.terms in
     let key = ap (λ (r : SharedRace). r.terms.first) c.race.view_is in
     let fits : c.args.first.margin ≤ highest = omega (arith, c.race.invariant.fits.1, key, first_is) in
-    is_raced bag c.args.nodes c.args.workers c.finish.result c.args.tails.now race c.args.first j _ joined first_is (ap (λ (t : Terms). t.pieces) c.in_ok-race.ensures.terms) fits
-    (omega (arith, seats, c.run_team.ensures.len, ap length c.as_mut_slice.ensures.value, all)) c.finish.ensures.bound c.finish.ensures.seen (c.finish.ensures.taken joined.done) refl
+    is_raced bag c.args.nodes c.args.workers c.finish.result c.args.tails.now race c.args.first j _ joined first_is
+    (ap (λ (t : Terms). t.pieces) c.in_ok-race.ensures.terms) fits
+    (omega (arith, seats, c.run_team.ensures.len, ap length c.as_mut_slice.ensures.value, all)) c.finish.ensures.bound c.finish.ensures.seen
+    (c.finish.ensures.taken joined.done) refl

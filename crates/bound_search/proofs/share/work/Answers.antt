@@ -28,9 +28,11 @@ returns-then-piece-tails-clause-end g c =
       took = inv.took ∙ sym (ap (λ (u : View). u.taken) is);
       few = subst (λ (u : View). length u.taken ≤ length tails) (sym is) inv.few;
       once = subst (λ (u : View). (p : ℕ) → times u.taken p ≤ 1) (sym is) inv.once;
-      spent = subst (λ (u : View). (p : ℕ) → times u.taken p ≡ times u.closed p + times (c.loop-turn.spent.items ++ c.loop-turn.skipped.items) p) (sym is) inv.left;
+      spent = subst (λ (u : View). (p : ℕ) → times u.taken p ≡ times u.closed p + times (c.loop-turn.spent.items ++ c.loop-turn.skipped.items) p) (sym is)
+          inv.left;
       entries = inv.entries;
-      done_with = subst (λ (u : View). All (IsDoneWith c.args.tallies.now.bag u (c.loop-turn.spent.items ++ c.loop-turn.skipped.items)) c.loop-turn.ends.items) (sym is) inv.done_with;
+      done_with = subst (λ (u : View). All (IsDoneWith c.args.tallies.now.bag u (c.loop-turn.spent.items ++ c.loop-turn.skipped.items))
+          c.loop-turn.ends.items) (sym is) inv.done_with;
       costly = inv.costly;
       cause = inv.cause;
       paced = inv.paced;
@@ -61,7 +63,8 @@ loop-turn-preserved g c =
     let left : piece < pieces = omega (arith, c.take-piece.ensures.most, c.if-piece-tails.false, c.requires.pieces) in
     let take = took_piece pieces piece v t left c.take-piece.ensures.view in
     let inside : slice_get tails piece ≡ Some tail = slice_get_read tails pieces piece tail c.requires.pieces left c.index-tails-piece.is in
-    let did : IsPieceSearched bag first nodes piece tail.list skipped t w s = over (λ b. IsPieceSearched b first nodes piece tail.list skipped t w s) inv.same c.in_ok-searched.ensures.searched in
+    let did : IsPieceSearched bag first nodes piece tail.list skipped t w s =
+    over (λ b. IsPieceSearched b first nodes piece tail.list skipped t w s) inv.same c.in_ok-searched.ensures.searched in
     let notes = c.in_ok-note.ensures.left in
     let taken = taken_now bag first nodes worker tails piece tail v t w spent noted s inside take skipped did notes in
     let entry : PieceEnd = record { piece = piece; tail = tail; worker = worker; expanded = s.expanded } in
@@ -79,13 +82,19 @@ loop-turn-preserved g c =
       took = ap (map (λ (p : PieceEnd). p.piece)) items ∙ map_push (λ (p : PieceEnd). p.piece) ends entry ∙ ap (λ xs. xs ++ piece ∷ []) inv.took ∙ sym taken;
       once = subst (λ (xs : List ℕ). (p : ℕ) → times xs p ≤ 1) (sym taken) (once_more v.taken piece inv.once (c.take-piece.ensures.fresh left));
       left = left_now bag first nodes worker tails piece tail v t w spent noted s inside take skipped did notes inv.left;
-      entries = All-same (IsEntry bag first nodes worker tails) _ _ items (All-push (IsEntry bag first nodes worker tails) ends entry inv.entries (entry_now bag first nodes worker tails piece tail v t w spent noted s inside take skipped did notes));
-      done_with = All-same (IsDoneWith bag w noted) _ _ items (done_now bag first nodes worker tails piece tail v t w spent noted s inside take skipped did notes ends inv.done_with);
-      costly = costly_now bag first nodes worker tails piece tail v t w spent noted s inside take skipped did notes c.loop-turn.spent.items c.note.new.spent.items none_skipped c.in_ok-note.ensures.spent inv.costly;
+      entries = All-same (IsEntry bag first nodes worker tails) _ _ items
+          (All-push (IsEntry bag first nodes worker tails) ends entry inv.entries
+          (entry_now bag first nodes worker tails piece tail v t w spent noted s inside take skipped did notes));
+      done_with = All-same (IsDoneWith bag w noted) _ _ items
+          (done_now bag first nodes worker tails piece tail v t w spent noted s inside take skipped did notes ends inv.done_with);
+      costly = costly_now bag first nodes worker tails piece tail v t w spent noted s inside take skipped did notes c.loop-turn.spent.items
+          c.note.new.spent.items none_skipped c.in_ok-note.ensures.spent inv.costly;
       cause = c.in_ok-note.ensures.cause;
-      paced = subst (λ (xs : List PieceEnd). sum_by (λ p. p.expanded) xs ≤ MOST_EXPANDED * (c.loop-turn.looks + s.looks)) (sym items) (paced_now bag first nodes worker tails piece tail v t w spent noted s inside take skipped did notes ends c.loop-turn.looks inv.paced);
+      paced = subst (λ (xs : List PieceEnd). sum_by (λ p. p.expanded) xs ≤ MOST_EXPANDED * (c.loop-turn.looks + s.looks)) (sym items)
+          (paced_now bag first nodes worker tails piece tail v t w spent noted s inside take skipped did notes ends c.loop-turn.looks inv.paced);
       between = did.between;
       high = high_now bag first nodes worker tails piece tail v t w spent noted s inside take skipped did notes did.found inv.high;
-      found = found_now bag first nodes worker tails piece tail v t w spent noted s inside take skipped did notes (contains_got tails piece tail inside) c.loop-turn.best inv.high inv.found _ c.or-best.ensures;
+      found = found_now bag first nodes worker tails piece tail v t w spent noted s inside take skipped did notes (contains_got tails piece tail inside)
+          c.loop-turn.best inv.high inv.found _ c.or-best.ensures;
       same = c.in_ok-searched.ensures.same ∙ inv.same;
     }

@@ -14,7 +14,8 @@ returns-in-Some-clause-fault g c = λ records h.
     let n = c.args.counted.now.bag.n in
     let task : Task = record { winner = c.args.tab.now.winner; best = c.args.best; nodes = c.args.nodes } in
     let tabulated = c.requires.tabulated records h in
-    let is : IsTask c.args.counted.now.bag.n records task = record { winner = winner-below n records c.args.tab.now tabulated; best = c.requires.best records h } in
+    let is : IsTask c.args.counted.now.bag.n records task =
+    record { winner = winner-below n records c.args.tab.now tabulated; best = c.requires.best records h } in
     let (several, part) = c.in_ok-found.ensures records h is in
     part-spent n records task is several c.in_ok-found.found part c.in-Some.last (sym c.spent.ensures ∙ c.in-Some.is)
 
@@ -23,10 +24,12 @@ returns-clause-certificate g c = λ records h.
     let n = c.args.counted.now.bag.n in
     let task : Task = record { winner = c.args.tab.now.winner; best = c.args.best; nodes = c.args.nodes } in
     let tabulated = c.requires.tabulated records h in
-    let is : IsTask c.args.counted.now.bag.n records task = record { winner = winner-below n records c.args.tab.now tabulated; best = c.requires.best records h } in
+    let is : IsTask c.args.counted.now.bag.n records task =
+    record { winner = winner-below n records c.args.tab.now tabulated; best = c.requires.best records h } in
     let (several, part) = c.in_ok-found.ensures records h is in
     let (ordered, over) = part-whole n records task is several c.in_ok-found.found part (sym c.spent.ensures ∙ c.in_default.is) in
-    let order : ordered.order ≡ c.unwrap_or-order.result = sym (c.unwrap_or-order.ensures ∙ ap (λ o. unwrap_or o c.args.tab.now.order) (c.order.ensures ∙ ordered.found_is)) in
+    let order : ordered.order ≡ c.unwrap_or-order.result = sym (c.unwrap_or-order.ensures
+    ∙ ap (λ o. unwrap_or o c.args.tab.now.order) (c.order.ensures ∙ ordered.found_is)) in
     record {
       claims = c.in_ok-claims.ensures ∙ claims_are n records task c.in_ok-found.found.claims.entries is.best (part.claims over);
       margin = refl;

@@ -10,7 +10,8 @@ use Rattle.certifier.proofs.gather.gather.Goals.{then-has+then-ne+in_ok-part, el
 pub loop-c-init : goal.loop-c-init
 loop-c-init c = record {
   same = refl;
-  part = λ records h is. deal-none c.args.tallies.now.bag.n records c.args.task.now c.args.dealt.now.workers c.args.dealt.now.number c.new-part.result c.new-part.ensures.claims c.new-part.ensures.over c.new-part.ensures.end;
+  part = λ records h is. deal-none c.args.tallies.now.bag.n records c.args.task.now c.args.dealt.now.workers c.args.dealt.now.number c.new-part.result
+      c.new-part.ensures.claims c.new-part.ensures.over c.new-part.ensures.end;
 }
 
 pub loop-c-preserved : goal.loop-c-preserved
@@ -27,8 +28,10 @@ loop-c-preserved c =
             subst (λ t. IsNext t.bag.n records task c.loop-c.c c.loop-c.part c.if-has.part) c.loop-c.invariant.same
             (subst (IsNext c.loop-c.tallies.bag.n records task c.loop-c.c c.loop-c.part) (sym w.part-is)
             (w.in_ok-part.ensures.next records (subst (λ t. IsOf t.bag records) (sym c.loop-c.invariant.same) h))) in
-            deal-next n records task dealt.workers dealt.number is (omega (arith, c.candidates-c-end.ensures.fewest, c.candidates-c-end.ensures.same)) c.loop-c.c c.loop-c.part c.if-has.part
-            below (differs c.loop-c.c task.winner w.ne.result w.ne.ensures w.if-ne.true) (sym c.has.ensures ∙ w.if-has.true) (sym c.is_some.ensures ∙ c.if-is_some.false) (c.loop-c.invariant.part records h is) next;
+            deal-next n records task dealt.workers dealt.number is (omega (arith, c.candidates-c-end.ensures.fewest, c.candidates-c-end.ensures.same))
+            c.loop-c.c c.loop-c.part c.if-has.part
+            below (differs c.loop-c.c task.winner w.ne.result w.ne.ensures w.if-ne.true) (sym c.has.ensures ∙ w.if-has.true) (sym c.is_some.ensures
+            ∙ c.if-is_some.false) (c.loop-c.invariant.part records h is) next;
       }
       | else-has w ↦ record {
         same = w.tallies-is ∙ c.loop-c.invariant.same;

@@ -19,6 +19,8 @@ returns g c = λ records of is.
     let parts = c.run.new.parts in
     let workers = c.args.workers in
     let same : length parts ≡ workers = c.run.ensures.len ∙ ap length c.as_mut_slice.ensures.value ∙ c.in_ok-parts.ensures in
-    let all : take made.len (parts ++ drop (length parts) made.items) ≡ parts = all_written made.len parts (drop (length parts) made.items) (omega (arith, same, c.in_ok-parts.ensures, made.ok)) in
+    let all : take made.len (parts ++ drop (length parts) made.items) ≡ parts =
+    all_written made.len parts (drop (length parts) made.items) (omega (arith, same, c.in_ok-parts.ensures, made.ok)) in
     on_ok c.joined.result (λ p ready.
-    ready c.args.counted.now.bag c.args.task.now workers records (ap length all ∙ same) (subst (AreParts c.args.counted.now.bag c.args.task.now workers) (sym all) c.run.ensures.parts) of is c.requires.0) c.joined.ensures
+    ready c.args.counted.now.bag c.args.task.now workers records (ap length all
+    ∙ same) (subst (AreParts c.args.counted.now.bag c.args.task.now workers) (sym all) c.run.ensures.parts) of is c.requires.0) c.joined.ensures

@@ -10,6 +10,7 @@ use Rattle.certifier.proofs.team.joined.Given as goal
 abbrev pub invariant-loop-part : goal.invariant-loop-part
 invariant-loop-part l = record {
   whole : l.fn.parts.items ≡ l.yielded ++ into_iter_items l.part-iterator;
-  all : (bag : Kept) (task : Task) (workers : ℕ) (records : List (List ℕ)) → AreParts bag task workers l.fn.parts.items → IsOf bag records → IsTask bag.n records task →
+  all : (bag : Kept) (task : Task) (workers : ℕ) (records : List (List ℕ)) → AreParts bag task workers l.fn.parts.items → IsOf bag records →
+      IsTask bag.n records task →
       (0 < length l.yielded → 1 < bag.n) × IsPart bag.n records task (dealt_below workers (length l.yielded)) l.all;
 }

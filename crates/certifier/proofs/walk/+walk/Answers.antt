@@ -8,15 +8,18 @@ use Rattle.certifier.proofs.walk.+walk.Goals as goal
 use Rattle.certifier.proofs.walk.+walk.Goals.{then-not-has+in_ok-longer+in_ok-more+in-Counted, else-not-has}
 
 pub returns-then-from-reach-clause-walk : goal.returns-then-from-reach-clause-walk
-returns-then-from-reach-clause-walk t c = dropped c.args.tallies.now.bag c.args.reach.now c.args.s.now c.args.count c.requires (omega (arith, c.from.ensures, c.if-from-reach.true))
+returns-then-from-reach-clause-walk t c = dropped c.args.tallies.now.bag c.args.reach.now c.args.s.now c.args.count c.requires
+    (omega (arith, c.from.ensures, c.if-from-reach.true))
 
 pub returns-then-from-reach-clause-claims : goal.returns-then-from-reach-clause-claims
 returns-then-from-reach-clause-claims t c = λ records h.
-    c.in_ok-put.ensures ∙ gathered-dropped c.args.tallies.now.bag c.args.reach.now c.args.s.now c.args.count c.requires c.args.claims.now.entries (omega (arith, c.from.ensures, c.if-from-reach.true)) records h
+    c.in_ok-put.ensures ∙ gathered-dropped c.args.tallies.now.bag c.args.reach.now c.args.s.now c.args.count c.requires c.args.claims.now.entries
+    (omega (arith, c.from.ensures, c.if-from-reach.true)) records h
 
 pub returns-then-count-reach-clause-walk : goal.returns-then-count-reach-clause-walk
 returns-then-count-reach-clause-walk t c =
-    spent c.args.tallies.now.bag c.args.reach.now c.args.s.now c.args.count c.requires (omega (arith, c.from.ensures, c.if-from-reach.false)) (sym c.whole.ensures ∙ c.in_default.is) (omega (arith, c.if-count-reach.true))
+    spent c.args.tallies.now.bag c.args.reach.now c.args.s.now c.args.count c.requires (omega (arith, c.from.ensures, c.if-from-reach.false))
+    (sym c.whole.ensures ∙ c.in_default.is) (omega (arith, c.if-count-reach.true))
 
 pub loop-c-init : goal.loop-c-init
 loop-c-init t c = record {
@@ -30,7 +33,8 @@ walk-requires t c =
     let bag = c.args.tallies.now.bag in
     let s = c.args.s.now in
     let x = c.in_ok-longer.longer in
-    let scored : IsScoredOver c.args.tallies.now.bag c.in_ok-longer.longer = subst (λ m. IsScoredOver m.bag x) c.loop-c.invariant.same c.in_ok-longer.ensures.scored in
+    let scored : IsScoredOver c.args.tallies.now.bag c.in_ok-longer.longer =
+    subst (λ m. IsScoredOver m.bag x) c.loop-c.invariant.same c.in_ok-longer.ensures.scored in
     let low : s.low < c.args.reach.now.limit = omega (arith, c.from.ensures, c.if-from-reach.false) in
     let below : c.loop-c.c < s.tail.n = omega (arith, c.loop-c-test.true, c.candidates-c-end.ensures.same) in
     let out : is_in s.tail.list c.loop-c.c ≡ false = sym c.has.ensures ∙ c.if-not-has.true in
@@ -77,24 +81,30 @@ loop-c-preserved t c =
           record {
             same = w.tallies-is ∙ w.walk.ensures.same ∙ w.child.ensures.same ∙ c.loop-c.invariant.same;
             going = subst₂ (IsGoing bag reach s c.args.count before (c.loop-c.c + 1)) (sym w.seen-is) (ap (λ m. m.entries) (sym w.claims-is))
-                (going-goes bag reach s c.args.count before c.loop-c.c c.loop-c.seen c.loop-c.claims.entries going below (sym c.has.ensures ∙ w.if-not-has.true) x w.in_ok-longer.ensures.tail
+                (going-goes bag reach s c.args.count before c.loop-c.c c.loop-c.seen c.loop-c.claims.entries going below (sym c.has.ensures
+                ∙ w.if-not-has.true) x w.in_ok-longer.ensures.tail
                 w.in-Counted.more w.walk.new.claims.entries
-                (λ records h. subst (λ e. IsWalk reach.last (Ok e) (walk_of reach x records c.loop-c.seen)) w.in-Counted.is (w.in_ok-more.ensures.walk records (subst (λ m. IsOf m.bag records) own h)))
-                (λ records h. subst (λ e. OnCounted e (HasGathered w.child.new.tallies.bag reach.limit x c.loop-c.claims.entries w.walk.new.claims.entries)) w.in-Counted.is w.in_ok-more.ensures.claims records (subst (λ m. IsOf m.bag records) own h)));
+                (λ records h. subst (λ e. IsWalk reach.last (Ok e) (walk_of reach x records c.loop-c.seen)) w.in-Counted.is
+                (w.in_ok-more.ensures.walk records (subst (λ m. IsOf m.bag records) own h)))
+                (λ records h. subst (λ e. OnCounted e (HasGathered w.child.new.tallies.bag reach.limit x c.loop-c.claims.entries w.walk.new.claims.entries))
+                w.in-Counted.is w.in_ok-more.ensures.claims records (subst (λ m. IsOf m.bag records) own h)));
           }
       | else-not-has w ↦ record {
         same = w.tallies-is ∙ c.loop-c.invariant.same;
         going = subst₂ (IsGoing bag reach s c.args.count before (c.loop-c.c + 1)) (sym w.seen-is) (ap (λ m. m.entries) (sym w.claims-is))
-            (going-passes bag reach s c.args.count before c.loop-c.c c.loop-c.seen c.loop-c.claims.entries going below (sym c.has.ensures ∙ w.if-not-has.false));
+            (going-passes bag reach s c.args.count before c.loop-c.c c.loop-c.seen c.loop-c.claims.entries going below (sym c.has.ensures
+            ∙ w.if-not-has.false));
       }
     ]
 
 pub returns-clause-walk : goal.returns-clause-walk
 returns-clause-walk t c =
-    going-ends c.args.tallies.now.bag c.args.reach.now c.args.s.now c.args.count c.args.claims.now.entries c.loop-c.c c.loop-c.seen c.loop-c.claims.entries c.loop-c.invariant.going
+    going-ends c.args.tallies.now.bag c.args.reach.now c.args.s.now c.args.count c.args.claims.now.entries c.loop-c.c c.loop-c.seen c.loop-c.claims.entries
+    c.loop-c.invariant.going
     (omega (arith, c.loop-c-test.false, c.candidates-c-end.ensures.same))
 
 pub returns-clause-claims : goal.returns-clause-claims
 returns-clause-claims t c =
-    gathered-ends c.args.tallies.now.bag c.args.reach.now c.args.s.now c.args.count c.args.claims.now.entries c.loop-c.c c.loop-c.seen c.loop-c.claims.entries c.loop-c.invariant.going
+    gathered-ends c.args.tallies.now.bag c.args.reach.now c.args.s.now c.args.count c.args.claims.now.entries c.loop-c.c c.loop-c.seen c.loop-c.claims.entries
+    c.loop-c.invariant.going
     (omega (arith, c.loop-c-test.false, c.candidates-c-end.ensures.same))

@@ -18,15 +18,18 @@ loop-i-preserved c =
     elim c.if-votes.branch [
       | then-votes w ↦ rw w.lowest-is (record {
         remains = got-has c.args.remaining c.loop-i.i c.nth-c.result c.nth-c.ensures;
-        least = lowest-next c.args.row.now c.args.remaining c.loop-i.i c.loop-i.lowest c.nth-c.result c.nth-c.ensures (omega (arith, w.if-votes.true, c.votes.ensures, c.votes-in-loop-i.ensures)) c.loop-i.invariant.least;
+        least = lowest-next c.args.row.now c.args.remaining c.loop-i.i c.loop-i.lowest c.nth-c.result c.nth-c.ensures
+            (omega (arith, w.if-votes.true, c.votes.ensures, c.votes-in-loop-i.ensures)) c.loop-i.invariant.least;
       })
       | else-votes w ↦ rw w.lowest-is (record {
         remains = c.loop-i.invariant.remains;
-        least = lowest-other c.args.row.now c.args.remaining c.loop-i.i c.loop-i.lowest c.nth-c.result c.nth-c.ensures (omega (arith, w.if-votes.false, c.votes.ensures, c.votes-in-loop-i.ensures)) c.loop-i.invariant.least;
+        least = lowest-other c.args.row.now c.args.remaining c.loop-i.i c.loop-i.lowest c.nth-c.result c.nth-c.ensures
+            (omega (arith, w.if-votes.false, c.votes.ensures, c.votes-in-loop-i.ensures)) c.loop-i.invariant.least;
       })
     ]
 
 pub returns-clause-least : goal.returns-clause-least
 returns-clause-least c =
     let all : c.loop-i.i ≡ length (members c.args.remaining) = omega (arith, c.loop-i-test.false, c.loop-i.auto.i-end, c.len-i-end.ensures, c.requires.some) in
-    lowest-whole c.args.row.now c.args.remaining c.loop-i.lowest (λ d h. let l = c.requires.within d h in omega (arith, l, c.requires.room)) (rw all at c.loop-i.invariant.least)
+    lowest-whole c.args.row.now c.args.remaining c.loop-i.lowest (λ d h. let l = c.requires.within d h in
+    omega (arith, l, c.requires.room)) (rw all at c.loop-i.invariant.least)

@@ -19,7 +19,8 @@ loop-i-preserved c =
           let yes : shares d ≡ true = eq-eqb (slice_index c.args.row.now d) c.args.tally (sym c.votes.ensures ∙ w.if-votes-tally.true) in
           let more = sharing-yes shares xs i d c.nth-c.ensures yes in
           record {
-            candidates = w.candidates-is ∙ w.with-candidates.ensures.number (new-share shares c.args.remaining i d c.loop-i.candidates c.nth-c.ensures c.loop-i.invariant.candidates)
+            candidates = w.candidates-is ∙ w.with-candidates.ensures.number
+                (new-share shares c.args.remaining i d c.loop-i.candidates c.nth-c.ensures c.loop-i.invariant.candidates)
                 ∙ omega (arith, c.loop-i.invariant.candidates, set-push (filter shares (take i xs)) d) ∙ ap set_of (sym more);
             count = w.count-is ∙ omega (arith, c.loop-i.invariant.count, length-append (filter shares (take i xs)) (d ∷ [])) ∙ ap length (sym more);
             few = omega (arith, w.count-is, c.loop-i.invariant.few);
@@ -38,10 +39,12 @@ pub returns-clause-candidates : goal.returns-clause-candidates
 returns-clause-candidates c =
     let shares : ℕ → Bool = λ d. slice_index c.args.row.now d == c.args.tally in
     let all : c.loop-i.i ≡ length (members c.args.remaining) = omega (arith, c.loop-i-test.false, c.loop-i.auto.i-end, c.len-i-end.ensures) in
-    c.loop-i.invariant.candidates ∙ ap (λ k. set_of (filter shares (take k (members c.args.remaining)))) all ∙ ap (λ xs. set_of (filter shares xs)) (take-length (members c.args.remaining))
+    c.loop-i.invariant.candidates ∙ ap (λ k. set_of (filter shares (take k (members c.args.remaining)))) all
+    ∙ ap (λ xs. set_of (filter shares xs)) (take-length (members c.args.remaining))
 
 pub returns-clause-count : goal.returns-clause-count
 returns-clause-count c =
     let shares : ℕ → Bool = λ d. slice_index c.args.row.now d == c.args.tally in
     let all : c.loop-i.i ≡ length (members c.args.remaining) = omega (arith, c.loop-i-test.false, c.loop-i.auto.i-end, c.len-i-end.ensures) in
-    c.loop-i.invariant.count ∙ ap (λ k. length (filter shares (take k (members c.args.remaining)))) all ∙ ap (λ xs. length (filter shares xs)) (take-length (members c.args.remaining))
+    c.loop-i.invariant.count ∙ ap (λ k. length (filter shares (take k (members c.args.remaining)))) all
+    ∙ ap (λ xs. length (filter shares xs)) (take-length (members c.args.remaining))

@@ -16,19 +16,23 @@ loop-round-init c = record {
   wide = refl;
   shape = first-shape c.candidates-n.result c.all_of-remaining.result c.all_of-remaining.ensures;
   rounds = λ records h. first-rounds records c.all_of-remaining.result;
-  noted = λ records h. subst (λ items. Noted c.candidates-n.result records [] c.all_of-remaining.result (counts_in items)) (sym c.new-rounds.ensures.items) (first-noted c.candidates-n.result records c.all_of-remaining.result);
+  noted = λ records h. subst (λ items. Noted c.candidates-n.result records [] c.all_of-remaining.result (counts_in items)) (sym c.new-rounds.ensures.items)
+      (first-noted c.candidates-n.result records c.all_of-remaining.result);
 }
 
 pub tally-requires : goal.tally-requires
 tally-requires c =
     let now : c.candidates-n.result ≡ c.loop-round.tallies.bag.n = c.candidates-n.ensures.same ∙ sym (ap (λ t. t.bag.n) c.loop-round.invariant.same) in
-    subst (λ k. c.loop-round.remaining < 2 ^ k) now (set-below c.candidates-n.result c.loop-round.remaining c.candidates-n.ensures.room c.loop-round.invariant.shape.below)
+    subst (λ k. c.loop-round.remaining < 2 ^ k) now (set-below c.candidates-n.result c.loop-round.remaining c.candidates-n.ensures.room
+    c.loop-round.invariant.shape.below)
 
 pub lowest-loser-requires-clause-some : goal.lowest-loser-requires-clause-some
 lowest-loser-requires-clause-some c =
     let done = take (c.loop-round.round - 1) c.loop-round.places in
-    let left : length done + length (members c.loop-round.remaining) ≡ c.candidates-n.result = remaining c.candidates-n.result done c.loop-round.remaining c.candidates-n.ensures.room c.loop-round.invariant.shape in
-    let long : length done ≡ c.loop-round.round - 1 = take-long (c.loop-round.round - 1) c.loop-round.places (omega (arith, c.loop-round.invariant.wide, c.loop-round-test.true, c.candidates-n.ensures.room)) in
+    let left : length done + length (members c.loop-round.remaining) ≡ c.candidates-n.result =
+    remaining c.candidates-n.result done c.loop-round.remaining c.candidates-n.ensures.room c.loop-round.invariant.shape in
+    let long : length done ≡ c.loop-round.round - 1 = take-long (c.loop-round.round - 1) c.loop-round.places
+    (omega (arith, c.loop-round.invariant.wide, c.loop-round-test.true, c.candidates-n.ensures.room)) in
     let some : 0 < length (members c.loop-round.remaining) = omega (arith, left, long, c.loop-round-test.true) in
     some
 
@@ -36,7 +40,8 @@ pub returns-then-tied-gt1-clause-tie : goal.returns-then-tied-gt1-clause-tie
 returns-then-tied-gt1-clause-tie c = λ records h.
     let n = c.candidates-n.result in
     let done = take (c.loop-round.round - 1) c.loop-round.places in
-    let long : length done ≡ c.loop-round.round - 1 = take-long (c.loop-round.round - 1) c.loop-round.places (omega (arith, c.loop-round.invariant.wide, c.loop-round-test.true, c.candidates-n.ensures.room)) in
+    let long : length done ≡ c.loop-round.round - 1 = take-long (c.loop-round.round - 1) c.loop-round.places
+    (omega (arith, c.loop-round.invariant.wide, c.loop-round-test.true, c.candidates-n.ensures.room)) in
     let shape = c.loop-round.invariant.shape in
     let own : IsOf c.loop-round.tallies.bag records = subst (λ t. IsOf t.bag records) (sym c.loop-round.invariant.same) h in
     let now : c.loop-round.tallies.bag.n ≡ n = ap (λ t. t.bag.n) c.loop-round.invariant.same ∙ sym c.candidates-n.ensures.same in
@@ -49,8 +54,10 @@ returns-then-tied-gt1-clause-tie c = λ records h.
     } in (
       omega (arith, c.loop-round.auto.round),
       subst (λ k. IsFirstTie k records c.loop-round.round c.sharing-tied.result.candidates c.votes-tally.result) c.candidates-n.ensures.same
-          (found-tie n records c.as_slice-counts.result.now c.loop-round.remaining c.lowest-loser.result r done c.loop-round.round c.sharing-tied.result.count c.sharing-tied.result.candidates c.votes-tally.result
-          shape (c.loop-round.invariant.rounds records h) (omega (arith, long, c.loop-round.auto.round)) c.votes-tally.ensures c.sharing-tied.ensures.candidates c.sharing-tied.ensures.count c.if-tied-gt1.true),
+          (found-tie n records c.as_slice-counts.result.now c.loop-round.remaining c.lowest-loser.result r done c.loop-round.round c.sharing-tied.result.count
+          c.sharing-tied.result.candidates c.votes-tally.result
+          shape (c.loop-round.invariant.rounds records h) (omega (arith, long, c.loop-round.auto.round)) c.votes-tally.ensures
+          c.sharing-tied.ensures.candidates c.sharing-tied.ensures.count c.if-tied-gt1.true),
     )
 
 pub loop-round-preserved : goal.loop-round-preserved
@@ -59,9 +66,11 @@ loop-round-preserved c =
     let done = take (c.loop-round.round - 1) c.loop-round.places in
     let shape = c.loop-round.invariant.shape in
     let less = c.without-remaining.result in
-    let w : IsWithout c.loop-round.remaining c.lowest-loser.result less = record { was = c.lowest-loser.ensures.remains; others = c.without-remaining.ensures } in
+    let w : IsWithout c.loop-round.remaining c.lowest-loser.result less =
+    record { was = c.lowest-loser.ensures.remains; others = c.without-remaining.ensures } in
     let e : take (c.loop-round.round + 1 - 1) (set c.loop-round.places (c.loop-round.round - 1) c.loser.inside.0) ≡ done ++ c.lowest-loser.result ∷ [] =
-    place-more c.loop-round.places c.loop-round.round c.loser.inside.0 (omega (arith, c.loop-round.auto.round)) (omega (arith, c.loop-round-test.true, c.candidates-n.ensures.room)) c.loop-round.invariant.wide
+    place-more c.loop-round.places c.loop-round.round c.loser.inside.0 (omega (arith, c.loop-round.auto.round))
+    (omega (arith, c.loop-round-test.true, c.candidates-n.ensures.room)) c.loop-round.invariant.wide
     ∙ ap (λ x. done ++ x ∷ []) c.loser.view_is in
     record {
       same = c.in_ok-row.ensures.same ∙ c.loop-round.invariant.same;
@@ -79,7 +88,8 @@ loop-round-preserved c =
           } in
           subst (λ d. Rounds records d less) (sym e)
           (rounds-more records done c.loop-round.remaining c.lowest-loser.result less w
-          (found-loser n records c.as_slice-counts.result.now c.loop-round.remaining c.lowest-loser.result r less c.sharing-tied.result.count c.votes-tally.result c.votes-tally.ensures c.sharing-tied.ensures.count (omega (arith, c.if-tied-gt1.false)) w)
+          (found-loser n records c.as_slice-counts.result.now c.loop-round.remaining c.lowest-loser.result r less c.sharing-tied.result.count
+          c.votes-tally.result c.votes-tally.ensures c.sharing-tied.ensures.count (omega (arith, c.if-tied-gt1.false)) w)
           (c.loop-round.invariant.rounds records h));
       noted = λ records h.
           let own : IsOf c.loop-round.tallies.bag records = subst (λ t. IsOf t.bag records) (sym c.loop-round.invariant.same) h in
@@ -93,16 +103,24 @@ loop-round-preserved c =
           } in
           subst (λ d. Noted n records d less (counts_in c.note.new.rounds.items)) (sym e)
           (subst (λ counts. Noted n records (done ++ c.lowest-loser.result ∷ []) less counts) (sym c.in_ok-note.ensures)
-          (noted-counted n records done c.loop-round.remaining c.lowest-loser.result less (counts_in c.loop-round.rounds.items) c.in_ok-row.row.items c.uncounted-exhausted.result counted w
+          (noted-counted n records done c.loop-round.remaining c.lowest-loser.result less (counts_in c.loop-round.rounds.items) c.in_ok-row.row.items
+          c.uncounted-exhausted.result counted w
           (c.loop-round.invariant.noted records h)));
     }
 
 pub nth-winner-requires : goal.nth-winner-requires
 nth-winner-requires c =
     let done = take (c.loop-round.round - 1) c.loop-round.places in
-    let last : c.loop-round.round ≡ c.candidates-n.result = omega (arith, c.loop-round-test.false, c.loop-round.auto.round-end, c.candidates-n.ensures.fewest) in
-    let left : length done + length (members c.loop-round.remaining) ≡ c.candidates-n.result = remaining c.candidates-n.result done c.loop-round.remaining c.candidates-n.ensures.room c.loop-round.invariant.shape in
-    let long : length done ≡ c.loop-round.round - 1 = take-long (c.loop-round.round - 1) c.loop-round.places (omega (arith, c.loop-round.invariant.wide, last, c.candidates-n.ensures.room)) in
+    let last : c.loop-round.round ≡ c.candidates-n.result = omega (
+      arith,
+      c.loop-round-test.false,
+      c.loop-round.auto.round-end,
+      c.candidates-n.ensures.fewest,
+    ) in
+    let left : length done + length (members c.loop-round.remaining) ≡ c.candidates-n.result =
+    remaining c.candidates-n.result done c.loop-round.remaining c.candidates-n.ensures.room c.loop-round.invariant.shape in
+    let long : length done ≡ c.loop-round.round - 1 = take-long (c.loop-round.round - 1) c.loop-round.places
+    (omega (arith, c.loop-round.invariant.wide, last, c.candidates-n.ensures.room)) in
     let some : 0 < length (members c.loop-round.remaining) = omega (arith, left, long, last, c.candidates-n.ensures.fewest) in
     some
 
@@ -111,26 +129,34 @@ unreachable-requires c =
     let n = c.candidates-n.result in
     let done = take (c.loop-round.round - 1) c.loop-round.places in
     let last : c.loop-round.round ≡ n = omega (arith, c.loop-round-test.false, c.loop-round.auto.round-end, c.candidates-n.ensures.fewest) in
-    let long : length done ≡ c.loop-round.round - 1 = take-long (c.loop-round.round - 1) c.loop-round.places (omega (arith, c.loop-round.invariant.wide, last, c.candidates-n.ensures.room)) in
-    let one : IsRest c.loop-round.remaining (c.nth-winner.result ∷ []) = last-one n done c.loop-round.remaining c.nth-winner.result c.candidates-n.ensures.room c.loop-round.invariant.shape (omega (arith, long, last, c.candidates-n.ensures.fewest)) c.nth-winner.ensures in
+    let long : length done ≡ c.loop-round.round - 1 = take-long (c.loop-round.round - 1) c.loop-round.places
+    (omega (arith, c.loop-round.invariant.wide, last, c.candidates-n.ensures.room)) in
+    let one : IsRest c.loop-round.remaining (c.nth-winner.result ∷ []) =
+    last-one n done c.loop-round.remaining c.nth-winner.result c.candidates-n.ensures.room c.loop-round.invariant.shape
+    (omega (arith, long, last, c.candidates-n.ensures.fewest)) c.nth-winner.ensures in
     let e : take n (set c.loop-round.places (n - 1) c.winner.inside.0) ≡ done ++ c.nth-winner.result ∷ [] =
     place-last c.loop-round.places n c.winner.inside.0 (omega (arith, c.candidates-n.ensures.fewest)) c.candidates-n.ensures.room c.loop-round.invariant.wide
     ∙ ap (λ k. take (k - 1) c.loop-round.places ++ c.winner.inside.0 ∷ []) (sym last) ∙ ap (λ x. done ++ x ∷ []) c.winner.view_is in
-    not-refused n (take n (set c.loop-round.places (n - 1) c.winner.inside.0)) c.in-Err.field-0 (ap (is_order n) e ∙ c.loop-round.invariant.shape.order (c.nth-winner.result ∷ []) one) c.in-Err.ensures.refused
+    not-refused n (take n (set c.loop-round.places (n - 1) c.winner.inside.0)) c.in-Err.field-0 (ap (is_order n) e
+    ∙ c.loop-round.invariant.shape.order (c.nth-winner.result ∷ []) one) c.in-Err.ensures.refused
 
 pub returns-clause-tabulated : goal.returns-clause-tabulated
 returns-clause-tabulated c = λ records h.
     let n = c.candidates-n.result in
     let done = take (c.loop-round.round - 1) c.loop-round.places in
     let last : c.loop-round.round ≡ n = omega (arith, c.loop-round-test.false, c.loop-round.auto.round-end, c.candidates-n.ensures.fewest) in
-    let long : length done ≡ c.loop-round.round - 1 = take-long (c.loop-round.round - 1) c.loop-round.places (omega (arith, c.loop-round.invariant.wide, last, c.candidates-n.ensures.room)) in
-    let one : IsRest c.loop-round.remaining (c.nth-winner.result ∷ []) = last-one n done c.loop-round.remaining c.nth-winner.result c.candidates-n.ensures.room c.loop-round.invariant.shape (omega (arith, long, last, c.candidates-n.ensures.fewest)) c.nth-winner.ensures in
+    let long : length done ≡ c.loop-round.round - 1 = take-long (c.loop-round.round - 1) c.loop-round.places
+    (omega (arith, c.loop-round.invariant.wide, last, c.candidates-n.ensures.room)) in
+    let one : IsRest c.loop-round.remaining (c.nth-winner.result ∷ []) =
+    last-one n done c.loop-round.remaining c.nth-winner.result c.candidates-n.ensures.room c.loop-round.invariant.shape
+    (omega (arith, long, last, c.candidates-n.ensures.fewest)) c.nth-winner.ensures in
     let e : take n (set c.loop-round.places (n - 1) c.winner.inside.0) ≡ done ++ c.nth-winner.result ∷ [] =
     place-last c.loop-round.places n c.winner.inside.0 (omega (arith, c.candidates-n.ensures.fewest)) c.candidates-n.ensures.room c.loop-round.invariant.wide
     ∙ ap (λ k. take (k - 1) c.loop-round.places ++ c.winner.inside.0 ∷ []) (sym last) ∙ ap (λ x. done ++ x ∷ []) c.winner.view_is in
     let whole : c.in-Ok.order ≡ done ++ c.nth-winner.result ∷ [] = c.in-Ok.ensures.order ∙ e in
     record {
-      order = ap (is_order c.args.tallies.now.bag.n) whole ∙ ap (λ k. is_order k (done ++ c.nth-winner.result ∷ [])) (sym c.candidates-n.ensures.same) ∙ c.loop-round.invariant.shape.order (c.nth-winner.result ∷ []) one;
+      order = ap (is_order c.args.tallies.now.bag.n) whole ∙ ap (λ k. is_order k (done ++ c.nth-winner.result ∷ [])) (sym c.candidates-n.ensures.same)
+          ∙ c.loop-round.invariant.shape.order (c.nth-winner.result ∷ []) one;
       tabulated = ap (is_tabulated records) whole ∙ (c.loop-round.invariant.rounds records h).tabulated (c.nth-winner.result ∷ []) one refl;
       winner = (done, whole);
       rounds =

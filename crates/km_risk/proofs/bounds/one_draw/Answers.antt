@@ -9,4 +9,5 @@ returns-clause-around c =
     let w = s.within_limits in
     let num : c.from-numerator.result ≡ numerator s.cards s.margin s.gamma = search rules in
     let den : c.from-denominator.result ≡ denominator s.cards s.margin s.gamma 2 = search rules in
-    rw c.from-2.ensures (around-one s.cards s.margin s.gamma (omega arith) (omega arith) (omega arith) c.from-numerator.result c.from-denominator.result num den)
+    rw c.from-2.ensures (around-one s.cards s.margin s.gamma (omega arith) (omega arith) (omega arith) c.from-numerator.result c.from-denominator.result num
+    den)

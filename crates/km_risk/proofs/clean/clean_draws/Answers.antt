@@ -1,8 +1,4 @@
-use Rattle.std.proofs.Common.{◌≡◌, ◌∙◌, ◌+◌, ◌*◌, ◌<◌, ◌≤◌, min, ap, sym, arith}
-use Rattle.irv_base.specs.declared.limits.TheConstants.{MOST_DRAWS}
-use Rattle.km_risk.specs.declared.limits.TheConstants.{MILLIONTH}
-use Rattle.km_risk.specs.Counts.{clean}
-use Rattle.km_risk.specs.Printed.{printed_risk}
+use Rattle.std.proofs.Common.{◌≡◌, ◌∙◌, ◌+◌, ap, sym, arith}
 use Rattle.km_risk.proofs.Around.{falls_to, least-is, never-is}
 use Rattle.km_risk.proofs.clean.clean_draws.Goals as goal
 

@@ -19,5 +19,6 @@ loop-n-preserved c = record {
   at_most_one = c.after_draw-now.ensures.at_most_one;
   rest =
       c.loop-n.invariant.rest
-      ∙ find_behind (λ k. printed_risk c.args.setting.cards c.args.setting.margin c.args.setting.gamma (clean k)) (c.args.limit * MILLIONTH) c.loop-n.n _ (omega arith) (omega (arith, c.loop-n.invariant.value));
+      ∙ find_behind (λ k. printed_risk c.args.setting.cards c.args.setting.margin c.args.setting.gamma (clean k)) (c.args.limit * MILLIONTH) c.loop-n.n
+      _ (omega arith) (omega (arith, c.loop-n.invariant.value));
 }

@@ -12,5 +12,6 @@ invariant-loop-n l = record {
   value : l.now ≡ printed_risk l.setting.cards l.setting.margin l.setting.gamma (clean l.n);
   at_most_one : l.now ≤ ONE;
   rest : clean_draws l.setting.cards l.setting.margin l.setting.gamma l.limit ≡
-      find (λ n. nat_le (printed_risk l.setting.cards l.setting.margin l.setting.gamma (clean n)) (l.limit * MILLIONTH)) (range_with_len l.n (min l.setting.cards MOST_DRAWS + 1 - l.n));
+      find (λ n. nat_le (printed_risk l.setting.cards l.setting.margin l.setting.gamma (clean n)) (l.limit * MILLIONTH))
+      (range_with_len l.n (min l.setting.cards MOST_DRAWS + 1 - l.n));
 }

@@ -18,9 +18,12 @@ loop-c-preserved c =
     subst (λ ks. AreOfFirst (length ks) c.loop-c.c ks counts own) c.as_slice.ensures.keys
     (subst (λ ns. AreOfFirst (length c.as_slice.result.now) c.loop-c.c c.as_slice.result.now ns own) c.deref.ensures.value c.in_ok-own.ensures) in
     let last : Counted own c.args.rankings.now c.args.n c.loop-c.c =
-    counted-from c.args.n c.loop-c.c keys counts c.args.rankings.now own c.in_ok-distinct.ensures.counted (c.in_ok-distinct.ensures.nobody_else c.args.n c.requires.below) of in
+    counted-from c.args.n c.loop-c.c keys counts c.args.rankings.now own c.in_ok-distinct.ensures.counted
+    (c.in_ok-distinct.ensures.nobody_else c.args.n c.requires.below) of in
     record {
       long = ap length items ∙ length-append c.loop-c.lists.items (c.in_ok-own.own ∷ []) ∙ omega (arith, c.loop-c.invariant.long);
-      counted = subst (λ es. AllCounted c.args.n es c.args.rankings.now) (sym (ap (map (λ v. v.items)) items ∙ map-append (λ v. v.items) c.loop-c.lists.items (c.in_ok-own.own ∷ [])))
-          (counted-push c.args.n lists own c.args.rankings.now c.loop-c.c (length-map c.loop-c.lists.items (λ v. v.items) ∙ c.loop-c.invariant.long) c.loop-c.invariant.counted last);
+      counted = subst (λ es. AllCounted c.args.n es c.args.rankings.now) (sym (ap (map (λ v. v.items)) items
+          ∙ map-append (λ v. v.items) c.loop-c.lists.items (c.in_ok-own.own ∷ [])))
+          (counted-push c.args.n lists own c.args.rankings.now c.loop-c.c (length-map c.loop-c.lists.items (λ v. v.items)
+          ∙ c.loop-c.invariant.long) c.loop-c.invariant.counted last);
     }

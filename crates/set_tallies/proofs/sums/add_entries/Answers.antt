@@ -9,7 +9,8 @@ use Rattle.set_tallies.proofs.sums.add_entries.Goals as goal
 pub add-requires-clause-set : goal.add-requires-clause-set
 add-requires-clause-set c =
     let d : Entry = record { before = 0; count = 0 } in
-    is-below c.args.n c.args.c (get_or c.args.entries.now c.loop-entry.entry-index d).before (c.requires.before c.loop-entry.entry-index d c.loop-entry-test.true)
+    is-below c.args.n c.args.c (get_or c.args.entries.now c.loop-entry.entry-index d).before
+    (c.requires.before c.loop-entry.entry-index d c.loop-entry-test.true)
 
 pub add-requires-clause-fit : goal.add-requires-clause-fit
 add-requires-clause-fit c =

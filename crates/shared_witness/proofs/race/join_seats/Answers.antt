@@ -17,12 +17,16 @@ join_to-requires-clause-race c =
 
 pub returns-clause-view : goal.returns-clause-view
 returns-clause-view c =
-    let none : into_iter_items c.loop-seat.seat-iterator ≡ [] = nil_from_length (into_iter_items c.loop-seat.seat-iterator) (omega (arith, c.in-None.ensures.steps.0)) in
-    let all : into_iter_items c.args.seats ≡ c.loop-seat.yielded = c.loop-seat.invariant.whole ∙ ap (λ rest. c.loop-seat.yielded ++ rest) none ∙ append-nil c.loop-seat.yielded in
+    let none : into_iter_items c.loop-seat.seat-iterator ≡ [] =
+    nil_from_length (into_iter_items c.loop-seat.seat-iterator) (omega (arith, c.in-None.ensures.steps.0)) in
+    let all : into_iter_items c.args.seats ≡ c.loop-seat.yielded = c.loop-seat.invariant.whole ∙ ap (λ rest. c.loop-seat.yielded ++ rest) none
+    ∙ append-nil c.loop-seat.yielded in
     c.loop-seat.invariant.view_is ∙ ap (λ (ss : List RaceSeat). (fold joined c.args.first.now.me.0 (views_of ss), c.args.first.now.me.1)) (sym all)
 
 pub returns-clause-shares : goal.returns-clause-shares
 returns-clause-shares c =
-    let none : into_iter_items c.loop-seat.seat-iterator ≡ [] = nil_from_length (into_iter_items c.loop-seat.seat-iterator) (omega (arith, c.in-None.ensures.steps.0)) in
-    let all : into_iter_items c.args.seats ≡ c.loop-seat.yielded = c.loop-seat.invariant.whole ∙ ap (λ rest. c.loop-seat.yielded ++ rest) none ∙ append-nil c.loop-seat.yielded in
+    let none : into_iter_items c.loop-seat.seat-iterator ≡ [] =
+    nil_from_length (into_iter_items c.loop-seat.seat-iterator) (omega (arith, c.in-None.ensures.steps.0)) in
+    let all : into_iter_items c.args.seats ≡ c.loop-seat.yielded = c.loop-seat.invariant.whole ∙ ap (λ rest. c.loop-seat.yielded ++ rest) none
+    ∙ append-nil c.loop-seat.yielded in
     All-same (λ (s : RaceSeat). s.view.ends + s.view.may ≡ 1) _ _ all c.loop-seat.invariant.shares

@@ -9,10 +9,13 @@ overflow_cast-result c =
     omega (arith, is, c.requires.words.fits.1)
 
 pub returns-clause-bound : goal.returns-clause-bound
-returns-clause-bound c = let f = c.close_with-closed.ensures.values.2 in last_is c.args.words.shared.key f.0 _ c.args.all.id c.args.all.me.0 c.word-bound.result f.1.0 f.1.1 f.2 c.word-bound.ensures c.requires.share
+returns-clause-bound c = let f = c.close_with-closed.ensures.values.2 in
+    last_is c.args.words.shared.key f.0 _ c.args.all.id c.args.all.me.0 c.word-bound.result f.1.0 f.1.1 f.2 c.word-bound.ensures c.requires.share
 
 pub returns-clause-seen : goal.returns-clause-seen
-returns-clause-seen c = let f = c.close_with-closed.ensures.values.2 in last_seen c.args.words.shared.key f.0 _ c.args.all.id c.args.all.me.0 c.word-bound.result f.1.0 f.1.1 f.2 c.word-bound.ensures c.requires.share
+returns-clause-seen c = let f = c.close_with-closed.ensures.values.2 in
+    last_seen c.args.words.shared.key f.0 _ c.args.all.id c.args.all.me.0 c.word-bound.result f.1.0 f.1.1 f.2 c.word-bound.ensures c.requires.share
 
 pub returns-clause-taken : goal.returns-clause-taken
-returns-clause-taken c = let f = c.close_with-closed.ensures.values.2 in last_taken c.args.words.shared.key f.0 _ c.args.all.id c.args.all.me.0 c.word-bound.result f.1.0 f.1.1 f.2 c.word-bound.ensures c.requires.share
+returns-clause-taken c = let f = c.close_with-closed.ensures.values.2 in
+    last_taken c.args.words.shared.key f.0 _ c.args.all.id c.args.all.me.0 c.word-bound.result f.1.0 f.1.1 f.2 c.word-bound.ensures c.requires.share

@@ -6,5 +6,9 @@ pub fetch_min-requires : goal.fetch_min-requires
 fetch_min-requires g c =
     let key = c.args.words.now.shared.key in
     let id = c.args.words.now.shared.table_id in
-    let seat = c.args.seat.now in
-    (c.requires.table, omega (arith, c.requires.two_words), rw (c.requires.terms, c.from.ensures) (post_allowed key id.slots seat.id seat.me c.requires.share c.args.value))
+    let seat = c.args.seat.now in (
+      c.requires.table,
+      omega (arith, c.requires.two_words),
+      rw (c.requires.terms, c.from.ensures)
+          (post_allowed key id.slots seat.id seat.me c.requires.share c.args.value),
+    )

@@ -6,4 +6,5 @@ use Rattle.suffix_tree.proofs.offers.offer_nebs.Given as goal
 
 abbrev pub invariant-loop-w : goal.invariant-loop-w
 invariant-loop-w l =
-    (records : List (List ℕ)) → AreOf l.ahead records → all_offered records l.score (nebs_from l.set l.c l.w l.n) ≡ all_offered records l.fn.start (nebs_from l.set l.c 0 l.n)
+    (records : List (List ℕ)) → AreOf l.ahead records → all_offered records l.score (nebs_from l.set l.c l.w l.n)
+    ≡ all_offered records l.fn.start (nebs_from l.set l.c 0 l.n)

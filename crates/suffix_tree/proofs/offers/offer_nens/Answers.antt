@@ -7,6 +7,8 @@ use Rattle.suffix_tree.proofs.offers.offer_nens.Goals as goal
 
 pub loop-l-preserved : goal.loop-l-preserved
 loop-l-preserved c = λ n records e below all.
-    nen-taken records c.args.row.now c.args.behind.now n c.args.set c.args.c c.loop-l.l-index c.l-item.result c.loop-l.score c.offer-score.result e below all c.loop-l-test.true (get_or_default c.args.behind.now c.loop-l.l-index 0 c.l-item.result c.loop-l-test.true ∙ sym c.l-item.is)
-    (c.offer-score.ensures ∙ ap (λ m. offered c.loop-l.score m (Nen c.args.c c.l-item.result c.args.set)) (c.saturating_sub.ensures ∙ ap₂ (λ x y. x - y) c.votes-for_winner.ensures c.votes.ensures))
+    nen-taken records c.args.row.now c.args.behind.now n c.args.set c.args.c c.loop-l.l-index c.l-item.result c.loop-l.score c.offer-score.result e below all
+    c.loop-l-test.true (get_or_default c.args.behind.now c.loop-l.l-index 0 c.l-item.result c.loop-l-test.true ∙ sym c.l-item.is)
+    (c.offer-score.ensures ∙ ap (λ m. offered c.loop-l.score m (Nen c.args.c c.l-item.result c.args.set)) (c.saturating_sub.ensures
+    ∙ ap₂ (λ x y. x - y) c.votes-for_winner.ensures c.votes.ensures))
     ∙ c.loop-l.invariant n records e below all

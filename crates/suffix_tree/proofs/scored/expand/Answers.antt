@@ -20,8 +20,10 @@ loop-c-preserved g c =
           let now : c.if-not-has.longer.items ≡ c.loop-c.longer.items ++ w.in_ok-child.field-0 ∷ [] = ap in_it w.longer-is ∙ w.in_ok-push.ensures.items in
           let scored = subst (λ t. IsScoredOver t.bag w.in_ok-child.field-0) c.loop-c.invariant.same w.in_ok-child.ensures.scored in
           record {
-            tails = ap tails now ∙ pushed_child c.args.s.now.tail c.loop-c.c c.loop-c.longer.items w.in_ok-child.field-0 c.loop-c.invariant.tails (sym c.has.ensures ∙ w.if-not-has.true) w.in_ok-child.ensures.tail;
-            scored = all_pushed (IsScoredOver c.args.tallies.now.bag) c.loop-c.longer.items c.if-not-has.longer.items w.in_ok-child.field-0 c.loop-c.invariant.scored scored now;
+            tails = ap tails now ∙ pushed_child c.args.s.now.tail c.loop-c.c c.loop-c.longer.items w.in_ok-child.field-0 c.loop-c.invariant.tails
+                (sym c.has.ensures ∙ w.if-not-has.true) w.in_ok-child.ensures.tail;
+            scored = all_pushed (IsScoredOver c.args.tallies.now.bag) c.loop-c.longer.items c.if-not-has.longer.items w.in_ok-child.field-0
+                c.loop-c.invariant.scored scored now;
             same = w.tallies-is ∙ w.in_ok-child.ensures.same ∙ c.loop-c.invariant.same;
           }
       | else-not-has w ↦

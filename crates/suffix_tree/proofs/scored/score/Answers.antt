@@ -19,4 +19,5 @@ pub child-requires-clause-other : goal.child-requires-clause-other
 child-requires-clause-other c =
     let suffix : is_suffix c.args.t.now.n c.list-list.result.now ≡ true = ap (is_suffix c.args.t.now.n) c.list-list.ensures.same ∙ c.list-list.ensures.suffix in
     ap (λ xs. is_in xs c.index-list-at.result) c.loop-at.invariant.list
-    ∙ before-out c.args.t.now.n c.loop-at.at c.index-list-at.result c.list-list.result.now suffix (omega (arith, c.loop-at-test.true)) c.loop-at.invariant.within c.index-list-at.is
+    ∙ before-out c.args.t.now.n c.loop-at.at c.index-list-at.result c.list-list.result.now suffix (omega (arith, c.loop-at-test.true))
+    c.loop-at.invariant.within c.index-list-at.is

@@ -11,7 +11,8 @@ loop-preserved c =
     let state = c.loop.draws in
     let choice = min (drawn state % n) (drawn (next state) % n) in
     let grown : c.push.new.self ≡ with_choice c.loop.ranking choice =
-    pushed c.loop.ranking c.push.new.self c.choice.result c.push.ensures.added c.push.ensures.kept ∙ ap (with_choice c.loop.ranking) c.choice.ensures.candidate in
+    pushed c.loop.ranking c.push.new.self c.choice.result c.push.ensures.added c.push.ensures.kept
+    ∙ ap (with_choice c.loop.ranking) c.choice.ensures.candidate in
     record {
       ranking =
           ap₂ (λ r s. fold with_choice r (chosen n (places - (i + 1)) s)) grown c.choice.ensures.state

@@ -14,7 +14,8 @@ loop-preserved c =
     let b : List ℕ = ballot n c.loop.draws in
     let later : List (List ℕ) = ballots_from n left (after (1 + 2 * places_of n c.loop.draws) c.loop.draws) in
     let next : (c.loop.records.items ++ b ∷ []) ++ later ≡ c.loop.records.items ++ (b ∷ later) = append_assoc c.loop.records.items (b ∷ []) later in
-    ap₂ (λ records state. records ++ ballots_from n left state) (items ∙ ap (λ b. c.loop.records.items ++ b ∷ []) c.drawn_ballot.ensures.ballot) c.drawn_ballot.ensures.state
+    ap₂ (λ records state. records ++ ballots_from n left state) (items ∙ ap (λ b. c.loop.records.items ++ b ∷ []) c.drawn_ballot.ensures.ballot)
+    c.drawn_ballot.ensures.state
     ∙ next
     ∙ ap (λ rest. c.loop.records.items ++ rest) (sym (ballots-step n c.args.ballots c.loop.counter c.loop.draws c.loop-test.true))
     ∙ c.loop.invariant

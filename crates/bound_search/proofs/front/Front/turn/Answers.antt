@@ -21,11 +21,13 @@ loop-self-init g c = record {
 }
 
 pub returns-in-Whole-clause-front : goal.returns-in-Whole-clause-front
-returns-in-Whole-clause-front g c = front_taken c.args.tallies.now.bag c.loop-self.self c.take_whole-order.new.self c.take_whole-order.result c.in-Whole.ensures.1 c.take_whole-order.ensures c.loop-self.invariant.front
+returns-in-Whole-clause-front g c = front_taken c.args.tallies.now.bag c.loop-self.self c.take_whole-order.new.self c.take_whole-order.result
+    c.in-Whole.ensures.1 c.take_whole-order.ensures c.loop-self.invariant.front
 
 pub returns-in-Whole-clause-grows : goal.returns-in-Whole-clause-grows
 returns-in-Whole-clause-grows g c =
-    grows_taken c.args.tallies.now.bag c.loop-self.self c.take_whole-order.new.self c.take_whole-order.result c.in-Whole.ensures.1 c.take_whole-order.ensures c.args.bound c.args.self.now c.loop-self.invariant.grows
+    grows_taken c.args.tallies.now.bag c.loop-self.self c.take_whole-order.new.self c.take_whole-order.result c.in-Whole.ensures.1 c.take_whole-order.ensures
+    c.args.bound c.args.self.now c.loop-self.invariant.grows
 
 pub returns-in-Whole-clause-turn : goal.returns-in-Whole-clause-turn
 returns-in-Whole-clause-turn g c =
@@ -61,8 +63,10 @@ returns-in-Some-clause-turn g c =
     let order = c.in-Some.order in
     let new = c.expand_first.new.self in
     let e : IsExpanded c.args.tallies.now.bag c.loop-self.self new c.in_ok-order-in-Part.field-0 =
-    subst (λ (t : Source). IsExpanded t.bag c.loop-self.self new c.in_ok-order-in-Part.field-0) c.loop-self.invariant.same c.in_ok-order-in-Part.ensures.expanded in
-    let f : IsNewlyFound c.args.tallies.now.bag c.loop-self.self new (Some order) = subst (IsNewlyFound c.args.tallies.now.bag c.loop-self.self new) c.in-Some.is e.newly in
+    subst (λ (t : Source). IsExpanded t.bag c.loop-self.self new c.in_ok-order-in-Part.field-0) c.loop-self.invariant.same
+    c.in_ok-order-in-Part.ensures.expanded in
+    let f : IsNewlyFound c.args.tallies.now.bag c.loop-self.self new (Some order) =
+    subst (IsNewlyFound c.args.tallies.now.bag c.loop-self.self new) c.in-Some.is e.newly in
     subst (IsTurn c.args.tallies.now.bag c.args.left c.args.self.now new) (sym c.found-in-Some.ensures) (
       subst (λ (p : Suffix). IsFound c.args.tallies.now.bag p.list order.tail.list order.low) c.loop-self.invariant.piece f.1,
       was_open c.args.tallies.now.bag c.args.bound c.args.self.now c.loop-self.self order.tail.list c.requires.front c.loop-self.invariant.grows f.2,
@@ -72,18 +76,23 @@ returns-in-Some-clause-turn g c =
 
 pub returns-in-Some-clause-grows : goal.returns-in-Some-clause-grows
 returns-in-Some-clause-grows g c =
-    grows_more c.args.tallies.now.bag c.args.bound c.args.self.now c.loop-self.self c.expand_first.new.self c.in_ok-order-in-Part.field-0 c.loop-self.invariant.grows c.loop-self.invariant.bound
-    (subst (λ (t : Source). IsExpanded t.bag c.loop-self.self c.expand_first.new.self c.in_ok-order-in-Part.field-0) c.loop-self.invariant.same c.in_ok-order-in-Part.ensures.expanded)
+    grows_more c.args.tallies.now.bag c.args.bound c.args.self.now c.loop-self.self c.expand_first.new.self c.in_ok-order-in-Part.field-0
+    c.loop-self.invariant.grows c.loop-self.invariant.bound
+    (subst (λ (t : Source). IsExpanded t.bag c.loop-self.self c.expand_first.new.self c.in_ok-order-in-Part.field-0) c.loop-self.invariant.same
+    c.in_ok-order-in-Part.ensures.expanded)
     c.loop-self.invariant.piece c.loop-self.invariant.least
 
 pub loop-self-preserved : goal.loop-self-preserved
 loop-self-preserved g c =
     let e : IsExpanded c.args.tallies.now.bag c.loop-self.self c.expand_first.new.self c.in_ok-order-in-Part.field-0 =
-    subst (λ (t : Source). IsExpanded t.bag c.loop-self.self c.expand_first.new.self c.in_ok-order-in-Part.field-0) c.loop-self.invariant.same c.in_ok-order-in-Part.ensures.expanded in
-    let least : IsNewlyFound c.args.tallies.now.bag c.loop-self.self c.expand_first.new.self None = subst (IsNewlyFound c.args.tallies.now.bag c.loop-self.self c.expand_first.new.self) c.in_default.is e.newly in
+    subst (λ (t : Source). IsExpanded t.bag c.loop-self.self c.expand_first.new.self c.in_ok-order-in-Part.field-0) c.loop-self.invariant.same
+    c.in_ok-order-in-Part.ensures.expanded in
+    let least : IsNewlyFound c.args.tallies.now.bag c.loop-self.self c.expand_first.new.self None =
+    subst (IsNewlyFound c.args.tallies.now.bag c.loop-self.self c.expand_first.new.self) c.in_default.is e.newly in
     record {
       front = front_more c.args.tallies.now.bag c.loop-self.self c.expand_first.new.self c.in_ok-order-in-Part.field-0 c.loop-self.invariant.front e;
-      grows = grows_more c.args.tallies.now.bag c.args.bound c.args.self.now c.loop-self.self c.expand_first.new.self c.in_ok-order-in-Part.field-0 c.loop-self.invariant.grows c.loop-self.invariant.bound e c.loop-self.invariant.piece c.loop-self.invariant.least;
+      grows = grows_more c.args.tallies.now.bag c.args.bound c.args.self.now c.loop-self.self c.expand_first.new.self c.in_ok-order-in-Part.field-0
+          c.loop-self.invariant.grows c.loop-self.invariant.bound e c.loop-self.invariant.piece c.loop-self.invariant.least;
       piece = e.piece ∙ c.loop-self.invariant.piece;
       bound = e.bound ∙ c.loop-self.invariant.bound;
       least = least ∙ c.loop-self.invariant.least;

@@ -1,4 +1,5 @@
 use Rattle.std.proofs.Common.{◌≡◌, ◌+◌, ◌-◌, ◌≤◌}
+use Rattle.bound_search.specs.declared.limits.TheConstants.{MOST_EXPANDED}
 use Rattle.bound_search.specs.Fronts.{IsFront, Grows}
 use Rattle.bound_search.proofs.front.Front.turn.Given as goal
 
@@ -12,9 +13,9 @@ invariant-loop-self g l = record {
   expanded : l.self.expanded ≡ l.fn.self.expanded + l.taken;
   stepped : l.steps ≡ l.fn.steps + l.taken;
   within : l.taken ≤ l.fn.left;
-  few : l.taken ≤ 64;
+  few : l.taken ≤ MOST_EXPANDED;
   same : l.tallies ≡ l.fn.tallies;
 }
 
 abbrev pub decreases-loop-self : goal.decreases-loop-self
-decreases-loop-self g l = 65 - l.taken
+decreases-loop-self g l = MOST_EXPANDED + 1 - l.taken

@@ -11,9 +11,11 @@ loop-c-preserved c =
     let seen = c.loop-c.invariant in
     elim c.if-has.branch [
       | then-has+else-left-eq0 w ↦
-          let next = after_member c.args.self c.loop-c.c ROOM c.loop-c.left wanted c.loop-c-test.true (sym c.has.ensures ∙ w.if-has.true) w.if-left-eq0.false seen.same seen.there in
+          let next = after_member c.args.self c.loop-c.c ROOM c.loop-c.left wanted c.loop-c-test.true (sym c.has.ensures
+          ∙ w.if-has.true) w.if-left-eq0.false seen.same seen.there in
           rw w.left-is (record { same = next.0; there = next.1 })
       | else-has w ↦
-          let next = after_other c.args.self c.loop-c.c ROOM c.loop-c.left wanted c.loop-c-test.true (sym c.has.ensures ∙ w.if-has.false) seen.same seen.there in
+          let next = after_other c.args.self c.loop-c.c ROOM c.loop-c.left wanted c.loop-c-test.true (sym c.has.ensures
+          ∙ w.if-has.false) seen.same seen.there in
           rw w.left-is (record { same = next.0; there = next.1 })
     ]

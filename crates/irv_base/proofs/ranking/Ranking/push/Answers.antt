@@ -6,23 +6,27 @@ use Rattle.irv_base.proofs.ranking.Ranking.push.Goals as goal
 pub listed : goal.listed
 listed c =
     let below : c.args.c < ROOM = omega (arith, c.c.invariant, c.c.view_is) in
-    let p = pushed c.self.inside.len c.args.c c.self.inside.places c.args.self.now c.contains.result c.self.invariant c.self.view_is below c.contains.ensures c.if-not-contains.true in
+    let p = pushed c.self.inside.len c.args.c c.self.inside.places c.args.self.now c.contains.result c.self.invariant c.self.view_is below c.contains.ensures
+    c.if-not-contains.true in
     omega (arith, p.room, p.wide, c.from.ensures)
 
 pub bounds-self-inside-from : goal.bounds-self-inside-from
 bounds-self-inside-from c =
     let below : c.args.c < ROOM = omega (arith, c.c.invariant, c.c.view_is) in
-    let p = pushed c.self.inside.len c.args.c c.self.inside.places c.args.self.now c.contains.result c.self.invariant c.self.view_is below c.contains.ensures c.if-not-contains.true in
+    let p = pushed c.self.inside.len c.args.c c.self.inside.places c.args.self.now c.contains.result c.self.invariant c.self.view_is below c.contains.ensures
+    c.if-not-contains.true in
     omega (arith, p.room, c.from.ensures)
 
 pub invariant_of-self : goal.invariant_of-self
 invariant_of-self c =
     let below : c.args.c < ROOM = omega (arith, c.c.invariant, c.c.view_is) in
-    let p = pushed c.self.inside.len c.args.c c.self.inside.places c.args.self.now c.contains.result c.self.invariant c.self.view_is below c.contains.ensures c.if-not-contains.true in
+    let p = pushed c.self.inside.len c.args.c c.self.inside.places c.args.self.now c.contains.result c.self.invariant c.self.view_is below c.contains.ensures
+    c.if-not-contains.true in
     rw c.from.ensures p.ranking
 
 pub returns-then-not-contains-clause-added : goal.returns-then-not-contains-clause-added
 returns-then-not-contains-clause-added c = λ _.
     let below : c.args.c < ROOM = omega (arith, c.c.invariant, c.c.view_is) in
-    let p = pushed c.self.inside.len c.args.c c.self.inside.places c.args.self.now c.contains.result c.self.invariant c.self.view_is below c.contains.ensures c.if-not-contains.true in
+    let p = pushed c.self.inside.len c.args.c c.self.inside.places c.args.self.now c.contains.result c.self.invariant c.self.view_is below c.contains.ensures
+    c.if-not-contains.true in
     ap (λ i. take (c.self.inside.len + 1) (set c.self.inside.places i c.args.c)) c.from.ensures ∙ p.more ∙ ap (λ s. s ++ c.args.c ∷ []) c.self.view_is

@@ -11,4 +11,5 @@ returns c =
     let allowed : c.from-allowed.result ≡ c.args.limit * MILLIONTH = c.from-allowed.ensures ∙ ap (λ limit. limit * MILLIONTH) c.from.ensures in
     on-lt _ _ _ (λ h.
     let above : c.args.limit * MILLIONTH * SCALE < c.args.self.least * ONE = rw (allowed, c.from-2.ensures, c.from-3.ensures, c.from-4.ensures) at h in
-    above_law s.cards s.margin s.gamma (omega arith) (omega arith) (omega arith) c.args.self.draws c.args.self.least c.args.self.most c.args.limit c.requires.around above)
+    above_law s.cards s.margin s.gamma (omega arith) (omega arith) (omega arith) c.args.self.draws c.args.self.least c.args.self.most c.args.limit
+    c.requires.around above)

@@ -12,4 +12,5 @@ returns c =
     on-le _ _ _ (λ h.
     let within : c.args.self.most * ONE + c.args.self.draws * SCALE ≤ c.args.limit * MILLIONTH * SCALE =
     rw (allowed, c.from-scale.ensures, c.from-2.ensures, c.from-3.ensures, c.from-4.ensures) at h in
-    within_law s.cards s.margin s.gamma (omega arith) (omega arith) (omega arith) c.args.self.draws c.args.self.least c.args.self.most c.args.limit c.requires.around within)
+    within_law s.cards s.margin s.gamma (omega arith) (omega arith) (omega arith) c.args.self.draws c.args.self.least c.args.self.most c.args.limit
+    c.requires.around within)

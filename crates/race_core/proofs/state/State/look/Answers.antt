@@ -13,4 +13,5 @@ returns-in_default c =
 pub returns : goal.returns
 returns c =
     let s = c.self.inside in
-    rw (← c.self.view_is) (looked s.pieces.items (take s.closed s.closings.items) s.entries.items s.next s.bound c.args.worker c.in-Some.entry (rw c.deref.ensures.value at c.in-Some.ensures))
+    rw (← c.self.view_is) (looked s.pieces.items (take s.closed s.closings.items) s.entries.items s.next s.bound c.args.worker c.in-Some.entry
+    (rw c.deref.ensures.value at c.in-Some.ensures))

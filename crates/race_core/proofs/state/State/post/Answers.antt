@@ -17,8 +17,11 @@ pub returns-then-m-self : goal.returns-then-m-self
 returns-then-m-self c =
     let s = c.self.inside in
     let ready : Some c.in-Some.entry ≡ ready_entry s.entries.items c.args.worker = rw c.deref.ensures.value at c.in-Some.ensures in
-    let low : c.args.m < least (map (λ q. q.value) s.pieces.items) = omega (arith, c.self.invariant.lowest_is) in
-    (rw (← c.self.view_is) (too_low s.pieces.items (take s.closed s.closings.items) s.entries.items s.next s.bound c.args.worker c.args.m c.in-Some.entry ready low), refl)
+    let low : c.args.m < least (map (λ q. q.value) s.pieces.items) = omega (arith, c.self.invariant.lowest_is) in (
+      rw (← c.self.view_is) (too_low s.pieces.items (take s.closed s.closings.items) s.entries.items s.next s.bound c.args.worker c.args.m c.in-Some.entry
+          ready low),
+      refl,
+    )
 
 pub index_mut-requires : goal.index_mut-requires
 index_mut-requires c =
@@ -28,7 +31,8 @@ index_mut-requires c =
     omega (arith, inside)
 
 pub invariant_of-self : goal.invariant_of-self
-invariant_of-self c = let s = c.self.inside in sound_entry s.pieces.items s.closings.items s.entries.items s.next s.closed s.lowest c.self.invariant c.args.worker _
+invariant_of-self c = let s = c.self.inside in sound_entry s.pieces.items s.closings.items s.entries.items s.next s.closed s.lowest c.self.invariant
+    c.args.worker _
 
 pub returns : goal.returns
 returns c =

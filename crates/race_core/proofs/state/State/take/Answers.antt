@@ -14,15 +14,19 @@ returns-in_default c =
 
 pub returns-then-entry : goal.returns-then-entry
 returns-then-entry c =
-    let s = c.self.inside in
-    (rw (← c.self.view_is) (already_done s.pieces.items (take s.closed s.closings.items) s.entries.items s.next s.bound c.args.worker c.in-Some.entry (rw c.deref.ensures.value at c.in-Some.ensures) c.if-entry.true), refl)
+    let s = c.self.inside in (
+      rw (← c.self.view_is) (already_done s.pieces.items (take s.closed s.closings.items) s.entries.items s.next s.bound c.args.worker c.in-Some.entry
+          (rw c.deref.ensures.value at c.in-Some.ensures) c.if-entry.true),
+      refl,
+    )
 
 pub invariant_of-self : goal.invariant_of-self
 invariant_of-self c =
     let s = c.self.inside in
     let ready : Some c.in-Some.entry ≡ ready_entry s.entries.items c.args.worker = rw c.deref.ensures.value at c.in-Some.ensures in
     let inside = ready_within s.entries.items c.args.worker c.in-Some.entry ready in
-    sound_take s.pieces.items s.closings.items s.entries.items s.next s.closed s.lowest c.self.invariant c.args.worker c.index_mut.result.now inside (omega arith) c.index_mut.ensures.value
+    sound_take s.pieces.items s.closings.items s.entries.items s.next s.closed s.lowest c.self.invariant c.args.worker c.index_mut.result.now inside
+    (omega arith) c.index_mut.ensures.value
 
 pub index_mut-requires-else-next-len : goal.index_mut-requires-else-next-len
 index_mut-requires-else-next-len c =
@@ -37,10 +41,12 @@ returns-then-next-len c =
     let ready : Some c.in-Some.entry ≡ ready_entry s.entries.items c.args.worker = rw c.deref.ensures.value at c.in-Some.ensures in
     let low = closed_below s.pieces.items s.closings.items s.entries.items s.next s.closed s.lowest c.self.invariant in
     rw (← c.self.view_is)
-    (took s.pieces.items (take s.closed s.closings.items) s.entries.items s.next s.bound c.args.worker c.in-Some.entry c.index_mut.result.now ready c.if-entry.false (omega arith) c.index_mut.ensures.value low)
+    (took s.pieces.items (take s.closed s.closings.items) s.entries.items s.next s.bound c.args.worker c.in-Some.entry c.index_mut.result.now ready
+    c.if-entry.false (omega arith) c.index_mut.ensures.value low)
 
 pub returns-else-next-len : goal.returns-else-next-len
 returns-else-next-len c =
     let s = c.self.inside in
     let ready : Some c.in-Some.entry ≡ ready_entry s.entries.items c.args.worker = rw c.deref.ensures.value at c.in-Some.ensures in
-    rw (← c.self.view_is) (took_none s.pieces.items (take s.closed s.closings.items) s.entries.items s.next s.bound c.args.worker c.in-Some.entry ready c.if-entry.false (omega arith))
+    rw (← c.self.view_is) (took_none s.pieces.items (take s.closed s.closings.items) s.entries.items s.next s.bound c.args.worker c.in-Some.entry ready
+    c.if-entry.false (omega arith))

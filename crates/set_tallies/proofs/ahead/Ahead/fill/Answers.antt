@@ -21,7 +21,8 @@ loop-c-preserved c =
     let bag = c.args.bag.now in
     record {
       firsts = items
-          ∙ ap₂ (λ xs x. xs ++ x ∷ []) c.loop-c.invariant.firsts (c.votes.ensures ∙ ap (λ s. votes_at bag s c.loop-c.c) (c.everyone.ensures ∙ ap everyone c.candidates-n.ensures.same))
+          ∙ ap₂ (λ xs x. xs ++ x ∷ []) c.loop-c.invariant.firsts (c.votes.ensures
+          ∙ ap (λ s. votes_at bag s c.loop-c.c) (c.everyone.ensures ∙ ap everyone c.candidates-n.ensures.same))
           ∙ sym (map-range_with_len_more (λ w. votes_at bag (everyone bag.n) w) 0 c.loop-c.c c.loop-c.c (omega arith));
       ahead = ap (map (λ v. v.items)) items'
           ∙ map-append (λ v. v.items) c.loop-c.ahead.items (c.in_ok-row.field-0 ∷ [])
@@ -35,7 +36,8 @@ invariant_of-result c =
     table-of c.args.bag.now _ (omega (arith, c.candidates-n.ensures.room)) (record {
       same = c.candidates-n.ensures.same;
       firsts = rw whole at c.loop-c.invariant.firsts;
-      ahead = c.loop-c.invariant.ahead ∙ ap₂ (λ m k. map (λ d. map (λ w. votes_at c.args.bag.now (2 ^ w) d) (candidates m)) (candidates k)) (sym c.candidates-n.ensures.same) whole;
+      ahead = c.loop-c.invariant.ahead ∙ ap₂ (λ m k. map (λ d. map (λ w. votes_at c.args.bag.now (2 ^ w) d) (candidates m)) (candidates k))
+          (sym c.candidates-n.ensures.same) whole;
     })
 
 pub returns : goal.returns
@@ -44,5 +46,6 @@ returns c =
     filled-from c.args.bag.now _ (record {
       same = c.candidates-n.ensures.same;
       firsts = rw whole at c.loop-c.invariant.firsts;
-      ahead = c.loop-c.invariant.ahead ∙ ap₂ (λ m k. map (λ d. map (λ w. votes_at c.args.bag.now (2 ^ w) d) (candidates m)) (candidates k)) (sym c.candidates-n.ensures.same) whole;
+      ahead = c.loop-c.invariant.ahead ∙ ap₂ (λ m k. map (λ d. map (λ w. votes_at c.args.bag.now (2 ^ w) d) (candidates m)) (candidates k))
+          (sym c.candidates-n.ensures.same) whole;
     })

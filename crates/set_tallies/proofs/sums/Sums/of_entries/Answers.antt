@@ -11,8 +11,16 @@ pub add_entries-requires-clause-before : goal.add_entries-requires-clause-before
 add_entries-requires-clause-before c =
     let lists = c.args.lists.now in
     let place = c.index.result in
-    let within : place < length lists = omega (arith, c.index.ensures.same, c.loop-c-test.true, c.loop-c.auto.c-end, c.requires.entries.one_each, length-map lists (λ v. v.items)) in
-    let own : get_or (map (λ v. v.items) lists) place [] ≡ c.deref.result.now = own-entries (λ v. v.items) lists place c.index-lists-index.result within c.index-lists-index.is ∙ sym c.deref.ensures.value in
+    let within : place < length lists = omega (
+      arith,
+      c.index.ensures.same,
+      c.loop-c-test.true,
+      c.loop-c.auto.c-end,
+      c.requires.entries.one_each,
+      length-map lists (λ v. v.items),
+    ) in
+    let own : get_or (map (λ v. v.items) lists) place [] ≡ c.deref.result.now =
+    own-entries (λ v. v.items) lists place c.index-lists-index.result within c.index-lists-index.is ∙ sym c.deref.ensures.value in
     subst (λ es. All (λ e. is_before c.args.n c.loop-c.c e.before ≡ true) es) own
     (subst (λ k. All (λ e. is_before c.args.n c.loop-c.c e.before ≡ true) (get_or (map (λ v. v.items) lists) k [])) (sym c.index.ensures.same)
     (c.requires.entries.before c.loop-c.c (omega (arith, c.loop-c-test.true, c.loop-c.auto.c-end))))
@@ -20,8 +28,16 @@ add_entries-requires-clause-before c =
 pub add_entries-requires-clause-most : goal.add_entries-requires-clause-most
 add_entries-requires-clause-most c =
     let lists = c.args.lists.now in
-    let within : c.index.result < length lists = omega (arith, c.index.ensures.same, c.loop-c-test.true, c.loop-c.auto.c-end, c.requires.entries.one_each, length-map lists (λ v. v.items)) in
-    let few = at-place (λ es. total es ≤ MOST_RECORDS) (λ v. v.items) lists c.index.result c.index-lists-index.result within c.requires.entries.few c.index-lists-index.is in
+    let within : c.index.result < length lists = omega (
+      arith,
+      c.index.ensures.same,
+      c.loop-c-test.true,
+      c.loop-c.auto.c-end,
+      c.requires.entries.one_each,
+      length-map lists (λ v. v.items),
+    ) in
+    let few = at-place (λ es. total es ≤ MOST_RECORDS) (λ v. v.items) lists c.index.result c.index-lists-index.result within c.requires.entries.few
+    c.index-lists-index.is in
     omega (arith, few, ap total c.deref.ensures.value)
 
 pub sum_apart-requires-clause-fit : goal.sum_apart-requires-clause-fit

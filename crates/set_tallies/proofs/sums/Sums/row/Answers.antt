@@ -14,7 +14,8 @@ loop-c-preserved c =
     let good : is_ok c.push.result ≡ true = search rules in
     let items = rw good at c.push.ensures.items in
     let own : c.if-has.push ≡ (if has s d then sum_at sums s d else 0) = elim c.if-has.branch [
-      | then-has w ↦ w.push-is ∙ w.at.ensures ∙ ap (λ x. sum_at sums x d) c.number-set.ensures ∙ ap (λ b. cond b (sum_at sums s d) 0) (sym (sym c.has.ensures ∙ w.if-has.true))
+      | then-has w ↦ w.push-is ∙ w.at.ensures ∙ ap (λ x. sum_at sums x d) c.number-set.ensures
+          ∙ ap (λ b. cond b (sum_at sums s d) 0) (sym (sym c.has.ensures ∙ w.if-has.true))
       | else-has w ↦ w.push-is ∙ ap (λ b. cond b (sum_at sums s d) 0) (sym (sym c.has.ensures ∙ w.if-has.false))
     ] in
     items

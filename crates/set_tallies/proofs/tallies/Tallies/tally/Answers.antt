@@ -14,7 +14,8 @@ summed-votes c =
 kept-votes : (c : goal.In_ok-from_slice) → c.in_ok-from_slice.field-0.items ≡ votes_of c.self.inside.bag.now c.number-set.result
 kept-votes c =
     c.in_ok-from_slice.ensures.items ∙ c.deref-in-Some-kept.ensures.value
-    ∙ row-kept c.self.inside.bag.now c.self.inside.rows.items c.in-Some-kept.row.now c.number-set.result c.self.invariant.some c.self.invariant.rows c.in-Some-kept.ensures.own (rw c.deref.ensures.value at c.in-Some-kept.ensures.there)
+    ∙ row-kept c.self.inside.bag.now c.self.inside.rows.items c.in-Some-kept.row.now c.number-set.result c.self.invariant.some c.self.invariant.rows
+    c.in-Some-kept.ensures.own (rw c.deref.ensures.value at c.in-Some-kept.ensures.there)
 
 -- the row that is counted
 counted-votes : (c : goal.After-note) → c.in_ok-answer.answer.items ≡ votes_of c.self.inside.bag.now c.number-set.result
@@ -31,7 +32,8 @@ returns-in-Some-clause-one_each c = ap length (summed-votes c) ∙ row-long c.se
 pub returns-in-Some-kept-clause-tallies : goal.returns-in-Some-kept-clause-tallies
 returns-in-Some-kept-clause-tallies c = λ records h.
     let now = ap (λ t. t.bag) c.self.view_is in
-    kept-votes c ∙ ap (votes_of c.self.inside.bag.now) c.number-set.ensures ∙ row-tallies c.self.inside.bag.now records c.args.s (rw now c.requires) (rw now h) ∙ ap (λ b. tallies records b.n c.args.s) now
+    kept-votes c ∙ ap (votes_of c.self.inside.bag.now) c.number-set.ensures
+    ∙ row-tallies c.self.inside.bag.now records c.args.s (rw now c.requires) (rw now h) ∙ ap (λ b. tallies records b.n c.args.s) now
 
 pub returns-in-Some-kept-clause-one_each : goal.returns-in-Some-kept-clause-one_each
 returns-in-Some-kept-clause-one_each c = ap length (kept-votes c) ∙ row-long c.self.inside.bag.now c.number-set.result ∙ ap (λ t. t.bag.n) c.self.view_is
@@ -39,7 +41,8 @@ returns-in-Some-kept-clause-one_each c = ap length (kept-votes c) ∙ row-long c
 pub returns-clause-tallies : goal.returns-clause-tallies
 returns-clause-tallies c = λ records h.
     let now = ap (λ t. t.bag) c.self.view_is in
-    counted-votes c ∙ ap (votes_of c.self.inside.bag.now) c.number-set.ensures ∙ row-tallies c.self.inside.bag.now records c.args.s (rw now c.requires) (rw now h) ∙ ap (λ b. tallies records b.n c.args.s) now
+    counted-votes c ∙ ap (votes_of c.self.inside.bag.now) c.number-set.ensures
+    ∙ row-tallies c.self.inside.bag.now records c.args.s (rw now c.requires) (rw now h) ∙ ap (λ b. tallies records b.n c.args.s) now
 
 pub returns-clause-one_each : goal.returns-clause-one_each
 returns-clause-one_each c = ap length (counted-votes c) ∙ row-long c.self.inside.bag.now c.number-set.result ∙ ap (λ t. t.bag.n) c.self.view_is

@@ -12,7 +12,8 @@ pub last_bound-requires-clause-share : goal.last_bound-requires-clause-share
 last_bound-requires-clause-share c =
     let whole = sym c.into_iter-rest.ensures.rest ∙ c.in-Some.ensures.items in
     let is = ap (λ (s : Seated). s.view) c.first.view_is in
-    let all = seats_share c.args.seats.items c.in-Some.first (into_iter_items c.next.new.self) c.first.inside.seat.me.0 whole is c.first.invariant.0 c.join_seats.ensures.shares in
+    let all = seats_share c.args.seats.items c.in-Some.first (into_iter_items c.next.new.self) c.first.inside.seat.me.0 whole is c.first.invariant.0
+    c.join_seats.ensures.shares in
     ap (λ (me : Me ℕ View). share me.0) c.join_seats.ensures.view ∙ all ∙ c.requires.each ∙ ap (λ (r : SharedRace). r.terms.workers) (sym c.self.view_is)
 
 pub returns-clause-bound : goal.returns-clause-bound
@@ -21,7 +22,8 @@ returns-clause-bound c =
     let is = ap (λ (s : Seated). s.view) c.first.view_is in
     let first = c.self.inside.words.shared.key.first in
     let posted = seats_posted c.args.seats.items c.in-Some.first (into_iter_items c.next.new.self) c.first.inside.seat.me.0 whole is first in
-    c.last_bound.ensures.bound ∙ ap (λ (me : Me ℕ View). min first me.0.posted) c.join_seats.ensures.view ∙ posted ∙ ap (λ (r : SharedRace). least_posted r.terms.first (views_of c.args.seats.items)) c.self.view_is
+    c.last_bound.ensures.bound ∙ ap (λ (me : Me ℕ View). min first me.0.posted) c.join_seats.ensures.view ∙ posted
+    ∙ ap (λ (r : SharedRace). least_posted r.terms.first (views_of c.args.seats.items)) c.self.view_is
 
 pub returns-clause-seen : goal.returns-clause-seen
 returns-clause-seen c =

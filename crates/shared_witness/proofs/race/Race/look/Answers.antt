@@ -14,7 +14,9 @@ invariant_of-seat c =
     (ap share view ∙ c.seat.invariant.0, c.look_word.ensures.slots ∙ c.seat.invariant.1)
 
 pub returns-clause-least : goal.returns-clause-least
-returns-clause-least c = rw (← c.self.view_is, ← c.seat.view_is) (looked_low c.self.inside.words.shared.key c.seat.inside.seat.me.0 c.look_word.result c.look_word.new.seat.me.0 c.look_word.ensures.step)
+returns-clause-least c = rw (← c.self.view_is, ← c.seat.view_is)
+    (looked_low c.self.inside.words.shared.key c.seat.inside.seat.me.0 c.look_word.result c.look_word.new.seat.me.0 c.look_word.ensures.step)
 
 pub returns-clause-view : goal.returns-clause-view
-returns-clause-view c = rw (← c.seat.view_is) (looked c.self.inside.words.shared.key c.seat.inside.seat.me.0 c.look_word.result c.look_word.new.seat.me.0 c.look_word.ensures.step)
+returns-clause-view c = rw (← c.seat.view_is) (looked c.self.inside.words.shared.key c.seat.inside.seat.me.0 c.look_word.result c.look_word.new.seat.me.0
+    c.look_word.ensures.step)

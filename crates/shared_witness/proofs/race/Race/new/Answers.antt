@@ -18,7 +18,8 @@ loop-i-preserved c =
     record {
       rest_is = c.split_off.ensures.view ∙ ap (λ (me : Me ℕ View). (view_after_split me.0, me.1)) c.loop-i.invariant.rest_is ∙ ap (λ n. (new_view n, [])) left;
       same_table = c.split_off.ensures.table ∙ c.loop-i.invariant.same_table;
-      seats_are = c.in_ok-push.ensures.items ∙ ap (λ ss. ss ++ c.split_off.result ∷ []) c.loop-i.invariant.seats_are ∙ ap (λ s. replicate (i - 1) (seat id) ++ s ∷ []) is ∙ replicate_more (i - 1) (seat id)
+      seats_are = c.in_ok-push.ensures.items ∙ ap (λ ss. ss ++ c.split_off.result ∷ []) c.loop-i.invariant.seats_are
+          ∙ ap (λ s. replicate (i - 1) (seat id) ++ s ∷ []) is ∙ replicate_more (i - 1) (seat id)
           ∙ ap (λ n. replicate n (seat id)) one;
     }
 
@@ -29,4 +30,5 @@ returns-clause-seats c =
     let seat : TableId → Seated = λ z. record { race = z; view = new_view 1 } in
     let all : i - 1 + 1 ≡ c.args.workers = omega arith in
     let is = c.last_seat.ensures ∙ ap seat c.loop-i.invariant.same_table in
-    c.in_ok-push-2.ensures.items ∙ ap (λ ss. ss ++ c.last_seat.result ∷ []) c.loop-i.invariant.seats_are ∙ ap (λ s. replicate (i - 1) (seat id) ++ s ∷ []) is ∙ replicate_more (i - 1) (seat id) ∙ ap (λ n. replicate n (seat id)) all
+    c.in_ok-push-2.ensures.items ∙ ap (λ ss. ss ++ c.last_seat.result ∷ []) c.loop-i.invariant.seats_are ∙ ap (λ s. replicate (i - 1) (seat id) ++ s ∷ []) is
+    ∙ replicate_more (i - 1) (seat id) ∙ ap (λ n. replicate n (seat id)) all

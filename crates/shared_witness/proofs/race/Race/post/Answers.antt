@@ -12,8 +12,13 @@ invariant_of-seat c =
 
 pub returns-clause-least : goal.returns-clause-least
 returns-clause-least c =
-    let low = posted_low c.self.inside.words.shared.key c.seat.inside.seat.me.0 c.post_word.result c.post_word.new.seat.me.0 c.args.m c.post_word.ensures.step in
-    rw (← c.self.view_is, ← c.seat.view_is) (omega (arith, c.min.ensures, c.from.ensures), omega (arith, low.0, c.min.ensures), omega (arith, low.1, c.min.ensures))
+    let low = posted_low c.self.inside.words.shared.key c.seat.inside.seat.me.0 c.post_word.result c.post_word.new.seat.me.0 c.args.m
+    c.post_word.ensures.step in
+    rw (← c.self.view_is, ← c.seat.view_is) (
+      omega (arith, c.min.ensures, c.from.ensures),
+      omega (arith, low.0, c.min.ensures),
+      omega (arith, low.1, c.min.ensures),
+    )
 
 pub returns-clause-view : goal.returns-clause-view
 returns-clause-view c =

@@ -49,7 +49,8 @@ returns-clause-open_piece c =
     let found = c.take_word.result in
     let new = c.take_word.new.seat.me.0 in
     let piece : c.min.result ≡ min found key.pieces = c.min.ensures ∙ ap (min found) (c.from.ensures ∙ c.self.invariant.same_pieces) in
-    let view = took key old found new c.take_word.ensures.step ∙ sym (take_by_piece key.pieces found old) ∙ ap (λ n. view_after_take key.pieces n old) (sym piece) in
+    let view = took key old found new c.take_word.ensures.step ∙ sym (take_by_piece key.pieces found old)
+    ∙ ap (λ n. view_after_take key.pieces n old) (sym piece) in
     rw (← c.self.view_is) (open_piece key old c.min.result new (takes_piece key old found new c.min.result piece c.take_word.ensures.step) view)
 
 pub returns-clause-few : goal.returns-clause-few

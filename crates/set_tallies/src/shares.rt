@@ -1,0 +1,97 @@
+// Counting ballots, each worker a share of them in a table of its own.
+ghost use Rattle.std.specs.Prelude.{◌≡◌, ◌<◌, ◌≤◌, ◌*◌, All, IfOk, length};
+ghost use Rattle.irv_base.specs.declared.limits.TheConstants.{MOST_RECORDS};
+ghost use Rattle.set_tallies.specs.Shares.{AreShares};
+ghost use Rattle.set_tallies.specs.Sums.{IsCountOf};
+ghost use Rattle.set_tallies.specs.declared.sums.TheConstants.{MOST_SUMMED};
+
+use crate::table::{add_table, count, zeros};
+use irv_base::{Memory, Ranking};
+use std::alloc::Global;
+use std::thread;
+use std::thread::Threads;
+
+/// Fewer records are counted sooner than a thread is started for them.
+pub const FEWEST_IN_A_SHARE: usize = 4096;
+
+// How many records each worker counts but the last, who has those that are left. They are no fewer than the sets of candidates: a
+// table of its own takes as long to be made and added up as so many records take to count.
+fn share_size(n: u32, records: usize, workers: u32) -> usize
+    requires few { n ≤ MOST_SUMMED }
+    requires workers { 1 ≤ workers }
+    ensures some { 1 ≤ result }
+    ensures all { records ≤ workers * result }
+{
+    records
+        .div_ceil(workers as usize)
+        .max(FEWEST_IN_A_SHARE)
+        .max(1 << n)
+}
+
+// The ballots with these rankings, counted by one worker.
+fn share_of(alloc: Global, n: u32, rankings: &[Ranking]) -> Result<Vec<u32>, Memory>
+    requires few { n ≤ MOST_SUMMED }
+    requires most { length rankings.now ≤ MOST_RECORDS }
+    requires below { All (λ ranking. All (λ c. c < n) ranking) rankings.now }
+    ensures { IfOk result (λ table. IsCountOf n rankings.now table.items) }
+{
+    let mut table = zeros(alloc, n)?;
+    for ranking in rankings {
+        count(&mut table, n, ranking);
+    }
+    Ok(table)
+}
+
+// The shares of all workers, each with `size` of the rankings and the last with those that are left.
+fn shares<R: AllocGlobal + Threads + Sync>(
+    rt: &R,
+    n: u32,
+    rankings: &[Ranking],
+    size: usize,
+) -> Result<Vec<Result<Vec<u32>, Memory>>, Memory>
+    requires few { n ≤ MOST_SUMMED }
+    requires most { length rankings.now ≤ MOST_RECORDS }
+    requires below { All (λ ranking. All (λ c. c < n) ranking) rankings.now }
+    requires size { 1 ≤ size }
+    ensures { IfOk result (λ shares. AreShares n size rankings.now shares.items) }
+{
+    let alloc = rt.alloc();
+    let shares = thread::map_chunks(
+        rt,
+        alloc,
+        rankings,
+        size,
+        &|_start, part: &[Ranking]| -> Result<Vec<u32>, Memory>
+            requires { (n ≤ MOST_SUMMED) × (length part.now ≤ MOST_RECORDS)
+                × All (λ ranking. All (λ c. c < n) ranking) part.now }
+            ensures { IfOk result (λ table. IsCountOf n part.entry.now table.items) }
+        { share_of(alloc, n, part) },
+    )?;
+    Ok(shares)
+}
+
+/// The ballots with these rankings, counted by at most so many workers.
+pub fn counted<R: AllocGlobal + Threads + Sync>(
+    rt: &R,
+    n: u32,
+    rankings: &[Ranking],
+    workers: u32,
+) -> Result<Vec<u32>, Memory>
+    requires few { n ≤ MOST_SUMMED }
+    requires most { length rankings.now ≤ MOST_RECORDS }
+    requires below { All (λ ranking. All (λ c. c < n) ranking) rankings.now }
+    requires workers { 1 ≤ workers }
+    ensures { IfOk result (λ table. IsCountOf n rankings.now table.items) }
+{
+    let alloc = rt.alloc();
+    let size = share_size(n, rankings.len(), workers);
+    if rankings.len() <= size {
+        return share_of(alloc, n, rankings);
+    }
+    let shares = shares(rt, n, rankings, size)?;
+    let mut table = zeros(alloc, n)?;
+    for share in shares {
+        add_table(&mut table, &share?);
+    }
+    Ok(table)
+}

@@ -1,0 +1,73 @@
+// A table with a number for each set of candidates and each candidate: how many ballots have just that set before the candidate.
+ghost use Rattle.std.specs.Prelude.{◌≡◌, ℕ, ◌<◌, ◌≤◌, ◌+◌, ◌*◌, ◌^◌, ◌==◌, ◌&&◌, All, IfOk, length, slice_index, map, if◌then◌else◌};
+ghost use Rattle.irv_base.specs.Candidates.{candidates};
+ghost use Rattle.irv_base.specs.declared.limits.TheConstants.{MOST_RECORDS};
+ghost use Rattle.set_tallies.specs.Bags.{misses};
+ghost use Rattle.set_tallies.specs.Befores.{has_missed};
+ghost use Rattle.set_tallies.specs.Sums.{column, apart};
+ghost use Rattle.set_tallies.specs.declared.sums.TheConstants.{MOST_SUMMED};
+
+use irv_base::{Candidate, Memory, Ranking};
+use std::alloc::Global;
+
+/// A table of zeros.
+pub fn zeros(alloc: Global, n: u32) -> Result<Vec<u32>, Memory>
+    requires { n ≤ MOST_SUMMED }
+    ensures long { IfOk result (λ table. length table.items ≡ n * 2 ^ n) }
+    ensures zeros { IfOk result (λ table.
+        (s c : ℕ) → c < n → apart s (column n n table.items c) ≡ 0) }
+{
+    Ok(vec![in alloc; 0; (n as usize) << n]?)
+}
+
+/// The place of the number of the set and the candidate.
+pub fn place(n: u32, set: u32, c: Candidate) -> usize
+    requires { n ≤ MOST_SUMMED }
+    ensures { result ≡ set * n + c }
+{
+    set as usize * n as usize + c.index()
+}
+
+/// Counts so many ballots more that have just this set before the candidate.
+pub fn add(table: &mut [u32], n: u32, set: u32, c: Candidate, count: u32)
+    requires few { n ≤ MOST_SUMMED }
+    requires long { length table.old ≡ n * 2 ^ n }
+    requires set { set < 2 ^ n }
+    requires candidate { c < n }
+    requires fit { apart 0 (column n n table.old c) + count ≤ MOST_RECORDS }
+    ensures long { length table.new ≡ n * 2 ^ n }
+    ensures more { (s d : ℕ) → d < n → apart s (column n n table.new d)
+        ≡ apart s (column n n table.old d) + (if d == c && misses s set then count else 0) }
+{
+    table[place(n, set, c)] += count;
+}
+
+/// Counts a ballot.
+pub fn count(table: &mut [u32], n: u32, ranking: &Ranking)
+    requires few { n ≤ MOST_SUMMED }
+    requires long { length table.old ≡ n * 2 ^ n }
+    requires below { All (λ c. c < n) ranking.now }
+    requires fit { (c : ℕ) → c < n → apart 0 (column n n table.old c) < MOST_RECORDS }
+    ensures long { length table.new ≡ n * 2 ^ n }
+    ensures more { (s c : ℕ) → c < n → apart s (column n n table.new c)
+        ≡ apart s (column n n table.old c) + (if has_missed s c ranking.now then 1 else 0) }
+{
+    let mut seen = 0u32;
+    for d in ranking.candidates() {
+        add(table, n, seen, *d, 1);
+        seen |= 1 << d.index();
+    }
+}
+
+/// Adds the numbers of another table.
+pub fn add_table(table: &mut [u32], other: &[u32])
+    requires same { length table.old ≡ length other.now }
+    requires fit { (i : ℕ) → i < length table.old
+        → slice_index table.old i + slice_index other.now i ≤ MOST_RECORDS }
+    ensures { table.new ≡ map (λ i. slice_index table.old i + slice_index other.now i)
+        (candidates (length table.old)) }
+{
+    for i in 0..table.len() {
+        table[i] += other[i];
+    }
+}

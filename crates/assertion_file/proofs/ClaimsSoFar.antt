@@ -25,18 +25,22 @@ at-first ids records values = record { left = by (claims_from ids records 1 valu
   by (Ok claims) = refl
   by (Err refusal) = refl
 
-more-first : (before : List Claim) (claim : Claim) (r : Result (List Claim) Refusal) → after before (r >>= λ claims. Ok (claim ∷ claims)) ≡ after (before ++ claim ∷ []) r
+more-first : (before : List Claim) (claim : Claim) (r : Result (List Claim) Refusal) →
+    after before (r >>= λ claims. Ok (claim ∷ claims)) ≡ after (before ++ claim ∷ []) r
 more-first before claim (Ok claims) = ap Ok (sym (append_assoc before (claim ∷ []) claims))
 more-first before claim (Err refusal) = refl
 
-head-of : (values : List Value) (i : ℕ) (value : Value) → i < length values → value ≡ get_or values i value → drop i (map view values) ≡ view value ∷ drop (i + 1) (map view values)
+head-of : (values : List Value) (i : ℕ) (value : Value) → i < length values → value ≡ get_or values i value →
+    drop i (map view values) ≡ view value ∷ drop (i + 1) (map view values)
 head-of values i value within is =
     let seen : i < length (map view values) = omega (arith, length-map values view) in
     drop_more (map view values) i (view value) seen
     ∙ ap (λ d. d ∷ drop (i + 1) (map view values)) (get_or-map view values i value (view value) within ∙ ap view (sym is))
 
-pub goes_on : (ids : List Id) (records i : ℕ) (claims : List Claim) (values : List Value) (value : Value) (claim : Claim) → SoFar ids records i claims (map view values) →
-    i < length values → value ≡ get_or values i value → claim_of ids records (view value) ≡ Ok claim → SoFar ids records (i + 1) (claims ++ claim ∷ []) (map view values)
+pub goes_on : (ids : List Id) (records i : ℕ) (claims : List Claim) (values : List Value) (value : Value) (claim : Claim) →
+    SoFar ids records i claims (map view values) →
+    i < length values → value ≡ get_or values i value → claim_of ids records (view value) ≡ Ok claim →
+    SoFar ids records (i + 1) (claims ++ claim ∷ []) (map view values)
 goes_on ids records i claims values value claim h within is said = record {
   left =
       h.left ∙ ap (λ ds. after claims (claims_from ids records (i + 1) ds)) (head-of values i value within is)
@@ -45,13 +49,17 @@ goes_on ids records i claims values value claim h within is said = record {
   count = omega (arith, length-append claims (claim ∷ []), h.count);
 }
 
-pub breaks : (ids : List Id) (records i : ℕ) (claims : List Claim) (values : List Value) (value : Value) (fault : FileFault) → SoFar ids records i claims (map view values) →
-    i < length values → value ≡ get_or values i value → Refuses (located (i + 1) (claim_of ids records (view value))) fault → Refuses (claims_from ids records 1 (map view values)) fault
+pub breaks : (ids : List Id) (records i : ℕ) (claims : List Claim) (values : List Value) (value : Value) (fault : FileFault) →
+    SoFar ids records i claims (map view values) →
+    i < length values → value ≡ get_or values i value → Refuses (located (i + 1) (claim_of ids records (view value))) fault →
+    Refuses (claims_from ids records 1 (map view values)) fault
 breaks ids records i claims values value (Refused rule at) h within is said =
     h.left ∙ ap (λ ds. after claims (claims_from ids records (i + 1) ds)) (head-of values i value within is)
     ∙ ap (λ r. after claims (r >>= λ c. claims_from ids records (i + 1 + 1) (drop (i + 1) (map view values)) >>= λ cs. Ok (c ∷ cs))) said
 breaks ids records i claims values value Memory h within is said = tt
 
-pub at_end : (ids : List Id) (records i : ℕ) (claims : List Claim) (values : List Value) → SoFar ids records i claims (map view values) → i ≡ length values → claims_from ids records 1 (map view values) ≡ Ok claims
+pub at_end : (ids : List Id) (records i : ℕ) (claims : List Claim) (values : List Value) → SoFar ids records i claims (map view values) →
+    i ≡ length values → claims_from ids records 1 (map view values) ≡ Ok claims
 at_end ids records i claims values h end =
-    h.left ∙ ap (λ ds. after claims (claims_from ids records (i + 1) ds)) (drop_all i (map view values) (omega (arith, length-map values view))) ∙ ap Ok (append-nil claims)
+    h.left ∙ ap (λ ds. after claims (claims_from ids records (i + 1) ds)) (drop_all i (map view values) (omega (arith, length-map values view)))
+    ∙ ap Ok (append-nil claims)

@@ -24,8 +24,10 @@ differ-push [] id h out = refl
 differ-push (a ∷ before) id h out =
     let (apart, rest) = and_parts (not (is_among before a)) (all_differ before) h in
     let (first, others) = or_parts (is_same a id) (is_among before id) out in
-    let none = list_any-append (λ other. is_same other a) before (id ∷ []) ∙ ap (λ b. b || (is_same id a || false)) (not-true (is_among before a) apart) ∙ ap (λ b. b || false) (same-comm id a ∙ first) in
-    and_from (not (is_among (before ++ id ∷ []) a)) (all_differ (before ++ id ∷ [])) (not_from_false (is_among (before ++ id ∷ []) a) none) (differ-push before id rest others)
+    let none = list_any-append (λ other. is_same other a) before (id ∷ []) ∙ ap (λ b. b || (is_same id a || false)) (not-true (is_among before a) apart)
+    ∙ ap (λ b. b || false) (same-comm id a ∙ first) in
+    and_from (not (is_among (before ++ id ∷ []) a)) (all_differ (before ++ id ∷ [])) (not_from_false (is_among (before ++ id ∷ []) a) none)
+    (differ-push before id rest others)
 
 pub repeated : (before : List Id) (id : Id) (rest : List Id) → is_among before id ≡ true → all_differ (before ++ id ∷ rest) ≡ false
 repeated before id rest h =
@@ -59,7 +61,8 @@ distinct-more [] c = refl
 distinct-more (x ∷ xs) c =
     ap₂ (λ a b. not a && b) (in-more xs c x) (distinct-more xs c) ∙ parted (is_in xs x) (x == c) (is_distinct xs) (is_in xs c)
 
-pub repeats-more : (xs : List ℕ) (c : ℕ) (repeats has : Bool) → repeats ≡ not (is_distinct xs) → has ≡ is_in xs c → (repeats || has) ≡ not (is_distinct (xs ++ c ∷ []))
+pub repeats-more : (xs : List ℕ) (c : ℕ) (repeats has : Bool) → repeats ≡ not (is_distinct xs) → has ≡ is_in xs c →
+    (repeats || has) ≡ not (is_distinct (xs ++ c ∷ []))
 repeats-more xs c repeats has r h = ap₂ (λ a b. a || b) r h ∙ turned (is_distinct xs) (is_in xs c) ∙ sym (ap not (distinct-more xs c)) where
   turned : (d i : Bool) → (not d || i) ≡ not (d && not i)
   turned true true = refl

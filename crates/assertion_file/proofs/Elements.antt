@@ -13,7 +13,8 @@ pub elements-items_of : (values : List Data) → elements (items_of values) ≡ 
 elements-items_of [] = refl
 elements-items_of (value ∷ values) = ap (λ rest. value ∷ rest) (elements-items_of values)
 
-pub list-is : (name : List ℕ) (value found : Data) (values slice : List Value) → Some found ≡ get name value → Some (items_of (map view values)) ≡ as_array found → slice ≡ values →
+pub list-is : (name : List ℕ) (value found : Data) (values slice : List Value) → Some found ≡ get name value →
+    Some (items_of (map view values)) ≡ as_array found → slice ≡ values →
     Some (map view slice) ≡ list_in name value
 list-is name value found values slice there array same =
     ap Some (ap (map view) same ∙ sym (elements-items_of (map view values)))

@@ -15,17 +15,21 @@ pub claim-none : (ids : List Id) (records : ℕ) (value : Data) → entry_in val
 unfolding claim_of
 claim-none ids records value h = ap (λ o. ok_or o F2 >>= λ entry. judged (entry_rules ids records entry) (claim_with ids entry)) h
 
-pub claim-some : (ids : List Id) (records : ℕ) (value : Data) (entry : Entry) → entry_in value ≡ Some entry → claim_of ids records value ≡ judged (entry_rules ids records entry) (claim_with ids entry)
+pub claim-some : (ids : List Id) (records : ℕ) (value : Data) (entry : Entry) → entry_in value ≡ Some entry →
+    claim_of ids records value ≡ judged (entry_rules ids records entry) (claim_with ids entry)
 unfolding claim_of
 claim-some ids records value entry h = ap (λ o. ok_or o F2 >>= λ entry. judged (entry_rules ids records entry) (claim_with ids entry)) h
 
-pub no_winner : (ids : List Id) (records : ℕ) (entry : Entry) → is_among ids entry.winner ≡ false → judged (entry_rules ids records entry) (claim_with ids entry) ≡ Err F4
+pub no_winner : (ids : List Id) (records : ℕ) (entry : Entry) → is_among ids entry.winner ≡ false →
+    judged (entry_rules ids records entry) (claim_with ids entry) ≡ Err F4
 no_winner ids records entry w = rw w refl
 
-pub no_loser : (ids : List Id) (records : ℕ) (entry : Entry) → is_among ids entry.winner ≡ true → is_among ids entry.loser ≡ false → judged (entry_rules ids records entry) (claim_with ids entry) ≡ Err F4
+pub no_loser : (ids : List Id) (records : ℕ) (entry : Entry) → is_among ids entry.winner ≡ true → is_among ids entry.loser ≡ false →
+    judged (entry_rules ids records entry) (claim_with ids entry) ≡ Err F4
 no_loser ids records entry w l = rw (w, l) refl
 
-pub itself : (ids : List Id) (records : ℕ) (entry : Entry) → is_among ids entry.winner ≡ true → is_among ids entry.loser ≡ true → is_same entry.winner entry.loser ≡ true →
+pub itself : (ids : List Id) (records : ℕ) (entry : Entry) → is_among ids entry.winner ≡ true → is_among ids entry.loser ≡ true →
+    is_same entry.winner entry.loser ≡ true →
     judged (entry_rules ids records entry) (claim_with ids entry) ≡ Err F4
 itself ids records entry w l same = rw (w, l, same) refl
 
@@ -40,7 +44,8 @@ pub record Pair (ids : List Id) (entry : Entry) (w l : ℕ) : Type 0 where
 pub no_assertion : (ids : List Id) (records : ℕ) (entry : Entry) (w l : ℕ) (rule : FRule) → Pair ids entry w l →
     judged_assertion ids w l entry.rest ≡ Err rule → judged (entry_rules ids records entry) (claim_with ids entry) ≡ Err rule
 no_assertion ids records entry w l rule p h =
-    rw (p.winner, p.loser, p.differ, p.w_is, p.l_is) (err-more _ _ F4 F5 ((is_margin records entry.margin, F6) ∷ []) _ (record { assertion = assertion_with w l (option_map (numbers_of ids) entry.rest); margin = entry.margin }) rule h)
+    rw (p.winner, p.loser, p.differ, p.w_is, p.l_is) (err-more _ _ F4 F5 ((is_margin records entry.margin, F6) ∷ [])
+    _ (record { assertion = assertion_with w l (option_map (numbers_of ids) entry.rest); margin = entry.margin }) rule h)
 
 pub no_margin : (ids : List Id) (records : ℕ) (entry : Entry) (w l : ℕ) (a : Assertion) → Pair ids entry w l →
     judged_assertion ids w l entry.rest ≡ Ok a → is_margin records entry.margin ≡ false →

@@ -1,13 +1,16 @@
 -- The value of an assertion file is exact, and nests little.
-use Rattle.std.proofs.Common.{◌≡◌, ℕ, zero, suc, ◌≤◌, true, false, List, [], ◌∷◌, ◌++◌, map, All, Some, refl, ap, codes, ◌∙◌, arith}
+use Rattle.std.proofs.Common.{◌≡◌, ℕ, zero, suc, ◌≤◌, true, List, [], ◌∷◌, ◌++◌, map, All, Some, refl, ap, codes, ◌∙◌, arith}
 use Rattle.std.specs.List.{list_all}
 use Rattle.std.specs.Str.{IsUtf8}
 use Rattle.std.proofs.lemmas.Bool.{and_parts}
 use Rattle.std.proofs.lemmas.Str.{IsUtf8-nil}
 use Rattle.json.proofs.Printed.Utf8.{IsUtf8-are_ascii}
-use Rattle.serde_json.specs.Data.{Data, string, depth, items_depth}
+use Rattle.serde.specs.Event.{Log}
+use Rattle.serde_json.specs.Data.{string, depth, items_depth}
+use Rattle.serde_json.specs.Events.{SendsValue}
+use Rattle.serde_json.specs.Sent.{IsTextOf}
 use Rattle.serde_json.specs.View.{items_of}
-use Rattle.serde_json.specs.Written.{compact_text, has_float}
+use Rattle.serde_json.proofs.FreeTexts.{text_of_value}
 use Rattle.serde_json.proofs.OnLiterals.{serde_json_on_literals}
 use Rattle.irv_base.specs.Names.{Id, is_name}
 use Rattle.irv_base.specs.declared.limits.TheConstants.{MOST_RECORDS}
@@ -45,11 +48,20 @@ assertion_is_exact ids (Neb w l) margin names few = (
   refl,
 )
 assertion_is_exact ids (Nen w l rest) margin names few = (
-  (refl, IsUtf8-are_ascii (codes "NEN") refl, (refl, IsUtf8-id_of ids l names, (refl, omega arith, (refl, ids_are_exact ids _ names, (refl, IsUtf8-id_of ids w names, tt))))),
+  (
+    refl,
+    IsUtf8-are_ascii (codes "NEN") refl,
+    (
+      refl,
+      IsUtf8-id_of ids l names,
+      (refl, omega arith, (refl, ids_are_exact ids _ names, (refl, IsUtf8-id_of ids w names, tt))),
+    ),
+  ),
   refl,
 )
 
-claims_are_exact : (n records : ℕ) (ids : List Id) (claims : List Claim) → list_all is_name ids ≡ true → records ≤ MOST_RECORDS → All (IsSoundClaim n records) claims →
+claims_are_exact : (n records : ℕ) (ids : List Id) (claims : List Claim) → list_all is_name ids ≡ true → records ≤ MOST_RECORDS →
+    All (IsSoundClaim n records) claims →
     ItemsAreExact (items_of (map (claim_value ids) claims))
 claims_are_exact n records ids [] names few sound = tt
 claims_are_exact n records ids (claim ∷ claims) names few sound =
@@ -119,9 +131,10 @@ text_reads_back file sound names = json_of-line (file_value file) (file_is_exact
 
 -- ---- the text
 
--- what a writer gives for the value, and a line feed
-pub printed_text : (file : Content) (value : Data) (bytes line : List ℕ) → IsSound file → HasNames file → value ≡ file_value file → (has_float value ≡ false → bytes ≡ compact_text value) →
+-- what a writer gives for the events of the value, and a line feed
+pub printed_text : (file : Content) (log : Log) (bytes line : List ℕ) → IsSound file → HasNames file → SendsValue (file_value file) (Some []) log →
+    IsTextOf log bytes →
     line ≡ bytes ++ 10 ∷ [] → line ≡ assertion_file_text file
-printed_text file value bytes line sound names same printed with_line =
+printed_text file log bytes line sound names sent printed with_line =
     let whole = has_float-exact (file_value file) (file_is_exact file sound names.contest names.candidates) in
-    with_line ∙ ap (λ text. text ++ 10 ∷ []) (printed (ap has_float same ∙ whole) ∙ ap compact_text same)
+    with_line ∙ ap (λ text. text ++ 10 ∷ []) (text_of_value (file_value file) log bytes sent printed whole)

@@ -34,13 +34,16 @@ kept-first [] more x y h = refl
 kept-first ((true, rule) ∷ rules) more x y h = kept-first rules more x y h
 kept-first ((false, rule) ∷ rules) more x y h = absurd cc
 
-refused-first : {A B : Type 0} (rules more : List (Bool × FRule)) (x : A) (y : B) (fault : FileFault) → Refuses (located 0 (judged rules x)) fault → Refuses (located 0 (judged (rules ++ more) y)) fault
+refused-first : {A B : Type 0} (rules more : List (Bool × FRule)) (x : A) (y : B) (fault : FileFault) → Refuses (located 0 (judged rules x)) fault →
+    Refuses (located 0 (judged (rules ++ more) y)) fault
 refused-first rules more x y Memory r = tt
 refused-first [] more x y (Refused rule at) r = absurd cc
 refused-first ((true, broken) ∷ rules) more x y (Refused rule at) r = refused-first rules more x y (Refused rule at) r
-refused-first ((false, broken) ∷ rules) more x y (Refused rule at) r = let e : record { rule = broken; at = 0 } ≡ record { rule = rule; at = at } = cc in ap Err e
+refused-first ((false, broken) ∷ rules) more x y (Refused rule at) r = let e : record { rule = broken; at = 0 } ≡ record { rule = rule; at = at } = cc in
+    ap Err e
 
-pub ids-refused : (heading : Heading) (fault : FileFault) → Refuses (located 0 (judged (id_rules heading) heading)) fault → Refuses (located 0 (judged_heading heading)) fault
+pub ids-refused : (heading : Heading) (fault : FileFault) → Refuses (located 0 (judged (id_rules heading) heading)) fault →
+    Refuses (located 0 (judged_heading heading)) fault
 unfolding judged_heading
 ids-refused heading fault r = refused-first (id_rules heading) (named_rules heading ++ order_rules heading ++ count_rules heading) heading heading fault r
 
@@ -49,14 +52,17 @@ pub record HasNamed (heading : Heading) : Type 0 where
   pub ids : judged (id_rules heading) heading ≡ Ok heading
   pub named : judged (named_rules heading) heading ≡ Ok heading
 
-after-ids : (heading : Heading) → judged (id_rules heading) heading ≡ Ok heading → judged_heading heading ≡ judged (named_rules heading ++ order_rules heading ++ count_rules heading) heading
+after-ids : (heading : Heading) → judged (id_rules heading) heading ≡ Ok heading →
+    judged_heading heading ≡ judged (named_rules heading ++ order_rules heading ++ count_rules heading) heading
 unfolding judged_heading
 after-ids heading ids = kept-first (id_rules heading) (named_rules heading ++ order_rules heading ++ count_rules heading) heading heading ids
 
-pub named-refused : (heading : Heading) (fault : FileFault) → judged (id_rules heading) heading ≡ Ok heading → Refuses (located 0 (judged (named_rules heading) heading)) fault →
+pub named-refused : (heading : Heading) (fault : FileFault) → judged (id_rules heading) heading ≡ Ok heading →
+    Refuses (located 0 (judged (named_rules heading) heading)) fault →
     Refuses (located 0 (judged_heading heading)) fault
 named-refused heading fault ids r =
-    subst (λ said. Refuses (located 0 said) fault) (sym (after-ids heading ids)) (refused-first (named_rules heading) (order_rules heading ++ count_rules heading) heading heading fault r)
+    subst (λ said. Refuses (located 0 said) fault) (sym (after-ids heading ids))
+    (refused-first (named_rules heading) (order_rules heading ++ count_rules heading) heading heading fault r)
 
 after-named : (heading : Heading) → HasNamed heading → judged_heading heading ≡ judged (order_rules heading ++ count_rules heading) heading
 after-named heading h = after-ids heading h.ids ∙ kept-first (named_rules heading) (order_rules heading ++ count_rules heading) heading heading h.named
@@ -65,34 +71,39 @@ pub same_order : (heading : Heading) (names : List Id) (numbers : List ℕ) → 
     is_order (length heading.candidates) (numbers_of heading.candidates heading.order) ≡ is_order (length names) numbers
 same_order heading names numbers same is = sym (ap (is_order (length names)) is ∙ ap (λ ids. is_order (length ids) (numbers_of ids heading.order)) same)
 
-pub no_order : (heading : Heading) → HasNamed heading → is_order (length heading.candidates) (numbers_of heading.candidates heading.order) ≡ false → judged_heading heading ≡ Err F5
+pub no_order : (heading : Heading) → HasNamed heading → is_order (length heading.candidates) (numbers_of heading.candidates heading.order) ≡ false →
+    judged_heading heading ≡ Err F5
 no_order heading h o = after-named heading h ∙ ap (λ b. judged ((b, F5) ∷ count_rules heading) heading) o
 
 pub no_counts : (heading : Heading) → HasNamed heading → is_order (length heading.candidates) (numbers_of heading.candidates heading.order) ≡ true →
     (is_record_count heading.records && is_margin heading.records heading.margin) ≡ false → judged_heading heading ≡ Err F6
-no_counts heading h o c = after-named heading h ∙ ap (λ b. judged ((b, F5) ∷ count_rules heading) heading) o ∙ by (is_record_count heading.records) (is_margin heading.records heading.margin) c where
-  by : (a b : Bool) → (a && b) ≡ false → judged ((a, F6) ∷ (b, F6) ∷ []) heading ≡ Err F6
-  by true true c = absurd cc
-  by true false c = refl
-  by false b c = refl
+no_counts heading h o c = after-named heading h ∙ ap (λ b. judged ((b, F5) ∷ count_rules heading) heading) o
+    ∙ by (is_record_count heading.records) (is_margin heading.records heading.margin) c where
+      by : (a b : Bool) → (a && b) ≡ false → judged ((a, F6) ∷ (b, F6) ∷ []) heading ≡ Err F6
+      by true true c = absurd cc
+      by true false c = refl
+      by false b c = refl
 
 pub all_kept : (heading : Heading) → HasNamed heading → is_order (length heading.candidates) (numbers_of heading.candidates heading.order) ≡ true →
     (is_record_count heading.records && is_margin heading.records heading.margin) ≡ true → judged_heading heading ≡ Ok heading
-all_kept heading h o c = after-named heading h ∙ ap (λ b. judged ((b, F5) ∷ count_rules heading) heading) o ∙ by (is_record_count heading.records) (is_margin heading.records heading.margin) c where
-  by : (a b : Bool) → (a && b) ≡ true → judged ((a, F6) ∷ (b, F6) ∷ []) heading ≡ Ok heading
-  by true true c = refl
-  by true false c = absurd cc
-  by false b c = absurd cc
+all_kept heading h o c = after-named heading h ∙ ap (λ b. judged ((b, F5) ∷ count_rules heading) heading) o
+    ∙ by (is_record_count heading.records) (is_margin heading.records heading.margin) c where
+      by : (a b : Bool) → (a && b) ≡ true → judged ((a, F6) ∷ (b, F6) ∷ []) heading ≡ Ok heading
+      by true true c = refl
+      by true false c = absurd cc
+      by false b c = absurd cc
 
 -- ---- those who are named
 
 pub no_winner : (heading : Heading) → is_among heading.candidates heading.winner ≡ false → judged (named_rules heading) heading ≡ Err F4
 no_winner heading w = rw w refl
 
-pub not_among : (heading : Heading) → is_among heading.candidates heading.winner ≡ true → list_all (is_among heading.candidates) heading.order ≡ false → judged (named_rules heading) heading ≡ Err F4
+pub not_among : (heading : Heading) → is_among heading.candidates heading.winner ≡ true →
+    list_all (is_among heading.candidates) heading.order ≡ false → judged (named_rules heading) heading ≡ Err F4
 not_among heading w o = rw (w, o) refl
 
-pub all_named : (heading : Heading) → is_among heading.candidates heading.winner ≡ true → list_all (is_among heading.candidates) heading.order ≡ true → judged (named_rules heading) heading ≡ Ok heading
+pub all_named : (heading : Heading) → is_among heading.candidates heading.winner ≡ true →
+    list_all (is_among heading.candidates) heading.order ≡ true → judged (named_rules heading) heading ≡ Ok heading
 all_named heading w o = rw (w, o) refl
 
 -- ---- rule by rule
@@ -107,7 +118,8 @@ pub record HasOrder (heading : Heading) : Type 0 where
   pub winner : is_among heading.candidates heading.winner ≡ true
   pub order : list_all (is_among heading.candidates) heading.order ≡ true
 
-pub kept : (heading : Heading) → HasOrder heading → is_order (length heading.candidates) (numbers_of heading.candidates heading.order) ≡ true → is_record_count heading.records ≡ true →
+pub kept : (heading : Heading) → HasOrder heading → is_order (length heading.candidates) (numbers_of heading.candidates heading.order) ≡ true →
+    is_record_count heading.records ≡ true →
     is_margin heading.records heading.margin ≡ true → judged_heading heading ≡ Ok heading
 unfolding judged_heading
 kept heading h o r m = rw (h.names.version, h.names.contest, h.names.candidates, h.winner, h.order, o, r, m) refl
@@ -141,7 +153,8 @@ sound heading h =
     let ordered = named.1.1.1.1 in
     let records = ordered.1.0 in
     let ids = heading.candidates in
-    let (counted, differ) = and_parts (list_all is_name ids && nat_le FEWEST_CANDIDATES (length ids) && nat_le (length ids) MOST_CANDIDATES) (all_differ ids) candidates in
+    let (counted, differ) = and_parts (list_all is_name ids && nat_le FEWEST_CANDIDATES (length ids) && nat_le (length ids) MOST_CANDIDATES) (all_differ ids)
+    candidates in
     let (some, most) = and_parts (list_all is_name ids && nat_le FEWEST_CANDIDATES (length ids)) (nat_le (length ids) MOST_CANDIDATES) counted in
     let (names, fewest) = and_parts (list_all is_name ids) (nat_le FEWEST_CANDIDATES (length ids)) some in
     let (one, million) = and_parts (nat_le 1 heading.records) (nat_le heading.records MOST_RECORDS) records in
@@ -163,32 +176,40 @@ sound heading h =
 pub content-none : (value : Data) → heading_in value ≡ None → content_of value ≡ Err (record { rule = F2; at = 0 })
 unfolding content_of
 content-none value h =
-    ap (λ o. located 0 (ok_or o F2 >>= judged_heading) >>= λ heading. claims_from heading.candidates heading.records 1 heading.assertions >>= λ claims. Ok (content_with heading claims)) h
+    ap (λ o. located 0 (ok_or o F2 >>= judged_heading) >>= λ heading. claims_from heading.candidates heading.records 1 heading.assertions >>= λ claims. Ok
+    (content_with heading claims)) h
 
 content-some : (value : Data) (heading : Heading) → heading_in value ≡ Some heading →
-    content_of value ≡ (located 0 (judged_heading heading) >>= λ kept. claims_from kept.candidates kept.records 1 kept.assertions >>= λ claims. Ok (content_with kept claims))
+    content_of value ≡ (located 0 (judged_heading heading) >>= λ kept. claims_from kept.candidates kept.records 1 kept.assertions >>= λ claims. Ok
+    (content_with kept claims))
 unfolding content_of
 content-some value heading h =
-    ap (λ o. located 0 (ok_or o F2 >>= judged_heading) >>= λ heading. claims_from heading.candidates heading.records 1 heading.assertions >>= λ claims. Ok (content_with heading claims)) h
+    ap (λ o. located 0 (ok_or o F2 >>= judged_heading) >>= λ heading. claims_from heading.candidates heading.records 1 heading.assertions >>= λ claims. Ok
+    (content_with heading claims)) h
 
-pub refused_heading : (value : Data) (heading : Heading) (fault : FileFault) → heading_in value ≡ Some heading → Refuses (located 0 (judged_heading heading)) fault → Refuses (content_of value) fault
+pub refused_heading : (value : Data) (heading : Heading) (fault : FileFault) → heading_in value ≡ Some heading →
+    Refuses (located 0 (judged_heading heading)) fault → Refuses (content_of value) fault
 refused_heading value heading (Refused rule at) h r =
-    content-some value heading h ∙ ap (λ said. said >>= λ kept. claims_from kept.candidates kept.records 1 kept.assertions >>= λ claims. Ok (content_with kept claims)) r
+    content-some value heading h ∙ ap (λ said. said >>= λ kept. claims_from kept.candidates kept.records 1 kept.assertions >>= λ claims. Ok
+    (content_with kept claims)) r
 refused_heading value heading Memory h r = tt
 
 pub content-kept : (value : Data) (heading : Heading) → heading_in value ≡ Some heading → judged_heading heading ≡ Ok heading →
     content_of value ≡ (claims_from heading.candidates heading.records 1 heading.assertions >>= λ claims. Ok (content_with heading claims))
 content-kept value heading h k =
-    content-some value heading h ∙ ap (λ said. located 0 said >>= λ kept. claims_from kept.candidates kept.records 1 kept.assertions >>= λ claims. Ok (content_with kept claims)) k
+    content-some value heading h ∙ ap (λ said. located 0 said >>= λ kept. claims_from kept.candidates kept.records 1 kept.assertions >>= λ claims. Ok
+    (content_with kept claims)) k
 
 pub refused_claims : (value : Data) (heading : Heading) (fault : FileFault) → heading_in value ≡ Some heading → judged_heading heading ≡ Ok heading →
     Refuses (claims_from heading.candidates heading.records 1 heading.assertions) fault → Refuses (content_of value) fault
 refused_claims value heading (Refused rule at) h k r = content-kept value heading h k ∙ ap (λ said. said >>= λ claims. Ok (content_with heading claims)) r
 refused_claims value heading Memory h k r = tt
 
-pub content-is : (heading : Heading) (claims : List Claim) (contest : Id) (candidates : List Id) (winner : ℕ) (order : List ℕ) → contest ≡ heading.contest → candidates ≡ heading.candidates →
+pub content-is : (heading : Heading) (claims : List Claim) (contest : Id) (candidates : List Id) (winner : ℕ) (order : List ℕ) →
+    contest ≡ heading.contest → candidates ≡ heading.candidates →
     winner ≡ number_of heading.candidates heading.winner → order ≡ numbers_of heading.candidates heading.order →
-    record { contest = contest; candidates = candidates; records = heading.records; winner = winner; margin = heading.margin; order = order; claims = claims } ≡ content_with heading claims
+    record { contest = contest; candidates = candidates; records = heading.records; winner = winner; margin = heading.margin; order = order; claims = claims }
+    ≡ content_with heading claims
 content-is heading claims contest candidates winner order c cs w o =
     λ i. record { contest = c i; candidates = cs i; records = heading.records; winner = w i; margin = heading.margin; order = o i; claims = claims }
 

@@ -5,7 +5,8 @@ use Rattle.assertion_file.specs.Reading.{judged}
 use Rattle.assertion_file.specs.declared.fault.FRule.{FRule}
 
 -- what two rules refuse is refused where others follow them
-pub err-more : {A B : Type 0} (a b : Bool) (r s : FRule) (more : List (Bool × FRule)) (x : A) (y : B) (rule : FRule) → judged ((a, r) ∷ (b, s) ∷ []) x ≡ Err rule →
+pub err-more : {A B : Type 0} (a b : Bool) (r s : FRule) (more : List (Bool × FRule)) (x : A) (y : B) (rule : FRule) →
+    judged ((a, r) ∷ (b, s) ∷ []) x ≡ Err rule →
     judged ((a, r) ∷ (b, s) ∷ more) y ≡ Err rule
 err-more true true r s more x y rule h = absurd cc
 err-more true false r s more x y rule h = let e : s ≡ rule = cc in ap Err e
@@ -28,6 +29,7 @@ AllHold (rule ∷ more) = (rule.0 ≡ true) × AllHold more
 pub all-hold : {A : Type 0} (rules : List (Bool × FRule)) (x y : A) → judged rules x ≡ Ok y → AllHold rules × (x ≡ y)
 all-hold [] x y h = (tt, cc)
 all-hold {A} (rule ∷ more) x y h = by rule.0 refl h (all-hold more x y) where
-  by : (b : Bool) → rule.0 ≡ b → (if b then judged more x else Err rule.1) ≡ Ok y → (judged more x ≡ Ok y → AllHold more × (x ≡ y)) → AllHold (rule ∷ more) × (x ≡ y)
+  by : (b : Bool) → rule.0 ≡ b → (if b then judged more x else Err rule.1) ≡ Ok y → (judged more x ≡ Ok y → AllHold more × (x ≡ y)) →
+      AllHold (rule ∷ more) × (x ≡ y)
   by true e g ih = let r = ih g in ((e, r.0), r.1)
   by false e g ih = absurd cc

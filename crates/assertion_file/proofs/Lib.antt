@@ -1,4 +1,5 @@
 pub mod Orders
+pub mod Sent
 pub mod Sets
 pub mod Exact
 pub mod LineFeed

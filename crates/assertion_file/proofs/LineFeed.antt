@@ -87,7 +87,8 @@ mutual
       ∙ lex-comma_if later _
       ∙ ap (comma_before later) (lex-compact_text d (items_text true ds ++ r) h.0 (ends_word-items_text ds r) ∙ ap (lexemes d) (lex-items_text true ds r h.1))
 
-  lex-members_text : (later : Bool) (ms : Members) (r : List ℕ) → MembersAreExact ms → lex between (members_text later ms ++ r) ≡ members_lexemes later ms (lex between r)
+  lex-members_text : (later : Bool) (ms : Members) (r : List ℕ) → MembersAreExact ms →
+      lex between (members_text later ms ++ r) ≡ members_lexemes later ms (lex between r)
   lex-members_text later no_members r h = refl
   lex-members_text later (member k d ms) r h =
       ap (lex between) (regroup (comma_if later) (quoted k) (58 ∷ (compact_text d ++ members_text true ms)) r)

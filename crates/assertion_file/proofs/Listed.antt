@@ -42,9 +42,11 @@ outside p all i text n h =
     ap (list_all p) n.split ∙ list_all-append p (take i all) (text ∷ drop (i + 1) all)
     ∙ and_right (list_all p (take i all)) (list_all p (text ∷ drop (i + 1) all)) (and_left (p text) (list_all p (drop (i + 1) all)) h)
 
-pub one_more : (p : Id → Bool) (all : List Id) (i : ℕ) (text : Id) → Next all i text → list_all p (take i all) ≡ true → p text ≡ true → list_all p (take (i + 1) all) ≡ true
+pub one_more : (p : Id → Bool) (all : List Id) (i : ℕ) (text : Id) → Next all i text → list_all p (take i all) ≡ true → p text ≡ true →
+    list_all p (take (i + 1) all) ≡ true
 one_more p all i text n before h =
-    ap (list_all p) n.more ∙ list_all-append p (take i all) (text ∷ []) ∙ and_from (list_all p (take i all)) (p text && true) before (and_from (p text) true h refl)
+    ap (list_all p) n.more ∙ list_all-append p (take i all) (text ∷ [])
+    ∙ and_from (list_all p (take i all)) (p text && true) before (and_from (p text) true h refl)
 
 pub map-next : (f : Id → ℕ) (all : List Id) (i : ℕ) (text : Id) (n : ℕ) → Next all i text → f text ≡ n → map f (take (i + 1) all) ≡ map f (take i all) ++ n ∷ []
 map-next f all i text n more is = ap (map f) more.more ∙ map-append f (take i all) (text ∷ []) ∙ ap (λ m. map f (take i all) ++ m ∷ []) is

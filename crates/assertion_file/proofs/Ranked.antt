@@ -31,7 +31,8 @@ number-id (id ∷ ids) (suc c) h within =
 pub all-among : (ids : List Id) (cs : List ℕ) → ((c : ℕ) → Member c cs → c < length ids) → list_all (is_among ids) (ids_of ids cs) ≡ true
 all-among ids [] below = refl
 all-among ids (c ∷ cs) below =
-    and_from (is_among ids (id_of ids c)) (list_all (is_among ids) (ids_of ids cs)) (among-id ids c (below c here)) (all-among ids cs (λ d m. below d (there m)))
+    and_from (is_among ids (id_of ids c)) (list_all (is_among ids) (ids_of ids cs)) (among-id ids c (below c here))
+    (all-among ids cs (λ d m. below d (there m)))
 
 pub numbers-ids : (ids : List Id) (cs : List ℕ) → all_differ ids ≡ true → ((c : ℕ) → Member c cs → c < length ids) → numbers_of ids (ids_of ids cs) ≡ cs
 numbers-ids ids [] h below = refl
@@ -46,7 +47,7 @@ distinct-filter p (x ∷ xs) d = kept (p x) (distinct-filter p xs (distinct-tail
   kept true k = more (λ m. distinct-head d (from_filter p xs m).0) k
   kept false k = k
 
-has-above : (set n c : ℕ) → set < 2 ^ n → n ≤ c → has set c ≡ false
+pub has-above : (set n c : ℕ) → set < 2 ^ n → n ≤ c → has set c ≡ false
 has-above set n c small above =
     let power : 2 ^ n ≤ 2 ^ c = pow-le-pow_right (omega arith) above in
     let low : set < 2 ^ c = omega arith in

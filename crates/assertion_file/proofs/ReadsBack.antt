@@ -24,11 +24,13 @@ tokens-line d h =
 read-line : (d : Data) → IsExact d → depth d ≤ max_depth → read (compact_text d ++ 10 ∷ []) ≡ Some d
 read-line d h shallow =
     let same = depth-outline d in
-    ap (λ ts. option_and_then of_json (option_and_then (λ p. if_last p.0 p.1) (value max_depth ts))) (tokens-line d h ∙ sym (append-nil (json_tokens (outline d))))
+    ap (λ ts. option_and_then of_json (option_and_then (λ p. if_last p.0 p.1) (value max_depth ts))) (tokens-line d h
+    ∙ sym (append-nil (json_tokens (outline d))))
     ∙ ap (λ o. option_and_then of_json (option_and_then (λ p. if_last p.0 p.1) o)) (value-json_tokens (outline d) max_depth [] (omega arith))
     ∙ of_json-outline d h
 
 pub json_of-line : (d : Data) → IsExact d → depth d ≤ max_depth → json_of (compact_text d ++ 10 ∷ []) ≡ Some d
 json_of-line d h shallow =
-    let text = is_utf8-from_IsUtf8 (compact_text d ++ 10 ∷ []) (IsUtf8-append (compact_text d) (10 ∷ []) (IsUtf8-compact_text d h) (IsUtf8-are_ascii (10 ∷ []) refl)) in
+    let text = is_utf8-from_IsUtf8 (compact_text d ++ 10 ∷ [])
+    (IsUtf8-append (compact_text d) (10 ∷ []) (IsUtf8-compact_text d h) (IsUtf8-are_ascii (10 ∷ []) refl)) in
     ap₂ (λ b o. if b then o else None) text (read-line d h shallow)

@@ -1,36 +1,52 @@
--- The ids of a set's candidates, one candidate after the other.
-use Rattle.std.proofs.Common.{◌≡◌, ℕ, ◌+◌, ◌<◌, true, false, cond, List, [], ◌∷◌, ◌++◌, length, map, filter, get_or, sym, ap, ap₂, ◌∙◌, append-nil}
-use Rattle.std.proofs.lemmas.List.{get_or_default, map-append}
+-- The candidates of a set, one after the other.
+use Rattle.std.proofs.Common.{◌≡◌, ℕ, zero, suc, ◌+◌, ◌-◌, ◌^◌, ◌<◌, ◌≤◌, true, false, cond, List, [], ◌∷◌, ◌++◌, filter, sym, ap, subst, ◌∙◌, append-nil, arith}
 use Rattle.std.proofs.lemmas.List.Elements.{filter-append}
-use Rattle.serde_json.specs.Data.{Data, string}
-use Rattle.serde_json.specs.View.{view}
-use Rattle.serde_json.specs.declared.value.Value.{Value}
-use Rattle.irv_base.specs.Candidates.{candidates, has}
+use Rattle.serde.specs.Event.{Log, WritesEach}
+use Rattle.serde.proofs.Events.{WritesEach-snoc}
+use Rattle.irv_base.specs.Candidates.{candidates, has, members}
+use Rattle.irv_base.specs.declared.limits.TheConstants.{ROOM}
 use Rattle.irv_base.proofs.Ranges.{candidates-more}
 use Rattle.irv_base.specs.Names.{Id}
-use Rattle.assertion_file.specs.Ids.{id_of, ids_of}
+use Rattle.assertion_file.proofs.Ranked.{has-above}
+use Rattle.assertion_file.proofs.Sent.{SendsId}
 
--- of the candidates below c
-abbrev pub strings_below : List Id → ℕ → ℕ → List Data
-strings_below ids set c = map string (ids_of ids (filter (has set) (candidates c)))
+abbrev pub members_below : ℕ → ℕ → List ℕ
+members_below set c = filter (has set) (candidates c)
 
-filter-more : (set c : ℕ) → filter (has set) (candidates (c + 1)) ≡ filter (has set) (candidates c) ++ cond (has set c) (c ∷ []) []
-filter-more set c = ap (filter (has set)) (candidates-more c) ∙ filter-append (has set) (candidates c) (c ∷ [])
+below-more : (set c : ℕ) → members_below set (c + 1) ≡ members_below set c ++ cond (has set c) (c ∷ []) []
+below-more set c = ap (filter (has set)) (candidates-more c) ∙ filter-append (has set) (candidates c) (c ∷ [])
 
-pub strings_below-member : (ids : List Id) (set c : ℕ) → has set c ≡ true → strings_below ids set (c + 1) ≡ strings_below ids set c ++ string (id_of ids c) ∷ []
-strings_below-member ids set c h =
-    ap (λ cs. map string (ids_of ids cs)) (filter-more set c ∙ ap (λ b. filter (has set) (candidates c) ++ cond b (c ∷ []) []) h)
-    ∙ ap (map string) (map-append (id_of ids) (filter (has set) (candidates c)) (c ∷ []))
-    ∙ map-append string (ids_of ids (filter (has set) (candidates c))) (id_of ids c ∷ [])
+below-member : (set c : ℕ) → has set c ≡ true → members_below set (c + 1) ≡ members_below set c ++ c ∷ []
+below-member set c h = below-more set c ∙ ap (λ b. members_below set c ++ cond b (c ∷ []) []) h
 
-pub strings_below-other : (ids : List Id) (set c : ℕ) → has set c ≡ false → strings_below ids set (c + 1) ≡ strings_below ids set c
-strings_below-other ids set c h =
-    ap (λ cs. map string (ids_of ids cs))
-    (filter-more set c ∙ ap (λ b. filter (has set) (candidates c) ++ cond b (c ∷ []) []) h ∙ append-nil (filter (has set) (candidates c)))
+below-other : (set c : ℕ) → has set c ≡ false → members_below set (c + 1) ≡ members_below set c
+below-other set c h = below-more set c ∙ ap (λ b. members_below set c ++ cond b (c ∷ []) []) h ∙ append-nil (members_below set c)
 
-pub with_member : (ids : List Id) (set c : ℕ) (id : Id) (values : List Value) (value : Value) → has set c ≡ true → c < length ids → id ≡ get_or ids c id →
-    view value ≡ string id → map view values ≡ strings_below ids set c → map view (values ++ value ∷ []) ≡ strings_below ids set (c + 1)
-with_member ids set c id values value h within is shown same =
-    map-append view values (value ∷ [])
-    ∙ ap₂ (λ old new. old ++ new ∷ []) same (shown ∙ ap string (is ∙ get_or_default ids c id [] within))
-    ∙ sym (strings_below-member ids set c h)
+-- ---- sent so far
+
+pub sent-member : (ids : List Id) (set c : ℕ) (first old new : Log) → has set c ≡ true → WritesEach (SendsId ids) (members_below set c) first old →
+    SendsId ids c old new → WritesEach (SendsId ids) (members_below set (c + 1)) first new
+sent-member ids set c first old new h so_far sent =
+    subst (λ cs. WritesEach (SendsId ids) cs first new) (sym (below-member set c h))
+    (WritesEach-snoc (SendsId ids) (members_below set c) c first old new so_far sent)
+
+pub sent-other : (ids : List Id) (set c : ℕ) (first last : Log) → has set c ≡ false → WritesEach (SendsId ids) (members_below set c) first last →
+    WritesEach (SendsId ids) (members_below set (c + 1)) first last
+sent-other ids set c first last h so_far = subst (λ cs. WritesEach (SendsId ids) cs first last) (sym (below-other set c h)) so_far
+
+-- ---- how many there are
+
+none-above : (set n more : ℕ) → set < 2 ^ n → members_below set (n + more) ≡ members_below set n
+none-above set n zero small =
+    let same : n + 0 ≡ n = omega arith in
+    ap (members_below set) same
+none-above set n (suc more) small =
+    let next : n + suc more ≡ (n + more) + 1 = omega arith in
+    ap (members_below set) next
+    ∙ below-other set (n + more) (has-above set n (n + more) small (omega arith))
+    ∙ none-above set n more small
+
+pub members-within : (set n : ℕ) → set < 2 ^ n → n ≤ ROOM → members set ≡ members_below set n
+members-within set n small few =
+    let room : ROOM ≡ n + (ROOM - n) = omega arith in
+    ap (members_below set) room ∙ none-above set n (ROOM - n) small

@@ -48,7 +48,8 @@ pair-proper ids winner loser w l apart =
     ] in
     and_from (nat_lt (number_of ids winner) n && nat_lt (number_of ids loser) n) (not (number_of ids winner == number_of ids loser))
     (and_from (nat_lt (number_of ids winner) n) (nat_lt (number_of ids loser) n)
-    (lt-ltb (number_of ids winner) n (any-within (λ other. is_same other winner) ids w)) (lt-ltb (number_of ids loser) n (any-within (λ other. is_same other loser) ids l)))
+    (lt-ltb (number_of ids winner) n (any-within (λ other. is_same other winner) ids w))
+    (lt-ltb (number_of ids loser) n (any-within (λ other. is_same other loser) ids l)))
     differ
 
 -- ---- an assertion that keeps the rules is proper
@@ -58,7 +59,8 @@ numbers-below ids names c h m =
     let (id, listed, e) = from_map (number_of ids) c names m in
     subst (λ d. d < length ids) e (any-within (λ other. is_same other id) ids (from_list_all (is_among ids) listed h))
 
-assertion-proper : (ids : List Id) (winner loser : Id) (rest : Option (List Id)) → is_among ids winner ≡ true → is_among ids loser ≡ true → is_same winner loser ≡ false →
+assertion-proper : (ids : List Id) (winner loser : Id) (rest : Option (List Id)) → is_among ids winner ≡ true → is_among ids loser ≡ true →
+    is_same winner loser ≡ false →
     list_all (is_among ids) (unwrap_or rest []) ≡ true → is_rest (number_of ids winner) (number_of ids loser) (option_map (numbers_of ids) rest) ≡ true →
     is_proper (length ids) (assertion_with (number_of ids winner) (number_of ids loser) (option_map (numbers_of ids) rest)) ≡ true
 assertion-proper ids winner loser None w l apart known kept = pair-proper ids winner loser w l apart
@@ -78,7 +80,8 @@ assertion-proper ids winner loser (Some rest) w l apart known kept =
 
 -- ---- claims
 
-entry-sound : (ids : List Id) (records : ℕ) (entry : Entry) (claim : Claim) → judged (entry_rules ids records entry) (claim_with ids entry) ≡ Ok claim → IsSoundClaim (length ids) records claim
+entry-sound : (ids : List Id) (records : ℕ) (entry : Entry) (claim : Claim) →
+    judged (entry_rules ids records entry) (claim_with ids entry) ≡ Ok claim → IsSoundClaim (length ids) records claim
 entry-sound ids records entry claim h =
     let held = all-hold (entry_rules ids records entry) (claim_with ids entry) claim h in
     let all : AllHold (entry_rules ids records entry) = held.0 in
@@ -97,15 +100,19 @@ claim-sound ids records value claim h = by (entry_in value) refl where
   by None e = let bad = sym (claim-none ids records value e) ∙ h in absurd cc
   by (Some entry) e = entry-sound ids records entry claim (sym (claim-some ids records value entry e) ∙ h)
 
-pub claims-sound : (ids : List Id) (records at : ℕ) (values : List Data) (claims : List Claim) → claims_from ids records at values ≡ Ok claims → All (IsSoundClaim (length ids) records) claims
-claims-sound ids records at [] claims h = let none : [] ≡ claims = cc in subst (All (IsSoundClaim (length ids) records)) none (λ i d within. absurd (omega arith))
+pub claims-sound : (ids : List Id) (records at : ℕ) (values : List Data) (claims : List Claim) → claims_from ids records at values ≡ Ok claims →
+    All (IsSoundClaim (length ids) records) claims
+claims-sound ids records at [] claims h = let none : [] ≡ claims = cc in
+    subst (All (IsSoundClaim (length ids) records)) none (λ i d within. absurd (omega arith))
 claims-sound ids records at (value ∷ values) claims h =
     by (claim_of ids records value) (claims_from ids records (at + 1) values) refl h (λ more e. claims-sound ids records (at + 1) values more e)
   where
-    by : (r : Result Claim FRule) (o : Result (List Claim) Refusal) → claim_of ids records value ≡ r → (located at r >>= λ claim. o >>= λ more. Ok (claim ∷ more)) ≡ Ok claims →
+    by : (r : Result Claim FRule) (o : Result (List Claim) Refusal) → claim_of ids records value ≡ r →
+        (located at r >>= λ claim. o >>= λ more. Ok (claim ∷ more)) ≡ Ok claims →
         ((more : List Claim) → o ≡ Ok more → All (IsSoundClaim (length ids) records) more) → All (IsSoundClaim (length ids) records) claims
     by (Err rule) o e g ih = absurd cc
     by (Ok claim) (Err refusal) e g ih = absurd cc
     by (Ok claim) (Ok more) e g ih =
         let same : claim ∷ more ≡ claims = cc in
-        subst (All (IsSoundClaim (length ids) records)) same (All-cons (IsSoundClaim (length ids) records) claim more (claim-sound ids records value claim e) (ih more refl))
+        subst (All (IsSoundClaim (length ids) records)) same (All-cons (IsSoundClaim (length ids) records) claim more (claim-sound ids records value claim e)
+        (ih more refl))

@@ -26,7 +26,8 @@ abbrev pub Kept : Content → Type 0
 Kept file = IsSound file × HasNames file
 
 module _ (value : _) (file : Content) (read : content_of value ≡ Ok file) where
-  with_claims : (heading : Heading) → judged_heading heading ≡ Ok heading → (claims : Result (List Claim) Refusal) → claims_from heading.candidates heading.records 1 heading.assertions ≡ claims →
+  with_claims : (heading : Heading) → judged_heading heading ≡ Ok heading → (claims : Result (List Claim) Refusal) →
+      claims_from heading.candidates heading.records 1 heading.assertions ≡ claims →
       (claims >>= λ claims. Ok (content_with heading claims)) ≡ Ok file → Kept file
   with_claims heading kept (Err refusal) c e = absurd cc
   with_claims heading kept (Ok claims) c e =

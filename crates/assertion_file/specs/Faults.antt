@@ -6,7 +6,7 @@ use Rattle.assertion_file.specs.declared.fault.FRule.TheVariants.{F1, F2, F3, F4
 use Rattle.assertion_file.specs.declared.fault.FileFault.{FileFault}
 use Rattle.assertion_file.specs.declared.fault.FileFault.TheVariants.{Refused, Memory}
 
--- it is refused by this rule at this place; memory may always be wanting
+-- a file is refused by this rule at this place; memory may always be wanting
 abbrev pub Refuses : {A : Type 0} → Result A Refusal → FileFault → Type 0
 Refuses said (Refused rule at) = said ≡ Err (record { rule = rule; at = at })
 Refuses said Memory = Unit {0}

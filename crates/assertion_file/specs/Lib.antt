@@ -1,6 +1,7 @@
 pub mod Ids
 pub mod Content
 pub mod Text
+pub mod Sent
 pub mod Stated
 pub mod Views
 pub mod Reading

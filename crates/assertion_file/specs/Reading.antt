@@ -31,7 +31,8 @@ judged (held ∷ more) value = if held.0 then judged more value else Err held.1
 
 abbrev pub are_candidates : List Id → Bool
 are_candidates ids =
-    list_all is_name ids && nat_le FEWEST_CANDIDATES (length ids) && nat_le (length ids) MOST_CANDIDATES &&
+    list_all is_name ids &&
+    nat_le FEWEST_CANDIDATES (length ids) && nat_le (length ids) MOST_CANDIDATES &&
     all_differ ids
 
 abbrev pub is_record_count : ℕ → Bool
@@ -48,7 +49,7 @@ id_rules heading =
     (are_candidates heading.candidates, F4) ∷
     []
 
--- of those who are named among them
+-- the rules of the candidates whom the heading names
 abbrev pub named_rules : Heading → List (Bool × FRule)
 named_rules heading =
     (is_among heading.candidates heading.winner, F4) ∷
@@ -66,9 +67,10 @@ count_rules heading =
     (is_margin heading.records heading.margin, F6) ∷
     []
 
--- in this order
+-- all rules of a heading, in their order
 abbrev pub heading_rules : Heading → List (Bool × FRule)
-heading_rules heading = id_rules heading ++ named_rules heading ++ order_rules heading ++ count_rules heading
+heading_rules heading =
+    id_rules heading ++ named_rules heading ++ order_rules heading ++ count_rules heading
 
 unfoldable pub judged_heading : Heading → Result Heading FRule
 judged_heading heading = judged (heading_rules heading) heading
@@ -90,8 +92,11 @@ entry_rules ids records entry =
     (is_among ids entry.winner, F4) ∷
     (is_among ids entry.loser, F4) ∷
     (not (is_same entry.winner entry.loser), F4) ∷
-    (list_all (is_among ids) (unwrap_or entry.rest []), F4) ∷
-    (is_rest (number_of ids entry.winner) (number_of ids entry.loser) (option_map (numbers_of ids) entry.rest), F5) ∷
+    (list_all (is_among ids) (unwrap_or entry.rest []), F4) ∷ (
+      is_rest (number_of ids entry.winner) (number_of ids entry.loser)
+          (option_map (numbers_of ids) entry.rest),
+      F5,
+    ) ∷
     (is_margin records entry.margin, F6) ∷
     []
 
@@ -103,11 +108,13 @@ assertion_with w l (Some rest) = Nen w l (set_of rest)
 abbrev pub judged_assertion : List Id → ℕ → ℕ → Option (List Id) → Result Assertion FRule
 judged_assertion ids w l rest =
     let numbers = option_map (numbers_of ids) rest in
-    judged ((list_all (is_among ids) (unwrap_or rest []), F4) ∷ (is_rest w l numbers, F5) ∷ []) (assertion_with w l numbers)
+    judged ((list_all (is_among ids) (unwrap_or rest []), F4) ∷ (is_rest w l numbers, F5) ∷ [])
+    (assertion_with w l numbers)
 
 abbrev pub claim_with : List Id → Entry → Claim
 claim_with ids entry = record {
-  assertion = assertion_with (number_of ids entry.winner) (number_of ids entry.loser) (option_map (numbers_of ids) entry.rest);
+  assertion = assertion_with (number_of ids entry.winner) (number_of ids entry.loser)
+      (option_map (numbers_of ids) entry.rest);
   margin = entry.margin;
 }
 
@@ -127,7 +134,7 @@ abbrev pub located : {A : Type 0} → ℕ → Result A FRule → Result A Refusa
 located at (Ok value) = Ok value
 located at (Err rule) = Err (record { rule = rule; at = at })
 
--- one after the other, the first of them having the number at
+-- the claims of a list of values, the first of which has the number at
 abbrev pub claims_from : List Id → ℕ → ℕ → List Data → Result (List Claim) Refusal
 claims_from ids records at [] = Ok []
 claims_from ids records at (value ∷ values) = do

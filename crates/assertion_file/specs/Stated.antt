@@ -81,7 +81,16 @@ heading_in value = do
   records ← number_in (codes "records") value
   version ← number_in (codes "version") value
   winner ← text_in (codes "winner") value
-  Some (record { assertions = assertions; candidates = candidates; contest = contest; margin = margin; order = order; records = records; version = version; winner = winner })
+  Some (record {
+    assertions = assertions;
+    candidates = candidates;
+    contest = contest;
+    margin = margin;
+    order = order;
+    records = records;
+    version = version;
+    winner = winner;
+  })
 
 -- ---- an assertion
 

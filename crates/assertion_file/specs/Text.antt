@@ -34,33 +34,40 @@ whole_number n = number (unsigned n)
 abbrev pub ids_value : List Id → Data
 ids_value ids = array_of (map string ids)
 
-abbrev pub neb_value : Id → Id → ℕ → Data
-neb_value winner loser margin = object_of (
+abbrev pub neb_members : Id → Id → ℕ → List (List ℕ × Data)
+neb_members winner loser margin =
     (codes "kind", string (codes "NEB")) ∷
     (codes "loser", string loser) ∷
     (codes "margin", whole_number margin) ∷
     (codes "winner", string winner) ∷
-    [])
+    []
 
-abbrev pub nen_value : Id → Id → Data → ℕ → Data
-nen_value winner loser rest margin = object_of (
+abbrev pub neb_value : Id → Id → ℕ → Data
+neb_value winner loser margin = object_of (neb_members winner loser margin)
+
+abbrev pub nen_members : Id → Id → Data → ℕ → List (List ℕ × Data)
+nen_members winner loser rest margin =
     (codes "kind", string (codes "NEN")) ∷
     (codes "loser", string loser) ∷
     (codes "margin", whole_number margin) ∷
     (codes "rest", rest) ∷
     (codes "winner", string winner) ∷
-    [])
+    []
+
+abbrev pub nen_value : Id → Id → Data → ℕ → Data
+nen_value winner loser rest margin = object_of (nen_members winner loser rest margin)
 
 abbrev pub assertion_value : List Id → Assertion → ℕ → Data
 assertion_value ids (Neb w l) margin = neb_value (id_of ids w) (id_of ids l) margin
-assertion_value ids (Nen w l rest) margin = nen_value (id_of ids w) (id_of ids l) (ids_value (ids_in ids rest)) margin
+assertion_value ids (Nen w l rest) margin =
+    nen_value (id_of ids w) (id_of ids l) (ids_value (ids_in ids rest)) margin
 
 abbrev pub claim_value : List Id → Claim → Data
 claim_value ids claim = assertion_value ids claim.assertion claim.margin
 
 -- candidates by their ids, and the order with the first eliminated first
-unfoldable pub file_value : Content → Data
-file_value file = object_of (
+abbrev pub file_members : Content → List (List ℕ × Data)
+file_members file =
     (codes "assertions", array_of (map (claim_value file.candidates) file.claims)) ∷
     (codes "candidates", ids_value file.candidates) ∷
     (codes "contest", string file.contest) ∷
@@ -69,7 +76,10 @@ file_value file = object_of (
     (codes "records", whole_number file.records) ∷
     (codes "version", whole_number VERSION) ∷
     (codes "winner", string (id_of file.candidates file.winner)) ∷
-    [])
+    []
+
+unfoldable pub file_value : Content → Data
+file_value file = object_of (file_members file)
 
 -- ---- the file's text
 

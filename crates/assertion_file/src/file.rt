@@ -13,9 +13,9 @@ use std::marker::Model;
 /// and an order that shows why no larger margin is to be had.
 ///
 /// There are `FEWEST_CANDIDATES` to `MOST_CANDIDATES` candidates, all different, and 1 to `MOST_RECORDS` ballot
-/// records. A candidate is its place in the list of candidates, from 0. The order is one of all candidates, each assertion is a proper one among them, and
-/// each margin, the file's and those of the claims, is 1 to the number of records. That the file holds of any ballots
-/// isn't said: a checker finds that out.
+/// records. A candidate is its place in the list of candidates, from 0. The order is one of all candidates, each
+/// assertion is a proper one among them, and each margin, the file's and those of the claims, is 1 to the number of
+/// records. That the file holds of any ballots isn't said: a checker finds that out.
 ///
 /// To a contract a file is the record of these values, with a list for each list.
 #[derive(Drop)]

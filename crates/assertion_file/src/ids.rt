@@ -88,7 +88,9 @@ pub fn numbers(alloc: Global, names: &[Name], ids: &[Value]) -> Result<Option<Ve
 pub fn set_of(names: &[Name], ids: &[Value]) -> Result<CandSet, FRule>
     requires { length names.now ≤ ROOM }
     ensures { let wanted = stated_ids ids.now in let cs = numbers_of names.now wanted in
-        result ≡ judged ((list_all (is_among names.now) wanted, F4) ∷ (is_distinct cs, F5) ∷ []) (set_of cs) }
+        result ≡ judged
+        ((list_all (is_among names.now) wanted, F4) ∷ (is_distinct cs, F5) ∷ [])
+        (set_of cs) }
 {
     let mut set = CandSet::empty();
     let mut repeats = false;

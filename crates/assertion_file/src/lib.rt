@@ -11,8 +11,6 @@ pub mod laws;
 mod members;
 mod print;
 mod read;
-#[cfg(test)]
-mod tests;
 
 pub use fault::{FRule, FileFault};
 pub use file::AssertionFile;

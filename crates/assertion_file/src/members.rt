@@ -10,25 +10,37 @@ use serde_json::Value;
 /// The greatest number that a file may have.
 pub const MOST_NUMBER: u32 = u32::MAX;
 
-/// The members of the file's object. The lists of ids have texts alone.
+/// The members of the file's object.
 #[derive(Clone, Copy)]
 pub struct Heading<'a> {
+    /// Its assertions, each a value of any kind.
     pub assertions: &'a [Value],
+    /// The ids of the candidates, texts alone.
     pub candidates: &'a [Value],
+    /// The contest's id.
     pub contest: &'a str,
+    /// What it says is the smallest margin of its assertions.
     pub margin: u32,
+    /// The ids of its order, first eliminated first, texts alone.
     pub order: &'a [Value],
+    /// How many records it says that the ballot file has.
     pub records: u32,
+    /// The version of the file's form.
     pub version: u32,
+    /// The winner's id.
     pub winner: &'a str,
 }
 
-/// The members of an assertion. A NEB has no rest, and that of a NEN has texts alone.
+/// The members of an assertion.
 #[derive(Clone, Copy)]
 pub struct Entry<'a> {
+    /// The id of its winner.
     pub winner: &'a str,
+    /// The id of its loser.
     pub loser: &'a str,
+    /// By how many votes it is said to be true.
     pub margin: u32,
+    /// Of a NEN the ids of those left, texts alone. A NEB has none.
     pub rest: Option<&'a [Value]>,
 }
 

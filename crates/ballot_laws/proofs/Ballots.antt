@@ -29,11 +29,13 @@ some-among candidates id = some_position (λ other. is_same other id) candidates
 
 pub some-all : (candidates ids : List Id) → is_some (all_of (candidate_named candidates) ids) ≡ list_all (is_among candidates) ids
 some-all candidates [] = refl
-some-all candidates (id ∷ ids) = by (candidate_named candidates id) (all_of (candidate_named candidates) ids) ∙ ap (λ b. b && is_some (all_of (candidate_named candidates) ids)) (some-among candidates id) ∙ ap (λ b. is_among candidates id && b) (some-all candidates ids) where
-  by : (o : Option ℕ) (p : Option (List ℕ)) → is_some (option_and_then (λ y. option_map (λ ys. y ∷ ys) p) o) ≡ (is_some o && is_some p)
-  by None p = refl
-  by (Some c) None = refl
-  by (Some c) (Some cs) = refl
+some-all candidates (id ∷ ids) = by (candidate_named candidates id) (all_of (candidate_named candidates) ids)
+    ∙ ap (λ b. b && is_some (all_of (candidate_named candidates) ids)) (some-among candidates id)
+    ∙ ap (λ b. is_among candidates id && b) (some-all candidates ids) where
+      by : (o : Option ℕ) (p : Option (List ℕ)) → is_some (option_and_then (λ y. option_map (λ ys. y ∷ ys) p) o) ≡ (is_some o && is_some p)
+      by None p = refl
+      by (Some c) None = refl
+      by (Some c) (Some cs) = refl
 
 pub some-ranking : (candidates : List Id) (row : Fields) → is_some (ranking_of candidates (drop 2 row)) ≡ list_all (is_among candidates) (preferences row)
 some-ranking candidates row = by (all_of (candidate_named candidates) (preferences row)) ∙ some-all candidates (preferences row) where
@@ -44,15 +46,24 @@ some-ranking candidates row = by (all_of (candidate_named candidates) (preferenc
 -- ---- one record
 
 abbrev pub ballot_said : List Fields → ℕ → Fields → Ballot
-ballot_said contests at row = record { at = at; contest = ballot_contest row; id = ballot_id row; ranking = ranking_in (candidates_for contests (ballot_contest row)) row }
+ballot_said contests at row = record {
+  at = at;
+  contest = ballot_contest row;
+  id = ballot_id row;
+  ranking = ranking_in
+      (candidates_for contests (ballot_contest row)) row;
+}
 
-pub ids-numbered : (contests : List Fields) (id : Id) (first : ℕ) (rows : List Fields) → ballot_ids id (numbered (ballot_said contests) first rows) ≡ map ballot_id (ballots_for id rows)
+pub ids-numbered : (contests : List Fields) (id : Id) (first : ℕ) (rows : List Fields) → ballot_ids id (numbered (ballot_said contests) first rows)
+    ≡ map ballot_id (ballots_for id rows)
 ids-numbered contests id first [] = refl
 ids-numbered contests id first (row ∷ rows) = by (is_same (ballot_contest row) id) (ids-numbered contests id (first + 1) rows) where
   more : List Ballot
   more = ballots_in id (numbered (ballot_said contests) (first + 1) rows)
 
-  by : (b : Bool) → map (λ (ballot : Ballot). ballot.id) more ≡ map ballot_id (ballots_for id rows) → map (λ (ballot : Ballot). ballot.id) (if b then ballot_said contests first row ∷ more else more) ≡ map ballot_id (if b then row ∷ ballots_for id rows else ballots_for id rows)
+  by : (b : Bool) → map (λ (ballot : Ballot). ballot.id) more ≡ map ballot_id (ballots_for id rows) →
+      map (λ (ballot : Ballot). ballot.id) (if b then ballot_said contests first row ∷ more else more)
+      ≡ map ballot_id (if b then row ∷ ballots_for id rows else ballots_for id rows)
   by true h = ap (λ ids. ballot_id row ∷ ids) h
   by false h = h
 
@@ -80,7 +91,8 @@ module _ (contests : List Fields) (a first : ℕ) (before : List Fields) (at : �
 
   ranked : ballot_with at of id (ranking_of candidates more) ≡ as_judged (first_broken (last_rule ∷ [])) said
   ranked = by (ranking_of candidates more) ∙ ap (λ b. as_judged (first_broken ((B8, b) ∷ [])) said) (some-ranking candidates row) where
-    by : (o : Option (List ℕ)) → ballot_with at of id o ≡ as_judged (first_broken ((B8, is_some o) ∷ [])) (record { at = at; contest = of; id = id; ranking = ranking_or_none o })
+    by : (o : Option (List ℕ)) → ballot_with at of id o ≡ as_judged (first_broken ((B8, is_some o) ∷ []))
+        (record { at = at; contest = of; id = id; ranking = ranking_or_none o })
     by None = refl
     by (Some ranking) = refl
 
@@ -148,8 +160,10 @@ and_then-same : {A B : Type 0} (at : ℕ) (r : Result A BRule) (f g : A → Resu
 and_then-same at (Ok a) f g h = h a
 and_then-same at (Err rule) f g h = refl
 
-pub ballots-walk : (contests : List Contest) (before : List Ballot) (at : ℕ) (rows : List Fields) → ballots_after contests before at rows ≡ walk (ballot_of contests) before at rows
+pub ballots-walk : (contests : List Contest) (before : List Ballot) (at : ℕ) (rows : List Fields) →
+    ballots_after contests before at rows ≡ walk (ballot_of contests) before at rows
 ballots-walk contests before at [] = refl
 ballots-walk contests before at (row ∷ rows) =
-    and_then-same at (ballot_of contests before at row) (λ ballot. ballots_after contests (before ++ ballot ∷ []) (at + 1) rows) (λ ballot. walk (ballot_of contests) (before ++ ballot ∷ []) (at + 1) rows)
+    and_then-same at (ballot_of contests before at row) (λ ballot. ballots_after contests (before ++ ballot ∷ []) (at + 1) rows)
+    (λ ballot. walk (ballot_of contests) (before ++ ballot ∷ []) (at + 1) rows)
     (λ ballot. ballots-walk contests (before ++ ballot ∷ []) (at + 1) rows)

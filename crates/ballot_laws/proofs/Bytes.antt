@@ -30,7 +30,8 @@ first_broken_rule_refuses_bytes asked bytes rule at = first_broken_rule_refuses 
 
 -- ---- what is spelled is plain
 
-chosen-plain : (candidates : List Id) (ranking : List ℕ) → list_all is_name candidates ≡ true → All (λ c. c < length candidates) ranking → list_all is_plain (map (id_of candidates) ranking) ≡ true
+chosen-plain : (candidates : List Id) (ranking : List ℕ) → list_all is_name candidates ≡ true → All (λ c. c < length candidates) ranking →
+    list_all is_plain (map (id_of candidates) ranking) ≡ true
 chosen-plain candidates [] named h = refl
 chosen-plain candidates (c ∷ ranking) named h =
     and_from (is_plain (id_of candidates c)) (list_all is_plain (map (id_of candidates) ranking))
@@ -42,7 +43,8 @@ chosen-plain candidates (c ∷ ranking) named h =
     named-at (id ∷ ids) zero g l = (and_parts (is_name id) (list_all is_name ids) g).0
     named-at (id ∷ ids) (suc i) g l = named-at ids i (and_parts (is_name id) (list_all is_name ids) g).1 (omega (arith, l))
 
-ballots-plain : (contest : Id) (candidates ids : List Id) (rankings : List (List ℕ)) → is_name contest ≡ true → list_all is_name candidates ≡ true → list_all is_name ids ≡ true
+ballots-plain : (contest : Id) (candidates ids : List Id) (rankings : List (List ℕ)) → is_name contest ≡ true → list_all is_name candidates ≡ true →
+    list_all is_name ids ≡ true
     → All (λ ranking. All (λ c. c < length candidates) ranking) rankings → list_all is_plain_record (ballot_records contest candidates ids rankings) ≡ true
 ballots-plain contest candidates [] rankings c named i below = refl
 ballots-plain contest candidates (id ∷ ids) [] c named i below = refl
@@ -51,7 +53,8 @@ ballots-plain contest candidates (id ∷ ids) (ranking ∷ rankings) c named i b
     let choices = map (id_of candidates) ranking in
     let plain = chosen-plain candidates ranking named (All-head (λ r. All (λ c. c < length candidates) r) ranking rankings below) in
     and_from (is_plain_record (contest ∷ id ∷ choices)) (list_all is_plain_record (ballot_records contest candidates ids rankings))
-    (some-fields contest id choices (and_from (is_plain contest) (is_plain id && list_all is_plain choices) (plain-name contest c) (and_from (is_plain id) (list_all is_plain choices) (plain-name id own) plain)))
+    (some-fields contest id choices (and_from (is_plain contest) (is_plain id && list_all is_plain choices) (plain-name contest c)
+    (and_from (is_plain id) (list_all is_plain choices) (plain-name id own) plain)))
     (ballots-plain contest candidates ids rankings c named all (All-tail (λ r. All (λ c. c < length candidates) r) ranking rankings below))
 
 spelling-plain : (file : BallotFile) → HasSpelling file → list_all is_plain_record (spelling file) ≡ true

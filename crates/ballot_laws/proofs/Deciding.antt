@@ -15,7 +15,8 @@ pub spell_one : SpellOne
 spell_one asked rows file other h k = let e = sym ((records_spell_file asked rows file).1 h) ∙ (records_spell_file asked rows other).1 k in cc
 
 pub refused_once : AreRefusedOnce
-refused_once asked rows rule other at place h k = refusal-parts rule other at place (sym (refused-so asked rows rule at h) ∙ refused-so asked rows other place k)
+refused_once asked rows rule other at place h k = refusal-parts rule other at place (sym (refused-so asked rows rule at h)
+    ∙ refused-so asked rows other place k)
 
 pub never_both : NeverBoth
 never_both asked rows file rule at h k = let e = sym ((records_spell_file asked rows file).1 h) ∙ refused-so asked rows rule at k in cc

@@ -15,7 +15,8 @@ use Rattle.ballot_laws.specs.Breaking.{AreUnbroken, begins_contest, contest_rule
 
 -- ---- rules that are passed
 
-pub passed : (rule : BRule) (kept : Bool) (rules : List (BRule × Bool)) → first_broken ((rule, kept) ∷ rules) ≡ None → (kept ≡ true) × (first_broken rules ≡ None)
+pub passed : (rule : BRule) (kept : Bool) (rules : List (BRule × Bool)) → first_broken ((rule, kept) ∷ rules) ≡ None →
+    (kept ≡ true) × (first_broken rules ≡ None)
 passed rule true rules h = (refl, h)
 passed rule false rules h = absurd cc
 
@@ -36,24 +37,29 @@ module _ (p : Fields → Bool) (f : Fields → Id) where
       → all_differ (own (before ++ rest)) ≡ true
   differ-behind before [] d h = ap (λ rows. all_differ (own rows)) (append-nil before) ∙ d
   differ-behind before (row ∷ rest) d h =
-      let first : p row ≡ true → is_among (own before) (f row) ≡ false = λ t. (ap (λ rows. is_among (own rows) (f row)) (sym (append-nil before)) ∙ h 0 row refl t) in
+      let first : p row ≡ true → is_among (own before) (f row) ≡ false =
+      λ t. (ap (λ rows. is_among (own rows) (f row)) (sym (append-nil before)) ∙ h 0 row refl t) in
       let later = differ-behind (before ++ row ∷ []) rest (more (p row) refl first)
       (λ k other g t. ap (λ rows. is_among (own rows) (f other)) (append_assoc before (row ∷ []) (take k rest)) ∙ h (suc k) other g t) in
       ap (λ rows. all_differ (own rows)) (sym (append_assoc before (row ∷ []) rest)) ∙ later
     where
       more : (b : Bool) → p row ≡ b → (p row ≡ true → is_among (own before) (f row) ≡ false) → all_differ (own (before ++ row ∷ [])) ≡ true
-      more true t new = ap all_differ (own-append before (row ∷ []) ∙ ap (λ b. own before ++ map f (if b then row ∷ [] else [])) t) ∙ differ-push (own before) (f row) d (new t)
-      more false e new = ap all_differ (own-append before (row ∷ []) ∙ ap (λ b. own before ++ map f (if b then row ∷ [] else [])) e ∙ append-nil (own before)) ∙ d
+      more true t new = ap all_differ (own-append before (row ∷ []) ∙ ap (λ b. own before ++ map f (if b then row ∷ [] else [])) t)
+          ∙ differ-push (own before) (f row) d (new t)
+      more false e new = ap all_differ (own-append before (row ∷ []) ∙ ap (λ b. own before ++ map f (if b then row ∷ [] else [])) e ∙ append-nil (own before))
+          ∙ d
 
   split-at : (rows : List Fields) (k : ℕ) (row : Fields) → slice_get rows k ≡ Some row → rows ≡ take k rows ++ row ∷ drop (suc k) rows
   split-at [] k row g = absurd cc
   split-at (x ∷ rows) zero row g = let e : x ≡ row = cc in ap (λ y. y ∷ rows) e
   split-at (x ∷ rows) (suc k) row g = ap (λ xs. x ∷ xs) (split-at rows k row g)
 
-  pub differ-before : (rows : List Fields) (k : ℕ) (row : Fields) → all_differ (own rows) ≡ true → slice_get rows k ≡ Some row → p row ≡ true → is_among (own (take k rows)) (f row) ≡ false
+  pub differ-before : (rows : List Fields) (k : ℕ) (row : Fields) → all_differ (own rows) ≡ true → slice_get rows k ≡ Some row → p row ≡ true →
+      is_among (own (take k rows)) (f row) ≡ false
   differ-before rows k row d g t =
       let rest = drop (suc k) rows in
-      let parts = ap own (split-at rows k row g) ∙ own-append (take k rows) (row ∷ rest) ∙ ap (λ b. own (take k rows) ++ map f (if b then row ∷ filter p rest else filter p rest)) t in
+      let parts = ap own (split-at rows k row g) ∙ own-append (take k rows) (row ∷ rest)
+      ∙ ap (λ b. own (take k rows) ++ map f (if b then row ∷ filter p rest else filter p rest)) t in
       differ-split (own (take k rows)) (f row) (own rest) (ap all_differ (sym parts) ∙ d)
 
 -- ---- contests
@@ -74,9 +80,11 @@ all row = true
 pub contests-differ : (rows : List Fields) → AreUnbroken contest_rule rows → all_differ (map contest_id rows) ≡ true
 contests-differ rows h =
     ap (λ kept. all_differ (map contest_id kept)) (sym (all-kept rows))
-    ∙ differ-behind all contest_id [] rows refl (λ k row g t. ap (λ kept. is_among (map contest_id kept) (contest_id row)) (all-kept (take k rows)) ∙ contest-new (take k rows) row (h k row g))
+    ∙ differ-behind all contest_id [] rows refl (λ k row g t. ap (λ kept. is_among (map contest_id kept) (contest_id row)) (all-kept (take k rows))
+    ∙ contest-new (take k rows) row (h k row g))
 
-pub contest-before : (rows : List Fields) (k : ℕ) (row : Fields) → all_differ (map contest_id rows) ≡ true → slice_get rows k ≡ Some row → is_among (map contest_id (take k rows)) (contest_id row) ≡ false
+pub contest-before : (rows : List Fields) (k : ℕ) (row : Fields) → all_differ (map contest_id rows) ≡ true → slice_get rows k ≡ Some row →
+    is_among (map contest_id (take k rows)) (contest_id row) ≡ false
 contest-before rows k row d g =
     ap (λ kept. is_among (map contest_id kept) (contest_id row)) (sym (all-kept (take k rows)))
     ∙ differ-before all contest_id rows k row (ap (λ kept. all_differ (map contest_id kept)) (all-kept rows) ∙ d) g refl

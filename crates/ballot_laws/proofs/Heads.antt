@@ -58,7 +58,8 @@ finds first (row ∷ rows) id = by (is_same (contest_id row) id) refl (finds (fi
         ∙ ap (λ b. Some (record { at = found.at; id = id; candidates = if b then candidates_in row else candidates_for rows id })) (sym f);
   }
 
-  by : (b : Bool) → is_same (contest_id row) id ≡ b → IsFound (first + 1) rows id ⊎ IsLost (first + 1) rows id → IsFound first (row ∷ rows) id ⊎ IsLost first (row ∷ rows) id
+  by : (b : Bool) → is_same (contest_id row) id ≡ b → IsFound (first + 1) rows id ⊎ IsLost (first + 1) rows id →
+      IsFound first (row ∷ rows) id ⊎ IsLost first (row ∷ rows) id
   by true t more = inl (own t)
   by false f (inl found) = inl (later f found)
   by false f (inr lost) = inr (record {
@@ -82,19 +83,22 @@ named at id candidates false e f = refl
 counted : (at : ℕ) (id : Id) (ids : List Id) (o : Option ℕ)
     → contest_with at id (listed (option_and_then (λ n. if nat_le 1 n && nat_le n MOST_LISTED then Some n else None) o) ids)
     ≡ as_judged (first_broken ((B3, nat_le 1 (number_or_0 o) && nat_le (number_or_0 o) MOST_LISTED && nat_le (number_or_0 o) (length ids))
-    ∷ (B4, is_name id && list_all is_name (take (number_or_0 o) ids) && all_differ (take (number_or_0 o) ids)) ∷ [])) (record { at = at; id = id; candidates = take (number_or_0 o) ids })
+    ∷ (B4, is_name id && list_all is_name (take (number_or_0 o) ids) && all_differ (take (number_or_0 o) ids)) ∷ []))
+    (record { at = at; id = id; candidates = take (number_or_0 o) ids })
 counted at id ids None = refl
 counted at id ids (Some n) = by (nat_le 1 n) (nat_le n MOST_LISTED) where
   candidates : List Id
   candidates = take n ids
 
   enough : (c : Bool) → contest_with at id (if c then Some candidates else None)
-      ≡ as_judged (first_broken ((B3, c) ∷ (B4, is_name id && list_all is_name candidates && all_differ candidates) ∷ [])) (record { at = at; id = id; candidates = candidates })
+      ≡ as_judged (first_broken ((B3, c) ∷ (B4, is_name id && list_all is_name candidates && all_differ candidates) ∷ []))
+      (record { at = at; id = id; candidates = candidates })
   enough true = named at id candidates (is_name id) (list_all is_name candidates) (all_differ candidates)
   enough false = refl
 
   by : (a b : Bool) → contest_with at id (listed (if a && b then Some n else None) ids)
-      ≡ as_judged (first_broken ((B3, a && b && nat_le n (length ids)) ∷ (B4, is_name id && list_all is_name candidates && all_differ candidates) ∷ [])) (record { at = at; id = id; candidates = candidates })
+      ≡ as_judged (first_broken ((B3, a && b && nat_le n (length ids)) ∷ (B4, is_name id && list_all is_name candidates && all_differ candidates) ∷ []))
+      (record { at = at; id = id; candidates = candidates })
   by true true = enough (nat_le n (length ids))
   by true false = refl
   by false b = refl
@@ -104,9 +108,11 @@ judges_contests first before at [] = refl
 judges_contests first before at (word ∷ []) = refl
 judges_contests first before at (word ∷ id ∷ []) = refl
 judges_contests first before at (word ∷ id ∷ number ∷ ids) =
-    ap (λ b. if not (is_same word (codes "Contest")) || b then Err B2 else contest_with at id (listed (number_up_to MOST_LISTED number) ids)) (any-head first before id)
+    ap (λ b. if not (is_same word (codes "Contest")) || b then Err B2 else contest_with at id (listed (number_up_to MOST_LISTED number) ids))
+    (any-head first before id)
     ∙ by (is_same word (codes "Contest")) (is_among (map contest_id before) id)
-    ∙ ap (λ s. as_judged (first_broken ((B2, s && is_same word (codes "Contest") && not (is_among (map contest_id before) id)) ∷ rules)) (head_of at row)) (sym (long (length ids)))
+    ∙ ap (λ s. as_judged (first_broken ((B2, s && is_same word (codes "Contest") && not (is_among (map contest_id before) id)) ∷ rules)) (head_of at row))
+    (sym (long (length ids)))
   where
     row : Fields
     row = word ∷ id ∷ number ∷ ids
@@ -114,7 +120,8 @@ judges_contests first before at (word ∷ id ∷ number ∷ ids) =
     rules : List (BRule × Bool)
     rules = (B3, lists_candidates row) ∷ (B4, names_candidates row) ∷ []
 
-    by : (a b : Bool) → (if not a || b then Err B2 else contest_with at id (listed (number_up_to MOST_LISTED number) ids)) ≡ as_judged (first_broken ((B2, true && a && not b) ∷ rules)) (head_of at row)
+    by : (a b : Bool) → (if not a || b then Err B2 else contest_with at id (listed (number_up_to MOST_LISTED number) ids))
+        ≡ as_judged (first_broken ((B2, true && a && not b) ∷ rules)) (head_of at row)
     by true true = refl
     by true false = counted at id ids (number_of number)
     by false b = refl
@@ -132,11 +139,13 @@ and_then-same at (Err rule) f g h = refl
 pub contests-walk : (n : ℕ) (earlier : List Contest) (at : ℕ) (rows : List Fields)
     → contests_in n earlier at rows ≡ then_on (walk contest_of earlier at (take n rows)) (if_all n (length (take n rows)) (at + length (take n rows)))
 contests-walk zero earlier at rows = refl
-contests-walk (suc n) earlier at [] = let e : at ≡ at + 0 = omega arith in ap (refused B2) e ∙ ap (λ b. if b then refused B2 (at + 0) else Ok earlier) (some n) where
-  some : (n : ℕ) → true ≡ nat_lt 0 (suc n)
-  some n = grind arith
+contests-walk (suc n) earlier at [] = let e : at ≡ at + 0 = omega arith in ap (refused B2) e
+    ∙ ap (λ b. if b then refused B2 (at + 0) else Ok earlier) (some n) where
+      some : (n : ℕ) → true ≡ nat_lt 0 (suc n)
+      some n = grind arith
 contests-walk (suc n) earlier at (row ∷ rows) =
-    and_then-same at (contest_of earlier at row) (λ contest. contests_in n (earlier ++ contest ∷ []) (at + 1) rows) (λ contest. then_on (walk contest_of (earlier ++ contest ∷ []) (at + 1) (take n rows)) last)
+    and_then-same at (contest_of earlier at row) (λ contest. contests_in n (earlier ++ contest ∷ []) (at + 1) rows)
+    (λ contest. then_on (walk contest_of (earlier ++ contest ∷ []) (at + 1) (take n rows)) last)
     (λ contest. contests-walk n (earlier ++ contest ∷ []) (at + 1) rows ∙ on (walk contest_of (earlier ++ contest ∷ []) (at + 1) (take n rows)))
     ∙ moved (contest_of earlier at row)
   where

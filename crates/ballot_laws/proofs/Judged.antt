@@ -68,7 +68,8 @@ contest-is before (word ∷ id ∷ number ∷ ids) h =
       differ = differ;
     }
 
-pub is-contest : (before : List Fields) (row : Fields) → IsContest row (contest_id row) (candidates_in row) → is_among (map contest_id before) (contest_id row) ≡ false → contest_rule before row ≡ None
+pub is-contest : (before : List Fields) (row : Fields) → IsContest row (contest_id row) (candidates_in row) →
+    is_among (map contest_id before) (contest_id row) ≡ false → contest_rule before row ≡ None
 is-contest before row c new =
     let candidates = candidates_in row in
     let long = ap length c.is in
@@ -79,9 +80,11 @@ is-contest before row c new =
     let begins = and_from (nat_le 3 (length row) && is_same (field row 0) (codes "Contest")) (not (is_among (map contest_id before) (contest_id row)))
     (and_from (nat_le 3 (length row)) (is_same (field row 0) (codes "Contest")) (le-nat_le 3 (length row) (omega (arith, long))) word) (ap not new) in
     let lists = and_from (nat_le 1 (size row) && nat_le (size row) MOST_LISTED) (nat_le (size row) (length (drop 3 row)))
-    (and_from (nat_le 1 (size row)) (nat_le (size row) MOST_LISTED) (le-nat_le 1 (size row) (omega (arith, n, c.some))) (le-nat_le (size row) MOST_LISTED (omega (arith, n, c.few))))
+    (and_from (nat_le 1 (size row)) (nat_le (size row) MOST_LISTED) (le-nat_le 1 (size row) (omega (arith, n, c.some)))
+    (le-nat_le (size row) MOST_LISTED (omega (arith, n, c.few))))
     (le-nat_le (size row) (length (drop 3 row)) (omega (arith, n, room))) in
-    let names = and_from (is_name (contest_id row) && list_all is_name candidates) (all_differ candidates) (and_from (is_name (contest_id row)) (list_all is_name candidates) c.named c.all_named) c.differ in
+    let names = and_from (is_name (contest_id row) && list_all is_name candidates) (all_differ candidates)
+    (and_from (is_name (contest_id row)) (list_all is_name candidates) c.named c.all_named) c.differ in
     passes B2 (begins_contest before row) (drop 1 (contest_rules before row)) begins
     (passes B3 (lists_candidates row) (drop 2 (contest_rules before row)) lists (passes B4 (names_candidates row) [] names refl))
 
@@ -102,7 +105,8 @@ judged-ballot contests before row h =
     let long = passed B6 (nat_le 2 (length row)) (drop 2 (ballot_rules contests before row)) room.1 in
     let named = passed B4 (is_name (ballot_id row)) (drop 3 (ballot_rules contests before row)) long.1 in
     let listed = passed B7 (is_among (map contest_id contests) (ballot_contest row)) (drop 4 (ballot_rules contests before row)) named.1 in
-    let new = passed B9 (not (is_among (map ballot_id (ballots_for (ballot_contest row) before)) (ballot_id row))) (drop 5 (ballot_rules contests before row)) listed.1 in
+    let new = passed B9 (not (is_among (map ballot_id (ballots_for (ballot_contest row) before)) (ballot_id row))) (drop 5 (ballot_rules contests before row))
+    listed.1 in
     let known = passed B8 (list_all (is_among (candidates_for contests (ballot_contest row))) (preferences row)) [] new.1 in
     record {
       more = drop 2 row;
@@ -125,11 +129,13 @@ is-judged contests before row j =
     (passes B6 (nat_le 2 (length row)) (drop 2 (ballot_rules contests before row)) (le-nat_le 2 (length row) (omega (arith, ap length j.two)))
     (passes B4 (is_name (ballot_id row)) (drop 3 (ballot_rules contests before row)) j.named
     (passes B7 (is_among (map contest_id contests) (ballot_contest row)) (drop 4 (ballot_rules contests before row)) j.listed
-    (passes B9 (not (is_among (map ballot_id (ballots_for (ballot_contest row) before)) (ballot_id row))) (drop 5 (ballot_rules contests before row)) (ap not j.new)
+    (passes B9 (not (is_among (map ballot_id (ballots_for (ballot_contest row) before)) (ballot_id row))) (drop 5 (ballot_rules contests before row))
+    (ap not j.new)
     (passes B8 (list_all (is_among (candidates_for contests (ballot_contest row))) (preferences row)) [] j.known refl)))))
 
 -- of the contest with that id and these candidates
-pub ballot-of : (contests before : List Fields) (row : Fields) (id : Id) (candidates : List Id) → IsJudged contests before row → ballot_contest row ≡ id → candidates_for contests id ≡ candidates
+pub ballot-of : (contests before : List Fields) (row : Fields) (id : Id) (candidates : List Id) → IsJudged contests before row → ballot_contest row ≡ id →
+    candidates_for contests id ≡ candidates
     → IsBallot row id candidates (ballot_id row) (ranking_in candidates row)
 ballot-of contests before row id candidates j of are = record {
   more = j.more;
@@ -149,7 +155,8 @@ pub record Stands (rows : List Fields) (id : Id) : Type 0 where
 pub stands : (rows : List Fields) (id : Id) → is_among (map contest_id rows) id ≡ true → Stands rows id
 stands [] id h = absurd cc
 stands (row ∷ rows) id h = by (is_same (contest_id row) id) refl h (stands rows id) where
-  by : (b : Bool) → is_same (contest_id row) id ≡ b → (b || is_among (map contest_id rows) id) ≡ true → (is_among (map contest_id rows) id ≡ true → Stands rows id) → Stands (row ∷ rows) id
+  by : (b : Bool) → is_same (contest_id row) id ≡ b → (b || is_among (map contest_id rows) id) ≡ true →
+      (is_among (map contest_id rows) id ≡ true → Stands rows id) → Stands (row ∷ rows) id
   by true t g more = record { place = 0; row = row; there = refl; named = (bytes_decides (contest_id row) id).0 t }
   by false f g more = let s = more g in record { place = suc s.place; row = s.row; there = s.there; named = s.named }
 
@@ -157,7 +164,8 @@ pub stands-among : (rows : List Fields) (k : ℕ) (row : Fields) → slice_get r
 stands-among [] k row g = absurd cc
 stands-among (r ∷ rows) zero row g =
     let e : r ≡ row = cc in
-    ap (λ (x : Fields). is_same (contest_id x) (contest_id row) || is_among (map contest_id rows) (contest_id row)) e ∙ ap (λ b. b || is_among (map contest_id rows) (contest_id row)) (same-itself (contest_id row))
+    ap (λ (x : Fields). is_same (contest_id x) (contest_id row) || is_among (map contest_id rows) (contest_id row)) e
+    ∙ ap (λ b. b || is_among (map contest_id rows) (contest_id row)) (same-itself (contest_id row))
 stands-among (r ∷ rows) (suc k) row g = by (is_same (contest_id r) (contest_id row)) (stands-among rows k row g) where
   by : (b : Bool) → is_among (map contest_id rows) (contest_id row) ≡ true → (b || is_among (map contest_id rows) (contest_id row)) ≡ true
   by true h = refl
@@ -167,9 +175,17 @@ pub of-one : (contests before : List Fields) (row : Fields) → all_differ (map 
 of-one contests before row differ j =
     let s = stands contests (ballot_contest row) j.listed in
     let own = own-candidates contests s.place s.row differ s.there in
-    record { place = s.place; contest = s.row; there = s.there; ranking = ranking_in (candidates_in s.row) row; is = ballot-of contests before row (contest_id s.row) (candidates_in s.row) j (sym s.named) own }
+    record {
+      place = s.place;
+      contest = s.row;
+      there = s.there;
+      ranking = ranking_in (candidates_in s.row) row;
+      is = ballot-of contests before row
+          (contest_id s.row) (candidates_in s.row) j (sym s.named) own;
+    }
 
-pub judged-of-one : (contests before : List Fields) (row : Fields) → all_differ (map contest_id contests) ≡ true → (o : IsOfOne contests row) → all_differ (candidates_in o.contest) ≡ true
+pub judged-of-one : (contests before : List Fields) (row : Fields) → all_differ (map contest_id contests) ≡ true → (o : IsOfOne contests row) →
+    all_differ (candidates_in o.contest) ≡ true
     → length before < MOST_RECORDS → is_among (map ballot_id (ballots_for (ballot_contest row) before)) (ballot_id row) ≡ false → IsJudged contests before row
 judged-of-one contests before row differ o apart room new =
     let of : ballot_contest row ≡ contest_id o.contest = ap ballot_contest o.is.is in

@@ -50,7 +50,8 @@ each-row : (row : Fields) (ids : List Id) (counts : List ℕ) (i : ℕ) → leng
     → IsRow row (batch_records ids counts) i (get_or ids i []) (get_or counts i 0)
 each-row row [] counts i l h less = absurd (omega (arith, less))
 each-row row (id ∷ ids) [] i l h less = absurd (omega (arith, l))
-each-row row (id ∷ ids) (n ∷ counts) zero l h less = record { there = refl; number = number-read n (few n (and_parts (is_count n) (list_all is_count counts) h).0) }
+each-row row (id ∷ ids) (n ∷ counts) zero l h less =
+    record { there = refl; number = number-read n (few n (and_parts (is_count n) (list_all is_count counts) h).0) }
 each-row row (id ∷ ids) (n ∷ counts) (suc i) l h less =
     let next : suc i + 1 ≡ suc (i + 1) = omega arith in
     let own_row : Fields = id ∷ decimal n ∷ [] in
@@ -73,15 +74,18 @@ spells batches sound some = record {
 plain-batch : (id : Id) (n : ℕ) → is_batch_id id ≡ true → is_count n ≡ true → is_plain_record (id ∷ decimal n ∷ []) ≡ true
 plain-batch id n named counted =
     let name = plain-name id (and_parts (is_name id) (nat_le (length id) MOST_BATCH_BYTES) named).0 in
-    some-fields id (decimal n) [] (and_from (is_plain id) (is_plain (decimal n) && true) name (and_from (is_plain (decimal n)) true (plain-number n (few n counted)) refl))
+    some-fields id (decimal n) [] (and_from (is_plain id) (is_plain (decimal n) && true) name
+    (and_from (is_plain (decimal n)) true (plain-number n (omega (arith, few n counted))) refl))
 
-plain-batches : (ids : List Id) (counts : List ℕ) → list_all is_batch_id ids ≡ true → list_all is_count counts ≡ true → list_all is_plain_record (batch_records ids counts) ≡ true
+plain-batches : (ids : List Id) (counts : List ℕ) → list_all is_batch_id ids ≡ true → list_all is_count counts ≡ true →
+    list_all is_plain_record (batch_records ids counts) ≡ true
 plain-batches [] counts named counted = refl
 plain-batches (id ∷ ids) [] named counted = refl
 plain-batches (id ∷ ids) (n ∷ counts) named counted =
     let (own_id, more_ids) = and_parts (is_batch_id id) (list_all is_batch_id ids) named in
     let (own_count, more_counts) = and_parts (is_count n) (list_all is_count counts) counted in
-    and_from (is_plain_record (id ∷ decimal n ∷ [])) (list_all is_plain_record (batch_records ids counts)) (plain-batch id n own_id own_count) (plain-batches ids counts more_ids more_counts)
+    and_from (is_plain_record (id ∷ decimal n ∷ [])) (list_all is_plain_record (batch_records ids counts)) (plain-batch id n own_id own_count)
+    (plain-batches ids counts more_ids more_counts)
 
 pub written_manifest_is_read : WrittenManifestIsRead
 written_manifest_is_read batches sound some =

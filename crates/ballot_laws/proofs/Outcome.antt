@@ -4,18 +4,18 @@ use Rattle.std.specs.Prelude.{if◌then◌else◌, option_and_then}
 use Rattle.std.specs.List.{range_with_len}
 use Rattle.std.specs.Cmp.Lexicographic.{bytes_decides}
 use Rattle.std.proofs.lemmas.Bool.{cases_Bool}
+use Rattle.csv_rows.specs.Broken.{IsFirstBroken}
 use Rattle.csv_rows.specs.Numbers.{number_of}
 use Rattle.csv_rows.specs.Rows.{Fields}
 use Rattle.irv_base.specs.Names.{Id}
 use Rattle.ballot_reader.specs.Ballots.{BallotFile}
-use Rattle.ballot_reader.specs.Grammar.{Ballot, Contest, Refusal, asked_for, ballot_of, ballots_after, ballots_behind, ballots_from, ballots_in, contest_count, contest_of, file_of, refused, sized, then_on}
+use Rattle.ballot_reader.specs.Grammar.{Ballot, Contest, Refusal, asked_for, ballot_of, ballots_after, ballots_behind, ballots_from, ballots_in, contest_count, contest_of, file_of, refused, audited_contest, then_on}
 use Rattle.ballot_reader.specs.declared.fault.BRule.{BRule}
 use Rattle.ballot_reader.specs.declared.fault.BRule.TheVariants.{B1, B2, B3, B5}
 use Rattle.ballot_reader.specs.declared.limits.TheConstants.{MOST_CONTESTS}
 use Rattle.ballot_laws.specs.Rows.{asked_place, ballot_contest, ballot_id, ballots, candidates_for, candidates_in, contest_id, contests, count, is_counted, places_of, record_at}
 use Rattle.manifest.specs.Spelling.{number_or_0}
 use Rattle.ballot_laws.specs.Breaking.{AreUnbroken, HasContests, IsRefused, ballot_rule, choice_refused, contest_rule, has_auditable_size}
-use Rattle.manifest.specs.Spelling.{IsFirstBroken}
 use Rattle.ballot_laws.proofs.Ballots.{ballot_said, ballots-walk, judges_ballots, ranking_in}
 use Rattle.ballot_laws.proofs.Differ.{contests-differ}
 use Rattle.ballot_laws.proofs.Heads.{contests-walk, head_of, if_all, judges_contests}
@@ -37,7 +37,8 @@ uncounted asked [] h = refl
 uncounted asked (first ∷ rest) h =
     ap (λ o. ballots_behind o asked rest) (counted-by first rest ∙ ap (λ b. if b then Some (count (first ∷ rest)) else None) h)
 
-counted : (asked : Option Id) (first : Fields) (rest : List Fields) → is_counted (first ∷ rest) ≡ true → ballots_from asked (first ∷ rest) ≡ ballots_behind (Some (count (first ∷ rest))) asked rest
+counted : (asked : Option Id) (first : Fields) (rest : List Fields) → is_counted (first ∷ rest) ≡ true →
+    ballots_from asked (first ∷ rest) ≡ ballots_behind (Some (count (first ∷ rest))) asked rest
 counted asked first rest h =
     ap (λ o. ballots_behind o asked rest) (counted-by first rest ∙ ap (λ b. if b then Some (count (first ∷ rest)) else None) h)
 
@@ -45,17 +46,20 @@ counted asked first rest h =
 
 abbrev with_contests : Option Id → ℕ → List Fields → List Contest → Result BallotFile Refusal
 with_contests asked n rest heads =
-    then_on (sized (asked_for heads asked)) (λ audited. then_on (ballots_after heads [] (2 + n) (drop n rest)) (λ bs. Ok (file_of audited bs)))
+    then_on (audited_contest (asked_for heads asked)) (λ audited. then_on (ballots_after heads [] (2 + n) (drop n rest)) (λ bs. Ok (file_of audited bs)))
 
-pub contest-broken : (asked : Option Id) (rows : List Fields) (k : ℕ) (rule : BRule) → is_counted rows ≡ true → IsFirstBroken contest_rule (contests rows) k rule → ballots_from asked rows ≡ refused rule (2 + k)
+pub contest-broken : (asked : Option Id) (rows : List Fields) (k : ℕ) (rule : BRule) → is_counted rows ≡ true →
+    IsFirstBroken contest_rule (contests rows) k rule → ballots_from asked rows ≡ refused rule (2 + k)
 contest-broken asked [] k rule c h = absurd cc
 contest-broken asked (first ∷ rest) k rule c h =
     let n = count (first ∷ rest) in
     counted asked first rest c
     ∙ ap (λ r. then_on r (with_contests asked n rest))
-    (contests-walk n [] 2 rest ∙ ap (λ r. then_on r (if_all n (length (take n rest)) (2 + length (take n rest)))) (walk-broken contest_of contest_rule head_of 2 judges_contests (take n rest) k rule h))
+    (contests-walk n [] 2 rest ∙ ap (λ r. then_on r (if_all n (length (take n rest)) (2 + length (take n rest))))
+    (walk-broken contest_of contest_rule head_of 2 judges_contests (take n rest) k rule h))
 
-pub contest-lacking : (asked : Option Id) (rows : List Fields) → is_counted rows ≡ true → AreUnbroken contest_rule (contests rows) → length (contests rows) < count rows → ballots_from asked rows ≡ refused B2 (length rows + 1)
+pub contest-lacking : (asked : Option Id) (rows : List Fields) → is_counted rows ≡ true → AreUnbroken contest_rule (contests rows) →
+    length (contests rows) < count rows → ballots_from asked rows ≡ refused B2 (length rows + 1)
 contest-lacking asked [] c h less = absurd cc
 contest-lacking asked (first ∷ rest) c h less =
     let n = count (first ∷ rest) in
@@ -75,7 +79,8 @@ contests-read asked first rest has =
     let heads = numbered head_of 2 (take n rest) in
     counted asked first rest has.counted
     ∙ ap (λ r. then_on r (with_contests asked n rest))
-    (contests-walk n [] 2 rest ∙ ap (λ r. then_on r (if_all n there (2 + there))) (walk-fine contest_of contest_rule head_of 2 judges_contests (take n rest) has.unbroken)
+    (contests-walk n [] 2 rest ∙ ap (λ r. then_on r (if_all n there (2 + there)))
+    (walk-fine contest_of contest_rule head_of 2 judges_contests (take n rest) has.unbroken)
     ∙ ap (λ b. if b then refused B2 (2 + there) else Ok heads) (none-less there n has.all_there))
   where
     none-less : (a n : ℕ) → a ≡ n → nat_lt a n ≡ false
@@ -90,13 +95,14 @@ abbrev sized_by : List Fields → Option ℕ → Result Contest Refusal
 sized_by rows None = refused B5 1
 sized_by rows (Some own) = if has_auditable_size (record_at rows own) then Ok (head_of own (record_at rows own)) else refused B3 own
 
-chosen : (asked : Option Id) (rows : List Fields) → sized (asked_for (numbered head_of 2 (contests rows)) asked) ≡ sized_by rows (asked_place asked (contests rows))
+chosen : (asked : Option Id) (rows : List Fields) → audited_contest (asked_for (numbered head_of 2 (contests rows)) asked)
+    ≡ sized_by rows (asked_place asked (contests rows))
 chosen asked rows = by (asked_place asked (contests rows)) refl where
-  by : (o : Option ℕ) → asked_place asked (contests rows) ≡ o → sized (asked_for (numbered head_of 2 (contests rows)) asked) ≡ sized_by rows o
-  by None e = ap sized (none-asked asked (contests rows) e)
+  by : (o : Option ℕ) → asked_place asked (contests rows) ≡ o → audited_contest (asked_for (numbered head_of 2 (contests rows)) asked) ≡ sized_by rows o
+  by None e = ap audited_contest (none-asked asked (contests rows) e)
   by (Some own) e =
       let a = some-asked asked (contests rows) own e in
-      ap sized a.found ∙ ap (λ r. if has_auditable_size r then Ok (head_of own r) else refused B3 own) (sym (own-record rows own asked a))
+      ap audited_contest a.found ∙ ap (λ r. if has_auditable_size r then Ok (head_of own r) else refused B3 own) (sym (own-record rows own asked a))
 
 abbrev rule_or : Option (BRule × ℕ) → BRule
 rule_or None = B1
@@ -120,7 +126,8 @@ pub record IsChosen (asked : Option Id) (rows : List Fields) (own : ℕ) : Type 
   pub asked_for : asked_place asked (contests rows) ≡ Some own
   pub size : has_auditable_size (record_at rows own) ≡ true
 
-pub some-chosen : (asked : Option Id) (rows : List Fields) → choice_refused rows (asked_place asked (contests rows)) ≡ None → (own : ℕ) × IsChosen asked rows own
+pub some-chosen : (asked : Option Id) (rows : List Fields) → choice_refused rows (asked_place asked (contests rows)) ≡ None →
+    (own : ℕ) × IsChosen asked rows own
 some-chosen asked rows h = by (asked_place asked (contests rows)) refl h where
   by : (o : Option ℕ) → asked_place asked (contests rows) ≡ o → choice_refused rows o ≡ None → (own : ℕ) × IsChosen asked rows own
   by None e g = absurd cc
@@ -129,7 +136,8 @@ some-chosen asked rows h = by (asked_place asked (contests rows)) refl h where
     true-of true f = refl
     true-of false f = absurd cc
 
-pub choice-refused : (asked : Option Id) (rows : List Fields) (rule : BRule) (at : ℕ) → HasContests rows → choice_refused rows (asked_place asked (contests rows)) ≡ Some (rule, at) → ballots_from asked rows ≡ refused rule at
+pub choice-refused : (asked : Option Id) (rows : List Fields) (rule : BRule) (at : ℕ) → HasContests rows →
+    choice_refused rows (asked_place asked (contests rows)) ≡ Some (rule, at) → ballots_from asked rows ≡ refused rule at
 choice-refused asked [] rule at has h = absurd (let e = has.counted in cc)
 choice-refused asked (first ∷ rest) rule at has h =
     let rows = first ∷ rest in
@@ -155,12 +163,14 @@ with-choice asked (first ∷ rest) own has c =
     (chosen asked rows ∙ ap (sized_by rows) c.asked_for ∙ ap (λ b. if b then Ok head else refused B3 own) c.size)
     ∙ ap (λ r. then_on r (λ bs. Ok (file_of head bs))) (ballots-walk heads [] (2 + count rows) (ballots rows))
 
-pub ballot-broken : (asked : Option Id) (rows : List Fields) (own k : ℕ) (rule : BRule) → HasContests rows → IsChosen asked rows own → IsFirstBroken (ballot_rule (contests rows)) (ballots rows) k rule
+pub ballot-broken : (asked : Option Id) (rows : List Fields) (own k : ℕ) (rule : BRule) → HasContests rows → IsChosen asked rows own →
+    IsFirstBroken (ballot_rule (contests rows)) (ballots rows) k rule
     → ballots_from asked rows ≡ refused rule (2 + count rows + k)
 ballot-broken asked rows own k rule has c h =
     with-choice asked rows own has c
     ∙ ap (λ r. then_on r (λ bs. Ok (file_of (head_of own (record_at rows own)) bs)))
-    (walk-broken (ballot_of (numbered head_of 2 (contests rows))) (ballot_rule (contests rows)) (ballot_said (contests rows)) (2 + count rows) (judges_ballots (contests rows) 2) (ballots rows) k rule h)
+    (walk-broken (ballot_of (numbered head_of 2 (contests rows))) (ballot_rule (contests rows)) (ballot_said (contests rows)) (2 + count rows)
+    (judges_ballots (contests rows) 2) (ballots rows) k rule h)
 
 -- ---- the file
 
@@ -171,14 +181,16 @@ abbrev pub file_in : List Fields → ℕ → BallotFile
 file_in rows own =
     let row = record_at rows own in
     let places = places_of (contest_id row) rows in
-    file_with (contest_id row) (candidates_in row) (map (λ at. ballot_id (record_at rows at)) places) places (map (λ at. ranking_in (candidates_in row) (record_at rows at)) places)
+    file_with (contest_id row) (candidates_in row) (map (λ at. ballot_id (record_at rows at)) places) places
+    (map (λ at. ranking_in (candidates_in row) (record_at rows at)) places)
 
 pub record IsRead (asked : Option Id) (rows : List Fields) (own : ℕ) : Type 0 where
   pub has : HasContests rows
   pub is_chosen : IsChosen asked rows own
   pub unbroken : AreUnbroken (ballot_rule (contests rows)) (ballots rows)
 
-file-is : (asked : Option Id) (rows : List Fields) (own : ℕ) → IsRead asked rows own → file_of (head_of own (record_at rows own)) (numbered (ballot_said (contests rows)) (2 + count rows) (ballots rows)) ≡ file_in rows own
+file-is : (asked : Option Id) (rows : List Fields) (own : ℕ) → IsRead asked rows own →
+    file_of (head_of own (record_at rows own)) (numbered (ballot_said (contests rows)) (2 + count rows) (ballots rows)) ≡ file_in rows own
 file-is asked rows own r = rw (ids, places, rankings) refl where
   row : Fields
   row = record_at rows own
@@ -208,19 +220,23 @@ file-is asked rows own r = rw (ids, places, rankings) refl where
   candidates =
       let a = some-asked asked (contests rows) own r.is_chosen.asked_for in
       let e = own-record rows own asked a in
-      ap (λ x. candidates_for (contests rows) (contest_id x)) e ∙ own-candidates (contests rows) a.k a.row (contests-differ (contests rows) r.has.unbroken) a.there ∙ ap candidates_in (sym e)
+      ap (λ x. candidates_for (contests rows) (contest_id x)) e
+      ∙ own-candidates (contests rows) a.k a.row (contests-differ (contests rows) r.has.unbroken) a.there ∙ ap candidates_in (sym e)
 
   rankings : map (λ (b : Ballot). b.ranking) own-ballots ≡ map (λ at. ranking_in (candidates_in row) (record_at rows at)) listed
   rankings =
       ap (map (λ (b : Ballot). b.ranking)) are ∙ map-twice said (λ (b : Ballot). b.ranking) listed
-      ∙ map-filter (votes_in rows id) (λ at. ranking_in (candidates_for (contests rows) (ballot_contest (record_at rows at))) (record_at rows at)) (λ at. ranking_in (candidates_in row) (record_at rows at)) (range_with_len (2 + count rows) (length (ballots rows)))
-      (λ at t. ap (λ x. ranking_in (candidates_for (contests rows) x) (record_at rows at)) ((bytes_decides (ballot_contest (record_at rows at)) id).0 t) ∙ ap (λ cs. ranking_in cs (record_at rows at)) candidates)
+      ∙ map-filter (votes_in rows id) (λ at. ranking_in (candidates_for (contests rows) (ballot_contest (record_at rows at))) (record_at rows at))
+      (λ at. ranking_in (candidates_in row) (record_at rows at)) (range_with_len (2 + count rows) (length (ballots rows)))
+      (λ at t. ap (λ x. ranking_in (candidates_for (contests rows) x) (record_at rows at)) ((bytes_decides (ballot_contest (record_at rows at)) id).0 t)
+      ∙ ap (λ cs. ranking_in cs (record_at rows at)) candidates)
 
 pub all-read : (asked : Option Id) (rows : List Fields) (own : ℕ) → IsRead asked rows own → ballots_from asked rows ≡ Ok (file_in rows own)
 all-read asked rows own r =
     with-choice asked rows own r.has r.is_chosen
     ∙ ap (λ said. then_on said (λ bs. Ok (file_of (head_of own (record_at rows own)) bs)))
-    (walk-fine (ballot_of (numbered head_of 2 (contests rows))) (ballot_rule (contests rows)) (ballot_said (contests rows)) (2 + count rows) (judges_ballots (contests rows) 2) (ballots rows) r.unbroken)
+    (walk-fine (ballot_of (numbered head_of 2 (contests rows))) (ballot_rule (contests rows)) (ballot_said (contests rows)) (2 + count rows)
+    (judges_ballots (contests rows) 2) (ballots rows) r.unbroken)
     ∙ ap Ok (file-is asked rows own r)
 
 -- ---- each way
@@ -228,7 +244,8 @@ all-read asked rows own r =
 pub refused-so : (asked : Option Id) (rows : List Fields) (rule : BRule) (at : ℕ) → IsRefused asked rows rule at → ballots_from asked rows ≡ refused rule at
 refused-so asked rows rule at (inl u) = uncounted asked rows u.uncounted ∙ ap (λ x. refused x 1) (sym u.rule_is) ∙ ap (refused rule) (sym u.at_is)
 refused-so asked rows rule at (inr (inl b)) = contest-broken asked rows b.k rule b.counted b.first ∙ ap (refused rule) (sym b.at_is)
-refused-so asked rows rule at (inr (inr (inl l))) = contest-lacking asked rows l.counted l.unbroken l.missing ∙ ap (λ x. refused x (length rows + 1)) (sym l.rule_is) ∙ ap (refused rule) (sym l.at_is)
+refused-so asked rows rule at (inr (inr (inl l))) = contest-lacking asked rows l.counted l.unbroken l.missing
+    ∙ ap (λ x. refused x (length rows + 1)) (sym l.rule_is) ∙ ap (refused rule) (sym l.at_is)
 refused-so asked rows rule at (inr (inr (inr (inl c)))) = choice-refused asked rows rule at c.has c.refused
 refused-so asked rows rule at (inr (inr (inr (inr b)))) =
     let (own, c) = some-chosen asked rows b.chosen in
@@ -240,8 +257,13 @@ decides asked rows = elim (cases_Bool (is_counted rows)) [
   | inl t ↦ elim (decided contest_of contest_rule head_of 2 judges_contests (contests rows)) [
     | inr b ↦ inr (b.1, 2 + b.0, inr (inl (record { counted = t; k = b.0; first = b.2; at_is = refl })))
     | inl u ↦ elim (cases_Bool (nat_lt (length (contests rows)) (count rows))) [
-      | inl less ↦ inr (B2, length rows + 1, inr (inr (inl (record { counted = t; unbroken = u; missing = ltb-true (length (contests rows)) (count rows) less; rule_is = refl; at_is = refl }))))
-      | inr all ↦ chosen-or (record { counted = t; all_there = there (ltb-false (length (contests rows)) (count rows) all); unbroken = u }) (choice_refused rows (asked_place asked (contests rows))) refl
+      | inl less ↦ inr (
+        B2,
+        length rows + 1,
+        inr (inr (inl (record { counted = t; unbroken = u; missing = ltb-true (length (contests rows)) (count rows) less; rule_is = refl; at_is = refl }))),
+      )
+      | inr all ↦ chosen-or (record { counted = t; all_there = there (ltb-false (length (contests rows)) (count rows) all); unbroken = u })
+          (choice_refused rows (asked_place asked (contests rows))) refl
     ]
   ]
 ]
@@ -252,7 +274,8 @@ decides asked rows = elim (cases_Bool (is_counted rows)) [
     chosen-or : HasContests rows → (o : Option (BRule × ℕ)) → choice_refused rows (asked_place asked (contests rows)) ≡ o
         → ((own : ℕ) × IsRead asked rows own) ⊎ ((rule : BRule) × (at : ℕ) × IsRefused asked rows rule at)
     chosen-or has (Some broken) e = inr (broken.0, broken.1, inr (inr (inr (inl (record { has = has; refused = e })))))
-    chosen-or has None e = elim (decided (ballot_of (numbered head_of 2 (contests rows))) (ballot_rule (contests rows)) (ballot_said (contests rows)) (2 + count rows) (judges_ballots (contests rows) 2) (ballots rows)) [
-      | inl u ↦ let (own, c) = some-chosen asked rows e in inl (own, record { has = has; is_chosen = c; unbroken = u })
-      | inr b ↦ inr (b.1, 2 + count rows + b.0, inr (inr (inr (inr (record { has = has; chosen = e; k = b.0; first = b.2; at_is = refl })))))
-    ]
+    chosen-or has None e = elim (decided (ballot_of (numbered head_of 2 (contests rows))) (ballot_rule (contests rows)) (ballot_said (contests rows))
+        (2 + count rows) (judges_ballots (contests rows) 2) (ballots rows)) [
+          | inl u ↦ let (own, c) = some-chosen asked rows e in inl (own, record { has = has; is_chosen = c; unbroken = u })
+          | inr b ↦ inr (b.1, 2 + count rows + b.0, inr (inr (inr (inr (record { has = has; chosen = e; k = b.0; first = b.2; at_is = refl })))))
+        ]

@@ -53,7 +53,8 @@ map-same (x ∷ xs) = ap (λ ys. x ∷ ys) (map-same xs)
 pub map-filter : {X Y : Type 0} (p : X → Bool) (f g : X → Y) (xs : List X) → ((x : X) → p x ≡ true → f x ≡ g x) → map f (filter p xs) ≡ map g (filter p xs)
 map-filter p f g [] h = refl
 map-filter {X} {Y} p f g (x ∷ xs) h = by (p x) refl (map-filter p f g xs h) where
-  by : (b : Bool) → p x ≡ b → map f (filter p xs) ≡ map g (filter p xs) → map f (if b then x ∷ filter p xs else filter p xs) ≡ map g (if b then x ∷ filter p xs else filter p xs)
+  by : (b : Bool) → p x ≡ b → map f (filter p xs) ≡ map g (filter p xs) → map f (if b then x ∷ filter p xs else filter p xs)
+      ≡ map g (if b then x ∷ filter p xs else filter p xs)
   by true t more = ap (λ y. y ∷ map f (filter p xs)) (h x t) ∙ ap (λ ys. g x ∷ ys) more
   by false f more = more
 
@@ -77,13 +78,15 @@ ballot-record (first ∷ rest) k row h =
 
 -- ---- the contest that is asked for
 
-head-there : (first : ℕ) (rows : List Fields) (k : ℕ) (row : Fields) → slice_get rows k ≡ Some row → slice_get (numbered head_of first rows) k ≡ Some (head_of (first + k) row)
+head-there : (first : ℕ) (rows : List Fields) (k : ℕ) (row : Fields) → slice_get rows k ≡ Some row →
+    slice_get (numbered head_of first rows) k ≡ Some (head_of (first + k) row)
 head-there first [] k row h = absurd cc
 head-there first (r ∷ rows) zero row h =
     let s : r ≡ row = cc in
     let e : first ≡ first + 0 = omega arith in
     ap (λ x. Some (head_of first x)) s ∙ ap (λ n. Some (head_of n row)) e
-head-there first (r ∷ rows) (suc k) row h = let e : (first + 1) + k ≡ first + suc k = omega arith in head-there (first + 1) rows k row h ∙ ap (λ n. Some (head_of n row)) e
+head-there first (r ∷ rows) (suc k) row h = let e : (first + 1) + k ≡ first + suc k = omega arith in head-there (first + 1) rows k row h
+    ∙ ap (λ n. Some (head_of n row)) e
 
 abbrev pub names : Id → Fields → Bool
 names id row = is_same (contest_id row) id
@@ -91,9 +94,11 @@ names id row = is_same (contest_id row) id
 position-numbered : (first : ℕ) (rows : List Fields) (id : Id) → position (has_id id) (numbered head_of first rows) ≡ position (names id) rows
 position-numbered first [] id = refl
 position-numbered first (row ∷ rows) id = by (names id row) refl (position-numbered (first + 1) rows id) where
-  by : (b : Bool) → names id row ≡ b → position (has_id id) (numbered head_of (first + 1) rows) ≡ position (names id) rows → position (has_id id) (numbered head_of first (row ∷ rows)) ≡ position (names id) (row ∷ rows)
+  by : (b : Bool) → names id row ≡ b → position (has_id id) (numbered head_of (first + 1) rows) ≡ position (names id) rows →
+      position (has_id id) (numbered head_of first (row ∷ rows)) ≡ position (names id) (row ∷ rows)
   by true t more = first_place (has_id id) (head_of first row) (numbered head_of (first + 1) rows) t ∙ sym (first_place (names id) row rows t)
-  by false f more = later_place (has_id id) (head_of first row) (numbered head_of (first + 1) rows) f ∙ ap (option_map (λ i. 1 + i)) more ∙ sym (later_place (names id) row rows f)
+  by false f more = later_place (has_id id) (head_of first row) (numbered head_of (first + 1) rows) f ∙ ap (option_map (λ i. 1 + i)) more
+      ∙ sym (later_place (names id) row rows f)
 
 pub record IsAsked (asked : Option Id) (rows : List Fields) (own : ℕ) : Type 0 where
   pub k : ℕ
@@ -120,7 +125,8 @@ some-asked (Some id) rows own h = by (position (names id) rows) refl h where
         row = row;
         there = there;
         own_is = sym at;
-        found = found_at (has_id id) (numbered head_of 2 rows) k (position-numbered 2 rows id ∙ e) ∙ head-there 2 rows k row there ∙ ap (λ n. Some (head_of n row)) at;
+        found = found_at (has_id id) (numbered head_of 2 rows) k (position-numbered 2 rows id ∙ e) ∙ head-there 2 rows k row there
+            ∙ ap (λ n. Some (head_of n row)) at;
       }
 
 pub none-asked : (asked : Option Id) (rows : List Fields) → asked_place asked rows ≡ None → asked_for (numbered head_of 2 rows) asked ≡ None
@@ -134,14 +140,16 @@ none-asked (Some id) rows h = found_none (has_id id) (numbered head_of 2 rows) (
 
 -- ---- the candidates of a contest
 
-stands-later : (rows : List Fields) (id : Id) (k : ℕ) (row : Fields) → is_among (map contest_id rows) id ≡ false → slice_get rows k ≡ Some row → is_same (contest_id row) id ≡ false
+stands-later : (rows : List Fields) (id : Id) (k : ℕ) (row : Fields) → is_among (map contest_id rows) id ≡ false → slice_get rows k ≡ Some row →
+    is_same (contest_id row) id ≡ false
 stands-later [] id k row h g = absurd cc
 stands-later (r ∷ rows) id zero row h g =
     let e : r ≡ row = cc in
     ap (names id) (sym e) ∙ (or-false (names id r) (is_among (map contest_id rows) id) h).0
 stands-later (r ∷ rows) id (suc k) row h g = stands-later rows id k row (or-false (names id r) (is_among (map contest_id rows) id) h).1 g
 
-pub own-candidates : (rows : List Fields) (k : ℕ) (row : Fields) → all_differ (map contest_id rows) ≡ true → slice_get rows k ≡ Some row → candidates_for rows (contest_id row) ≡ candidates_in row
+pub own-candidates : (rows : List Fields) (k : ℕ) (row : Fields) → all_differ (map contest_id rows) ≡ true → slice_get rows k ≡ Some row →
+    candidates_for rows (contest_id row) ≡ candidates_in row
 own-candidates [] k row d g = absurd cc
 own-candidates (r ∷ rows) zero row d g =
     let e : r ≡ row = cc in
@@ -150,7 +158,8 @@ own-candidates (r ∷ rows) zero row d g =
     ∙ ap candidates_in e
 own-candidates (r ∷ rows) (suc k) row d g =
     let (out, rest) = and_parts (not (is_among (map contest_id rows) (contest_id r))) (all_differ (map contest_id rows)) d in
-    let other = nat_list_eq_equiv.symm (contest_id r) (contest_id row) ∙ stands-later rows (contest_id r) k row (not-true (is_among (map contest_id rows) (contest_id r)) out) g in
+    let other = nat_list_eq_equiv.symm (contest_id r) (contest_id row)
+    ∙ stands-later rows (contest_id r) k row (not-true (is_among (map contest_id rows) (contest_id r)) out) g in
     ap (λ b. if b then candidates_in r else candidates_for rows (contest_id row)) other ∙ own-candidates rows k row rest g
 
 -- ---- the ballots of a contest
@@ -158,12 +167,15 @@ own-candidates (r ∷ rows) (suc k) row d g =
 abbrev pub votes_in : List Fields → Id → ℕ → Bool
 votes_in rows id at = is_same (ballot_contest (record_at rows at)) id
 
-pub ballots-numbered : (rows heads : List Fields) (id : Id) (first : ℕ) (bs : List Fields) → ((k : ℕ) (row : Fields) → slice_get bs k ≡ Some row → record_at rows (first + k) ≡ row)
-    → ballots_in id (numbered (ballot_said heads) first bs) ≡ map (λ at. ballot_said heads at (record_at rows at)) (filter (votes_in rows id) (range_with_len first (length bs)))
+pub ballots-numbered : (rows heads : List Fields) (id : Id) (first : ℕ) (bs : List Fields) →
+    ((k : ℕ) (row : Fields) → slice_get bs k ≡ Some row → record_at rows (first + k) ≡ row)
+    → ballots_in id (numbered (ballot_said heads) first bs) ≡ map (λ at. ballot_said heads at (record_at rows at))
+    (filter (votes_in rows id) (range_with_len first (length bs)))
 ballots-numbered rows heads id first [] h = refl
 ballots-numbered rows heads id first (row ∷ bs) h =
     by (is_same (ballot_contest row) id)
-    (ballots-numbered rows heads id (first + 1) bs (λ k other g. let e : (first + 1) + k ≡ first + suc k = omega arith in ap (record_at rows) e ∙ h (suc k) other g))
+    (ballots-numbered rows heads id (first + 1) bs (λ k other g. let e : (first + 1) + k ≡ first + suc k = omega arith in ap (record_at rows) e
+    ∙ h (suc k) other g))
     ∙ ap (λ (r : Fields). map said (if is_same (ballot_contest r) id then first ∷ rest else rest)) (sym here)
   where
     said : ℕ → Ballot

@@ -1,5 +1,5 @@
 -- Ids, numbers and records that are plain.
-use Rattle.std.proofs.Common.{◌≡◌, ◌∙◌, ◌∷◌, [], ◌-◌, ◌≤◌, ◌||◌, ◌&&◌, ◌==◌, ℕ, zero, suc, true, false, not, List, length, get_or, nat_le, decimal, refl, ap, arith, leb-true}
+use Rattle.std.proofs.Common.{◌≡◌, ◌∙◌, ◌∷◌, [], ◌-◌, ◌<◌, ◌≤◌, ◌^◌, ◌||◌, ◌&&◌, ◌==◌, ℕ, zero, suc, true, false, not, List, length, get_or, nat_le, decimal, refl, ap, arith, leb-true}
 use Rattle.std.specs.Char.{is_ascii_digit}
 use Rattle.std.specs.List.{list_all}
 use Rattle.std.proofs.lemmas.Bool.{and_from, and_parts, ne_eqb}
@@ -14,7 +14,8 @@ use Rattle.ballot_laws.specs.Bytes.{is_plain, is_plain_record}
 
 plain-byte : (b : ℕ) → is_name_byte b ≡ true → (nat_le space b && nat_le b tilde) ≡ true
 plain-byte b h =
-    (and_parts (nat_le space b && nat_le b tilde) (not (b == double_quote)) (and_parts (nat_le space b && nat_le b tilde && not (b == double_quote)) (not (b == comma)) h).0).0
+    (and_parts (nat_le space b && nat_le b tilde) (not (b == double_quote))
+    (and_parts (nat_le space b && nat_le b tilde && not (b == double_quote)) (not (b == comma)) h).0).0
 
 all-plain : (bytes : List ℕ) → list_all is_name_byte bytes ≡ true → list_all (λ b. nat_le space b && nat_le b tilde) bytes ≡ true
 all-plain [] h = refl
@@ -25,7 +26,8 @@ all-plain (b ∷ bytes) h =
 pub plain-name : (id : Id) → is_name id ≡ true → is_plain id ≡ true
 plain-name id h =
     let (ends, all) = and_parts (has_name_length id && not (touches_space id)) (list_all is_name_byte id) h in
-    and_from (list_all (λ b. nat_le space b && nat_le b tilde) id) (not (touches_space id)) (all-plain id all) (and_parts (has_name_length id) (not (touches_space id)) ends).1
+    and_from (list_all (λ b. nat_le space b && nat_le b tilde) id) (not (touches_space id)) (all-plain id all)
+    (and_parts (has_name_length id) (not (touches_space id)) ends).1
 
 pub plain-names : (ids : List Id) → list_all is_name ids ≡ true → list_all is_plain ids ≡ true
 plain-names [] h = refl
@@ -58,10 +60,11 @@ no-space (b ∷ text) (suc i) h = no-space text i (and_parts (is_ascii_digit b) 
 
 pub plain-digits : (text : List ℕ) → list_all is_ascii_digit text ≡ true → is_plain text ≡ true
 plain-digits text h =
-    let apart : touches_space text ≡ false = ap (λ b. b || (get_or text (length text - 1) 0 == space)) (no-space text 0 h) ∙ no-space text (length text - 1) h in
+    let apart : touches_space text ≡ false = ap (λ b. b || (get_or text (length text - 1) 0 == space)) (no-space text 0 h)
+    ∙ no-space text (length text - 1) h in
     and_from (list_all (λ b. nat_le space b && nat_le b tilde) text) (not (touches_space text)) (digits-plain text h) (ap not apart)
 
-pub plain-number : (n : ℕ) → n ≤ 1000000 → is_plain (decimal n) ≡ true
+pub plain-number : (n : ℕ) → n < 2 ^ 64 → is_plain (decimal n) ≡ true
 plain-number n h = plain-digits (decimal n) (digits_decimal own n (omega (arith, h)))
 
 -- ---- records
@@ -69,4 +72,5 @@ plain-number n h = plain-digits (decimal n) (digits_decimal own n (omega (arith,
 pub some-fields : (a b : List ℕ) (rest : Fields) → list_all is_plain (a ∷ b ∷ rest) ≡ true → is_plain_record (a ∷ b ∷ rest) ≡ true
 some-fields a b rest h =
     let some : nat_le 1 (length (a ∷ b ∷ rest)) ≡ true = le-nat_le 1 (length (a ∷ b ∷ rest)) (omega arith) in
-    and_from (list_all is_plain (a ∷ b ∷ rest) && nat_le 1 (length (a ∷ b ∷ rest))) (not (is_blank_record (a ∷ b ∷ rest))) (and_from (list_all is_plain (a ∷ b ∷ rest)) (nat_le 1 (length (a ∷ b ∷ rest))) h some) refl
+    and_from (list_all is_plain (a ∷ b ∷ rest) && nat_le 1 (length (a ∷ b ∷ rest))) (not (is_blank_record (a ∷ b ∷ rest)))
+    (and_from (list_all is_plain (a ∷ b ∷ rest)) (nat_le 1 (length (a ∷ b ∷ rest))) h some) refl

@@ -40,19 +40,22 @@ are-named candidates (id ∷ ids) h =
     let stands = position-Some (λ other. is_same other id) candidates c [] at in
     record {
       choices = c ∷ more.choices;
-      found = ap (λ o. option_and_then (λ d. option_map (λ ds. d ∷ ds) (all_of (candidate_named candidates) ids)) o) at ∙ ap (λ o. option_map (λ ds. c ∷ ds) o) more.found;
+      found = ap (λ o. option_and_then (λ d. option_map (λ ds. d ∷ ds) (all_of (candidate_named candidates) ids)) o) at
+          ∙ ap (λ o. option_map (λ ds. c ∷ ds) o) more.found;
       below = All-cons (λ d. d < length candidates) c more.choices stands.0 more.below;
       named = ap (λ x. x ∷ ids) (sym ((bytes_decides (id_of candidates c) id).0 stands.1)) ∙ ap (λ xs. id_of candidates c ∷ xs) more.named;
     }
 
-pub ranks-of : (candidates : List Id) (row : Fields) → list_all (is_among candidates) (preferences row) ≡ true → Ranks candidates (preferences row) (ranking_in candidates row)
+pub ranks-of : (candidates : List Id) (row : Fields) → list_all (is_among candidates) (preferences row) ≡ true →
+    Ranks candidates (preferences row) (ranking_in candidates row)
 ranks-of candidates row h =
     let are = are-named candidates (preferences row) h in
     record { choices = are.choices; below = are.below; named = are.named; first = ap (λ o. ranking_or_none (option_map firsts o)) are.found }
 
 -- ---- and back
 
-found-all : (candidates : List Id) (choices : List ℕ) → all_differ candidates ≡ true → All (λ c. c < length candidates) choices → all_of (candidate_named candidates) (map (id_of candidates) choices) ≡ Some choices
+found-all : (candidates : List Id) (choices : List ℕ) → all_differ candidates ≡ true → All (λ c. c < length candidates) choices →
+    all_of (candidate_named candidates) (map (id_of candidates) choices) ≡ Some choices
 found-all candidates [] differ h = refl
 found-all candidates (c ∷ choices) differ h =
     ap (λ o. option_and_then (λ d. option_map (λ ds. d ∷ ds) (all_of (candidate_named candidates) (map (id_of candidates) choices))) o)

@@ -8,12 +8,14 @@ use Rattle.ballot_reader.specs.declared.fault.BRule.{BRule}
 use Rattle.ballot_laws.specs.Breaking.{FirstBrokenRuleRefuses, IsRefused}
 use Rattle.ballot_laws.proofs.Outcome.{all-read, decides, refused-so}
 
-pub refusal-parts : (rule other : BRule) (at place : ℕ) → refused {A = BallotFile} rule at ≡ Err (record { rule = other; at = place }) → (rule ≡ other) × (at ≡ place)
+pub refusal-parts : (rule other : BRule) (at place : ℕ) → refused {A = BallotFile} rule at ≡ Err (record { rule = other; at = place }) →
+    (rule ≡ other) × (at ≡ place)
 refusal-parts rule other at place h =
     let e : record { rule = rule; at = at } ≡ record { rule = other; at = place } = cc in
     (ap (λ (r : Refusal). r.rule) e, ap (λ (r : Refusal). r.at) e)
 
-is-refused : (asked : Option Id) (rows : List Fields) (rule : BRule) (at : ℕ) → ballots_from asked rows ≡ Err (record { rule = rule; at = at }) → IsRefused asked rows rule at
+is-refused : (asked : Option Id) (rows : List Fields) (rule : BRule) (at : ℕ) → ballots_from asked rows ≡ Err (record { rule = rule; at = at }) →
+    IsRefused asked rows rule at
 is-refused asked rows rule at h = elim (decides asked rows) [
   | inl read ↦ absurd (let e = sym (all-read asked rows read.0 read.1) ∙ h in cc)
   | inr broken ↦

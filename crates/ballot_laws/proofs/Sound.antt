@@ -41,7 +41,12 @@ some-of (Some ranking) h = refl
 
 module _ (asked : Option Id) (rows : List Fields) (file : BallotFile) (s : Spells asked rows file) where
   few : length file.places ≤ length (ballots rows)
-  few = omega (arith, ap length s.has.places, filter-few (votes_in rows file.contest) (range_with_len (2 + count rows) (length (ballots rows))), length-range_with_len (2 + count rows) (length (ballots rows)))
+  few = omega (
+    arith,
+    ap length s.has.places,
+    filter-few (votes_in rows file.contest) (range_with_len (2 + count rows) (length (ballots rows))),
+    length-range_with_len (2 + count rows) (length (ballots rows)),
+  )
 
   said : ℕ → Ballot
   said at = ballot_said (contests rows) at (record_at rows at)
@@ -59,7 +64,8 @@ module _ (asked : Option Id) (rows : List Fields) (file : BallotFile) (s : Spell
       let row = record_at rows at in
       let b = s.has.each i (omega (arith, less, s.has.a_ranking_each)) in
       let (known, is) = one-ranking file.candidates row (get_or file.rankings i []) (candidates-differ asked rows file s) b.ranks in
-      is_ranking file.candidates (drop 2 row) (get_or file.rankings i []) (some-of (ranking_of file.candidates (drop 2 row)) (some-ranking file.candidates row ∙ known) ∙ ap Some is)
+      is_ranking file.candidates (drop 2 row) (get_or file.rankings i []) (some-of (ranking_of file.candidates (drop 2 row)) (some-ranking file.candidates row
+      ∙ known) ∙ ap Some is)
 
   are-ballots : AreBallots (length file.candidates) file.ids file.places file.rankings
   are-ballots = record {

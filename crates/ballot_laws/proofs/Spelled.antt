@@ -103,7 +103,8 @@ module _ (asked : Option Id) (rows : List Fields) (own : ℕ) (r : IsRead asked 
   ids-differ : (contest : Id) → all_differ (map ballot_id (ballots_for contest (ballots rows))) ≡ true
   ids-differ contest =
       differ-behind (λ row. is_same (ballot_contest row) contest) ballot_id [] (ballots rows) refl
-      (λ k row there t. ap (λ c. is_among (map ballot_id (ballots_for c (take k (ballots rows)))) (ballot_id row)) (sym ((bytes_decides (ballot_contest row) contest).0 t)) ∙ (judged k row there).new)
+      (λ k row there t. ap (λ c. is_among (map ballot_id (ballots_for c (take k (ballots rows)))) (ballot_id row))
+      (sym ((bytes_decides (ballot_contest row) contest).0 t)) ∙ (judged k row there).new)
 
   are-ballots : AreBallotRows rows
   are-ballots = record {
@@ -122,7 +123,8 @@ module _ (asked : Option Id) (rows : List Fields) (own : ℕ) (r : IsRead asked 
       ap (λ x. candidates_for (contests rows) (contest_id x)) e ∙ own-candidates (contests rows) a.k a.row differ a.there ∙ ap candidates_in (sym e)
 
   each-ballot : (at : ℕ) → IsIn (votes_in rows (contest_id (record_at rows own))) (2 + count rows) (length (ballots rows)) at
-      → IsBallot (record_at rows at) (contest_id (record_at rows own)) (candidates_in (record_at rows own)) (ballot_id (record_at rows at)) (ranking_in (candidates_in (record_at rows own)) (record_at rows at))
+      → IsBallot (record_at rows at) (contest_id (record_at rows own)) (candidates_in (record_at rows own)) (ballot_id (record_at rows at))
+      (ranking_in (candidates_in (record_at rows own)) (record_at rows at))
   each-ballot at is_in =
       let (row, there) = got (ballots rows) is_in.k is_in.within in
       let e : record_at rows at ≡ row = ap (record_at rows) is_in.is ∙ ballot-record rows is_in.k row there in
@@ -146,9 +148,11 @@ module _ (asked : Option Id) (rows : List Fields) (own : ℕ) (r : IsRead asked 
         each = λ i less.
             (let at = get_or places i 0 in
             let ballot = each-ballot at (in-range (votes_in rows (contest_id (record_at rows own))) (2 + count rows) (length (ballots rows)) i less) in
-            subst (λ id. IsBallot (record_at rows at) (contest_id (record_at rows own)) candidates id (get_or (map (λ a. ranking_in candidates (record_at rows a)) places) i []))
+            subst (λ id. IsBallot (record_at rows at) (contest_id (record_at rows own)) candidates id
+            (get_or (map (λ a. ranking_in candidates (record_at rows a)) places) i []))
             (sym (mapped (λ a. ballot_id (record_at rows a)) places i 0 [] less))
-            (subst (IsBallot (record_at rows at) (contest_id (record_at rows own)) candidates (ballot_id (record_at rows at))) (sym (mapped (λ a. ranking_in candidates (record_at rows a)) places i 0 [] less)) ballot));
+            (subst (IsBallot (record_at rows at) (contest_id (record_at rows own)) candidates (ballot_id (record_at rows at)))
+            (sym (mapped (λ a. ranking_in candidates (record_at rows a)) places i 0 [] less)) ballot));
       }
 
   pub spells : Spells asked rows (file_in rows own)
@@ -162,9 +166,11 @@ module _ (asked : Option Id) (rows : List Fields) (file : BallotFile) (s : Spell
 
   has-contests : HasContests rows
   has-contests = record {
-    counted = and_from (nat_le 1 (count rows)) (nat_le (count rows) MOST_CONTESTS) (le-nat_le 1 (count rows) (omega (arith, counts, s.contests_are.some))) (le-nat_le (count rows) MOST_CONTESTS (omega (arith, counts, s.contests_are.few)));
+    counted = and_from (nat_le 1 (count rows)) (nat_le (count rows) MOST_CONTESTS) (le-nat_le 1 (count rows) (omega (arith, counts, s.contests_are.some)))
+        (le-nat_le (count rows) MOST_CONTESTS (omega (arith, counts, s.contests_are.few)));
     all_there = sym counts;
-    unbroken = λ k row there. is-contest (take k (contests rows)) row (s.contests_are.each k row there) (contest-before (contests rows) k row s.contests_are.differ there);
+    unbroken = λ k row there. is-contest (take k (contests rows)) row (s.contests_are.each k row there)
+        (contest-before (contests rows) k row s.contests_are.differ there);
   }
 
   is-chosen : IsChosen asked rows s.own
@@ -173,7 +179,8 @@ module _ (asked : Option Id) (rows : List Fields) (file : BallotFile) (s : Spell
       record {
         asked_for = s.asked_for;
         size = ap (λ cs. nat_le FEWEST_CANDIDATES (length cs) && nat_le (length cs) MOST_CANDIDATES) (sym s.has.candidates)
-            ∙ and_from (nat_le FEWEST_CANDIDATES (length file.candidates)) (nat_le (length file.candidates) MOST_CANDIDATES) (le-nat_le FEWEST_CANDIDATES (length file.candidates) s.has.fewest) (le-nat_le (length file.candidates) MOST_CANDIDATES s.has.most);
+            ∙ and_from (nat_le FEWEST_CANDIDATES (length file.candidates)) (nat_le (length file.candidates) MOST_CANDIDATES)
+            (le-nat_le FEWEST_CANDIDATES (length file.candidates) s.has.fewest) (le-nat_le (length file.candidates) MOST_CANDIDATES s.has.most);
       }
 
   within : (xs : List Fields) (k : ℕ) (row : Fields) → slice_get xs k ≡ Some row → k < length xs
@@ -185,9 +192,12 @@ module _ (asked : Option Id) (rows : List Fields) (file : BallotFile) (s : Spell
   unbroken k row there =
       let one = s.ballots_are.each k row there in
       let own = s.contests_are.each one.place one.contest one.there in
-      let room : length (take k (ballots rows)) < MOST_RECORDS = omega (arith, few-taken k (ballots rows), within (ballots rows) k row there, s.ballots_are.few) in
-      let new = differ-before (λ r. is_same (ballot_contest r) (ballot_contest row)) ballot_id (ballots rows) k row (s.ballots_are.differ (ballot_contest row)) there (same-itself (ballot_contest row)) in
-      is-judged (contests rows) (take k (ballots rows)) row (judged-of-one (contests rows) (take k (ballots rows)) row s.contests_are.differ one own.differ room new)
+      let room : length (take k (ballots rows)) < MOST_RECORDS =
+      omega (arith, few-taken k (ballots rows), within (ballots rows) k row there, s.ballots_are.few) in
+      let new = differ-before (λ r. is_same (ballot_contest r) (ballot_contest row)) ballot_id (ballots rows) k row
+      (s.ballots_are.differ (ballot_contest row)) there (same-itself (ballot_contest row)) in
+      is-judged (contests rows) (take k (ballots rows)) row (judged-of-one (contests rows) (take k (ballots rows)) row s.contests_are.differ one own.differ
+      room new)
 
   pub is-read : IsRead asked rows s.own
   is-read = record { has = has-contests; is_chosen = is-chosen; unbroken = unbroken }
@@ -199,17 +209,20 @@ module _ (asked : Option Id) (rows : List Fields) (file : BallotFile) (s : Spell
       ap all_differ (s.has.candidates ∙ ap candidates_in (own-record rows s.own asked a)) ∙ own.differ
 
   pub ids : file.ids ≡ map (λ at. ballot_id (record_at rows at)) file.places
-  ids = same-list file.ids (map (λ at. ballot_id (record_at rows at)) file.places) [] (s.has.an_id_each ∙ sym (length-map file.places (λ at. ballot_id (record_at rows at))))
+  ids = same-list file.ids (map (λ at. ballot_id (record_at rows at)) file.places) [] (s.has.an_id_each
+      ∙ sym (length-map file.places (λ at. ballot_id (record_at rows at))))
       (λ i less.
       (let there : i < length file.places = omega (arith, less, length-map file.places (λ at. ballot_id (record_at rows at))) in
       sym (ap ballot_id (s.has.each i there).is) ∙ sym (mapped (λ at. ballot_id (record_at rows at)) file.places i 0 [] there)))
 
   rankings : file.rankings ≡ map (λ at. ranking_in file.candidates (record_at rows at)) file.places
-  rankings = same-list file.rankings (map (λ at. ranking_in file.candidates (record_at rows at)) file.places) [] (s.has.a_ranking_each ∙ sym (length-map file.places (λ at. ranking_in file.candidates (record_at rows at))))
+  rankings = same-list file.rankings (map (λ at. ranking_in file.candidates (record_at rows at)) file.places) [] (s.has.a_ranking_each
+      ∙ sym (length-map file.places (λ at. ranking_in file.candidates (record_at rows at))))
       (λ i less.
       (let there : i < length file.places = omega (arith, less, length-map file.places (λ at. ranking_in file.candidates (record_at rows at))) in
       let at = get_or file.places i 0 in
-      sym (one-ranking file.candidates (record_at rows at) (get_or file.rankings i []) candidates-differ (s.has.each i there).ranks).1 ∙ sym (mapped (λ at. ranking_in file.candidates (record_at rows at)) file.places i 0 [] there)))
+      sym (one-ranking file.candidates (record_at rows at) (get_or file.rankings i []) candidates-differ (s.has.each i there).ranks).1
+      ∙ sym (mapped (λ at. ranking_in file.candidates (record_at rows at)) file.places i 0 [] there)))
 
   pub file-is : file_in rows s.own ≡ file
   file-is =
@@ -217,9 +230,12 @@ module _ (asked : Option Id) (rows : List Fields) (file : BallotFile) (s : Spell
       let contest = sym s.has.contest in
       let candidates = sym s.has.candidates in
       let places : places_of (contest_id row) rows ≡ file.places = ap (λ id. places_of id rows) contest ∙ sym s.has.places in
-      ap (λ id. file_with id (candidates_in row) (map (λ at. ballot_id (record_at rows at)) (places_of (contest_id row) rows)) (places_of (contest_id row) rows) (map (λ at. ranking_in (candidates_in row) (record_at rows at)) (places_of (contest_id row) rows))) contest
-      ∙ ap (λ ps. file_with file.contest (candidates_in row) (map (λ at. ballot_id (record_at rows at)) ps) ps (map (λ at. ranking_in (candidates_in row) (record_at rows at)) ps)) places
-      ∙ ap (λ cs. file_with file.contest cs (map (λ at. ballot_id (record_at rows at)) file.places) file.places (map (λ at. ranking_in cs (record_at rows at)) file.places)) candidates
+      ap (λ id. file_with id (candidates_in row) (map (λ at. ballot_id (record_at rows at)) (places_of (contest_id row) rows))
+      (places_of (contest_id row) rows) (map (λ at. ranking_in (candidates_in row) (record_at rows at)) (places_of (contest_id row) rows))) contest
+      ∙ ap (λ ps. file_with file.contest (candidates_in row) (map (λ at. ballot_id (record_at rows at)) ps) ps
+      (map (λ at. ranking_in (candidates_in row) (record_at rows at)) ps)) places
+      ∙ ap (λ cs. file_with file.contest cs (map (λ at. ballot_id (record_at rows at)) file.places) file.places
+      (map (λ at. ranking_in cs (record_at rows at)) file.places)) candidates
       ∙ ap (λ is. file_with file.contest file.candidates is file.places (map (λ at. ranking_in file.candidates (record_at rows at)) file.places)) (sym ids)
       ∙ ap (file_with file.contest file.candidates file.ids file.places) (sym rankings)
 

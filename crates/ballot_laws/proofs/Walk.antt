@@ -3,11 +3,11 @@ use Rattle.std.proofs.Common.{◌⊎◌, inl, inr, ◌≡◌, ◌∙◌, ◌++�
 use Rattle.std.specs.List.{slice_get}
 use Rattle.std.proofs.lemmas.List.{append-nil}
 use Rattle.std.proofs.lemmas.Bool.{cases_Bool}
+use Rattle.csv_rows.specs.Broken.{IsFirstBroken}
 use Rattle.csv_rows.specs.Rows.{Fields}
 use Rattle.ballot_reader.specs.Grammar.{Refusal, and_then, refused}
 use Rattle.ballot_reader.specs.declared.fault.BRule.{BRule}
 use Rattle.ballot_laws.specs.Breaking.{AreUnbroken}
-use Rattle.manifest.specs.Spelling.{IsFirstBroken}
 
 -- what record by record is judged, each by what the ones before it came to
 abbrev pub walk : {A : Type 0} → (List A → ℕ → Fields → Result A BRule) → List A → ℕ → List Fields → Result (List A) Refusal
@@ -23,7 +23,8 @@ pub length-numbered : {A : Type 0} (read : ℕ → Fields → A) (at : ℕ) (row
 length-numbered read at [] = refl
 length-numbered read at (row ∷ rows) = ap suc (length-numbered read (at + 1) rows)
 
-numbered-push : {A : Type 0} (read : ℕ → Fields → A) (at : ℕ) (rows : List Fields) (row : Fields) → numbered read at (rows ++ row ∷ []) ≡ numbered read at rows ++ read (at + length rows) row ∷ []
+numbered-push : {A : Type 0} (read : ℕ → Fields → A) (at : ℕ) (rows : List Fields) (row : Fields) →
+    numbered read at (rows ++ row ∷ []) ≡ numbered read at rows ++ read (at + length rows) row ∷ []
 numbered-push read at [] row = let e : at ≡ at + 0 = omega arith in ap (λ n. read n row ∷ []) e
 numbered-push read at (r ∷ rows) row =
     let e : (at + 1) + length rows ≡ at + suc (length rows) = omega arith in
@@ -38,11 +39,13 @@ abbrev pub Judges : {A : Type 0} → (List A → ℕ → Fields → Result A BRu
 Judges judge broken read =
     (first : ℕ) (before : List Fields) (at : ℕ) (row : Fields) → judge (numbered read first before) at row ≡ as_judged (broken before row) (read at row)
 
-pub record AreFine {A : Type 0} (judge : List A → ℕ → Fields → Result A BRule) (broken : List Fields → Fields → Option BRule) (read : ℕ → Fields → A) (first : ℕ) (before rest : List Fields) : Type 0 where
+pub record AreFine {A : Type 0} (judge : List A → ℕ → Fields → Result A BRule) (broken : List Fields → Fields → Option BRule) (read : ℕ → Fields →
+    A) (first : ℕ) (before rest : List Fields) : Type 0 where
   pub none : (j : ℕ) (other : Fields) → slice_get rest j ≡ Some other → broken (before ++ take j rest) other ≡ None
   pub is : walk judge (numbered read first before) (first + length before) rest ≡ Ok (numbered read first (before ++ rest))
 
-pub record AreBroken {A : Type 0} (judge : List A → ℕ → Fields → Result A BRule) (broken : List Fields → Fields → Option BRule) (read : ℕ → Fields → A) (first : ℕ) (before rest : List Fields) : Type 0 where
+pub record AreBroken {A : Type 0} (judge : List A → ℕ → Fields → Result A BRule) (broken : List Fields → Fields → Option BRule) (read : ℕ → Fields →
+    A) (first : ℕ) (before rest : List Fields) : Type 0 where
   pub k : ℕ
   pub rule : BRule
   pub row : Fields
@@ -51,28 +54,33 @@ pub record AreBroken {A : Type 0} (judge : List A → ℕ → Fields → Result 
   pub earlier : (j : ℕ) (other : Fields) → j < k → slice_get rest j ≡ Some other → broken (before ++ take j rest) other ≡ None
   pub is : walk judge (numbered read first before) (first + length before) rest ≡ refused rule (first + length before + k)
 
-module _ {A : Type 0} (judge : List A → ℕ → Fields → Result A BRule) (broken : List Fields → Fields → Option BRule) (read : ℕ → Fields → A) (first : ℕ) (judges : Judges judge broken read) where
+module _ {A : Type 0} (judge : List A → ℕ → Fields → Result A BRule) (broken : List Fields → Fields → Option BRule) (read : ℕ → Fields →
+    A) (first : ℕ) (judges : Judges judge broken read) where
   steps : (before : List Fields) (row : Fields) (rest : List Fields) (o : Option BRule) → broken before row ≡ o
       → walk judge (numbered read first before) (first + length before) (row ∷ rest)
-      ≡ and_then (first + length before) (as_judged o (read (first + length before) row)) (λ a. walk judge (numbered read first before ++ a ∷ []) (first + length before + 1) rest)
+      ≡ and_then (first + length before) (as_judged o (read (first + length before) row))
+      (λ a. walk judge (numbered read first before ++ a ∷ []) (first + length before + 1) rest)
   steps before row rest o e =
       ap (λ r. and_then (first + length before) r (λ a. walk judge (numbered read first before ++ a ∷ []) (first + length before + 1) rest))
       (judges first before (first + length before) row ∙ ap (λ x. as_judged x (read (first + length before) row)) e)
 
   onward : (before : List Fields) (row : Fields) (rest : List Fields) → broken before row ≡ None
-      → walk judge (numbered read first before) (first + length before) (row ∷ rest) ≡ walk judge (numbered read first (before ++ row ∷ [])) (first + length (before ++ row ∷ [])) rest
+      → walk judge (numbered read first before) (first + length before) (row ∷ rest) ≡ walk judge (numbered read first (before ++ row ∷ []))
+      (first + length (before ++ row ∷ [])) rest
   onward before row rest e =
       steps before row rest None e
       ∙ ap (λ earlier. walk judge earlier (first + length before + 1) rest) (sym (numbered-push read first before row))
       ∙ ap (λ at. walk judge (numbered read first (before ++ row ∷ [])) at rest) (omega (arith, length-append before (row ∷ [])))
 
-  behind : (before : List Fields) (row : Fields) (rest : List Fields) (j : ℕ) (other : Fields) → broken ((before ++ row ∷ []) ++ take j rest) other ≡ broken (before ++ row ∷ take j rest) other
+  behind : (before : List Fields) (row : Fields) (rest : List Fields) (j : ℕ) (other : Fields) →
+      broken ((before ++ row ∷ []) ++ take j rest) other ≡ broken (before ++ row ∷ take j rest) other
   behind before row rest j other = ap (λ b. broken b other) (append_assoc before (row ∷ []) (take j rest))
 
   at_first : (before : List Fields) (row : Fields) (o : Option BRule) → broken before row ≡ o → broken (before ++ []) row ≡ o
   at_first before row o e = ap (λ b. broken b row) (append-nil before) ∙ e
 
-  first-broken : (before : List Fields) (row : Fields) (rest : List Fields) (rule : BRule) → broken before row ≡ Some rule → AreBroken judge broken read first before (row ∷ rest)
+  first-broken : (before : List Fields) (row : Fields) (rest : List Fields) (rule : BRule) → broken before row ≡ Some rule →
+      AreBroken judge broken read first before (row ∷ rest)
   first-broken before row rest rule e = record {
     k = zero;
     rule = rule;
@@ -83,13 +91,19 @@ module _ {A : Type 0} (judge : List A → ℕ → Fields → Result A BRule) (br
     is = steps before row rest (Some rule) e ∙ ap (refused rule) (omega arith);
   }
 
-  fine-more : (before : List Fields) (row : Fields) (rest : List Fields) → broken before row ≡ None → AreFine judge broken read first (before ++ row ∷ []) rest → AreFine judge broken read first before (row ∷ rest)
-  fine-more before row rest e f = record { none = none; is = onward before row rest e ∙ f.is ∙ ap (λ rows. Ok (numbered read first rows)) (append_assoc before (row ∷ []) rest) } where
+  fine-more : (before : List Fields) (row : Fields) (rest : List Fields) → broken before row ≡ None →
+      AreFine judge broken read first (before ++ row ∷ []) rest → AreFine judge broken read first before (row ∷ rest)
+  fine-more before row rest e f = record {
+    none = none;
+    is = onward before row rest e ∙ f.is
+        ∙ ap (λ rows. Ok (numbered read first rows)) (append_assoc before (row ∷ []) rest);
+  } where
     none : (j : ℕ) (other : Fields) → slice_get (row ∷ rest) j ≡ Some other → broken (before ++ take j (row ∷ rest)) other ≡ None
     none zero other g = let s : row ≡ other = cc in at_first before other None (ap (broken before) (sym s) ∙ e)
     none (suc j) other g = sym (behind before row rest j other) ∙ f.none j other g
 
-  broken-more : (before : List Fields) (row : Fields) (rest : List Fields) → broken before row ≡ None → AreBroken judge broken read first (before ++ row ∷ []) rest → AreBroken judge broken read first before (row ∷ rest)
+  broken-more : (before : List Fields) (row : Fields) (rest : List Fields) → broken before row ≡ None →
+      AreBroken judge broken read first (before ++ row ∷ []) rest → AreBroken judge broken read first before (row ∷ rest)
   broken-more before row rest e f = record {
     k = suc f.k;
     rule = f.rule;
@@ -106,7 +120,8 @@ module _ {A : Type 0} (judge : List A → ℕ → Fields → Result A BRule) (br
   pub walked : (before rest : List Fields) → AreFine judge broken read first before rest ⊎ AreBroken judge broken read first before rest
   walked before [] = inl (record { none = λ j other g. absurd cc; is = ap (λ rows. Ok (numbered read first rows)) (sym (append-nil before)) })
   walked before (row ∷ rest) = by (broken before row) refl (walked (before ++ row ∷ []) rest) where
-    by : (o : Option BRule) → broken before row ≡ o → AreFine judge broken read first (before ++ row ∷ []) rest ⊎ AreBroken judge broken read first (before ++ row ∷ []) rest
+    by : (o : Option BRule) → broken before row ≡ o → AreFine judge broken read first (before ++ row ∷ []) rest
+        ⊎ AreBroken judge broken read first (before ++ row ∷ []) rest
         → AreFine judge broken read first before (row ∷ rest) ⊎ AreBroken judge broken read first before (row ∷ rest)
     by (Some rule) e more = inr (first-broken before row rest rule e)
     by None e more = elim more [
@@ -117,7 +132,8 @@ module _ {A : Type 0} (judge : List A → ℕ → Fields → Result A BRule) (br
 -- ---- all records, from the first one on
 
 -- whether one breaks a rule, and what the walk comes to
-module _ {A : Type 0} (judge : List A → ℕ → Fields → Result A BRule) (broken : List Fields → Fields → Option BRule) (read : ℕ → Fields → A) (first : ℕ) (judges : Judges judge broken read) (rows : List Fields) where
+module _ {A : Type 0} (judge : List A → ℕ → Fields → Result A BRule) (broken : List Fields → Fields → Option BRule) (read : ℕ → Fields →
+    A) (first : ℕ) (judges : Judges judge broken read) (rows : List Fields) where
   begins : first + 0 ≡ first
   begins = omega arith
 

@@ -51,7 +51,8 @@ escaped-ascii (b ∷ field) h = by (b == 34) (escaped-ascii field (All-tail (λ 
 field-ascii : (field : List ℕ) → AreAscii field → AreAscii (field_text default_writer field)
 field-ascii field h = by (needs_quotes default_writer field) where
   by : (q : Bool) → AreAscii (if q then 34 ∷ (escaped default_writer field ++ (34 ∷ [])) else field)
-  by true = begins 34 (escaped default_writer field ++ (34 ∷ [])) (omega arith) (joined (escaped default_writer field) (34 ∷ []) (escaped-ascii field h) (begins 34 [] (omega arith) none))
+  by true = begins 34 (escaped default_writer field ++ (34 ∷ [])) (omega arith)
+      (joined (escaped default_writer field) (34 ∷ []) (escaped-ascii field h) (begins 34 [] (omega arith) none))
   by false = h
 
 fields-ascii : (rest : Fields) → list_all is_plain rest ≡ true → AreAscii (fields_text default_writer rest)
@@ -60,7 +61,8 @@ fields-ascii [] h = none
 fields-ascii (field ∷ rest) h =
     let (one, all) = and_parts (is_plain field) (list_all is_plain rest) h in
     let text = field-ascii field (printable field (and_parts (list_all is_printable field) (not (touches_space field)) one).0) in
-    begins 44 (field_text default_writer field ++ fields_text default_writer rest) (omega arith) (joined (field_text default_writer field) (fields_text default_writer rest) text (fields-ascii rest all))
+    begins 44 (field_text default_writer field ++ fields_text default_writer rest) (omega arith)
+    (joined (field_text default_writer field) (fields_text default_writer rest) text (fields-ascii rest all))
 
 body-ascii : (row : Fields) → list_all is_plain row ≡ true → AreAscii (row_body default_writer row)
 body-ascii [] h = none
@@ -74,14 +76,16 @@ end-ascii true = begins 34 (34 ∷ 10 ∷ []) (omega arith) (begins 34 (10 ∷ [
 end-ascii false = begins 10 [] (omega arith) none
 
 plain-fields : (row : Fields) → is_plain_record row ≡ true → list_all is_plain row ≡ true
-plain-fields row h = (and_parts (list_all is_plain row) (nat_le 1 (length row)) (and_parts (list_all is_plain row && nat_le 1 (length row)) (not (is_blank_record row)) h).0).0
+plain-fields row h = (and_parts (list_all is_plain row) (nat_le 1 (length row))
+    (and_parts (list_all is_plain row && nat_le 1 (length row)) (not (is_blank_record row)) h).0).0
 
 pub written-ascii : (rows : List Fields) → list_all is_plain_record rows ≡ true → All (λ b. b < 128) (written rows)
 written-ascii [] h = none
 written-ascii (row ∷ rows) h =
     let (one, all) = and_parts (is_plain_record row) (list_all is_plain_record rows) h in
     joined (row_text default_writer row) (written rows)
-    (joined (row_body default_writer row) ((if is_blank default_writer row then 34 ∷ 34 ∷ [] else []) ++ (10 ∷ [])) (body-ascii row (plain-fields row one)) (end-ascii (is_blank default_writer row)))
+    (joined (row_body default_writer row) ((if is_blank default_writer row then 34 ∷ 34 ∷ [] else []) ++ (10 ∷ [])) (body-ascii row (plain-fields row one))
+    (end-ascii (is_blank default_writer row)))
     (written-ascii rows all)
 
 -- ---- so there is no byte order mark
@@ -109,14 +113,16 @@ some-back [] h = absurd (omega (arith, h))
 some-back (field ∷ rest) h = refl
 
 plain-some : (row : Fields) → is_plain_record row ≡ true → 1 ≤ length row
-plain-some row h = leb-true 1 (length row) (and_parts (list_all is_plain row) (nat_le 1 (length row)) (and_parts (list_all is_plain row && nat_le 1 (length row)) (not (is_blank_record row)) h).0).1
+plain-some row h = leb-true 1 (length row) (and_parts (list_all is_plain row) (nat_le 1 (length row))
+    (and_parts (list_all is_plain row && nat_le 1 (length row)) (not (is_blank_record row)) h).0).1
 
 no-more : (n : ℕ) → records_from default_config n st.StartRecord [] ≡ []
 unfolding records_from next_record
 no-more zero = refl
 no-more (suc n) = refl
 
-records-back : (rows : List Fields) (n : ℕ) → list_all is_plain_record rows ≡ true → length rows ≤ n → records_from default_config n st.StartRecord (written rows) ≡ rows
+records-back : (rows : List Fields) (n : ℕ) → list_all is_plain_record rows ≡ true → length rows ≤ n →
+    records_from default_config n st.StartRecord (written rows) ≡ rows
 unfolding records_from
 records-back [] n h l = no-more n
 records-back (row ∷ rows) zero h l = absurd (omega (arith, l))

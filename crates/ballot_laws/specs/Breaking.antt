@@ -1,6 +1,7 @@
 -- Which record of a ballot file breaks a rule first, and which one. Each rule is stated of records alone.
 use Rattle.std.specs.Prelude.{◌≡◌, ◌⊎◌, ◌↔◌, ◌<◌, ℕ, ◌+◌, Bool, true, false, not, ◌&&◌, nat_le, nat_lt, if◌then◌else◌, List, [], ◌∷◌, map, take, drop, length, Option, Some, None, Err, codes}
 use Rattle.std.specs.List.{list_all, slice_get}
+use Rattle.csv_rows.specs.Broken.{IsFirstBroken}
 use Rattle.csv_rows.specs.Rows.{Fields}
 use Rattle.irv_base.specs.Names.{Id, is_name, is_same, is_among, all_differ}
 use Rattle.irv_base.specs.declared.limits.TheConstants.{FEWEST_CANDIDATES, MOST_CANDIDATES, MOST_RECORDS}
@@ -8,12 +9,11 @@ use Rattle.ballot_reader.specs.Grammar.{ballots_from}
 use Rattle.ballot_reader.specs.declared.fault.BRule.{BRule}
 use Rattle.ballot_reader.specs.declared.fault.BRule.TheVariants.{B1, B2, B3, B4, B5, B6, B7, B8, B9, B10}
 use Rattle.ballot_reader.specs.declared.limits.TheConstants.{MOST_LISTED}
-use Rattle.manifest.specs.Spelling.{IsFirstBroken}
 use Rattle.ballot_laws.specs.Rows.{record_at, field, contest_id, size, candidates_in, candidates_for, ballot_contest, ballot_id, preferences, ballots_for, count, is_counted, contests, ballots, asked_place}
 
 -- ---- a contest's record, behind the records of others
 
--- at least three fields: `Contest`, an id that none of the others has, and one more
+-- a contest's record has at least three fields: `Contest`, an id that none of the others has, and one more
 abbrev pub begins_contest : List Fields → Fields → Bool
 begins_contest before row =
     nat_le 3 (length row) && is_same (field row 0) (codes "Contest")

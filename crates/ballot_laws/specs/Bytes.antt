@@ -32,7 +32,7 @@ abbrev pub is_plain : List ℕ → Bool
 is_plain field =
     list_all (λ b. nat_le space b && nat_le b tilde) field && not (touches_space field)
 
--- it has plain fields, and isn't blank
+-- the record has plain fields, and isn't blank
 abbrev pub is_plain_record : Fields → Bool
 is_plain_record row =
     list_all is_plain row && nat_le 1 (length row) && not (is_blank_record row)
@@ -47,7 +47,7 @@ WrittenIsRead =
     (rows : List Fields) → IsTrue (list_all is_plain_record rows) →
     All (λ b. b < 128) (written rows) × (numbered_records (written rows) ≡ rows)
 
--- so the bytes are judged as the records are
+-- bytes that are written so are judged as the records are
 abbrev pub WrittenIsJudged : Type 0
 WrittenIsJudged =
     (asked : Option Id) (rows : List Fields) → IsTrue (list_all is_plain_record rows) →

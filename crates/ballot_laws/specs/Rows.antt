@@ -47,7 +47,7 @@ ballot_contest row = field row 0
 abbrev pub ballot_id : Fields → Id
 ballot_id row = field row 1
 
--- those that aren't blank
+-- the preferences of a ballot's record, without those that are blank
 abbrev pub preferences : Fields → List Id
 preferences row = filter is_marked (drop 2 row)
 

@@ -52,7 +52,7 @@ pub record IsBallot
   pub named : IsTrue (is_name id)
   pub ranks : Ranks candidates (preferences row) ranking
 
--- it is a ballot of one of these contests
+-- the record is a ballot of one of these contests
 pub record IsOfOne (contests : List Fields) (row : Fields) : Type 0 where
   pub place : ℕ
   pub contest : Fields
@@ -70,7 +70,7 @@ pub record AreBallotRows (rows : List Fields) : Type 0 where
 
 -- ---- the file
 
--- it has the contest in record own, and its ballots, each as its record says
+-- the file has the contest in record own, and its ballots, each as its record says
 pub record Has (rows : List Fields) (own : ℕ) (file : BallotFile) : Type 0 where
   pub contest : file.contest ≡ contest_id (record_at rows own)
   pub candidates : file.candidates ≡ candidates_in (record_at rows own)

@@ -25,6 +25,7 @@ pub behind-end : {A B : Type 0} (f : A → Option B) (before : List B) → behin
 behind-end f before = ap Some (append-nil before)
 
 -- what no list that begins so has, the whole hasn't
-pub behind-refused : {A B : Type 0} (g : List A → Option B) (before : List A) (o : Option (List A)) → ((rest : List A) → g (before ++ rest) ≡ None) → option_and_then g (behind before o) ≡ None
+pub behind-refused : {A B : Type 0} (g : List A → Option B) (before : List A) (o : Option (List A)) → ((rest : List A) → g (before ++ rest) ≡ None) →
+    option_and_then g (behind before o) ≡ None
 behind-refused g before None h = refl
 behind-refused g before (Some rest) h = h rest

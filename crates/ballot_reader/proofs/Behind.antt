@@ -4,34 +4,39 @@ use Rattle.csv_rows.specs.Rows.{Fields}
 use Rattle.irv_base.specs.Names.{Id}
 use Rattle.ballot_reader.specs.Ballots.{BallotFile}
 use Rattle.ballot_reader.specs.Faults.{Refuses}
-use Rattle.ballot_reader.specs.Grammar.{Ballot, Contest, Refusal, and_then, asked_for, ballot_of, ballots_after, ballots_behind, contests_in, file_of, sized, then_on}
-use Rattle.ballot_reader.specs.Kept.{AreKept, RefusesRecord}
+use Rattle.ballot_reader.specs.Grammar.{Ballot, Contest, Refusal, and_then, asked_for, ballot_of, ballots_after, ballots_behind, contests_in, file_of, audited_contest, then_on}
+use Rattle.ballot_reader.specs.Kept.{IsKept, KeptBallots, RefusesRecord}
 use Rattle.ballot_reader.specs.declared.fault.BallotFault.{BallotFault}
 use Rattle.ballot_reader.specs.declared.fault.BallotFault.TheVariants.{Refused, Memory}
 
 -- ---- one ballot after the other
 
 -- the records are these ballots, and then those from number at on; of the ballots this is kept
-pub record BallotsSoFar (contests : List Contest) (chosen : Contest) (rows : List Fields) (ballots : List Ballot) (at : ℕ) (rest : List Fields) (ids : List (List Id)) (places : List ℕ) (rankings : List (List ℕ)) (count : ℕ) : Type 0 where
+pub record BallotsSoFar (contests : List Contest) (chosen : Contest) (rows : List Fields) (ballots : List Ballot) (at : ℕ) (rest : List Fields)
+    (kept : KeptBallots) : Type 0 where
   pub split : ballots_after contests [] (2 + length contests) rows ≡ ballots_after contests ballots at rest
-  pub kept : AreKept contests chosen ballots ids places rankings count
-  pub numbered : at ≡ 2 + length contests + count
+  pub is_kept : IsKept contests chosen ballots kept
+  pub numbered : at ≡ 2 + length contests + kept.count
 
 pub ballots-more : (contests : List Contest) (rows : List Fields) (ballots : List Ballot) (at : ℕ) (row : Fields) (rest : List Fields) (ballot : Ballot)
     → ballots_after contests [] (2 + length contests) rows ≡ ballots_after contests ballots at (row ∷ rest) → ballot_of contests ballots at row ≡ Ok ballot
     → ballots_after contests [] (2 + length contests) rows ≡ ballots_after contests (ballots ++ ballot ∷ []) (at + 1) rest
-ballots-more contests rows ballots at row rest ballot split h = split ∙ ap (λ o. and_then at o (λ (b : Ballot). ballots_after contests (ballots ++ b ∷ []) (at + 1) rest)) h
+ballots-more contests rows ballots at row rest ballot split h = split
+    ∙ ap (λ o. and_then at o (λ (b : Ballot). ballots_after contests (ballots ++ b ∷ []) (at + 1) rest)) h
 
 pub ballots-refused : (contests : List Contest) (rows : List Fields) (ballots : List Ballot) (at : ℕ) (row : Fields) (rest : List Fields) (fault : BallotFault)
-    → ballots_after contests [] (2 + length contests) rows ≡ ballots_after contests ballots at (row ∷ rest) → RefusesRecord (ballot_of contests ballots at row) at fault
+    → ballots_after contests [] (2 + length contests) rows ≡ ballots_after contests ballots at (row ∷ rest) →
+    RefusesRecord (ballot_of contests ballots at row) at fault
     → Refuses (ballots_after contests [] (2 + length contests) rows) fault
 ballots-refused contests rows ballots at row rest (Refused rule place) split (h, p) =
-    split ∙ ap (λ o. and_then at o (λ (b : Ballot). ballots_after contests (ballots ++ b ∷ []) (at + 1) rest)) h ∙ ap (λ k. Err (record { rule = rule; at = k })) (sym p)
+    split ∙ ap (λ o. and_then at o (λ (b : Ballot). ballots_after contests (ballots ++ b ∷ []) (at + 1) rest)) h
+    ∙ ap (λ k. Err (record { rule = rule; at = k })) (sym p)
 ballots-refused contests rows ballots at row rest Memory split h = tt
 
 -- ---- the whole
 
-refused-on : {A B : Type 0} (said : Result A Refusal) (more : A → Result B Refusal) (fault : BallotFault) → Refuses said fault → Refuses (then_on said more) fault
+refused-on : {A B : Type 0} (said : Result A Refusal) (more : A → Result B Refusal) (fault : BallotFault) → Refuses said fault →
+    Refuses (then_on said more) fault
 refused-on said more (Refused rule at) h = ap (λ r. then_on r more) h
 refused-on said more Memory h = tt
 
@@ -43,36 +48,46 @@ abbrev pub after_sized : Option Id → ℕ → List Fields → List Contest → 
 after_sized asked n rows contests audited = then_on (ballots_after contests [] (2 + n) (drop n rows)) (λ ballots. Ok (file_of audited ballots))
 
 abbrev pub after_contests : Option Id → ℕ → List Fields → List Contest → Result BallotFile Refusal
-after_contests asked n rows contests = then_on (sized (asked_for contests asked)) (after_sized asked n rows contests)
+after_contests asked n rows contests = then_on (audited_contest (asked_for contests asked)) (after_sized asked n rows contests)
 
-pub no-contests : (n : ℕ) (asked : Option Id) (rows : List Fields) (fault : BallotFault) → Refuses (contests_in n [] 2 rows) fault → Refuses (ballots_behind (Some n) asked rows) fault
+pub no-contests : (n : ℕ) (asked : Option Id) (rows : List Fields) (fault : BallotFault) → Refuses (contests_in n [] 2 rows) fault →
+    Refuses (ballots_behind (Some n) asked rows) fault
 no-contests n asked rows fault h = refused-on (contests_in n [] 2 rows) (after_contests asked n rows) fault h
 
-with-contests : (n : ℕ) (asked : Option Id) (rows : List Fields) (contests : List Contest) → contests_in n [] 2 rows ≡ Ok contests → ballots_behind (Some n) asked rows ≡ after_contests asked n rows contests
+with-contests : (n : ℕ) (asked : Option Id) (rows : List Fields) (contests : List Contest) → contests_in n [] 2 rows ≡ Ok contests →
+    ballots_behind (Some n) asked rows ≡ after_contests asked n rows contests
 with-contests n asked rows contests h = ap (λ r. then_on r (after_contests asked n rows)) h
 
-pub not-audited : (n : ℕ) (asked : Option Id) (rows : List Fields) (contests : List Contest) (fault : BallotFault) → contests_in n [] 2 rows ≡ Ok contests → Refuses (sized (asked_for contests asked)) fault
+pub not-audited : (n : ℕ) (asked : Option Id) (rows : List Fields) (contests : List Contest) (fault : BallotFault) → contests_in n [] 2 rows ≡ Ok contests →
+    Refuses (audited_contest (asked_for contests asked)) fault
     → Refuses (ballots_behind (Some n) asked rows) fault
 not-audited n asked rows contests fault h r =
     same-refusal (ballots_behind (Some n) asked rows) (after_contests asked n rows contests) fault (with-contests n asked rows contests h)
-    (refused-on (sized (asked_for contests asked)) (after_sized asked n rows contests) fault r)
+    (refused-on (audited_contest (asked_for contests asked)) (after_sized asked n rows contests) fault r)
 
-with-audited : (n : ℕ) (asked : Option Id) (rows : List Fields) (contests : List Contest) (chosen : Contest) → contests_in n [] 2 rows ≡ Ok contests → sized (asked_for contests asked) ≡ Ok chosen
+with-audited : (n : ℕ) (asked : Option Id) (rows : List Fields) (contests : List Contest) (chosen : Contest) → contests_in n [] 2 rows ≡ Ok contests →
+    audited_contest (asked_for contests asked) ≡ Ok chosen
     → ballots_behind (Some n) asked rows ≡ after_sized asked n rows contests chosen
 with-audited n asked rows contests chosen h s = with-contests n asked rows contests h ∙ ap (λ r. then_on r (after_sized asked n rows contests)) s
 
-left : (n : ℕ) (rows rest : List Fields) (contests : List Contest) → length contests ≡ n → rest ≡ drop n rows → ballots_after contests [] (2 + n) (drop n rows) ≡ ballots_after contests [] (2 + length contests) rest
+left : (n : ℕ) (rows rest : List Fields) (contests : List Contest) → length contests ≡ n → rest ≡ drop n rows →
+    ballots_after contests [] (2 + n) (drop n rows) ≡ ballots_after contests [] (2 + length contests) rest
 left n rows rest contests l e = ap (λ m. ballots_after contests [] (2 + m) (drop n rows)) (sym l) ∙ ap (ballots_after contests [] (2 + length contests)) (sym e)
 
-pub no-ballots : (n : ℕ) (asked : Option Id) (rows rest : List Fields) (contests : List Contest) (chosen : Contest) (fault : BallotFault) → contests_in n [] 2 rows ≡ Ok contests
-    → sized (asked_for contests asked) ≡ Ok chosen → length contests ≡ n → rest ≡ drop n rows → Refuses (ballots_after contests [] (2 + length contests) rest) fault
+pub no-ballots : (n : ℕ) (asked : Option Id) (rows rest : List Fields) (contests : List Contest) (chosen : Contest) (fault : BallotFault) →
+    contests_in n [] 2 rows ≡ Ok contests
+    → audited_contest (asked_for contests asked) ≡ Ok chosen → length contests ≡ n → rest ≡ drop n rows →
+    Refuses (ballots_after contests [] (2 + length contests) rest) fault
     → Refuses (ballots_behind (Some n) asked rows) fault
 no-ballots n asked rows rest contests chosen fault h s l e r =
     same-refusal (ballots_behind (Some n) asked rows) (after_sized asked n rows contests chosen) fault (with-audited n asked rows contests chosen h s)
-    (refused-on (ballots_after contests [] (2 + n) (drop n rows)) (λ ballots. Ok (file_of chosen ballots)) fault (same-refusal _ _ fault (left n rows rest contests l e) r))
+    (refused-on (ballots_after contests [] (2 + n) (drop n rows)) (λ ballots. Ok (file_of chosen ballots)) fault
+    (same-refusal _ _ fault (left n rows rest contests l e) r))
 
-pub all-read : (n : ℕ) (asked : Option Id) (rows rest : List Fields) (contests : List Contest) (chosen : Contest) (ballots : List Ballot) → contests_in n [] 2 rows ≡ Ok contests
-    → sized (asked_for contests asked) ≡ Ok chosen → length contests ≡ n → rest ≡ drop n rows → ballots_after contests [] (2 + length contests) rest ≡ Ok ballots
+pub all-read : (n : ℕ) (asked : Option Id) (rows rest : List Fields) (contests : List Contest) (chosen : Contest) (ballots : List Ballot) →
+    contests_in n [] 2 rows ≡ Ok contests
+    → audited_contest (asked_for contests asked) ≡ Ok chosen → length contests ≡ n → rest ≡ drop n rows →
+    ballots_after contests [] (2 + length contests) rest ≡ Ok ballots
     → ballots_behind (Some n) asked rows ≡ Ok (file_of chosen ballots)
 all-read n asked rows rest contests chosen ballots h s l e r =
     with-audited n asked rows contests chosen h s ∙ ap (λ said. then_on said (λ bs. Ok (file_of chosen bs))) (left n rows rest contests l e ∙ r)

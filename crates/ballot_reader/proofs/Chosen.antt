@@ -31,7 +31,8 @@ is_candidate candidates id = among-set candidates id ∙ sym (some_position (λ 
 
 pub no_candidate : (candidates : List Id) (id : Id) → are_names candidates ≡ true → is_name id ≡ false → false ≡ is_some (candidate_named candidates id)
 no_candidate candidates id h n =
-    sym (some_position (λ candidate. is_same candidate id) candidates ∙ no_name-absent candidates id (and_parts (list_all is_name candidates) (all_differ candidates) h).0 n)
+    sym (some_position (λ candidate. is_same candidate id) candidates
+    ∙ no_name-absent candidates id (and_parts (list_all is_name candidates) (all_differ candidates) h).0 n)
 
 -- ---- the preferences so far
 
@@ -45,35 +46,43 @@ chosen candidates preferences = all_of (candidate_named candidates) (marked pref
 abbrev pub ChosenSoFar : List Id → List Id → List ℕ → List Id → Type 0
 ChosenSoFar candidates preferences cs rest = chosen candidates preferences ≡ behind cs (chosen candidates rest)
 
-pub chosen-blank : (candidates preferences : List Id) (cs : List ℕ) (field : Id) (rest : List Id) → ChosenSoFar candidates preferences cs (field ∷ rest) → (length field == 0) ≡ true
+pub chosen-blank : (candidates preferences : List Id) (cs : List ℕ) (field : Id) (rest : List Id) → ChosenSoFar candidates preferences cs (field ∷ rest) →
+    (length field == 0) ≡ true
     → ChosenSoFar candidates preferences cs rest
-chosen-blank candidates preferences cs field rest so_far blank = so_far ∙ ap (λ ids. behind cs (all_of (candidate_named candidates) ids)) (skipped field blank) where
-  skipped : (field : Id) → (length field == 0) ≡ true → marked (field ∷ rest) ≡ marked rest
-  skipped [] h = refl
-  skipped (b ∷ field) h = absurd (omega (arith, eqb-true (length (b ∷ field)) 0 h))
+chosen-blank candidates preferences cs field rest so_far blank = so_far
+    ∙ ap (λ ids. behind cs (all_of (candidate_named candidates) ids)) (skipped field blank) where
+      skipped : (field : Id) → (length field == 0) ≡ true → marked (field ∷ rest) ≡ marked rest
+      skipped [] h = refl
+      skipped (b ∷ field) h = absurd (omega (arith, eqb-true (length (b ∷ field)) 0 h))
 
 pub some-marked : (field : Id) (rest : List Id) → (length field == 0) ≡ false → marked (field ∷ rest) ≡ field ∷ marked rest
 some-marked [] rest h = absurd (eqb-false 0 0 h refl)
 some-marked (b ∷ field) rest h = refl
 
-pub chosen-more : (candidates preferences : List Id) (cs : List ℕ) (field : Id) (c : ℕ) (rest : List Id) → ChosenSoFar candidates preferences cs (field ∷ rest) → (length field == 0) ≡ false
+pub chosen-more : (candidates preferences : List Id) (cs : List ℕ) (field : Id) (c : ℕ) (rest : List Id) →
+    ChosenSoFar candidates preferences cs (field ∷ rest) → (length field == 0) ≡ false
     → candidate_named candidates field ≡ Some c → ChosenSoFar candidates preferences (cs ++ c ∷ []) rest
 chosen-more candidates preferences cs field c rest so_far some e =
-    so_far ∙ ap (λ ids. behind cs (all_of (candidate_named candidates) ids)) (some-marked field rest some) ∙ behind-more (candidate_named candidates) cs field c (marked rest) e
+    so_far ∙ ap (λ ids. behind cs (all_of (candidate_named candidates) ids)) (some-marked field rest some)
+    ∙ behind-more (candidate_named candidates) cs field c (marked rest) e
 
-pub chosen-unknown : (candidates preferences : List Id) (cs : List ℕ) (field : Id) (rest : List Id) → ChosenSoFar candidates preferences cs (field ∷ rest) → (length field == 0) ≡ false
+pub chosen-unknown : (candidates preferences : List Id) (cs : List ℕ) (field : Id) (rest : List Id) → ChosenSoFar candidates preferences cs (field ∷ rest) →
+    (length field == 0) ≡ false
     → candidate_named candidates field ≡ None → ranking_of candidates preferences ≡ None
 chosen-unknown candidates preferences cs field rest so_far some e =
-    ap (option_map firsts) (so_far ∙ ap (λ ids. behind cs (all_of (candidate_named candidates) ids)) (some-marked field rest some) ∙ behind-none (candidate_named candidates) cs field (marked rest) e)
+    ap (option_map firsts) (so_far ∙ ap (λ ids. behind cs (all_of (candidate_named candidates) ids)) (some-marked field rest some)
+    ∙ behind-none (candidate_named candidates) cs field (marked rest) e)
 
-pub chosen-end : (candidates preferences : List Id) (cs : List ℕ) → ChosenSoFar candidates preferences cs [] → ranking_of candidates preferences ≡ Some (firsts cs)
+pub chosen-end : (candidates preferences : List Id) (cs : List ℕ) → ChosenSoFar candidates preferences cs [] →
+    ranking_of candidates preferences ≡ Some (firsts cs)
 chosen-end candidates preferences cs so_far = ap (option_map firsts) (so_far ∙ behind-end (candidate_named candidates) cs)
 
 some_of : {X : Type 0} (o : Option X) → is_some o ≡ true → (x : X) × (o ≡ Some x)
 some_of None h = absurd cc
 some_of (Some x) h = (x, refl)
 
-pub chosen-known : (candidates preferences : List Id) (cs : List ℕ) (field : Id) (rest : List Id) → ChosenSoFar candidates preferences cs (field ∷ rest) → (length field == 0) ≡ false
+pub chosen-known : (candidates preferences : List Id) (cs : List ℕ) (field : Id) (rest : List Id) → ChosenSoFar candidates preferences cs (field ∷ rest) →
+    (length field == 0) ≡ false
     → is_some (candidate_named candidates field) ≡ true → (ds : List ℕ) × ChosenSoFar candidates preferences ds rest
 chosen-known candidates preferences cs field rest so_far some known =
     let (c, e) = some_of (candidate_named candidates field) known in
@@ -86,7 +95,8 @@ abbrev pub RankedSoFar : List Id → List Id → List ℕ → List Id → Type 0
 RankedSoFar candidates preferences ranking rest = (cs : List ℕ) × ChosenSoFar candidates preferences cs rest × (ranking ≡ firsts cs)
 
 -- a candidate more is put last, unless it is there
-pub ranked-more : (candidates preferences : List Id) (field : Id) (c : ℕ) (rest : List Id) (old new : List ℕ) → RankedSoFar candidates preferences old (field ∷ rest)
+pub ranked-more : (candidates preferences : List Id) (field : Id) (c : ℕ) (rest : List Id) (old new : List ℕ) →
+    RankedSoFar candidates preferences old (field ∷ rest)
     → (length field == 0) ≡ false → candidate_named candidates field ≡ Some c
     → (is_in old c ≡ false → new ≡ old ++ c ∷ []) → (is_in old c ≡ true → new ≡ old) → RankedSoFar candidates preferences new rest
 ranked-more candidates preferences field c rest old new (cs, so_far, ranked) some e added kept =

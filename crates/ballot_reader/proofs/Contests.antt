@@ -26,12 +26,14 @@ with-id at id (Some ids) contest h = by (is_name id) (names_of ids) h where
   by true None g = absurd cc
   by true (Some candidates) g = let s : record { at = at; id = id; candidates = candidates } ≡ contest = cc in ap (λ (c : Contest). c.id) (sym s)
 
-new-id : (earlier : List Contest) (at : ℕ) (row : Fields) (contest : Contest) → contest_of earlier at row ≡ Ok contest → is_among (contest_ids earlier) contest.id ≡ false
+new-id : (earlier : List Contest) (at : ℕ) (row : Fields) (contest : Contest) → contest_of earlier at row ≡ Ok contest →
+    is_among (contest_ids earlier) contest.id ≡ false
 new-id earlier at [] contest h = absurd cc
 new-id earlier at (word ∷ []) contest h = absurd cc
 new-id earlier at (word ∷ id ∷ []) contest h = absurd cc
 new-id earlier at (word ∷ id ∷ number ∷ ids) contest h = by (not (is_same word (codes "Contest")) || list_any (has_id id) earlier) refl h where
-  by : (b : Bool) → (not (is_same word (codes "Contest")) || list_any (has_id id) earlier) ≡ b → (if b then Err B2 else contest_with at id (listed (number_up_to MOST_LISTED number) ids)) ≡ Ok contest
+  by : (b : Bool) → (not (is_same word (codes "Contest")) || list_any (has_id id) earlier) ≡ b →
+      (if b then Err B2 else contest_with at id (listed (number_up_to MOST_LISTED number) ids)) ≡ Ok contest
       → is_among (contest_ids earlier) contest.id ≡ false
   by true e g = absurd cc
   by false e g =
@@ -55,28 +57,34 @@ contests-none n rows =
 next : (n i : ℕ) → i < n → n - i ≡ suc (n - (i + 1))
 next n i less = omega (arith, less)
 
-pub contests-more : (n : ℕ) (rows : List Fields) (contests : List Contest) (i : ℕ) (row : Fields) (rest : List Fields) (contest : Contest) → ContestsSoFar n rows contests i (row ∷ rest) → i < n
+pub contests-more : (n : ℕ) (rows : List Fields) (contests : List Contest) (i : ℕ) (row : Fields) (rest : List Fields) (contest : Contest) →
+    ContestsSoFar n rows contests i (row ∷ rest) → i < n
     → contest_of contests (2 + i) row ≡ Ok contest → ContestsSoFar n rows (contests ++ contest ∷ []) (i + 1) rest
 contests-more n rows contests i row rest contest so_far less h =
     let at : (2 + i) + 1 ≡ 2 + (i + 1) = omega arith in
     record {
       split = so_far.split ∙ ap (λ m. contests_in m contests (2 + i) (row ∷ rest)) (next n i less)
-          ∙ ap (λ o. and_then (2 + i) o (λ (c : Contest). contests_in (n - (i + 1)) (contests ++ c ∷ []) ((2 + i) + 1) rest)) h ∙ ap (λ k. contests_in (n - (i + 1)) (contests ++ contest ∷ []) k rest) at;
+          ∙ ap (λ o. and_then (2 + i) o (λ (c : Contest). contests_in (n - (i + 1)) (contests ++ c ∷ []) ((2 + i) + 1) rest)) h
+          ∙ ap (λ k. contests_in (n - (i + 1)) (contests ++ contest ∷ []) k rest) at;
       dropped = so_far.dropped ∙ ap (λ m. drop m (row ∷ rest)) (next n i less);
       counted = omega (arith, so_far.counted, length-append contests (contest ∷ []));
-      differ = ap all_differ (map-append (λ (c : Contest). c.id) contests (contest ∷ [])) ∙ differ-push (contest_ids contests) contest.id so_far.differ (new-id contests (2 + i) row contest h);
+      differ = ap all_differ (map-append (λ (c : Contest). c.id) contests (contest ∷ []))
+          ∙ differ-push (contest_ids contests) contest.id so_far.differ (new-id contests (2 + i) row contest h);
     }
 
-pub contests-broken : (n : ℕ) (rows : List Fields) (contests : List Contest) (i : ℕ) (row : Fields) (rest : List Fields) (rule : BRule) → ContestsSoFar n rows contests i (row ∷ rest) → i < n
+pub contests-broken : (n : ℕ) (rows : List Fields) (contests : List Contest) (i : ℕ) (row : Fields) (rest : List Fields) (rule : BRule) →
+    ContestsSoFar n rows contests i (row ∷ rest) → i < n
     → contest_of contests (2 + i) row ≡ Err rule → contests_in n [] 2 rows ≡ refused rule (2 + i)
 contests-broken n rows contests i row rest rule so_far less h =
     so_far.split ∙ ap (λ m. contests_in m contests (2 + i) (row ∷ rest)) (next n i less)
     ∙ ap (λ o. and_then (2 + i) o (λ (c : Contest). contests_in (n - (i + 1)) (contests ++ c ∷ []) ((2 + i) + 1) rest)) h
 
-pub contests-missing : (n : ℕ) (rows : List Fields) (contests : List Contest) (i : ℕ) → ContestsSoFar n rows contests i [] → i < n → contests_in n [] 2 rows ≡ refused B2 (2 + i)
+pub contests-missing : (n : ℕ) (rows : List Fields) (contests : List Contest) (i : ℕ) → ContestsSoFar n rows contests i [] → i < n →
+    contests_in n [] 2 rows ≡ refused B2 (2 + i)
 contests-missing n rows contests i so_far less = so_far.split ∙ ap (λ m. contests_in m contests (2 + i) []) (next n i less)
 
-pub contests-end : (n : ℕ) (rows : List Fields) (contests : List Contest) (rest : List Fields) → ContestsSoFar n rows contests n rest → (contests_in n [] 2 rows ≡ Ok contests) × (rest ≡ drop n rows)
+pub contests-end : (n : ℕ) (rows : List Fields) (contests : List Contest) (rest : List Fields) → ContestsSoFar n rows contests n rest →
+    (contests_in n [] 2 rows ≡ Ok contests) × (rest ≡ drop n rows)
 contests-end n rows contests rest so_far =
     let z : n - n ≡ 0 = omega arith in
     (so_far.split ∙ ap (λ m. contests_in m contests (2 + n) rest) z, sym (so_far.dropped ∙ ap (λ m. drop m rest) z))

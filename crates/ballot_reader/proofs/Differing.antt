@@ -37,8 +37,10 @@ differ-push [] id h out = refl
 differ-push (a ∷ before) id h out =
     let (apart, rest) = and_parts (not (is_among before a)) (all_differ before) h in
     let (first, others) = or-false (is_same a id) (is_among before id) out in
-    let none = list_any-append (λ other. is_same other a) before (id ∷ []) ∙ ap (λ b. b || (is_same id a || false)) (not-true (is_among before a) apart) ∙ ap (λ b. b || false) (same-comm id a ∙ first) in
-    and_from (not (is_among (before ++ id ∷ []) a)) (all_differ (before ++ id ∷ [])) (not_from (is_among (before ++ id ∷ []) a) none) (differ-push before id rest others)
+    let none = list_any-append (λ other. is_same other a) before (id ∷ []) ∙ ap (λ b. b || (is_same id a || false)) (not-true (is_among before a) apart)
+    ∙ ap (λ b. b || false) (same-comm id a ∙ first) in
+    and_from (not (is_among (before ++ id ∷ []) a)) (all_differ (before ++ id ∷ [])) (not_from (is_among (before ++ id ∷ []) a) none)
+    (differ-push before id rest others)
 
 pub repeated : (before : List Id) (id : Id) (rest : List Id) → is_among before id ≡ true → all_differ (before ++ id ∷ rest) ≡ false
 repeated before id rest h =

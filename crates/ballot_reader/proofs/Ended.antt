@@ -9,7 +9,7 @@ use Rattle.irv_base.specs.Candidates.{is_distinct}
 use Rattle.irv_base.specs.Names.{Id, is_same}
 use Rattle.ballot_reader.specs.Ballots.{AreBallots, BallotFile}
 use Rattle.ballot_reader.specs.Grammar.{Ballot, Contest, ballot_ids, ballots_in, file_of}
-use Rattle.ballot_reader.specs.Kept.{AreKept}
+use Rattle.ballot_reader.specs.Kept.{IsKept, KeptBallots}
 use Rattle.ballot_reader.proofs.Adding.{noted}
 
 pub got : {X : Type 0} (xs : List X) (k : ℕ) → k < length xs → (x : X) × (slice_get xs k ≡ Some x)
@@ -21,16 +21,18 @@ noted-none : (contests : List Contest) → replicate (length contests) [] ≡ no
 noted-none [] = refl
 noted-none (c ∷ contests) = ap (λ ids. [] ∷ ids) (noted-none contests)
 
-pub kept-none : (contests : List Contest) (chosen : Contest) (ids : List (List Id)) (places : List ℕ) (rankings : List (List ℕ)) (count : ℕ) → ids ≡ replicate (length contests) [] → places ≡ [] → rankings ≡ []
-    → count ≡ 0 → AreKept contests chosen [] ids places rankings count
-kept-none contests chosen ids places rankings count i p r c = record {
+pub kept-none : (contests : List Contest) (chosen : Contest) (kept : KeptBallots) → kept.ids ≡ replicate (length contests) [] → kept.places ≡ [] →
+    kept.rankings ≡ [] → kept.count ≡ 0
+    → IsKept contests chosen [] kept
+kept-none contests chosen kept i p r c = record {
   noted = i ∙ noted-none contests;
   placed = p;
   ranked = r;
   counted = c;
   most = omega arith;
   differ = refl;
-  below = subst (All (λ ranking. All (λ c. c < length chosen.candidates) ranking)) (sym r) (All-nil (λ ranking. All (λ c. c < length chosen.candidates) ranking));
+  below = subst (All (λ ranking. All (λ c. c < length chosen.candidates) ranking)) (sym r)
+      (All-nil (λ ranking. All (λ c. c < length chosen.candidates) ranking));
   distinct = subst (All (λ ranking. IsTrue (is_distinct ranking))) (sym r) (All-nil (λ ranking. IsTrue (is_distinct ranking)));
 }
 
@@ -41,30 +43,33 @@ filter-le p (x ∷ xs) = elim (cases_Bool (p x)) [
   | inr f ↦ rw f (omega (arith, filter-le p xs))
 ]
 
-pub are_ballots : (contests : List Contest) (chosen : Contest) (ballots : List Ballot) (ids : List (List Id)) (places : List ℕ) (rankings : List (List ℕ)) (count : ℕ) → AreKept contests chosen ballots ids places rankings count
-    → AreBallots (length chosen.candidates) (ballot_ids chosen.id ballots) places rankings
-are_ballots contests chosen ballots ids places rankings count kept =
+pub are_ballots : (contests : List Contest) (chosen : Contest) (ballots : List Ballot) (kept : KeptBallots) → IsKept contests chosen ballots kept
+    → AreBallots (length chosen.candidates) (ballot_ids chosen.id ballots) kept.places kept.rankings
+are_ballots contests chosen ballots kept is =
     let own = ballots_in chosen.id ballots in
     let few = filter-le (λ (b : Ballot). is_same b.contest chosen.id) ballots in
-    let r : length rankings ≡ length own = ap length kept.ranked ∙ length-map own (λ (b : Ballot). b.ranking) in
-    let p : length places ≡ length own = ap length kept.placed ∙ length-map own (λ (b : Ballot). b.at) in
+    let r : length kept.rankings ≡ length own = ap length is.ranked ∙ length-map own (λ (b : Ballot). b.ranking) in
+    let p : length kept.places ≡ length own = ap length is.placed ∙ length-map own (λ (b : Ballot). b.at) in
     record {
-      most = omega (arith, r, few, kept.most);
+      most = omega (arith, r, few, is.most);
       an_id_each = length-map own (λ (b : Ballot). b.id) ∙ sym r;
       a_place_each = p ∙ sym r;
-      differ = kept.differ;
-      below = kept.below;
-      distinct = kept.distinct;
+      differ = is.differ;
+      below = is.below;
+      distinct = is.distinct;
     }
 
-pub within-ids : (ids : List (List Id)) (contests : List Contest) (ballots : List Ballot) (k : ℕ) → ids ≡ noted ballots contests → k < length contests → k < length ids
+pub within-ids : (ids : List (List Id)) (contests : List Contest) (ballots : List Ballot) (k : ℕ) → ids ≡ noted ballots contests → k < length contests →
+    k < length ids
 within-ids ids contests ballots k e l =
     omega (arith, l, ap length e, length-map contests (λ (c : Contest). ballot_ids c.id ballots))
 
 abbrev pub file_with : Id → List Id → List Id → List ℕ → List (List ℕ) → BallotFile
 file_with contest candidates ids places rankings = record { contest = contest; candidates = candidates; ids = ids; places = places; rankings = rankings }
 
-pub file-is : (chosen : Contest) (ballots : List Ballot) (id : Id) (candidates ids : List Id) (places : List ℕ) (rankings : List (List ℕ)) → id ≡ chosen.id → candidates ≡ chosen.candidates
-    → ids ≡ ballot_ids chosen.id ballots → places ≡ map (λ (b : Ballot). b.at) (ballots_in chosen.id ballots) → rankings ≡ map (λ (b : Ballot). b.ranking) (ballots_in chosen.id ballots)
+pub file-is : (chosen : Contest) (ballots : List Ballot) (id : Id) (candidates ids : List Id) (places : List ℕ) (rankings : List (List ℕ)) → id ≡ chosen.id →
+    candidates ≡ chosen.candidates
+    → ids ≡ ballot_ids chosen.id ballots → places ≡ map (λ (b : Ballot). b.at) (ballots_in chosen.id ballots) →
+    rankings ≡ map (λ (b : Ballot). b.ranking) (ballots_in chosen.id ballots)
     → file_with id candidates ids places rankings ≡ file_of chosen ballots
 file-is chosen ballots id candidates ids places rankings a b c d e = rw (a, b, c, d, e) refl

@@ -8,13 +8,16 @@ use Rattle.ballot_reader.specs.Grammar.{Ballot, Contest, ballot_for, ballot_in, 
 use Rattle.ballot_reader.specs.declared.fault.BRule.TheVariants.{B4, B7}
 use Rattle.irv_base.proofs.Positions.{found_at, found_none}
 
-named : (contests : List Contest) (earlier : List Ballot) (at : ℕ) (row : Fields) (of id : Id) (preferences : Fields) → row ≡ of ∷ id ∷ preferences → is_name id ≡ true
+named : (contests : List Contest) (earlier : List Ballot) (at : ℕ) (row : Fields) (of id : Id) (preferences : Fields) → row ≡ of ∷ id ∷ preferences →
+    is_name id ≡ true
     → ballot_in contests earlier at row ≡ ballot_for earlier at id preferences (contest_with_id contests of)
 named contests earlier at row of id preferences e valid =
     ap (ballot_in contests earlier at) e ∙ ap (λ b. if b then ballot_for earlier at id preferences (contest_with_id contests of) else Err B4) valid
 
-pub head-follows : (contests : List Contest) (row : Fields) (of id name : Id) (preferences : Fields) (k : ℕ) → row ≡ of ∷ id ∷ preferences → name ≡ id → is_name id ≡ true
-    → position (has_id of) contests ≡ Some k → (earlier : List Ballot) → (at : ℕ) → ballot_in contests earlier at row ≡ ballot_for earlier at name preferences (slice_get contests k)
+pub head-follows : (contests : List Contest) (row : Fields) (of id name : Id) (preferences : Fields) (k : ℕ) → row ≡ of ∷ id ∷ preferences → name ≡ id →
+    is_name id ≡ true
+    → position (has_id of) contests ≡ Some k → (earlier : List Ballot) → (at : ℕ) → ballot_in contests earlier at row
+    ≡ ballot_for earlier at name preferences (slice_get contests k)
 head-follows contests row of id name preferences k e same valid there earlier at =
     named contests earlier at row of id preferences e valid ∙ ap (ballot_for earlier at id preferences) (found_at (has_id of) contests k there)
     ∙ ap (λ i. ballot_for earlier at i preferences (slice_get contests k)) (sym same)
@@ -24,7 +27,8 @@ pub head-elsewhere : (contests : List Contest) (row : Fields) (of id : Id) (pref
 head-elsewhere contests row of id preferences e valid none earlier at =
     named contests earlier at row of id preferences e valid ∙ ap (ballot_for earlier at id preferences) (found_none (has_id of) contests none)
 
-pub asked-place : (contests : List Contest) (id : Id) (o : Option ℕ) → o ≡ position (has_id id) contests → IfSome o (λ k. contest_with_id contests id ≡ slice_get contests k)
+pub asked-place : (contests : List Contest) (id : Id) (o : Option ℕ) → o ≡ position (has_id id) contests →
+    IfSome o (λ k. contest_with_id contests id ≡ slice_get contests k)
 asked-place contests id None e = tt
 asked-place contests id (Some k) e = found_at (has_id id) contests k (sym e)
 

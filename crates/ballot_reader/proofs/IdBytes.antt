@@ -34,15 +34,18 @@ between-more a (end ∷ ends) bytes id m (low, h) e =
     ap (λ xs. xs ∷ ids_between end (ends ++ m ∷ []) (bytes ++ id)) first
     ∙ ap (λ xs. take (end - a) (drop a bytes) ∷ xs) (between-more end ends bytes id m h e)
 
-pub pushed-ends : (old bytes ends more : List ℕ) (id : Id) (m : ℕ) → AreEnds 0 old (length bytes) → ends ≡ old ++ m ∷ [] → more ≡ bytes ++ id → m ≡ length bytes + length id
+pub pushed-ends : (old bytes ends more : List ℕ) (id : Id) (m : ℕ) → AreEnds 0 old (length bytes) → ends ≡ old ++ m ∷ [] → more ≡ bytes ++ id →
+    m ≡ length bytes + length id
     → AreEnds 0 ends (length more)
 pushed-ends old bytes ends more id m h e f size =
     let n : m ≡ length more = size ∙ sym (length-append bytes id) ∙ sym (ap length f) in
     subst (λ es. AreEnds 0 es (length more)) (sym e) (subst (AreEnds 0 (old ++ m ∷ [])) n (ends-more 0 old (length bytes) m h (omega (arith, size))))
 
-pub pushed-ids : (old bytes ends more : List ℕ) (id : Id) (m : ℕ) → AreEnds 0 old (length bytes) → ends ≡ old ++ m ∷ [] → more ≡ bytes ++ id → m ≡ length bytes + length id
+pub pushed-ids : (old bytes ends more : List ℕ) (id : Id) (m : ℕ) → AreEnds 0 old (length bytes) → ends ≡ old ++ m ∷ [] → more ≡ bytes ++ id →
+    m ≡ length bytes + length id
     → ids_between 0 ends more ≡ ids_between 0 old bytes ++ id ∷ []
-pushed-ids old bytes ends more id m h e f size = ap (λ es. ids_between 0 es more) e ∙ ap (ids_between 0 (old ++ m ∷ [])) f ∙ between-more 0 old bytes id m h size
+pushed-ids old bytes ends more id m h e f size = ap (λ es. ids_between 0 es more) e ∙ ap (ids_between 0 (old ++ m ∷ [])) f
+    ∙ between-more 0 old bytes id m h size
 
 -- ---- the id at a place
 

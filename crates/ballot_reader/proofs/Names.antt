@@ -20,7 +20,8 @@ pub names-more : (ids names : List Id) (name : Id) (rest : List Id) → NamesSoF
     → NamesSoFar ids (names ++ name ∷ []) rest
 names-more ids names name rest so_far valid new = record {
   split = so_far.split ∙ sym (append_assoc names (name ∷ []) rest);
-  valid = list_all-append is_name names (name ∷ []) ∙ and_from (list_all is_name names) (is_name name && true) so_far.valid (and_from (is_name name) true valid refl);
+  valid = list_all-append is_name names (name ∷ []) ∙ and_from (list_all is_name names) (is_name name && true) so_far.valid
+      (and_from (is_name name) true valid refl);
   differ = differ-push names name so_far.differ new;
 }
 
@@ -45,6 +46,7 @@ names-end ids names so_far =
 pub take-first : (n i : ℕ) (id : Id) (rest : List Id) → i < n → take (n - i) (id ∷ rest) ≡ id ∷ take (n - (i + 1)) rest
 take-first n i id rest less = let e : n - i ≡ suc (n - (i + 1)) = omega (arith, less) in ap (λ m. take m (id ∷ rest)) e
 
-pub first-so_far : (ids names : List Id) (n i : ℕ) (fields : List Id) (id : Id) (rest : List Id) → NamesSoFar ids names (take (n - i) fields) → fields ≡ id ∷ rest → i < n
+pub first-so_far : (ids names : List Id) (n i : ℕ) (fields : List Id) (id : Id) (rest : List Id) → NamesSoFar ids names (take (n - i) fields) →
+    fields ≡ id ∷ rest → i < n
     → NamesSoFar ids names (id ∷ take (n - (i + 1)) rest)
 first-so_far ids names n i fields id rest so_far e less = subst (NamesSoFar ids names) (ap (take (n - i)) e ∙ take-first n i id rest less) so_far

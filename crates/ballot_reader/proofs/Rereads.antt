@@ -45,9 +45,11 @@ differ-at (a ∷ ids) zero (suc i) h l m =
 differ-at (a ∷ ids) (suc k) (suc i) h l m =
     differ-at ids k i (and_parts (not (is_among ids a)) (all_differ ids) h).1 (omega arith) (omega arith)
 
-candidate-of_id : (candidates : List Id) (c : ℕ) → all_differ candidates ≡ true → c < length candidates → candidate_named candidates (id_of candidates c) ≡ Some c
+candidate-of_id : (candidates : List Id) (c : ℕ) → all_differ candidates ≡ true → c < length candidates →
+    candidate_named candidates (id_of candidates c) ≡ Some c
 candidate-of_id candidates c differ l =
-    let first = position_or_len_is (λ candidate. is_same candidate (id_of candidates c)) candidates c [] (omega arith) (λ k m. differ-at candidates k c differ m l) (λ m. same-itself (id_of candidates c)) in
+    let first = position_or_len_is (λ candidate. is_same candidate (id_of candidates c)) candidates c [] (omega arith)
+    (λ k m. differ-at candidates k c differ m l) (λ m. same-itself (id_of candidates c)) in
     ap (λ n. cond (nat_lt n (length candidates)) (Some n) None) first ∙ ap (λ b. cond b (Some c) None) (lt-ltb c (length candidates) l)
 
 -- ---- a ranking
@@ -75,7 +77,8 @@ all-marked candidates [] named h = refl
 all-marked candidates (c ∷ ranking) named h =
     let marked = name-marked (id_of candidates c) (named-at candidates c named (All-head (λ d. d < length candidates) c ranking h)) in
     let rest = filter is_marked (map (id_of candidates) ranking) in
-    ap (λ b. if b then id_of candidates c ∷ rest else rest) marked ∙ ap (λ ids. id_of candidates c ∷ ids) (all-marked candidates ranking named (All-tail (λ d. d < length candidates) c ranking h))
+    ap (λ b. if b then id_of candidates c ∷ rest else rest) marked
+    ∙ ap (λ ids. id_of candidates c ∷ ids) (all-marked candidates ranking named (All-tail (λ d. d < length candidates) c ranking h))
 
 filter-absent : (cs : List ℕ) (c : ℕ) → is_in cs c ≡ false → filter (λ d. not (d == c)) cs ≡ cs
 filter-absent [] c h = refl
@@ -89,7 +92,8 @@ firsts-same (c ∷ cs) h =
     let (out, rest) = and_parts (not (is_in cs c)) (is_distinct cs) h in
     ap (λ ds. c ∷ filter (λ d. not (d == c)) ds) (firsts-same cs rest) ∙ ap (λ ds. c ∷ ds) (filter-absent cs c (not-true (is_in cs c) out))
 
-ranking-read : (candidates : List Id) (ranking : List ℕ) → list_all is_name candidates ≡ true → all_differ candidates ≡ true → All (λ c. c < length candidates) ranking → is_distinct ranking ≡ true
+ranking-read : (candidates : List Id) (ranking : List ℕ) → list_all is_name candidates ≡ true → all_differ candidates ≡ true →
+    All (λ c. c < length candidates) ranking → is_distinct ranking ≡ true
     → ranking_of candidates (map (id_of candidates) ranking) ≡ Some ranking
 ranking-read candidates ranking named differ below once =
     ap (λ ids. option_map firsts (all_of (candidate_named candidates) ids)) (all-marked candidates ranking named below)
@@ -101,7 +105,8 @@ number-read : (k : ℕ) → k ≤ MOST_LISTED → number_of (decimal k) ≡ Some
 number-read k most = rw digits (ap Some (digits_value-decimal own k (omega (arith, most)))) where
   digits : Rattle.csv_rows.proofs.Numbers.is_number (decimal k) ≡ true
   digits =
-      is_number-from (decimal k) (digits_decimal own k (omega (arith, most))) (omega (arith, decimal_nonempty k (omega (arith, most)))) (omega (arith, length-decimal-le MOST_NUMBER_DIGITS k (omega arith) (omega (arith, most)) (omega (arith, most))))
+      is_number-from (decimal k) (digits_decimal own k (omega (arith, most))) (omega (arith, decimal_nonempty k (omega (arith, most))))
+      (omega (arith, length-decimal-le MOST_NUMBER_DIGITS k (omega arith) (omega (arith, most)) (omega (arith, most))))
 
 count-read : (most k : ℕ) → 1 ≤ k → k ≤ most → most ≤ MOST_LISTED → number_up_to most (decimal k) ≡ Some k
 count-read most k some few small =
@@ -112,13 +117,16 @@ take-whole : (ids : List Id) → take (length ids) ids ≡ ids
 take-whole [] = refl
 take-whole (id ∷ ids) = ap (λ more. id ∷ more) (take-whole ids)
 
-contest-read : (id : Id) (candidates : List Id) → is_name id ≡ true → list_all is_name candidates ≡ true → all_differ candidates ≡ true → 1 ≤ length candidates → length candidates ≤ MOST_LISTED
+contest-read : (id : Id) (candidates : List Id) → is_name id ≡ true → list_all is_name candidates ≡ true → all_differ candidates ≡ true →
+    1 ≤ length candidates → length candidates ≤ MOST_LISTED
     → contest_of [] 2 (codes "Contest" ∷ id ∷ decimal (length candidates) ∷ candidates) ≡ Ok (record { at = 2; id = id; candidates = candidates })
 contest-read id candidates name named differ some few =
     let n = length candidates in
-    ap (λ b. if not b || false then Err B2 else contest_with 2 id (listed (number_up_to MOST_LISTED (decimal (length candidates))) candidates)) (same-itself (codes "Contest"))
+    ap (λ b. if not b || false then Err B2 else contest_with 2 id (listed (number_up_to MOST_LISTED (decimal (length candidates))) candidates))
+    (same-itself (codes "Contest"))
     ∙ ap (λ o. contest_with 2 id (listed o candidates)) (count-read MOST_LISTED (length candidates) some few (omega arith))
-    ∙ ap (λ b. contest_with 2 id (if b then Some (take (length candidates) candidates) else None)) (le-nat_le (length candidates) (length candidates) (omega arith))
+    ∙ ap (λ b. contest_with 2 id (if b then Some (take (length candidates) candidates) else None))
+    (le-nat_le (length candidates) (length candidates) (omega arith))
     ∙ ap (λ ids. contest_with 2 id (Some ids)) (take-whole candidates)
     ∙ ap (λ b. if b then contest_named 2 id (names_of candidates) else Err B4) name
     ∙ ap (λ b. contest_named 2 id (if b then Some candidates else None)) (and_from (list_all is_name candidates) (all_differ candidates) named differ)
@@ -128,7 +136,8 @@ contest-read id candidates name named differ some few =
 abbrev numbered_from : ℕ → Id → List Id → List (List ℕ) → List Ballot
 numbered_from at contest [] rankings = []
 numbered_from at contest (id ∷ ids) [] = []
-numbered_from at contest (id ∷ ids) (ranking ∷ rankings) = record { at = at; contest = contest; id = id; ranking = ranking } ∷ numbered_from (at + 1) contest ids rankings
+numbered_from at contest (id ∷ ids) (ranking ∷ rankings) = record { at = at; contest = contest; id = id; ranking = ranking } ∷
+    numbered_from (at + 1) contest ids rankings
 
 ballot-follows : (contest : Contest) (earlier : List Ballot) (at : ℕ) (id : Id) (preferences : Fields) → is_name id ≡ true
     → ballot_in (contest ∷ []) earlier at (contest.id ∷ id ∷ preferences) ≡ ballot_for earlier at id preferences (Some contest)
@@ -136,10 +145,13 @@ ballot-follows contest earlier at id preferences name =
     ap (λ b. if b then ballot_for earlier at id preferences (cond (is_same contest.id contest.id) (Some contest) None) else Err B4) name
     ∙ ap (λ b. ballot_for earlier at id preferences (cond b (Some contest) None)) (same-itself contest.id)
 
-ballots-read : (contest : Contest) (earlier : List Ballot) (at : ℕ) (ids : List Id) (rankings : List (List ℕ)) → list_all is_name contest.candidates ≡ true → all_differ contest.candidates ≡ true
-    → length ids ≡ length rankings → length earlier + length ids ≤ MOST_RECORDS → list_all is_name ids ≡ true → all_differ (ballot_ids contest.id earlier ++ ids) ≡ true
+ballots-read : (contest : Contest) (earlier : List Ballot) (at : ℕ) (ids : List Id) (rankings : List (List ℕ)) → list_all is_name contest.candidates ≡ true →
+    all_differ contest.candidates ≡ true
+    → length ids ≡ length rankings → length earlier + length ids ≤ MOST_RECORDS → list_all is_name ids ≡ true →
+    all_differ (ballot_ids contest.id earlier ++ ids) ≡ true
     → All (λ ranking. All (λ c. c < length contest.candidates) ranking) rankings → All (λ ranking. IsTrue (is_distinct ranking)) rankings
-    → ballots_after (contest ∷ []) earlier at (ballot_records contest.id contest.candidates ids rankings) ≡ Ok (earlier ++ numbered_from at contest.id ids rankings)
+    → ballots_after (contest ∷ []) earlier at (ballot_records contest.id contest.candidates ids rankings)
+    ≡ Ok (earlier ++ numbered_from at contest.id ids rankings)
 ballots-read contest earlier at [] rankings named differ same few ids_named ids_differ below once = ap Ok (sym (append-nil earlier))
 ballots-read contest earlier at (id ∷ ids) [] named differ same few ids_named ids_differ below once = absurd (omega (arith, same))
 ballots-read contest earlier at (id ∷ ids) (ranking ∷ rankings) named differ same few ids_named ids_differ below once =
@@ -147,19 +159,23 @@ ballots-read contest earlier at (id ∷ ids) (ranking ∷ rankings) named differ
     let preferences = map (id_of contest.candidates) ranking in
     let ballot : Ballot = record { at = at; contest = contest.id; id = id; ranking = ranking } in
     let new = differ-split (ballot_ids contest.id earlier) id ids ids_differ in
-    let read = ranking-read contest.candidates ranking named differ (All-head (λ r. All (λ c. c < length contest.candidates) r) ranking rankings below) (All-head (λ r. IsTrue (is_distinct r)) ranking rankings once) in
-    let meets : Meets (contest ∷ []) earlier at (contest.id ∷ id ∷ preferences) 0 id preferences contest = record { room = omega (arith, few); follows = ballot-follows contest earlier at id preferences name; there = refl } in
+    let read = ranking-read contest.candidates ranking named differ (All-head (λ r. All (λ c. c < length contest.candidates) r) ranking rankings below)
+    (All-head (λ r. IsTrue (is_distinct r)) ranking rankings once) in
+    let meets : Meets (contest ∷ []) earlier at (contest.id ∷ id ∷ preferences) 0 id preferences contest =
+    record { room = omega (arith, few); follows = ballot-follows contest earlier at id preferences name; there = refl } in
     let judged = ranked (contest ∷ []) earlier at (contest.id ∷ id ∷ preferences) 0 id preferences contest meets new (Some ranking) read in
     let more = ap (λ xs. xs ++ ids) (ids-own contest.id earlier ballot (same-itself contest.id)) ∙ append_assoc (ballot_ids contest.id earlier) (id ∷ []) ids in
     let rest = ballot_records contest.id contest.candidates ids rankings in
     ap (λ o. and_then at o (λ (b : Ballot). ballots_after (contest ∷ []) (earlier ++ b ∷ []) (at + 1) rest)) judged
-    ∙ ballots-read contest (earlier ++ ballot ∷ []) (at + 1) ids rankings named differ (omega (arith, same)) (omega (arith, few, length-append earlier (ballot ∷ []))) names (ap all_differ more ∙ ids_differ)
+    ∙ ballots-read contest (earlier ++ ballot ∷ []) (at + 1) ids rankings named differ (omega (arith, same))
+    (omega (arith, few, length-append earlier (ballot ∷ []))) names (ap all_differ more ∙ ids_differ)
     (All-tail (λ r. All (λ c. c < length contest.candidates) r) ranking rankings below) (All-tail (λ r. IsTrue (is_distinct r)) ranking rankings once)
     ∙ ap Ok (append_assoc earlier (ballot ∷ []) (numbered_from (at + 1) contest.id ids rankings))
 
 -- ---- what the ballots are
 
-all-own : (at : ℕ) (contest : Id) (ids : List Id) (rankings : List (List ℕ)) → ballots_in contest (numbered_from at contest ids rankings) ≡ numbered_from at contest ids rankings
+all-own : (at : ℕ) (contest : Id) (ids : List Id) (rankings : List (List ℕ)) → ballots_in contest (numbered_from at contest ids rankings)
+    ≡ numbered_from at contest ids rankings
 all-own at contest [] rankings = refl
 all-own at contest (id ∷ ids) [] = refl
 all-own at contest (id ∷ ids) (ranking ∷ rankings) =
@@ -167,27 +183,39 @@ all-own at contest (id ∷ ids) (ranking ∷ rankings) =
     let rest = ballots_in contest (numbered_from (at + 1) contest ids rankings) in
     ap (λ t. if t then b ∷ rest else rest) (same-itself contest) ∙ ap (λ bs. b ∷ bs) (all-own (at + 1) contest ids rankings)
 
-own-ids : (at : ℕ) (contest : Id) (ids : List Id) (rankings : List (List ℕ)) → length ids ≡ length rankings → map (λ (b : Ballot). b.id) (numbered_from at contest ids rankings) ≡ ids
+own-ids : (at : ℕ) (contest : Id) (ids : List Id) (rankings : List (List ℕ)) → length ids ≡ length rankings →
+    map (λ (b : Ballot). b.id) (numbered_from at contest ids rankings) ≡ ids
 own-ids at contest [] rankings l = refl
 own-ids at contest (id ∷ ids) [] l = absurd (omega (arith, l))
 own-ids at contest (id ∷ ids) (ranking ∷ rankings) l = ap (λ xs. id ∷ xs) (own-ids (at + 1) contest ids rankings (omega (arith, l)))
 
-own-places : (at : ℕ) (contest : Id) (ids : List Id) (rankings : List (List ℕ)) → length ids ≡ length rankings → map (λ (b : Ballot). b.at) (numbered_from at contest ids rankings) ≡ range_with_len at (length ids)
+own-places : (at : ℕ) (contest : Id) (ids : List Id) (rankings : List (List ℕ)) → length ids ≡ length rankings →
+    map (λ (b : Ballot). b.at) (numbered_from at contest ids rankings) ≡ range_with_len at (length ids)
 own-places at contest [] rankings l = refl
 own-places at contest (id ∷ ids) [] l = absurd (omega (arith, l))
 own-places at contest (id ∷ ids) (ranking ∷ rankings) l = ap (λ xs. at ∷ xs) (own-places (at + 1) contest ids rankings (omega (arith, l)))
 
-own-rankings : (at : ℕ) (contest : Id) (ids : List Id) (rankings : List (List ℕ)) → length ids ≡ length rankings → map (λ (b : Ballot). b.ranking) (numbered_from at contest ids rankings) ≡ rankings
+own-rankings : (at : ℕ) (contest : Id) (ids : List Id) (rankings : List (List ℕ)) → length ids ≡ length rankings →
+    map (λ (b : Ballot). b.ranking) (numbered_from at contest ids rankings) ≡ rankings
 own-rankings at contest [] [] l = refl
 own-rankings at contest [] (ranking ∷ rankings) l = absurd (omega (arith, l))
 own-rankings at contest (id ∷ ids) [] l = absurd (omega (arith, l))
 own-rankings at contest (id ∷ ids) (ranking ∷ rankings) l = ap (λ xs. ranking ∷ xs) (own-rankings (at + 1) contest ids rankings (omega (arith, l)))
 
-file-read : (file : BallotFile) (contest : Contest) → contest.id ≡ file.contest → contest.candidates ≡ file.candidates → length file.ids ≡ length file.rankings → file.places ≡ range_with_len 3 (length file.ids)
+file-read : (file : BallotFile) (contest : Contest) → contest.id ≡ file.contest → contest.candidates ≡ file.candidates →
+    length file.ids ≡ length file.rankings → file.places ≡ range_with_len 3 (length file.ids)
     → file_of contest (numbered_from 3 contest.id file.ids file.rankings) ≡ file
 file-read file contest e f l p =
     let own = all-own 3 contest.id file.ids file.rankings in
-    rw (own, own-ids 3 contest.id file.ids file.rankings l, own-places 3 contest.id file.ids file.rankings l, own-rankings 3 contest.id file.ids file.rankings l, e, f, sym p) refl
+    rw (
+      own,
+      own-ids 3 contest.id file.ids file.rankings l,
+      own-places 3 contest.id file.ids file.rankings l,
+      own-rankings 3 contest.id file.ids file.rankings l,
+      e,
+      f,
+      sym p,
+    ) refl
 
 pub what_is_spelled : WhatIsSpelledIsRead
 what_is_spelled file s =
@@ -195,11 +223,19 @@ what_is_spelled file s =
     let ballots = s.sound.ballots in
     let contest : Contest = record { at = 2; id = file.contest; candidates = file.candidates } in
     let rows = ballot_records file.contest file.candidates file.ids file.rankings in
-    let size : has_audited_size file.candidates ≡ true = and_from (nat_le FEWEST_CANDIDATES (length file.candidates)) (nat_le (length file.candidates) MOST_CANDIDATES) (le-nat_le FEWEST_CANDIDATES (length file.candidates) candidates.fewest) (le-nat_le (length file.candidates) MOST_CANDIDATES candidates.most) in
-    let read = contest-read file.contest file.candidates s.contest_named s.candidates_named candidates.differ (omega (arith, candidates.fewest)) (omega (arith, candidates.most)) in
-    let all = ballots-read contest [] 3 file.ids file.rankings s.candidates_named candidates.differ ballots.an_id_each (omega (arith, ballots.most, ballots.an_id_each)) s.ids_named ballots.differ ballots.below ballots.distinct in
-    ap (λ n. ballots_behind n None ((codes "Contest" ∷ file.contest ∷ decimal (length file.candidates) ∷ file.candidates) ∷ rows)) (count-read MOST_CONTESTS 1 (omega arith) (omega arith) (omega arith))
-    ∙ ap (λ o. then_on (and_then 2 o (λ (c : Contest). Ok (c ∷ []))) (Rattle.ballot_reader.proofs.Behind.after_contests None 1 ((codes "Contest" ∷ file.contest ∷ decimal (length file.candidates) ∷ file.candidates) ∷ rows))) read
-    ∙ ap (λ b. then_on (if b then Ok contest else refused B3 2) (λ audited. then_on (ballots_after (contest ∷ []) [] 3 rows) (λ bs. Ok (file_of audited bs)))) size
+    let size : has_audited_size file.candidates ≡ true = and_from (nat_le FEWEST_CANDIDATES (length file.candidates))
+    (nat_le (length file.candidates) MOST_CANDIDATES) (le-nat_le FEWEST_CANDIDATES (length file.candidates) candidates.fewest)
+    (le-nat_le (length file.candidates) MOST_CANDIDATES candidates.most) in
+    let read = contest-read file.contest file.candidates s.contest_named s.candidates_named candidates.differ (omega (arith, candidates.fewest))
+    (omega (arith, candidates.most)) in
+    let all = ballots-read contest [] 3 file.ids file.rankings s.candidates_named candidates.differ ballots.an_id_each
+    (omega (arith, ballots.most, ballots.an_id_each)) s.ids_named ballots.differ ballots.below ballots.distinct in
+    ap (λ n. ballots_behind n None ((codes "Contest" ∷ file.contest ∷ decimal (length file.candidates) ∷ file.candidates) ∷ rows))
+    (count-read MOST_CONTESTS 1 (omega arith) (omega arith) (omega arith))
+    ∙ ap (λ o. then_on (and_then 2 o (λ (c : Contest). Ok (c ∷ [])))
+    (Rattle.ballot_reader.proofs.Behind.after_contests None 1 ((codes "Contest" ∷ file.contest ∷ decimal (length file.candidates) ∷ file.candidates) ∷ rows)))
+    read
+    ∙ ap (λ b. then_on (if b then Ok contest else refused B3 2) (λ audited. then_on (ballots_after (contest ∷ []) [] 3 rows) (λ bs. Ok (file_of audited bs))))
+    size
     ∙ ap (λ o. then_on o (λ bs. Ok (file_of contest bs))) all
     ∙ ap Ok (file-read file contest refl refl ballots.an_id_each s.in_order)

@@ -6,7 +6,7 @@ use Rattle.ballot_reader.specs.declared.fault.BallotFault.TheVariants.{Refused, 
 use Rattle.ballot_reader.specs.declared.fault.BRule.{BRule}
 use Rattle.ballot_reader.specs.declared.fault.BRule.TheVariants.{B1, B2, B3, B4, B5, B6, B7, B8, B9, B10}
 
--- it is refused by this rule at this record; memory may always be wanting
+-- the file is refused by this rule at this record; memory may always be wanting
 abbrev pub Refuses : {A : Type 0} → Result A Refusal → BallotFault → Type 0
 Refuses said (Refused rule at) = said ≡ Err (record { rule = rule; at = at })
 Refuses said Memory = Unit {0}

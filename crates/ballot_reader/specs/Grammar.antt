@@ -108,9 +108,10 @@ abbrev pub has_audited_size : List Id → Bool
 has_audited_size candidates =
     nat_le FEWEST_CANDIDATES (length candidates) && nat_le (length candidates) MOST_CANDIDATES
 
-abbrev pub sized : Option Contest → Result Contest Refusal
-sized None = refused B5 1
-sized (Some contest) =
+-- the contest that was asked for, or its refusal: it isn't there, or has too few or too many candidates to be audited
+abbrev pub audited_contest : Option Contest → Result Contest Refusal
+audited_contest None = refused B5 1
+audited_contest (Some contest) =
     if has_audited_size contest.candidates then Ok contest else refused B3 contest.at
 
 -- ---- a ballot's record: the id of its contest, its own, and preferences, the most preferred first
@@ -189,7 +190,7 @@ abbrev pub ballots_behind : Option ℕ → Option Id → List Fields → Result 
 ballots_behind None asked rows = refused B1 1
 ballots_behind (Some n) asked rows =
     then_on (contests_in n [] 2 rows) (λ contests.
-    then_on (sized (asked_for contests asked)) (λ audited.
+    then_on (audited_contest (asked_for contests asked)) (λ audited.
     then_on (ballots_after contests [] (2 + n) (drop n rows)) (λ ballots.
     Ok (file_of audited ballots))))
 

@@ -7,28 +7,30 @@ use Rattle.ballot_reader.specs.Grammar.{Ballot, Contest, ballot_ids, ballots_in}
 use Rattle.ballot_reader.specs.declared.fault.BRule.{BRule}
 use Rattle.ballot_reader.specs.declared.fault.BallotFault.{BallotFault}
 use Rattle.ballot_reader.specs.declared.fault.BallotFault.TheVariants.{Refused, Memory}
-use Rattle.ballot_reader.specs.declared.kept.Kept.{Kept}
 
 abbrev pub contest_ids : List Contest → List Id
 contest_ids contests = map (λ contest. contest.id) contests
 
--- of these ballots, in contests that all differ: the ids of each contest, and the places and rankings of the audited one's
-pub record AreKept
+-- what is kept: the ids of each contest's ballots, the places and rankings of the audited one's, and how many ballots there are
+pub record KeptBallots : Type 0 where
+  pub ids : List (List Id)
+  pub places : List ℕ
+  pub rankings : List (List ℕ)
+  pub count : ℕ
+
+-- it is what is kept of these ballots: no id stands twice in the audited contest, and its rankings have its candidates
+-- alone, each once
+pub record IsKept
     (contests : List Contest) (audited : Contest) (ballots : List Ballot)
-    (ids : List (List Id)) (places : List ℕ) (rankings : List (List ℕ)) (count : ℕ) : Type 0 where
-  pub noted : ids ≡ map (λ contest. ballot_ids contest.id ballots) contests
-  pub placed : places ≡ map (λ ballot. ballot.at) (ballots_in audited.id ballots)
-  pub ranked : rankings ≡ map (λ ballot. ballot.ranking) (ballots_in audited.id ballots)
-  pub counted : count ≡ length ballots
+    (kept : KeptBallots) : Type 0 where
+  pub noted : kept.ids ≡ map (λ contest. ballot_ids contest.id ballots) contests
+  pub placed : kept.places ≡ map (λ ballot. ballot.at) (ballots_in audited.id ballots)
+  pub ranked : kept.rankings ≡ map (λ ballot. ballot.ranking) (ballots_in audited.id ballots)
+  pub counted : kept.count ≡ length ballots
   pub most : length ballots ≤ MOST_RECORDS
   pub differ : IsTrue (all_differ (ballot_ids audited.id ballots))
-  pub below : All (λ ranking. All (λ c. c < length audited.candidates) ranking) rankings
-  pub distinct : All (λ ranking. IsTrue (is_distinct ranking)) rankings
-
--- what is kept of these ballots
-abbrev pub IsKept : List Contest → Contest → List Ballot → Kept → Type 0
-IsKept contests audited ballots kept =
-    AreKept contests audited ballots kept.ids.items kept.places.items kept.rankings.items kept.count
+  pub below : All (λ ranking. All (λ c. c < length audited.candidates) ranking) kept.rankings
+  pub distinct : All (λ ranking. IsTrue (is_distinct ranking)) kept.rankings
 
 -- the record number at is refused so; memory may always be wanting
 abbrev pub RefusesRecord : {A : Type 0} → Result A BRule → ℕ → BallotFault → Type 0

@@ -18,8 +18,11 @@ use std::marker::Model;
 /// A contest: the number of its record, its id, and those of its candidates.
 #[derive(Drop)]
 pub struct Contest {
+    /// The number of its record in the file, from 1.
     pub at: u32,
+    /// The id that its ballots name.
     pub id: Name,
+    /// The ids of its candidates, in the order of its record.
     pub candidates: IndexSet<Name>,
 }
 

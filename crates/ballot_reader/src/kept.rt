@@ -15,6 +15,7 @@ use csv::ByteRecord;
 use csv_rows::Fields;
 use irv_base::{MOST_RECORDS, Memory, Name, Ranking};
 use std::alloc::Global;
+use std::marker::Model;
 
 // The contest of a ballot by its place among the contests, the ballot's id and its preferences.
 #[derive(Drop)]
@@ -65,16 +66,35 @@ fn head_of<'r>(contests: &[Contest], row: &'r ByteRecord) -> Result<Head<'r>, BR
     })
 }
 
-/// What is kept of ballots: the ids of each contest's, how many there are, and of those of the audited contest the places and the
-/// rankings.
+/// What is kept of ballots: the ids of each contest's, how many there are, and of those of the audited contest the places
+/// and the rankings.
+///
+/// To a contract it is these four.
 #[derive(Drop)]
 pub struct Kept {
+    /// For each contest the ids of its ballots, in the order of the file.
     pub ids: Vec<Noted>,
+    /// How many ballots there are, of all contests.
     pub count: u32,
+    /// For each ballot of the audited contest the number of its record, from 1.
     pub places: Vec<u32>,
+    /// For each ballot of the audited contest its ranking.
     pub rankings: Vec<Ranking>,
-    // of the ids of the audited contest's candidates
+    // Which candidate of the audited contest an id looks like. It saves time, and tells nothing of the ballots.
     guesses: Guesses,
+}
+
+impl Model for Kept {
+    ghost use Rattle.ballot_reader.specs.Kept.{KeptBallots};
+
+    ghost Value = { KeptBallots };
+
+    ghost view = { λ k. record {
+      ids = k.ids.items;
+      places = k.places.items;
+      rankings = k.rankings.items;
+      count = k.count;
+    } };
 }
 
 // Nothing noted in n contests, with room for so many ids in the audited one.
@@ -113,10 +133,10 @@ impl Kept {
         requires within { audited < length contests.now }
         requires sized { IfSome (slice_get contests.now audited)
             (λ chosen. IsTrue (has_audited_size chosen.candidates)) }
-        ensures ids { IfOk result (λ kept. kept.ids.items ≡ replicate (length contests.now) []) }
+        ensures ids { IfOk result (λ kept. kept.ids ≡ replicate (length contests.now) []) }
         ensures count { IfOk result (λ kept. kept.count ≡ 0) }
-        ensures places { IfOk result (λ kept. kept.places.items ≡ []) }
-        ensures rankings { IfOk result (λ kept. kept.rankings.items ≡ []) }
+        ensures places { IfOk result (λ kept. kept.places ≡ []) }
+        ensures rankings { IfOk result (λ kept. kept.rankings ≡ []) }
     {
         let ids = nothing_noted(alloc, contests.len(), audited, room)?;
         let chosen = &contests[audited];
@@ -140,7 +160,7 @@ impl Kept {
     ) -> Result<(), BallotFault>
         requires differ { IsTrue (all_differ (contest_ids contests.now)) }
         requires within { audited < length contests.now }
-        requires noted { length self.now.ids.items ≡ length contests.now }
+        requires noted { length self.now.ids ≡ length contests.now }
         requires sized { IfSome (slice_get contests.now audited)
             (λ chosen. IsTrue (has_audited_size chosen.candidates)) }
         ensures kept { IfOk result (λ _. (chosen : ContestRecord) → (ballots : List Ballot)

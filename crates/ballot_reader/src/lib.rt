@@ -20,6 +20,3 @@ pub use fault::{BRule, BallotFault};
 pub use ids::Ids;
 pub use limits::{MOST_CONTESTS, MOST_LISTED};
 pub use read::read_ballots;
-
-#[cfg(test)]
-mod tests;

@@ -101,7 +101,7 @@ fn is_new(ids: &Ids, pages: &mut Pages, id: &[u8]) -> Result<bool, Memory>
 }
 
 impl Noted {
-    /// None, with room for so many.
+    /// No ids, with room for so many.
     pub fn nothing(alloc: Global, room: usize) -> Result<Noted, Memory>
         ensures { IfOk result (λ noted. noted ≡ []) }
     {

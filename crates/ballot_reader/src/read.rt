@@ -3,7 +3,7 @@ ghost use Rattle.std.specs.Prelude.{◌≡◌, ◌<◌, ◌≤◌, ◌+◌, [], 
 ghost use Rattle.csv_rows.specs.Fields.{numbered};
 ghost use Rattle.irv_base.specs.Names.{all_differ};
 ghost use Rattle.ballot_reader.specs.declared.limits.TheConstants.{MOST_CONTESTS};
-ghost use Rattle.ballot_reader.specs.Grammar.{Ballot, Contest as ContestRecord, asked_for, ballots_after, ballots_behind, ballots_of, contests_in, file_of, has_audited_size, sized};
+ghost use Rattle.ballot_reader.specs.Grammar.{Ballot, Contest as ContestRecord, asked_for, ballots_after, ballots_behind, ballots_of, contests_in, file_of, has_audited_size, audited_contest};
 ghost use Rattle.ballot_reader.specs.Faults.{Refuses};
 ghost use Rattle.ballot_reader.specs.Kept.{IsKept, contest_ids};
 
@@ -78,9 +78,9 @@ fn audited_place(contests: &[Contest], asked: Option<&Name>) -> Result<usize, Ba
     ensures within { IfOk result (λ k. k < length contests.now) }
     ensures audited { IfOk result (λ k. (chosen : ContestRecord)
         × (slice_get contests.now k ≡ Some chosen)
-        × (sized (asked_for contests.now (option_copied asked.entry)) ≡ Ok chosen)) }
+        × (audited_contest (asked_for contests.now (option_copied asked.entry)) ≡ Ok chosen)) }
     ensures refused { IfErr result
-        (Refuses (sized (asked_for contests.now (option_copied asked.entry)))) }
+        (Refuses (audited_contest (asked_for contests.now (option_copied asked.entry)))) }
 {
     let Some(place) = asked_place(contests, asked) else {
         return Err(BallotFault::Refused {

@@ -20,7 +20,8 @@ module _ (nodes : ℕ) (ballots : BallotFile) (file : Content) (about : is_about
 
   pub tie-fault : (n : ℕ) → n ≡ length ballots.candidates → (fault : CheckFault) → IsTied n ballots.rankings fault → IsFault nodes ballots file fault
   tie-fault n e (Tie round tied tally) h =
-      judged (Err (Tie round tied tally)) (record { outcome = Tied round tied tally; tabulated = (h.0, subst (λ k. IsFirstTie k ballots.rankings round tied tally) e h.1); answer_is = refl })
+      judged (Err (Tie round tied tally))
+      (record { outcome = Tied round tied tally; tabulated = (h.0, subst (λ k. IsFirstTie k ballots.rankings round tied tally) e h.1); answer_is = refl })
   tie-fault n e (Spent last) h = absurd h
   tie-fault n e Memory h = h
 
@@ -34,7 +35,8 @@ module _ (nodes : ℕ) (ballots : BallotFile) (file : Content) (about : is_about
     checked-answer (Ok checked) h = found_is (Ok checked) h
     checked-answer (Err fault) h = h
 
-    fault-one : (fault : CheckFault) → IsErrOf (first_found (findings nodes ballots.rankings file winner) (Ok Accepted)) fault → IsFault nodes ballots file fault
+    fault-one : (fault : CheckFault) → IsErrOf (first_found (findings nodes ballots.rankings file winner) (Ok Accepted)) fault →
+        IsFault nodes ballots file fault
     fault-one (Tie round tied tally) h = found_is (Err (Tie round tied tally)) h
     fault-one (Spent last) h = found_is (Err (Spent last)) h
     fault-one Memory h = h

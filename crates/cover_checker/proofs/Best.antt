@@ -37,19 +37,23 @@ module _ (ballots : BallotFile) (file : Content) (sound : IsSound file) (h : Hol
   best-reached =
       let (whole, (c, ne, elects)) = h.alternative in
       let le : best ≤ low (candidate_count file) ballots.rankings file.order =
-      best-le (candidate_count file) file.winner (low (candidate_count file) ballots.rankings) file.order (alternative-member (candidate_count file) file.winner c file.order whole ne elects) in
+      best-le (candidate_count file) file.winner (low (candidate_count file) ballots.rankings) file.order
+      (alternative-member (candidate_count file) file.winner c file.order whole ne elects) in
       omega (arith, le, h.hardest)
 
   margin-reached : file.margin ≤ best
-  margin-reached = at_best (best_is (candidate_count file) file.winner (low (candidate_count file) ballots.rankings) sound.winner (omega (arith, sound.fewest))) where
-    at_best : (order : List ℕ) × Member order (alternative_orders (candidate_count file) file.winner) × (low (candidate_count file) ballots.rankings order ≡ best) → file.margin ≤ best
-    at_best (order, m, e) =
-        let (claim, k, r) = h.cover order (from_alternative (candidate_count file) file.winner order m) in
-        let proper : IsSoundClaim (candidate_count file) file.records claim = All-contains (IsSoundClaim (candidate_count file) file.records) file.claims claim sound.claims k in
-        let its = its-margin ballots.rankings claim proper.margin.some (All-contains (HasItsMargin ballots.rankings) file.claims claim h.margins k) in
-        let below = low-refuter (candidate_count file) ballots.rankings order claim.assertion proper.proper r in
-        let above = All-contains (λ claim. file.margin ≤ claim.margin) file.claims claim h.smallest k in
-        omega (arith, its, below, above, e)
+  margin-reached = at_best (best_is (candidate_count file) file.winner (low (candidate_count file) ballots.rankings) sound.winner
+      (omega (arith, sound.fewest))) where
+        at_best : (order : List ℕ) × Member order (alternative_orders (candidate_count file) file.winner) ×
+            (low (candidate_count file) ballots.rankings order ≡ best) → file.margin ≤ best
+        at_best (order, m, e) =
+            let (claim, k, r) = h.cover order (from_alternative (candidate_count file) file.winner order m) in
+            let proper : IsSoundClaim (candidate_count file) file.records claim =
+            All-contains (IsSoundClaim (candidate_count file) file.records) file.claims claim sound.claims k in
+            let its = its-margin ballots.rankings claim proper.margin.some (All-contains (HasItsMargin ballots.rankings) file.claims claim h.margins k) in
+            let below = low-refuter (candidate_count file) ballots.rankings order claim.assertion proper.proper r in
+            let above = All-contains (λ claim. file.margin ≤ claim.margin) file.claims claim h.smallest k in
+            omega (arith, its, below, above, e)
 
   held_is_best : file.margin ≡ best
   held_is_best = omega (arith, best-reached, margin-reached)

@@ -50,13 +50,15 @@ module _ (n winner nodes : ℕ) (records : List (List ℕ)) (positive : 0 < best
     go (Some order) e = absurd (stands_not_covers n winner nodes listed order e (certificate_covers n winner records positive))
 
   -- what counts is what is below the best margin
-  stands-below : (c : ℕ) (suffix : List ℕ) → c < n → c ≢ winner → Member suffix (parts_ending n c) → (stands listed suffix && true) ≡ nat_lt (low n records suffix) best
+  stands-below : (c : ℕ) (suffix : List ℕ) → c < n → c ≢ winner → Member suffix (parts_ending n c) →
+      (stands listed suffix && true) ≡ nat_lt (low n records suffix) best
   stands-below c suffix below ne m =
       let (proper, elects, short) = (parts_ending_are n c suffix below).0 (contains-from_member m) in
       let refuted = certificate_refutes n winner c records suffix positive proper elects ne in
       elim (cases_lt (low n records suffix) best) [
         | inl lt ↦
-            let free : list_any (λ a. refutes a suffix) listed ≡ false = elim (cases_Bool (list_any (λ a. refutes a suffix) listed)) [ inl t ↦ absurd (omega (arith, lt, refuted.0 t)) | inr f ↦ f ] in
+            let free : list_any (λ a. refutes a suffix) listed ≡ false =
+            elim (cases_Bool (list_any (λ a. refutes a suffix) listed)) [ inl t ↦ absurd (omega (arith, lt, refuted.0 t)) | inr f ↦ f ] in
             ap (λ b. not b && true) free ∙ sym (lt-ltb (low n records suffix) best lt)
         | inr ge ↦ ap (λ b. not b && true) (refuted.1 ge) ∙ sym (le-ltb (low n records suffix) best ge)
       ]
@@ -64,7 +66,8 @@ module _ (n winner nodes : ℕ) (records : List (List ℕ)) (positive : 0 < best
   count-below : (c : ℕ) → c < n → c ≢ winner → standing_count n winner listed c ≡ cover_count n (low n records) best c
   count-below c below ne =
       ap (λ o. count_by (λ suffix. stands listed suffix && is_passed o suffix) (parts_ending n c)) no_order
-      ∙ count-same (λ suffix. stands listed suffix && true) (λ suffix. nat_lt (low n records suffix) best) (parts_ending n c) (λ suffix m. stands-below c suffix below ne m)
+      ∙ count-same (λ suffix. stands listed suffix && true) (λ suffix. nat_lt (low n records suffix) best) (parts_ending n c)
+      (λ suffix m. stands-below c suffix below ne m)
 
   module _ (within : (c : ℕ) → c < n → c ≢ winner → cover_count n (low n records) best c ≤ nodes) where
     none_over : first_over n winner listed nodes ≡ None
@@ -119,17 +122,23 @@ module _ (ballots : BallotFile) (file : Content) (sound : IsSound file) (is : Is
       margins : (claim : Claim) → Member claim file.claims → HasItsMargin ballots.rankings claim
       margins claim m =
           let (a, k, e) = from_own claim m in
-          let t : is_true ballots.rankings a ≡ true = from_list_all (is_true ballots.rankings) k (certificate_is_true (candidate_count file) file.winner ballots.rankings) in
+          let t : is_true ballots.rankings a ≡ true = from_list_all (is_true ballots.rankings) k
+          (certificate_is_true (candidate_count file) file.winner ballots.rankings) in
           subst (HasItsMargin ballots.rankings) e (sym ((true_margin_is ballots.rankings a).1 t))
 
-      cover : (order : List ℕ) → IsAlternative (candidate_count file) file.winner order → (claim : Claim) × Contains file.claims claim × (refutes claim.assertion order ≡ true)
+      cover : (order : List ℕ) → IsAlternative (candidate_count file) file.winner order → (claim : Claim) × Contains file.claims claim ×
+          (refutes claim.assertion order ≡ true)
       cover order (whole, (c, ne, elects)) =
-          let (a, m, r) = from_covers (candidate_count file) file.winner own order (certificate_covers (candidate_count file) file.winner ballots.rankings some_best) (alternative-member (candidate_count file) file.winner c order whole ne elects) in
+          let (a, m, r) = from_covers (candidate_count file) file.winner own order
+          (certificate_covers (candidate_count file) file.winner ballots.rankings some_best)
+          (alternative-member (candidate_count file) file.winner c order whole ne elects) in
           refuting_claim file.claims order a (subst (Member a) (sym own_assertions) m) r
 
-      reached : (a : Assertion) × Contains own a × (true_margin ballots.rankings a ≡ least_of) → (claim : Claim) × Contains file.claims claim × (claim.margin ≡ file.margin)
+      reached : (a : Assertion) × Contains own a × (true_margin ballots.rankings a ≡ least_of) →
+          (claim : Claim) × Contains file.claims claim × (claim.margin ≡ file.margin)
       reached (a, k, e) =
-          let m : Member (claim_of ballots.rankings a) file.claims = subst (Member (claim_of ballots.rankings a)) (sym is.claims) (member-map (claim_of ballots.rankings) (member-from_contains a own k)) in
+          let m : Member (claim_of ballots.rankings a) file.claims =
+          subst (Member (claim_of ballots.rankings a)) (sym is.claims) (member-map (claim_of ballots.rankings) (member-from_contains a own k)) in
           (claim_of ballots.rankings a, contains-from_member m, e ∙ sym is.margin)
 
       smallest : (claim : Claim) → Member claim file.claims → file.margin ≤ claim.margin
@@ -138,11 +147,14 @@ module _ (ballots : BallotFile) (file : Content) (sound : IsSound file) (is : Is
           let le : least_of ≤ true_margin ballots.rankings a = certificate-le (candidate_count file) file.winner ballots.rankings a k in
           subst (λ claim. file.margin ≤ claim.margin) e (omega (arith, le, is.margin))
 
-      found : Member file.order (alternative_orders (candidate_count file) file.winner) × ((low (candidate_count file) ballots.rankings file.order == file.margin) ≡ true)
-      found = from_find (λ order. low (candidate_count file) ballots.rankings order == file.margin) file.order (alternative_orders (candidate_count file) file.winner) is.order
+      found : Member file.order (alternative_orders (candidate_count file) file.winner) ×
+          ((low (candidate_count file) ballots.rankings file.order == file.margin) ≡ true)
+      found = from_find (λ order. low (candidate_count file) ballots.rankings order == file.margin) file.order
+          (alternative_orders (candidate_count file) file.winner) is.order
 
 pub certificate_is_accepted : (nodes : ℕ) (ballots : BallotFile) (file : Content) → IsSound file → IsCertificateOf ballots file →
-    ((c : ℕ) → c < candidate_count file → c ≢ file.winner → cover_count (candidate_count file) (low (candidate_count file) ballots.rankings) file.margin c ≤ nodes) →
+    ((c : ℕ) → c < candidate_count file → c ≢ file.winner → cover_count (candidate_count file) (low (candidate_count file) ballots.rankings) file.margin
+    c ≤ nodes) →
     IsAnswer nodes ballots file (Ok Accepted)
 certificate_is_accepted nodes ballots file sound is within =
     let n = candidate_count file in

@@ -23,7 +23,8 @@ module _ (n winner nodes : ℕ) (list : List Assertion) where
   none-enough h c below ne =
       elim (cases_lt nodes (standing_count n winner list c)) [
         | inl lt ↦
-            let m : Member c (all_but n winner) = member-filter (λ d. not (d == winner)) (candidates n) (candidate-member c n below) (not_from_false (c == winner) (ne_eqb c winner ne)) in
+            let m : Member c (all_but n winner) = member-filter (λ d. not (d == winner)) (candidates n) (candidate-member c n below)
+            (not_from_false (c == winner) (ne_eqb c winner ne)) in
             let (d, e) = find-member is_over c (all_but n winner) m (lt-ltb nodes (standing_count n winner list c) lt) in
             cc
         | inr le ↦ le
@@ -46,7 +47,8 @@ module _ (n winner nodes : ℕ) (list : List Assertion) where
   -- what is called covered is within the budget, and what covers within it is called so
   pub covered-enough : covered_is n winner list nodes ≡ Ok Covered → IsEnough nodes n winner list
   covered-enough h = go (first_over n winner list nodes) refl h where
-    go : (o : Option ℕ) → first_over n winner list nodes ≡ o → or_spent o (verdict_on (standing_order n winner list)) ≡ Ok Covered → IsEnough nodes n winner list
+    go : (o : Option ℕ) → first_over n winner list nodes ≡ o → or_spent o (verdict_on (standing_order n winner list)) ≡ Ok Covered →
+        IsEnough nodes n winner list
     go None e k = none-enough e
     go (Some last) e k = cc
 
@@ -64,4 +66,5 @@ module _ (n winner nodes : ℕ) (list : List Assertion) where
         omega (arith, length-filter p xs, length-filter_both p (λ x. not (p x)) (λ x. refl) xs)
 
   pub never_spent : (last : ℕ) → 2 * factorial (n - 1) ≤ nodes → covered_is n winner list nodes ≡ Err (Spent last) → ⊥
-  never_spent last le h = let e = enough-verdict (never_over le) in let same : Ok (verdict_on (standing_order n winner list)) ≡ Err (Spent last) = sym e ∙ h in cc
+  never_spent last le h = let e = enough-verdict (never_over le) in let same : Ok (verdict_on (standing_order n winner list)) ≡ Err (Spent last) = sym e
+      ∙ h in cc

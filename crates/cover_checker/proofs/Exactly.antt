@@ -15,7 +15,8 @@ module _ (nodes : ℕ) (ballots : BallotFile) (file : Content) (sound : IsSound 
   pub accepted-covered : IsAnswer nodes ballots file (Ok Accepted) → covered_is (candidate_count file) file.winner (assertions_of file) nodes ≡ Ok Covered
   accepted-covered h = held-covered nodes ballots file Accepted (accepted-held nodes ballots file sound h) h
 
-  pub accepted_exactly : IsAnswer nodes ballots file (Ok Accepted) ↔ (Holds ballots file × IsEnough nodes (candidate_count file) file.winner (assertions_of file))
+  pub accepted_exactly : IsAnswer nodes ballots file (Ok Accepted) ↔
+      (Holds ballots file × IsEnough nodes (candidate_count file) file.winner (assertions_of file))
   accepted_exactly = (
     λ h. (accepted-held nodes ballots file sound h, covered-enough (candidate_count file) file.winner nodes (assertions_of file) (accepted-covered h)),
     λ p. held-accepted nodes ballots file p.0 (covers-covered (candidate_count file) file.winner nodes (assertions_of file) (held-covers ballots file p.0) p.1),

@@ -32,7 +32,8 @@ module _ (nodes : ℕ) (ballots : BallotFile) (file : Content) where
   abbrev HasAnswer : Type 0
   HasAnswer = (answer : Answer) × IsAnswer nodes ballots file answer
 
-  by_order : is_about ballots file ≡ true → (order : List ℕ) → 0 < length ballots.candidates → is_order (length ballots.candidates) order ≡ true → is_tabulated ballots.rankings order ≡ true → HasAnswer
+  by_order : is_about ballots file ≡ true → (order : List ℕ) → 0 < length ballots.candidates → is_order (length ballots.candidates) order ≡ true →
+      is_tabulated ballots.rankings order ≡ true → HasAnswer
   by_order about [] some whole tab = absurd (omega (arith, some, (order_facts (length ballots.candidates) [] whole).long))
   by_order about (x ∷ xs) some whole tab =
       let (before, winner, e) = last_split x xs in
@@ -74,7 +75,8 @@ module _ (nodes : ℕ) (ballots : BallotFile) (file : Content) where
 abbrev NeverFails : Option Answer → Type 0
 NeverFails found = (fault : CheckFault) → found ≡ Some (Err fault) → ⊥
 
-from_failed : (found : Option Answer) (more : List (Option Answer)) (fault : CheckFault) → NeverFails found → first_found (found ∷ more) (Ok Accepted) ≡ Err fault → first_found more (Ok Accepted) ≡ Err fault
+from_failed : (found : Option Answer) (more : List (Option Answer)) (fault : CheckFault) → NeverFails found →
+    first_found (found ∷ more) (Ok Accepted) ≡ Err fault → first_found more (Ok Accepted) ≡ Err fault
 from_failed None more fault never h = h
 from_failed (Some (Ok checked)) more fault never h = cc
 from_failed (Some (Err other)) more fault never h = absurd (never other refl)
@@ -94,20 +96,23 @@ margins-never : (records : List (List ℕ)) (at : ℕ) (claims : List Claim) →
 unfolding found-at
 margins-never records at [] fault h = cc
 margins-never records at (claim ∷ claims) fault h = go (has_other_margin records claim) (margins-never records (at + 1) claims fault) h where
-  go : (b : Bool) → (other_margin_from records (at + 1) claims ≡ Some (Err fault) → ⊥) → (if b then found-at records at claim else other_margin_from records (at + 1) claims) ≡ Some (Err fault) → ⊥
+  go : (b : Bool) → (other_margin_from records (at + 1) claims ≡ Some (Err fault) → ⊥) →
+      (if b then found-at records at claim else other_margin_from records (at + 1) claims) ≡ Some (Err fault) → ⊥
   go true rest k = cc
   go false rest k = rest k
 
 harder-never : (records : List (List ℕ)) (file : Content) → NeverFails (harder records file)
-harder-never records file fault h = go (nat_lt file.margin (low (candidate_count file) records file.order)) (refuter (candidate_count file) records file.order) h where
-  go : (b : Bool) (o : Option Assertion) → (if b then refuted_by (low (candidate_count file) records file.order) o else None) ≡ Some (Err fault) → ⊥
-  go true None k = cc
-  go true (Some a) k = cc
-  go false o k = cc
+harder-never records file fault h = go (nat_lt file.margin (low (candidate_count file) records file.order))
+    (refuter (candidate_count file) records file.order) h where
+      go : (b : Bool) (o : Option Assertion) → (if b then refuted_by (low (candidate_count file) records file.order) o else None) ≡ Some (Err fault) → ⊥
+      go true None k = cc
+      go true (Some a) k = cc
+      go false o k = cc
 
 uncovered-never : (nodes : ℕ) (file : Content) → IsEnough nodes (candidate_count file) file.winner (assertions_of file) → NeverFails (uncovered nodes file)
 uncovered-never nodes file enough fault h =
-    go (verdict_on (standing_order (candidate_count file) file.winner (assertions_of file))) (ap unless_covered (sym (enough-verdict (candidate_count file) file.winner nodes (assertions_of file) enough)) ∙ h)
+    go (verdict_on (standing_order (candidate_count file) file.winner (assertions_of file)))
+    (ap unless_covered (sym (enough-verdict (candidate_count file) file.winner nodes (assertions_of file) enough)) ∙ h)
   where
     go : (v : Verdict) → unless_covered (Ok v) ≡ Some (Err fault) → ⊥
     go Covered k = cc
@@ -119,7 +124,8 @@ module _ (nodes : ℕ) (ballots : BallotFile) (file : Content) (last : ℕ) (le 
   by_outcome (Tied round tied votes) h = cc
   by_outcome (Won winner) h =
       let records = ballots.rankings in
-      let rest-winner : List (Option Answer) = other_margin records file ∷ uncovered nodes file ∷ other_smallest file ∷ elected file ∷ harder records file ∷ [] in
+      let rest-winner : List (Option Answer) = other_margin records file ∷ uncovered nodes file ∷ other_smallest file ∷ elected file ∷ harder records file ∷
+      [] in
       let rest-margin : List (Option Answer) = uncovered nodes file ∷ other_smallest file ∷ elected file ∷ harder records file ∷ [] in
       let rest-cover : List (Option Answer) = other_smallest file ∷ elected file ∷ harder records file ∷ [] in
       let rest-smallest : List (Option Answer) = elected file ∷ harder records file ∷ [] in
@@ -128,7 +134,8 @@ module _ (nodes : ℕ) (ballots : BallotFile) (file : Content) (last : ℕ) (le 
       let b = from_failed (other_margin records file) rest-margin (SpentAt last) (margins-never records 1 file.claims) a in
       let enough = never_over (candidate_count file) file.winner nodes (assertions_of file) le in
       let c = from_failed (uncovered nodes file) rest-cover (SpentAt last) (uncovered-never nodes file enough) b in
-      let d = from_failed (other_smallest file) rest-smallest (SpentAt last) (unless-never (smallest_margin file == file.margin) (NotLeast (smallest_margin file))) c in
+      let d = from_failed (other_smallest file) rest-smallest (SpentAt last)
+      (unless-never (smallest_margin file == file.margin) (NotLeast (smallest_margin file))) c in
       let e = from_failed (elected file) rest-elected (SpentAt last) (when-never (elects file.order file.winner) NotAlternative) d in
       let f : Ok Accepted ≡ Err (SpentAt last) = from_failed (harder records file) [] (SpentAt last) (harder-never records file) e in
       cc

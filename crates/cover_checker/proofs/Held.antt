@@ -64,7 +64,8 @@ record Facts (nodes : ℕ) (records : List (List ℕ)) (file : Content) (winner 
 module _ (nodes : ℕ) (records : List (List ℕ)) (file : Content) (winner : ℕ) where
   facts-accepted : first_found (findings nodes records file winner) (Ok Accepted) ≡ Ok Accepted → Facts nodes records file winner
   facts-accepted h =
-      let rest-winner : List (Option Answer) = other_margin records file ∷ uncovered nodes file ∷ other_smallest file ∷ elected file ∷ harder records file ∷ [] in
+      let rest-winner : List (Option Answer) = other_margin records file ∷ uncovered nodes file ∷ other_smallest file ∷ elected file ∷ harder records file ∷
+      [] in
       let rest-margin : List (Option Answer) = uncovered nodes file ∷ other_smallest file ∷ elected file ∷ harder records file ∷ [] in
       let rest-cover : List (Option Answer) = other_smallest file ∷ elected file ∷ harder records file ∷ [] in
       let rest-smallest : List (Option Answer) = elected file ∷ harder records file ∷ [] in
@@ -86,10 +87,13 @@ module _ (nodes : ℕ) (records : List (List ℕ)) (file : Content) (winner : �
 
   -- what is found after the margins are right
   to_cover : file.winner ≡ winner → All (HasItsMargin records) file.claims →
-      first_found (findings nodes records file winner) (Ok Accepted) ≡ first_found (uncovered nodes file ∷ other_smallest file ∷ elected file ∷ harder records file ∷ []) (Ok Accepted)
+      first_found (findings nodes records file winner) (Ok Accepted)
+      ≡ first_found (uncovered nodes file ∷ other_smallest file ∷ elected file ∷ harder records file ∷ []) (Ok Accepted)
   to_cover same margins =
-      passed (other_winner winner file) (other_margin records file ∷ uncovered nodes file ∷ other_smallest file ∷ elected file ∷ harder records file ∷ []) (none-winner winner file same)
-      ∙ passed (other_margin records file) (uncovered nodes file ∷ other_smallest file ∷ elected file ∷ harder records file ∷ []) (none-margins records 1 file.claims margins)
+      passed (other_winner winner file) (other_margin records file ∷ uncovered nodes file ∷ other_smallest file ∷ elected file ∷ harder records file ∷ [])
+      (none-winner winner file same)
+      ∙ passed (other_margin records file) (uncovered nodes file ∷ other_smallest file ∷ elected file ∷ harder records file ∷ [])
+      (none-margins records 1 file.claims margins)
 
   accepted-facts : Facts nodes records file winner → first_found (findings nodes records file winner) (Ok Accepted) ≡ Ok Accepted
   accepted-facts h =
@@ -105,7 +109,8 @@ all-from_members P [] h = All-nil P
 all-from_members P (x ∷ xs) h = All-cons P x xs (h x here) (all-from_members P xs (λ y m. h y (there m)))
 
 -- one of the claims refutes the order
-pub refuting_claim : (claims : List Claim) (order : List ℕ) (a : Assertion) → Member a (map assertion_in claims) → refutes a order ≡ true → (claim : Claim) × Contains claims claim × (refutes claim.assertion order ≡ true)
+pub refuting_claim : (claims : List Claim) (order : List ℕ) (a : Assertion) → Member a (map assertion_in claims) → refutes a order ≡ true →
+    (claim : Claim) × Contains claims claim × (refutes claim.assertion order ≡ true)
 refuting_claim claims order a m r = let (claim, k, e) = from_map assertion_in a claims m in (claim, contains-from_member k, ap (λ a. refutes a order) e ∙ r)
 
 -- ---- who stands last
@@ -137,9 +142,11 @@ module _ (ballots : BallotFile) (file : Content) where
       omega (arith, below, above, e)
     where
       at_least : (least : Claim) × Member least file.claims × (least.margin ≡ smallest_margin file) → file.margin ≤ smallest_margin file
-      at_least (least, k, e) = subst (λ m. file.margin ≤ m) e (All-contains (λ claim. file.margin ≤ claim.margin) file.claims least h.smallest (contains-from_member k))
+      at_least (least, k, e) = subst (λ m. file.margin ≤ m) e
+          (All-contains (λ claim. file.margin ≤ claim.margin) file.claims least h.smallest (contains-from_member k))
 
-  held-facts : (nodes : ℕ) → Holds ballots file → covered_is (candidate_count file) file.winner (assertions_of file) nodes ≡ Ok Covered → Facts nodes ballots.rankings file file.winner
+  held-facts : (nodes : ℕ) → Holds ballots file → covered_is (candidate_count file) file.winner (assertions_of file) nodes ≡ Ok Covered →
+      Facts nodes ballots.rankings file file.winner
   held-facts nodes h covered = record {
     same = refl;
     margins = h.margins;
@@ -149,10 +156,12 @@ module _ (ballots : BallotFile) (file : Content) where
     hardest = h.hardest;
   }
 
-  facts-held : (nodes winner : ℕ) → IsSound file → About ballots file → IsWinner (candidate_count file) ballots.rankings winner → Facts nodes ballots.rankings file winner → Holds ballots file
+  facts-held : (nodes winner : ℕ) → IsSound file → About ballots file → IsWinner (candidate_count file) ballots.rankings winner →
+      Facts nodes ballots.rankings file winner → Holds ballots file
   facts-held nodes winner sound about won f =
       let two : 1 < candidate_count file = omega (arith, sound.fewest) in
-      let cover : covers (candidate_count file) file.winner (assertions_of file) ≡ true = (covered_iff_covers (candidate_count file) file.winner nodes (assertions_of file) Covered f.covered).0 refl in
+      let cover : covers (candidate_count file) file.winner (assertions_of file) ≡ true =
+      (covered_iff_covers (candidate_count file) file.winner nodes (assertions_of file) Covered f.covered).0 refl in
       record {
         contest = about.contest;
         candidates = about.candidates;
@@ -160,7 +169,8 @@ module _ (ballots : BallotFile) (file : Content) where
         winner = subst (λ w. IsWinner (candidate_count file) ballots.rankings w) (sym f.same) won;
         margins = f.margins;
         cover = λ order alternative.
-            let (a, m, r) = from_covers (candidate_count file) file.winner (assertions_of file) order cover (alternative-member (candidate_count file) file.winner alternative.1.0 order alternative.0 alternative.1.1 alternative.1.2) in
+            let (a, m, r) = from_covers (candidate_count file) file.winner (assertions_of file) order cover
+            (alternative-member (candidate_count file) file.winner alternative.1.0 order alternative.0 alternative.1.1 alternative.1.2) in
             refuting_claim file.claims order a m r;
         reached = reached two cover (some_alternative (candidate_count file) file.winner sound.winner two);
         smallest = all-from_members (λ claim. file.margin ≤ claim.margin) file.claims (λ claim m.
@@ -170,7 +180,8 @@ module _ (ballots : BallotFile) (file : Content) where
         hardest = f.hardest;
       }
     where
-      reached : 1 < candidate_count file → covers (candidate_count file) file.winner (assertions_of file) ≡ true → (order : List ℕ) × Member order (alternative_orders (candidate_count file) file.winner) →
+      reached : 1 < candidate_count file → covers (candidate_count file) file.winner (assertions_of file) ≡ true →
+          (order : List ℕ) × Member order (alternative_orders (candidate_count file) file.winner) →
           (claim : Claim) × Contains file.claims claim × (claim.margin ≡ file.margin)
       reached two cover (order, m) =
           let (a, k, r) = from_covers (candidate_count file) file.winner (assertions_of file) order cover m in
@@ -182,9 +193,11 @@ module _ (ballots : BallotFile) (file : Content) where
 module _ (nodes : ℕ) (ballots : BallotFile) (file : Content) where
   pub accepted-held : IsSound file → IsAnswer nodes ballots file (Ok Accepted) → Holds ballots file
   accepted-held sound h = go (cases_Bool (is_about ballots file)) where
-    by_outcome : About ballots file → (outcome : Outcome) → IsOutcome (length ballots.candidates) ballots.rankings outcome → checked_is nodes ballots.rankings file outcome ≡ Ok Accepted → Holds ballots file
+    by_outcome : About ballots file → (outcome : Outcome) → IsOutcome (length ballots.candidates) ballots.rankings outcome →
+        checked_is nodes ballots.rankings file outcome ≡ Ok Accepted → Holds ballots file
     by_outcome about (Won winner) won e =
-        facts-held ballots file nodes winner sound about (subst (λ n. IsWinner n ballots.rankings winner) (sym (ap length about.candidates)) won) (facts-accepted nodes ballots.rankings file winner e)
+        facts-held ballots file nodes winner sound about (subst (λ n. IsWinner n ballots.rankings winner) (sym (ap length about.candidates)) won)
+        (facts-accepted nodes ballots.rankings file winner e)
     by_outcome about (Tied round tied tally) first e = cc
 
     other : (answer : Answer) → is_about ballots file ≡ false → IsAnswer nodes ballots file answer → answer ≡ Ok OtherContest
@@ -194,7 +207,8 @@ module _ (nodes : ℕ) (ballots : BallotFile) (file : Content) where
     go (inl t) = let j = from_answer nodes ballots file t (Ok Accepted) h in by_outcome (from_about ballots file t) j.outcome j.tabulated j.answer_is
     go (inr f) = let e = other (Ok Accepted) f h in cc
 
-  pub held-accepted : Holds ballots file → covered_is (candidate_count file) file.winner (assertions_of file) nodes ≡ Ok Covered → IsAnswer nodes ballots file (Ok Accepted)
+  pub held-accepted : Holds ballots file → covered_is (candidate_count file) file.winner (assertions_of file) nodes ≡ Ok Covered →
+      IsAnswer nodes ballots file (Ok Accepted)
   held-accepted h covered =
       let about : About ballots file = record { contest = h.contest; candidates = h.candidates; records = h.records } in
       judged nodes ballots file (about-from ballots file about) (Ok Accepted) (record {
@@ -204,24 +218,30 @@ module _ (nodes : ℕ) (ballots : BallotFile) (file : Content) where
       })
 
   -- where there is an answer, no budget was spent
-  pub held-covered : (checked : Checked) → Holds ballots file → IsAnswer nodes ballots file (Ok checked) → covered_is (candidate_count file) file.winner (assertions_of file) nodes ≡ Ok Covered
+  pub held-covered : (checked : Checked) → Holds ballots file → IsAnswer nodes ballots file (Ok checked) →
+      covered_is (candidate_count file) file.winner (assertions_of file) nodes ≡ Ok Covered
   held-covered checked h answer =
       let about : About ballots file = record { contest = h.contest; candidates = h.candidates; records = h.records } in
       let j = from_answer nodes ballots file (about-from ballots file about) (Ok checked) answer in
       by_outcome j.outcome j.tabulated j.answer_is
     where
       by_cover : (result : Result Verdict CoverFault) → covered_is (candidate_count file) file.winner (assertions_of file) nodes ≡ result →
-          first_found (unless_covered result ∷ other_smallest file ∷ elected file ∷ harder ballots.rankings file ∷ []) (Ok Accepted) ≡ Ok checked → result ≡ Ok Covered
-      by_cover (Ok verdict) e found = ap Ok ((covered_iff_covers (candidate_count file) file.winner nodes (assertions_of file) verdict e).1 (held-covers ballots file h))
+          first_found (unless_covered result ∷ other_smallest file ∷ elected file ∷ harder ballots.rankings file ∷ []) (Ok Accepted) ≡ Ok checked →
+          result ≡ Ok Covered
+      by_cover (Ok verdict) e found =
+          ap Ok ((covered_iff_covers (candidate_count file) file.winner nodes (assertions_of file) verdict e).1 (held-covers ballots file h))
       by_cover (Err (CoverSpent last)) e found = cc
       by_cover (Err CoverMemory) e found = cc
 
-      by_outcome : (outcome : Outcome) → IsOutcome (length ballots.candidates) ballots.rankings outcome → checked_is nodes ballots.rankings file outcome ≡ Ok checked →
+      by_outcome : (outcome : Outcome) → IsOutcome (length ballots.candidates) ballots.rankings outcome →
+          checked_is nodes ballots.rankings file outcome ≡ Ok checked →
           covered_is (candidate_count file) file.winner (assertions_of file) nodes ≡ Ok Covered
       by_outcome (Won winner) won e =
-          let own : IsWinner (length ballots.candidates) ballots.rankings file.winner = subst (λ n. IsWinner n ballots.rankings file.winner) (ap length h.candidates) h.winner in
+          let own : IsWinner (length ballots.candidates) ballots.rankings file.winner =
+          subst (λ n. IsWinner n ballots.rankings file.winner) (ap length h.candidates) h.winner in
           let same : file.winner ≡ winner = one_winner (length ballots.candidates) ballots.rankings file.winner winner own won in
-          by_cover (covered_is (candidate_count file) file.winner (assertions_of file) nodes) refl (sym (to_cover nodes ballots.rankings file winner same h.margins) ∙ e)
+          by_cover (covered_is (candidate_count file) file.winner (assertions_of file) nodes) refl
+          (sym (to_cover nodes ballots.rankings file winner same h.margins) ∙ e)
       by_outcome (Tied round tied tally) first e = cc
 
   pub accepted_iff_holds : (checked : Checked) → IsSound file → IsAnswer nodes ballots file (Ok checked) → ((checked ≡ Accepted) ↔ Holds ballots file)

@@ -25,7 +25,8 @@ eq-turned a b = elim (cases_eq a b) [
 ]
 
 -- one place passes where it passed or b holds, and each other as before
-any-more : (p q : ℕ → Bool) (b : Bool) (w : ℕ) (xs : List ℕ) → Member w xs → q w ≡ (p w || b) → ((v : ℕ) → (v ≡ w → ⊥) → q v ≡ p v) → list_any q xs ≡ (list_any p xs || b)
+any-more : (p q : ℕ → Bool) (b : Bool) (w : ℕ) (xs : List ℕ) → Member w xs → q w ≡ (p w || b) → ((v : ℕ) → (v ≡ w → ⊥) → q v ≡ p v) →
+    list_any q xs ≡ (list_any p xs || b)
 any-more p q b w xs m here' other = both (list_any q xs) (list_any p xs || b) to from where
   to : list_any q xs ≡ true → (list_any p xs || b) ≡ true
   to h =
@@ -62,12 +63,14 @@ or-false false = refl
 any-filter : (p q : ℕ → Bool) (xs : List ℕ) → list_any p (filter q xs) ≡ list_any (λ v. q v && p v) xs
 any-filter p q [] = refl
 any-filter p q (x ∷ xs) = go (q x) (any-filter p q xs) where
-  go : (b : Bool) → list_any p (filter q xs) ≡ list_any (λ v. q v && p v) xs → list_any p (cond b (x ∷ filter q xs) (filter q xs)) ≡ ((b && p x) || list_any (λ v. q v && p v) xs)
+  go : (b : Bool) → list_any p (filter q xs) ≡ list_any (λ v. q v && p v) xs → list_any p (cond b (x ∷ filter q xs) (filter q xs))
+      ≡ ((b && p x) || list_any (λ v. q v && p v) xs)
   go true e = ap (λ r. p x || r) e
   go false e = e
 
 -- a winner is added to those of l
-pub beaten-more : (winners : List ℕ) (w l old x first st : ℕ) → w < ROOM → l < ROOM → length winners ≡ ROOM → ((d : ℕ) → has x d ≡ (has (get_or winners l old) d || (d == w))) →
+pub beaten-more : (winners : List ℕ) (w l old x first st : ℕ) → w < ROOM → l < ROOM → length winners ≡ ROOM →
+    ((d : ℕ) → has x d ≡ (has (get_or winners l old) d || (d == w))) →
     is_beaten (set winners l x) first st ≡ (is_beaten winners first st || ((l == first) && not (has st w)))
 beaten-more winners w l old x first st inside below long more =
     elim (cases_eq l first) [
@@ -78,10 +81,13 @@ beaten-more winners w l old x first st inside below long more =
           ap (λ b. b && not (has st w)) (more w ∙ ap₂ (λ y b. has y w || b) same (eq-eqb w w refl)) ∙ spread-or (has before w) (not (has st w)) in
           let other : (v : ℕ) → (v ≡ w → ⊥) → (has x v && not (has st v)) ≡ (has (get_or winners l 0) v && not (has st v)) =
           (λ v ne. ap (λ b. b && not (has st v)) (more v ∙ ap₂ (λ y b. has y v || b) same (ne_eqb v w ne) ∙ or-false (has before v))) in
-          ap (λ y. list_any (λ v. not (has st v)) (members y)) (ap (λ f. get_or (set winners l x) f 0) (sym e) ∙ get_or-set_same winners l x 0 (omega (arith, below, long)))
+          ap (λ y. list_any (λ v. not (has st v)) (members y)) (ap (λ f. get_or (set winners l x) f 0) (sym e)
+          ∙ get_or-set_same winners l x 0 (omega (arith, below, long)))
           ∙ any-filter (λ v. not (has st v)) (has x) (candidates ROOM)
-          ∙ any-more (λ v. has (get_or winners l 0) v && not (has st v)) (λ v. has x v && not (has st v)) (not (has st w)) w (candidates ROOM) (candidate-member w ROOM inside) here' other
-          ∙ ap (λ b. b || not (has st w)) (sym (any-filter (λ v. not (has st v)) (has (get_or winners l 0)) (candidates ROOM)) ∙ ap (λ f. is_beaten winners f st) e)
+          ∙ any-more (λ v. has (get_or winners l 0) v && not (has st v)) (λ v. has x v && not (has st v)) (not (has st w)) w (candidates ROOM)
+          (candidate-member w ROOM inside) here' other
+          ∙ ap (λ b. b || not (has st w)) (sym (any-filter (λ v. not (has st v)) (has (get_or winners l 0)) (candidates ROOM))
+          ∙ ap (λ f. is_beaten winners f st) e)
           ∙ sym (ap (λ b. is_beaten winners first st || (b && not (has st w))) (eq-eqb l first e))
       | inr ne ↦
           ap (λ y. list_any (λ v. not (has st v)) (members y)) (get_or-set_other winners l first x 0 (λ e. ne (sym e)))
@@ -142,7 +148,8 @@ outside_is a b fits = both (not (bit_or a b == b)) (list_any (λ w. not (has b w
         let below : i < ROOM = elim (cases_lt i ROOM) [ inl l ↦ l | inr le ↦ let z : bit_at a i ≡ 0 = bit_at_above a ROOM i fits le in absurd (omega arith) ] in
         elim (cases_Bool (has b i)) [
           | inl t ↦ let o : bit_at b i ≡ 1 = bit_in b i t in omega arith
-          | inr f ↦ absurd (both_ways (list_any (λ w. not (has b w)) (members a)) h (list_any-member (λ w. not (has b w)) (member-filter (has a) (candidates ROOM) (candidate-member i ROOM below) e) (not_from_false (has b i) f)))
+          | inr f ↦ absurd (both_ways (list_any (λ w. not (has b w)) (members a)) h
+              (list_any-member (λ w. not (has b w)) (member-filter (has a) (candidates ROOM) (candidate-member i ROOM below) e) (not_from_false (has b i) f)))
         ]
 
   to : not (bit_or a b == b) ≡ true → list_any (λ w. not (has b w)) (members a) ≡ true

@@ -50,7 +50,8 @@ pub stands_is : (n : ℕ) (list : List Assertion) (s : List ℕ) → is_suffix n
     stands list s ≡ not (list_any (λ a. is_new a (get_or s 0 0) (set_of s)) list)
 stands_is n list [] proper some kept = absurd (omega arith)
 stands_is n list (c ∷ t) proper some kept =
-    ap not (any-same (λ a. refutes a (c ∷ t)) (λ a. is_new a c (set_of (c ∷ t))) list (λ a m. new_is a c t (suffix-distinct n (c ∷ t) proper) (free t kept a m)))
+    ap not (any-same (λ a. refutes a (c ∷ t)) (λ a. is_new a c (set_of (c ∷ t))) list
+    (λ a m. new_is a c t (suffix-distinct n (c ∷ t) proper) (free t kept a m)))
   where
     nothing : (a : Assertion) → refutes a [] ≡ false
     nothing (Neb w l) = refl
@@ -60,4 +61,5 @@ stands_is n list (c ∷ t) proper some kept =
     free [] k a m = nothing a
     free (d ∷ t) k a m =
         false_from_ne_true (refutes a (d ∷ t)) (λ r.
-        both_ways (list_any (λ a. refutes a (d ∷ t)) list) (not-true (list_any (λ a. refutes a (d ∷ t)) list) k) (list_any-member (λ a. refutes a (d ∷ t)) {x = a} m r))
+        both_ways (list_any (λ a. refutes a (d ∷ t)) list) (not-true (list_any (λ a. refutes a (d ∷ t)) list) k)
+        (list_any-member (λ a. refutes a (d ∷ t)) {x = a} m r))

@@ -77,7 +77,8 @@ module _ (records : List (List ℕ)) where
   unfolding found-at
   none-margins at [] h = refl
   none-margins at (claim ∷ claims) h =
-      let same = not_from_true (int_eq (pos claim.margin) (margin records claim.assertion)) ((Decides-int_eq (pos claim.margin) (margin records claim.assertion)).1 (All-head HasItsMargin claim claims h)) in
+      let same = not_from_true (int_eq (pos claim.margin) (margin records claim.assertion))
+      ((Decides-int_eq (pos claim.margin) (margin records claim.assertion)).1 (All-head HasItsMargin claim claims h)) in
       ap (λ b. if b then Some (found-at at claim) else other_margin_from records (at + 1) claims) same
       ∙ none-margins (at + 1) claims (All-tail HasItsMargin claim claims h)
 
@@ -85,7 +86,8 @@ module _ (records : List (List ℕ)) where
   unfolding found-at
   margins-never at [] h = cc
   margins-never at (claim ∷ claims) h = go (has_other_margin records claim) (margins-never (at + 1) claims) h where
-    go : (b : Bool) → NeverAccepts (other_margin_from records (at + 1) claims) → NeverAccepts (if b then Some (found-at at claim) else other_margin_from records (at + 1) claims)
+    go : (b : Bool) → NeverAccepts (other_margin_from records (at + 1) claims) →
+        NeverAccepts (if b then Some (found-at at claim) else other_margin_from records (at + 1) claims)
     go true rest h = cc
     go false rest h = rest h
 
@@ -103,10 +105,12 @@ covered-never (Err CoverMemory) h = cc
 
 -- ---- the margin and the order of the file
 pub smallest-none : (file : Content) → other_smallest file ≡ None → smallest_margin file ≡ file.margin
-smallest-none file h = let found : Answer = Ok (NotLeast (smallest_margin file)) in eqb-true (smallest_margin file) file.margin (unless-none (smallest_margin file == file.margin) found h)
+smallest-none file h = let found : Answer = Ok (NotLeast (smallest_margin file)) in
+    eqb-true (smallest_margin file) file.margin (unless-none (smallest_margin file == file.margin) found h)
 
 pub none-smallest : (file : Content) → smallest_margin file ≡ file.margin → other_smallest file ≡ None
-none-smallest file e = let found : Answer = Ok (NotLeast (smallest_margin file)) in ap (λ b. if b then None else Some found) (eq-eqb (smallest_margin file) file.margin e)
+none-smallest file e = let found : Answer = Ok (NotLeast (smallest_margin file)) in
+    ap (λ b. if b then None else Some found) (eq-eqb (smallest_margin file) file.margin e)
 
 pub smallest-never : (file : Content) → NeverAccepts (other_smallest file)
 smallest-never file h =
@@ -143,7 +147,8 @@ module _ (records : List (List ℕ)) (file : Content) where
   pub harder-none : harder records file ≡ None → low (candidate_count file) records file.order ≤ file.margin
   unfolding hardness by
   harder-none h = go (nat_lt file.margin hardness) by refl refl h where
-    go : (b : Bool) (o : Option Assertion) → nat_lt file.margin hardness ≡ b → by ≡ o → (if b then refuted_by hardness o else None) ≡ None → hardness ≤ file.margin
+    go : (b : Bool) (o : Option Assertion) → nat_lt file.margin hardness ≡ b → by ≡ o → (if b then refuted_by hardness o else None) ≡ None →
+        hardness ≤ file.margin
     go true None e k h =
         let lt = ltb-true file.margin hardness e in
         let none : hardness ≡ 0 = refuter_or_none (candidate_count file) records file.order k in

@@ -27,7 +27,8 @@ one_outcome n records (Tied round tied votes) (Tied round' tied' votes') h k =
 pub answer_is_one : (nodes : ℕ) (ballots : BallotFile) (file : Content) (answer other : Answer) →
     IsAnswer nodes ballots file answer → IsAnswer nodes ballots file other → answer ≡ other
 answer_is_one nodes ballots file answer other h k = go (is_about ballots file) h k where
-  go : (b : Bool) → MatchBool b (Judges nodes ballots file answer) (answer ≡ Ok OtherContest) → MatchBool b (Judges nodes ballots file other) (other ≡ Ok OtherContest) → answer ≡ other
+  go : (b : Bool) → MatchBool b (Judges nodes ballots file answer) (answer ≡ Ok OtherContest) →
+      MatchBool b (Judges nodes ballots file other) (other ≡ Ok OtherContest) → answer ≡ other
   go true h k =
       sym h.answer_is
       ∙ ap (checked_is nodes ballots.rankings file) (one_outcome (length ballots.candidates) ballots.rankings h.outcome k.outcome h.tabulated k.tabulated)

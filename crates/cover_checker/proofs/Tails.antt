@@ -18,7 +18,8 @@ at-below n at c list h l e = subst (λ x. x < n) (sym e) (suffix-all n list h at
 -- the candidate at the last place is alone from there on
 pub last-alone : (at c : ℕ) (list : List ℕ) → at + 1 ≡ length list → c ≡ get_or list at c → c ∷ [] ≡ drop at list
 last-alone at c list last e =
-    sym (drop_more list at c (omega (arith, last)) ∙ ap (λ x. x ∷ drop (at + 1) list) (sym e) ∙ ap (λ k. c ∷ drop k list) last ∙ ap (λ rest. c ∷ rest) (drop-length list))
+    sym (drop_more list at c (omega (arith, last)) ∙ ap (λ x. x ∷ drop (at + 1) list) (sym e) ∙ ap (λ k. c ∷ drop k list) last
+    ∙ ap (λ rest. c ∷ rest) (drop-length list))
 
 pub drop-before : (at c : ℕ) (list : List ℕ) → 0 < at → at ≤ length list → c ≡ get_or list (at - 1) c → c ∷ drop at list ≡ drop (at - 1) list
 drop-before at c list some within e =

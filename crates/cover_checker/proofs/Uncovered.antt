@@ -15,16 +15,19 @@ abbrev failed : CoverFault → Result Verdict CoverFault
 failed fault = Err fault
 
 -- where these are the number of candidates, the winner and the assertions of the file
-module _ (nodes : ℕ) (file : Content) (n winner : ℕ) (list : List Assertion) (number : n ≡ candidate_count file) (same : winner ≡ file.winner) (listed : list ≡ assertions_of file) where
+module _ (nodes : ℕ) (file : Content) (n winner : ℕ) (list : List Assertion) (number : n ≡ candidate_count file) (same : winner ≡ file.winner)
+    (listed : list ≡ assertions_of file) where
   covered-same : covered_is n winner list nodes ≡ covered_is (candidate_count file) file.winner (assertions_of file) nodes
   covered-same =
       ap (λ k. covered_is k winner list nodes) number
       ∙ ap (λ w. covered_is (candidate_count file) w list nodes) same
       ∙ ap (λ l. covered_is (candidate_count file) file.winner l nodes) listed
 
-  pub spent-found : (fault : CoverFault) → (failed fault ≢ failed Memory → Err fault ≡ covered_is n winner list nodes) → IsFindingOf (uncovered nodes file) (as_check_fault fault)
+  pub spent-found : (fault : CoverFault) → (failed fault ≢ failed Memory → Err fault ≡ covered_is n winner list nodes) →
+      IsFindingOf (uncovered nodes file) (as_check_fault fault)
   spent-found (Spent last) e = ap unless_covered (sym (e (λ same. cc) ∙ covered-same))
   spent-found Memory e = tt
 
-  pub verdict-found : (verdict : Verdict) (found : Option Answer) → (done verdict ≢ failed Memory → Ok verdict ≡ covered_is n winner list nodes) → found ≡ unless_covered (Ok verdict) → found ≡ uncovered nodes file
+  pub verdict-found : (verdict : Verdict) (found : Option Answer) → (done verdict ≢ failed Memory → Ok verdict ≡ covered_is n winner list nodes) →
+      found ≡ unless_covered (Ok verdict) → found ≡ uncovered nodes file
   verdict-found verdict found e h = h ∙ ap unless_covered (e (λ same. cc) ∙ covered-same)

@@ -32,13 +32,15 @@ module _ (n winner nodes : ℕ) (list : List Assertion) where
       list_all-each (λ order. list_any (λ a. refutes a order) list) (alternative_orders n winner) (λ order m.
       elim (cases_Bool (list_any (λ a. refutes a order) list)) [
         | inl t ↦ t
-        | inr f ↦ let (found, e) = find-member (stands list) order (alternative_orders n winner) m (not_from_false (list_any (λ a. refutes a order) list) f) in cc
+        | inr f ↦ let (found, e) = find-member (stands list) order (alternative_orders n winner) m
+            (not_from_false (list_any (λ a. refutes a order) list) f) in cc
       ])
 
   pub stands_not_covers : (order : List ℕ) → standing_order n winner list ≡ Some order → covers n winner list ≡ true → ⊥
   stands_not_covers order h t =
       let (m, s) = from_find (stands list) order (alternative_orders n winner) h in
-      both_ways (list_any (λ a. refutes a order) list) (not-true (list_any (λ a. refutes a order) list) s) (from_list_all (λ order. list_any (λ a. refutes a order) list) m t)
+      both_ways (list_any (λ a. refutes a order) list) (not-true (list_any (λ a. refutes a order) list) s)
+      (from_list_all (λ order. list_any (λ a. refutes a order) list) m t)
 
   pub covered_iff_covers : (verdict : Verdict) → covered_is n winner list nodes ≡ Ok verdict → ((verdict ≡ Covered) ↔ (covers n winner list ≡ true))
   covered_iff_covers verdict h = go (standing_order n winner list) refl (verdict_is verdict h) where
@@ -53,7 +55,8 @@ module _ (n winner nodes : ℕ) (list : List Assertion) where
       let (m, s) = from_find (stands list) found (alternative_orders n winner) e in (
         (alternative_orders_are n winner found).0 (contains-from_member m),
         s,
-        λ order q r. first_alternative n winner (stands list) found order e (member-from_contains order (alternative_orders n winner) ((alternative_orders_are n winner order).1 q)) r,
+        λ order q r. first_alternative n winner (stands list) found order e
+            (member-from_contains order (alternative_orders n winner) ((alternative_orders_are n winner order).1 q)) r,
       )
 
   pub stands_is_least : (found : List ℕ) → covered_is n winner list nodes ≡ Ok (Stands found) →
@@ -66,7 +69,8 @@ module _ (n winner nodes : ℕ) (list : List Assertion) where
     go None e k = cc
     go (Some order) e k = let same : order ≡ found = cc in standing_is found (e ∙ ap Some same)
 
-pub covered_is_sound : (n winner nodes : ℕ) (list : List Assertion) → winner < n → list_all (is_proper n) list ≡ true → covered_is n winner list nodes ≡ Ok Covered →
+pub covered_is_sound : (n winner nodes : ℕ) (list : List Assertion) → winner < n → list_all (is_proper n) list ≡ true →
+    covered_is n winner list nodes ≡ Ok Covered →
     (records : List (List ℕ)) → list_all (is_true records) list ≡ true →
     (order : List ℕ) → is_order n order ≡ true → is_possible records order ≡ true → Elects order winner
 covered_is_sound n winner nodes list below proper h records true' order o possible =
@@ -79,11 +83,13 @@ none-covered (Some last) standing e = cc
 none-covered None None e = refl
 none-covered None (Some order) e = cc
 
-pub some-stands : (found : List ℕ) (over : Option ℕ) (standing : Option (List ℕ)) → Ok (Some found) ≡ walk.or_spent over standing → Ok (Stands found) ≡ or_spent over (verdict_on standing)
+pub some-stands : (found : List ℕ) (over : Option ℕ) (standing : Option (List ℕ)) → Ok (Some found) ≡ walk.or_spent over standing →
+    Ok (Stands found) ≡ or_spent over (verdict_on standing)
 some-stands found (Some last) standing e = cc
 some-stands found None None e = cc
 some-stands found None (Some order) e = let same : found ≡ order = cc in ap (λ o. Ok (Stands o)) same
 
-pub error-spent : (last : ℕ) (over : Option ℕ) (standing : Option (List ℕ)) → Err last ≡ walk.or_spent over standing → Err (Spent last) ≡ or_spent over (verdict_on standing)
+pub error-spent : (last : ℕ) (over : Option ℕ) (standing : Option (List ℕ)) → Err last ≡ walk.or_spent over standing →
+    Err (Spent last) ≡ or_spent over (verdict_on standing)
 error-spent last (Some other) standing e = let same : last ≡ other = cc in ap (λ c. Err (Spent c)) same
 error-spent last None standing e = cc

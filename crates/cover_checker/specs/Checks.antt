@@ -27,21 +27,25 @@ first_found (None ∷ more) otherwise = first_found more otherwise
 
 -- the first that is found; a file in which nothing is, is accepted
 abbrev pub checked_is : ℕ → List (List ℕ) → Content → Outcome → Answer
-checked_is nodes records file (Won winner) = first_found (findings nodes records file winner) (Ok Accepted)
+checked_is nodes records file (Won winner) =
+    first_found (findings nodes records file winner) (Ok Accepted)
 checked_is nodes records file (Tied round tied tally) = Err (Tie round tied tally)
 
 -- what the contest comes to, and the answer by it
-pub record Judges (nodes : ℕ) (ballots : BallotFile) (file : Content) (answer : Answer) : Type 0 where
+pub record Judges (nodes : ℕ) (ballots : BallotFile) (file : Content) (answer : Answer)
+    : Type 0 where
   pub outcome : Outcome
   pub tabulated : IsOutcome (length ballots.candidates) ballots.rankings outcome
   pub answer_is : checked_is nodes ballots.rankings file outcome ≡ answer
 
 -- whether the file is about the contest comes first
 abbrev pub IsAnswer : ℕ → BallotFile → Content → Answer → Type 0
-IsAnswer nodes ballots file answer = MatchBool (is_about ballots file) (Judges nodes ballots file answer) (answer ≡ Ok OtherContest)
+IsAnswer nodes ballots file answer =
+    MatchBool (is_about ballots file) (Judges nodes ballots file answer) (answer ≡ Ok OtherContest)
 
--- of want of memory nothing is said
+-- what a fault says; of want of memory nothing is said
 abbrev pub IsFault : ℕ → BallotFile → Content → CheckFault → Type 0
-IsFault nodes ballots file (Tie round tied tally) = IsAnswer nodes ballots file (Err (Tie round tied tally))
+IsFault nodes ballots file (Tie round tied tally) =
+    IsAnswer nodes ballots file (Err (Tie round tied tally))
 IsFault nodes ballots file (Spent last) = IsAnswer nodes ballots file (Err (Spent last))
 IsFault nodes ballots file Memory = ⊤

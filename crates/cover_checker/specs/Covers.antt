@@ -14,17 +14,20 @@ use Rattle.assertions.specs.Refutation.{refutes}
 abbrev pub stands : List Assertion → List ℕ → Bool
 stands list suffix = not (list_any (λ a. refutes a suffix) list)
 
--- of the alternative orders that no assertion refutes, the least when read backwards
+-- the alternative order that no assertion refutes and that is the least when read backwards
 abbrev pub standing_order : ℕ → ℕ → List Assertion → Option (List ℕ)
 standing_order n winner list = find (stands list) (alternative_orders n winner)
 
 -- the suffixes that count for c: they end in it, aren't whole orders, no assertion refutes them, and they come before that order, if there is one
 abbrev pub standing_count : ℕ → ℕ → List Assertion → ℕ → ℕ
-standing_count n winner list c = count_by (λ suffix. stands list suffix && is_passed (standing_order n winner list) suffix) (parts_ending n c)
+standing_count n winner list c =
+    count_by (λ suffix. stands list suffix && is_passed (standing_order n winner list) suffix)
+    (parts_ending n c)
 
 -- the least alternative winner for whom more than nodes count
 abbrev pub first_over : ℕ → ℕ → List Assertion → ℕ → Option ℕ
-first_over n winner list nodes = find (λ c. nat_lt nodes (standing_count n winner list c)) (all_but n winner)
+first_over n winner list nodes =
+    find (λ c. nat_lt nodes (standing_count n winner list c)) (all_but n winner)
 
 abbrev pub verdict_on : Option (List ℕ) → Verdict
 verdict_on None = Covered
@@ -35,7 +38,8 @@ or_spent (Some last) verdict = Err (Spent last)
 or_spent None verdict = Ok verdict
 
 abbrev pub covered_is : ℕ → ℕ → List Assertion → ℕ → Result Verdict CoverFault
-covered_is n winner list nodes = or_spent (first_over n winner list nodes) (verdict_on (standing_order n winner list))
+covered_is n winner list nodes =
+    or_spent (first_over n winner list nodes) (verdict_on (standing_order n winner list))
 
 -- no candidate is over the nodes
 abbrev pub IsEnough : ℕ → ℕ → ℕ → List Assertion → Type 0

@@ -30,7 +30,9 @@ are_same ids others = pointwise is_same ids others
 
 -- the file is about the contest of the ballots: its id, its candidates, and how many records it has
 abbrev pub is_about : BallotFile → Content → Bool
-is_about ballots file = is_same file.contest ballots.contest && are_same file.candidates ballots.candidates && (file.records == length ballots.rankings)
+is_about ballots file =
+    is_same file.contest ballots.contest && are_same file.candidates ballots.candidates
+    && (file.records == length ballots.rankings)
 
 -- ---- the winner
 
@@ -47,7 +49,9 @@ has_other_margin records claim = not (int_eq (pos claim.margin) (margin records 
 abbrev pub other_margin_from : List (List ℕ) → ℕ → List Claim → Option Answer
 other_margin_from records at [] = None
 other_margin_from records at (claim ∷ claims) =
-    if has_other_margin records claim then Some (Ok (OtherMargin at (margin records claim.assertion))) else other_margin_from records (at + 1) claims
+    if has_other_margin records claim
+    then Some (Ok (OtherMargin at (margin records claim.assertion)))
+    else other_margin_from records (at + 1) claims
 
 abbrev pub other_margin : List (List ℕ) → Content → Option Answer
 other_margin records file = other_margin_from records 1 file.claims
@@ -63,7 +67,8 @@ unless_covered (Err CoverMemory) = Some (Err Memory)
 
 -- the order that no claim refutes, or a budget that doesn't suffice to tell
 abbrev pub uncovered : ℕ → Content → Option Answer
-uncovered nodes file = unless_covered (covered_is (candidate_count file) file.winner (assertions_of file) nodes)
+uncovered nodes file =
+    unless_covered (covered_is (candidate_count file) file.winner (assertions_of file) nodes)
 
 -- ---- the margin and the order of the file
 
@@ -71,9 +76,11 @@ abbrev pub smallest_margin : Content → ℕ
 smallest_margin file = least (map (λ claim. claim.margin) file.claims)
 
 abbrev pub other_smallest : Content → Option Answer
-other_smallest file = if smallest_margin file == file.margin then None else Some (Ok (NotLeast (smallest_margin file)))
+other_smallest file =
+    if smallest_margin file == file.margin then None
+    else Some (Ok (NotLeast (smallest_margin file)))
 
--- it stands last
+-- the winner stands last
 abbrev pub elects : List ℕ → ℕ → Bool
 elects order c = slice_index order (length order - 1) == c
 
@@ -88,7 +95,8 @@ refuted_by margin (Some assertion) = Some (Ok (Harder assertion margin))
 abbrev pub harder : List (List ℕ) → Content → Option Answer
 harder records file =
     let hardness = low (candidate_count file) records file.order in
-    if nat_lt file.margin hardness then refuted_by hardness (refuter (candidate_count file) records file.order) else None
+    if nat_lt file.margin hardness
+    then refuted_by hardness (refuter (candidate_count file) records file.order) else None
 
 -- the fault is the answer's
 abbrev pub IsErrOf : Answer → CheckFault → Type 0

@@ -11,16 +11,18 @@ use Rattle.assertion_file.specs.Content.{Content, candidate_count}
 use Rattle.cover_checker.specs.Outcomes.{IsWinner}
 
 pub record Holds (ballots : BallotFile) (file : Content) : Type 0 where
-  -- it is about their contest
+  -- the file is about the contest of the ballots
   pub contest : file.contest ≡ ballots.contest
   pub candidates : file.candidates ≡ ballots.candidates
   pub records : file.records ≡ length ballots.rankings
   -- which has no tie, and this winner
   pub winner : IsWinner (candidate_count file) ballots.rankings file.winner
   -- each claim has its assertion's margin
-  pub margins : All (λ claim. pos claim.margin ≡ margin ballots.rankings claim.assertion) file.claims
+  pub margins :
+      All (λ claim. pos claim.margin ≡ margin ballots.rankings claim.assertion) file.claims
   -- together the claims refute every elimination order that elects another candidate
-  pub cover : (order : List ℕ) → IsAlternative (candidate_count file) file.winner order → (claim : Claim) × Contains file.claims claim × IsTrue (refutes claim.assertion order)
+  pub cover : (order : List ℕ) → IsAlternative (candidate_count file) file.winner order →
+      (claim : Claim) × Contains file.claims claim × IsTrue (refutes claim.assertion order)
   -- the margin is the smallest of theirs
   pub reached : (claim : Claim) × Contains file.claims claim × (claim.margin ≡ file.margin)
   pub smallest : All (λ claim. file.margin ≤ claim.margin) file.claims
@@ -34,6 +36,11 @@ pub record IsCertificateOf (ballots : BallotFile) (file : Content) : Type 0 wher
   pub candidates : file.candidates ≡ ballots.candidates
   pub records : file.records ≡ length ballots.rankings
   pub winner : IsWinner (candidate_count file) ballots.rankings file.winner
-  pub margin : file.margin ≡ best_margin (candidate_count file) file.winner (low (candidate_count file) ballots.rankings)
-  pub order : certificate_order (candidate_count file) file.winner (low (candidate_count file) ballots.rankings) file.margin ≡ Some file.order
+  pub margin :
+      file.margin
+      ≡ best_margin (candidate_count file) file.winner (low (candidate_count file) ballots.rankings)
+  pub order :
+      certificate_order (candidate_count file) file.winner
+      (low (candidate_count file) ballots.rankings) file.margin
+      ≡ Some file.order
   pub claims : file.claims ≡ certificate_claims (candidate_count file) ballots.rankings file.winner

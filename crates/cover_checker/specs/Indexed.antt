@@ -16,7 +16,7 @@ is_new (Nen w l rest) first set = (w == first) && (set == rest)
 abbrev pub is_beaten : List ℕ → ℕ → ℕ → Bool
 is_beaten winners first set = list_any (λ w. not (has set w)) (members (get_or winners first 0))
 
--- this first candidate and this set are there
+-- a NEN refutes the suffixes of this first candidate and this set
 abbrev pub is_next : List Next → ℕ → ℕ → Bool
 is_next nexts first set = list_any (λ next. (first == next.first) && (set == next.set)) nexts
 
@@ -25,4 +25,5 @@ is_indexed parts first set = is_beaten parts.winners first set || is_next parts.
 
 -- the parts answer of each first candidate and each set as the list does
 abbrev pub IsIndexOf : List Assertion → Parts → Type 0
-IsIndexOf list parts = (first set : ℕ) → is_indexed parts first set ≡ list_any (λ a. is_new a first set) list
+IsIndexOf list parts =
+    (first set : ℕ) → is_indexed parts first set ≡ list_any (λ a. is_new a first set) list

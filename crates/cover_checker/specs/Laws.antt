@@ -27,26 +27,32 @@ use Rattle.cover_checker.specs.declared.checked.CheckFault.TheVariants.{Spent}
 -- a list that is called covered proves the winner of all records of which it is true
 abbrev pub CoveredIsSound : Type 0
 CoveredIsSound =
-    (n winner nodes : ℕ) (list : List Assertion) → winner < n → IsTrue (list_all (is_proper n) list) → covered_is n winner list nodes ≡ Ok Covered →
+    (n winner nodes : ℕ) (list : List Assertion) → winner < n →
+    IsTrue (list_all (is_proper n) list) → covered_is n winner list nodes ≡ Ok Covered →
     (records : List (List ℕ)) → IsTrue (list_all (is_true records) list) →
-    (order : List ℕ) → IsTrue (is_order n order) → IsTrue (is_possible records order) → Elects order winner
+    (order : List ℕ) → IsTrue (is_order n order) → IsTrue (is_possible records order) →
+    Elects order winner
 
 abbrev pub CoveredIffCovers : Type 0
 CoveredIffCovers =
-    (n winner nodes : ℕ) (list : List Assertion) (verdict : Verdict) → covered_is n winner list nodes ≡ Ok verdict →
+    (n winner nodes : ℕ) (list : List Assertion) (verdict : Verdict) →
+    covered_is n winner list nodes ≡ Ok verdict →
     ((verdict ≡ Covered) ↔ IsTrue (covers n winner list))
 
 -- an order that stands elects another candidate, nothing refutes it, and it comes before each other such order, read backwards
 abbrev pub StandsIsLeast : Type 0
 StandsIsLeast =
-    (n winner nodes : ℕ) (list : List Assertion) (found : List ℕ) → covered_is n winner list nodes ≡ Ok (Stands found) →
+    (n winner nodes : ℕ) (list : List Assertion) (found : List ℕ) →
+    covered_is n winner list nodes ≡ Ok (Stands found) →
     IsAlternative n winner found × IsTrue (stands list found)
-    × ((order : List ℕ) → IsAlternative n winner order → IsTrue (stands list order) → (found ≡ order) ⊎ IsTrue (comes_before found order))
+    × ((order : List ℕ) → IsAlternative n winner order → IsTrue (stands list order) →
+    (found ≡ order) ⊎ IsTrue (comes_before found order))
 
 -- the answer isn't about the budget, where that is 2 * (n - 1)! or more
 abbrev pub CoveredIsNeverSpent : Type 0
 CoveredIsNeverSpent =
-    (n winner nodes : ℕ) (list : List Assertion) (last : ℕ) → 2 * factorial (n - 1) ≤ nodes → covered_is n winner list nodes ≡ Err (CoverSpent last) → ⊥
+    (n winner nodes : ℕ) (list : List Assertion) (last : ℕ) → 2 * factorial (n - 1) ≤ nodes →
+    covered_is n winner list nodes ≡ Err (CoverSpent last) → ⊥
 
 -- ==== files
 
@@ -59,40 +65,53 @@ AnswerIsOne =
 -- where the contest has no tie, and no budget is spent, a file is accepted exactly where it holds
 abbrev pub AcceptedIffHolds : Type 0
 AcceptedIffHolds =
-    (nodes : ℕ) (ballots : BallotFile) (file : Content) (checked : Checked) → IsSound file → IsAnswer nodes ballots file (Ok checked) →
+    (nodes : ℕ) (ballots : BallotFile) (file : Content) (checked : Checked) → IsSound file →
+    IsAnswer nodes ballots file (Ok checked) →
     ((checked ≡ Accepted) ↔ Holds ballots file)
 
 -- a file is accepted exactly where it holds and no candidate is over the nodes
 abbrev pub AcceptedExactly : Type 0
 AcceptedExactly =
     (nodes : ℕ) (ballots : BallotFile) (file : Content) → IsSound file →
-    (IsAnswer nodes ballots file (Ok Accepted) ↔ (Holds ballots file × IsEnough nodes (candidate_count file) file.winner (assertions_of file)))
+    (IsAnswer nodes ballots file (Ok Accepted)
+    ↔ (Holds ballots file
+    × IsEnough nodes (candidate_count file) file.winner (assertions_of file)))
 
 -- the claims of an accepted file cover, within the nodes
 abbrev pub AcceptedIsCovered : Type 0
 AcceptedIsCovered =
-    (nodes : ℕ) (ballots : BallotFile) (file : Content) → IsSound file → IsAnswer nodes ballots file (Ok Accepted) →
+    (nodes : ℕ) (ballots : BallotFile) (file : Content) → IsSound file →
+    IsAnswer nodes ballots file (Ok Accepted) →
     covered_is (candidate_count file) file.winner (assertions_of file) nodes ≡ Ok Covered
 
 -- there is an answer
 abbrev pub AnswerExists : Type 0
-AnswerExists = (nodes : ℕ) (ballots : BallotFile) (file : Content) → IsSound file → (answer : Answer) × IsAnswer nodes ballots file answer
+AnswerExists =
+    (nodes : ℕ) (ballots : BallotFile) (file : Content) → IsSound file →
+    (answer : Answer) × IsAnswer nodes ballots file answer
 
--- it isn't about the budget, where that is 2 * (n - 1)! or more
+-- the answer isn't that the budget is spent, where that is 2 * (n - 1)! or more
 abbrev pub AnswerIsNeverSpent : Type 0
 AnswerIsNeverSpent =
-    (nodes : ℕ) (ballots : BallotFile) (file : Content) (last : ℕ) → 2 * factorial (candidate_count file - 1) ≤ nodes →
+    (nodes : ℕ) (ballots : BallotFile) (file : Content) (last : ℕ) →
+    2 * factorial (candidate_count file - 1) ≤ nodes →
     IsAnswer nodes ballots file (Err (Spent last)) → ⊥
 
 -- the margin of an accepted file is the best: no claims that are true of the records and refute the same orders have a larger one
 abbrev pub AcceptedMarginIsBest : Type 0
 AcceptedMarginIsBest =
-    (nodes : ℕ) (ballots : BallotFile) (file : Content) → IsSound file → IsAnswer nodes ballots file (Ok Accepted) →
-    file.margin ≡ best_margin (candidate_count file) file.winner (low (candidate_count file) ballots.rankings)
+    (nodes : ℕ) (ballots : BallotFile) (file : Content) → IsSound file →
+    IsAnswer nodes ballots file (Ok Accepted) →
+    file.margin
+    ≡ best_margin (candidate_count file) file.winner (low (candidate_count file) ballots.rankings)
 
 -- the canonical certificate is accepted within the nodes that it took to find its claims
 abbrev pub CertificateIsAccepted : Type 0
 CertificateIsAccepted =
-    (nodes : ℕ) (ballots : BallotFile) (file : Content) → IsSound file → IsCertificateOf ballots file →
-    ((c : ℕ) → c < candidate_count file → c ≢ file.winner → cover_count (candidate_count file) (low (candidate_count file) ballots.rankings) file.margin c ≤ nodes) →
+    (nodes : ℕ) (ballots : BallotFile) (file : Content) → IsSound file →
+    IsCertificateOf ballots file →
+    ((c : ℕ) → c < candidate_count file → c ≢ file.winner →
+    cover_count (candidate_count file)
+    (low (candidate_count file) ballots.rankings) file.margin c
+    ≤ nodes) →
     IsAnswer nodes ballots file (Ok Accepted)

@@ -10,12 +10,16 @@ use Rattle.irv_base.proofs.Members.{from_list_any, list_any-member}
 use Rattle.assertions.proofs.Parts.{refutes_more}
 use Rattle.cover_checker.specs.Covers.{stands}
 
-pub stands-shrinks : (n : ℕ) (list : List Assertion) (c : ℕ) (suffix : List ℕ) → is_suffix n (c ∷ suffix) ≡ true → stands list (c ∷ suffix) ≡ true → stands list suffix ≡ true
+pub stands-shrinks : (n : ℕ) (list : List Assertion) (c : ℕ) (suffix : List ℕ) →
+    is_suffix n (c ∷ suffix) ≡ true → stands list (c ∷ suffix) ≡ true → stands list suffix ≡ true
 stands-shrinks n list c suffix proper h =
     let free = not-true (list_any (λ a. refutes a (c ∷ suffix)) list) h in
-    let apart = (and_parts (is_distinct (c ∷ suffix)) (list_all (λ d. nat_lt d n) (c ∷ suffix)) proper).0 in
-    let out = not-true (is_in suffix c) (and_parts (not (is_in suffix c)) (is_distinct suffix) apart).0 in
+    let below = list_all (λ d. nat_lt d n) (c ∷ suffix) in
+    let apart = (and_parts (is_distinct (c ∷ suffix)) below proper).0 in
+    let out =
+    not-true (is_in suffix c) (and_parts (not (is_in suffix c)) (is_distinct suffix) apart).0 in
     not_from_false (list_any (λ a. refutes a suffix) list)
     (false_from_ne_true (list_any (λ a. refutes a suffix) list) (λ any.
     let (a, m, r) = from_list_any (λ a. refutes a suffix) list any in
-    both_ways (list_any (λ a. refutes a (c ∷ suffix)) list) free (list_any-member (λ a. refutes a (c ∷ suffix)) {x = a} m (refutes_more a c suffix r out))))
+    both_ways (list_any (λ a. refutes a (c ∷ suffix)) list) free
+    (list_any-member (λ a. refutes a (c ∷ suffix)) {x = a} m (refutes_more a c suffix r out))))

@@ -105,7 +105,7 @@ pub fn other_smallest(file: &AssertionFile) -> Option<Checked>
     }
 }
 
-/// That the file's order elects the winner, if it does.
+/// The finding that the file's order elects the winner, if it does.
 pub fn elected(file: &AssertionFile) -> Option<Checked>
     ensures { option_map Ok result ≡ elected file.now }
 {

@@ -9,17 +9,22 @@ use std::alloc::Global;
 use std::collections::HashSet;
 use std::marker::Model;
 
-/// What a NEN refutes: the suffixes of this first candidate and this set.
+/// A candidate who is eliminated next where exactly this set is left. A NEN refutes the suffixes with this first candidate and this
+/// set: those of its winner and its rest.
 #[derive(Clone, Copy, Debug, PartialEq, Eq, Hash)]
 pub struct Next {
+    /// The first candidate of the suffix.
     pub first: Candidate,
+    /// The set of all its candidates, the first among them.
     pub set: CandSet,
 }
 
 /// Of each candidate the winners of NEBs over it, and what the NENs refute.
 #[derive(Drop)]
 pub struct Parts {
+    /// For each candidate, as a loser, the winners of the NEBs over it.
     pub winners: [CandSet; ROOM as usize],
+    /// What the NENs refute: of each its winner, as eliminated next, with its rest. Each stands there once.
     pub nexts: HashSet<Next>,
 }
 
@@ -43,7 +48,7 @@ fn add_neb(winners: &mut [CandSet; ROOM as usize], w: Candidate, l: Candidate)
 }
 
 impl Parts {
-    /// Those of no assertion.
+    /// The parts of a list without assertions.
     fn none(alloc: Global) -> Parts
         ensures { (first : ℕ) → (set : ℕ) → is_indexed result first set ≡ false }
     {

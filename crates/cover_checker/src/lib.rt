@@ -11,8 +11,6 @@ pub mod examples;
 mod findings;
 mod index;
 pub mod laws;
-#[cfg(test)]
-mod tests;
 mod unrefuted;
 
 pub use checked::{CheckFault, Checked};

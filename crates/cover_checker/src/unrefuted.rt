@@ -9,7 +9,9 @@ use suffix_walk::Keeps;
 /// The test that keeps what no assertion of the list refutes.
 #[derive(Drop)]
 pub struct Unrefuted<'a> {
+    /// How many candidates the contest has.
     pub n: u32,
+    /// The assertions.
     pub list: Index<'a>,
 }
 

@@ -21,7 +21,8 @@ small b h = let most : b ≤ 57 = leb-true b 57 (and_parts (nat_le 48 b) (nat_le
 
 pub IsAscii-digits : (text : List ℕ) → AreDigits text → IsAscii text
 IsAscii-digits [] h = IsAscii-nil
-IsAscii-digits (b ∷ text) h = let parts = and_parts (is_ascii_digit b) (list_all is_ascii_digit text) h in IsAscii-cons b text (small b parts.0) (IsAscii-digits text parts.1)
+IsAscii-digits (b ∷ text) h = let parts = and_parts (is_ascii_digit b) (list_all is_ascii_digit text) h in
+    IsAscii-cons b text (small b parts.0) (IsAscii-digits text parts.1)
 
 pub IsUtf8-digits : (text : List ℕ) → AreDigits text → IsUtf8 text
 IsUtf8-digits text h = IsUtf8-from_ascii text (IsAscii-digits text h)
@@ -29,7 +30,8 @@ IsUtf8-digits text h = IsUtf8-from_ascii text (IsAscii-digits text h)
 pub few : (text : List ℕ) → AreDigits text → length text ≤ MOST_NUMBER_DIGITS → digits_value 10 text < 10 ^ MOST_NUMBER_DIGITS
 few text h short = digits_value_short own text MOST_NUMBER_DIGITS h short
 
-pub parsed : {E : Type 0} (text : List ℕ) (r : Result ℕ E) → ParsesUnsigned 64 10 text r → AreDigits text → 1 ≤ length text → length text ≤ MOST_NUMBER_DIGITS → r ≡ Ok (digits_value 10 text)
+pub parsed : {E : Type 0} (text : List ℕ) (r : Result ℕ E) → ParsesUnsigned 64 10 text r → AreDigits text → 1 ≤ length text →
+    length text ≤ MOST_NUMBER_DIGITS → r ≡ Ok (digits_value 10 text)
 parsed text r p h some short = parse_gives own 64 text r p h (omega (arith, some)) (omega (arith, few text h short))
 
 abbrev pub is_number : List ℕ → Bool
@@ -38,7 +40,8 @@ is_number text = nat_le 1 (length text) && nat_le (length text) MOST_NUMBER_DIGI
 pub is_number-from : (text : List ℕ) → AreDigits text → 1 ≤ length text → length text ≤ MOST_NUMBER_DIGITS → is_number text ≡ true
 is_number-from text h some short =
     and_from (nat_le 1 (length text) && nat_le (length text) MOST_NUMBER_DIGITS) (list_all is_ascii_digit text)
-    (and_from (nat_le 1 (length text)) (nat_le (length text) MOST_NUMBER_DIGITS) (le-nat_le 1 (length text) some) (le-nat_le (length text) MOST_NUMBER_DIGITS short)) h
+    (and_from (nat_le 1 (length text)) (nat_le (length text) MOST_NUMBER_DIGITS) (le-nat_le 1 (length text) some)
+    (le-nat_le (length text) MOST_NUMBER_DIGITS short)) h
   where
     le-nat_le : (a b : ℕ) → a ≤ b → nat_le a b ≡ true
     le-nat_le a b h = grind arith

@@ -96,7 +96,8 @@ follows cfg s (c ∷ rest) p e h =
 
 -- ---- the records of a text, one after the other
 
-enough : (cfg : Config) (n m : ℕ) (s : State) (xs : List ℕ) → ends_at_end s ≡ false → length xs < n → length xs < m → records_from cfg n s xs ≡ records_from cfg m s xs
+enough : (cfg : Config) (n m : ℕ) (s : State) (xs : List ℕ) → ends_at_end s ≡ false → length xs < n → length xs < m →
+    records_from cfg n s xs ≡ records_from cfg m s xs
 unfolding records_from
 enough cfg zero m s xs e l k = absurd (omega arith)
 enough cfg (suc n) zero s xs e l k = absurd (omega arith)
@@ -151,7 +152,8 @@ takes_off s t None rest found f e k h = absurd (false≢true k)
 takes_off s t (Some xs) None found f e k h = absurd h
 takes_off s t (Some xs) (Some ys) found f e k h = takes s t xs ys found f e h
 
-pub read-takes_off : (a b : Reader (Bor (List ℕ))) (found : Bool) (f : Fields) → IsBetweenRecords a → ReadRecord (λ (text : Bor (List ℕ)). Some text.now) a b found f
+pub read-takes_off : (a b : Reader (Bor (List ℕ))) (found : Bool) (f : Fields) → IsBetweenRecords a →
+    ReadRecord (λ (text : Bor (List ℕ)). Some text.now) a b found f
     → TakesOff a.state b.state (bytes_left a) (bytes_left b) found f
 read-takes_off a b found f i r = rw r.1 (takes_off a.state b.state _ _ found f i.between i.known (rw i.config at r.0))
 

@@ -1,3 +1,4 @@
 pub mod Rows
+pub mod Broken
 pub mod Fields
 pub mod Numbers

@@ -14,6 +14,3 @@ pub use mark::without_mark;
 pub use number::number_of;
 pub use rows::Rows;
 pub use trim::trimmed;
-
-#[cfg(test)]
-mod tests;

@@ -20,7 +20,8 @@ in_first b a (suc n) (suc i) rest h = in_first b (a + 1) n i rest (omega (arith,
 
 pub in_rest : (b : Id) (a n i : ℕ) (rest : List Card) → slice_get (map (card b) (range_with_len a n) ++ rest) (n + i) ≡ slice_get rest i
 in_rest b a zero i rest = let e : 0 + i ≡ i = omega arith in ap (λ j. slice_get rest j) e
-in_rest b a (suc n) i rest = let e : suc n + i ≡ suc (n + i) = omega arith in ap (λ j. slice_get (map (card b) (range_with_len a (suc n)) ++ rest) j) e ∙ in_rest b (a + 1) n i rest
+in_rest b a (suc n) i rest = let e : suc n + i ≡ suc (n + i) = omega arith in ap (λ j. slice_get (map (card b) (range_with_len a (suc n)) ++ rest) j) e
+    ∙ in_rest b (a + 1) n i rest
 
 pub sum-cons : (n : ℕ) (counts : List ℕ) → sum (n ∷ counts) ≡ n + sum counts
 sum-cons n counts = sum_by-cons (λ x. x) n counts
@@ -30,7 +31,13 @@ length-cards [] [] h = refl
 length-cards [] (n ∷ counts) h = absurd (omega (arith, h))
 length-cards (id ∷ ids) [] h = absurd (omega (arith, h))
 length-cards (id ∷ ids) (n ∷ counts) h =
-    omega (arith, length-append (cards_of_batch id n) (cards_in ids counts), length-map-range_with_len (card id) 1 n, length-cards ids counts (omega (arith, h)), sum-cons n counts)
+    omega (
+      arith,
+      length-append (cards_of_batch id n) (cards_in ids counts),
+      length-map-range_with_len (card id) 1 n,
+      length-cards ids counts (omega (arith, h)),
+      sum-cons n counts,
+    )
 
 -- ---- the card with number j + 1 of batch b
 
@@ -78,7 +85,8 @@ in_batch counts firsts i b e most within begun last =
       | inl end ↦ omega (arith, first, ap sum (take_all (b + 1) counts (omega (arith, end))), sum-next counts b within, most, begun)
     ]
 
-pub card-at : (ids : List Id) (counts firsts : List ℕ) (i b : ℕ) → length counts ≡ length ids → firsts ≡ firsts_from 1 counts → i ≤ sum counts → b < length counts
+pub card-at : (ids : List Id) (counts firsts : List ℕ) (i b : ℕ) → length counts ≡ length ids → firsts ≡ firsts_from 1 counts → i ≤ sum counts →
+    b < length counts
     → get_or firsts b 0 ≤ i → (b + 1 < length firsts → i < get_or firsts (b + 1) 0)
     → slice_get (cards_in ids counts) (i - 1) ≡ Some (card (get_or ids b []) (i - get_or firsts b 0 + 1))
 card-at ids counts firsts i b same e most within begun last =

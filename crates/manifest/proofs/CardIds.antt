@@ -51,7 +51,8 @@ none_in_decimal : (k : ℕ) → k ≤ MOST_BATCH_CARDS → has_underscore (decim
 none_in_decimal k h = none_in_digits (decimal k) (digits_decimal own k (omega (arith, h)))
 
 -- the id of a card, as it is cut
-pub cut_card : (b : Id) (k : ℕ) (front back : List ℕ) → k ≤ MOST_BATCH_CARDS → has_underscore back ≡ false → card_id (card b k) ≡ front ++ underscore ∷ back → (b ≡ front) × (decimal k ≡ back)
+pub cut_card : (b : Id) (k : ℕ) (front back : List ℕ) → k ≤ MOST_BATCH_CARDS → has_underscore back ≡ false → card_id (card b k) ≡ front ++ underscore ∷ back →
+    (b ≡ front) × (decimal k ≡ back)
 cut_card b k front back most n h = cut_once b (decimal k) front back (none_in_decimal k most) n h
 
 pub differs : (a b : Id) → (a ≡ b → ⊥) → is_same a b ≡ false
@@ -69,7 +70,8 @@ pub no_batch : (id front back : Id) → id ≡ front ++ underscore ∷ back → 
 no_batch id front back e n f b k v first most =
     differs (card_id (card b k)) id (λ s. both_ways (is_batch_id front) f (ap is_batch_id (sym (cut_card b k front back most n (s ∙ e)).0) ∙ v))
 
-pub no_number : (id front back : Id) → id ≡ front ++ underscore ∷ back → has_underscore back ≡ false → ((k : ℕ) → 1 ≤ k → k ≤ MOST_BATCH_CARDS → is_same (decimal k) back ≡ false) → NamesNone id
+pub no_number : (id front back : Id) → id ≡ front ++ underscore ∷ back → has_underscore back ≡ false →
+    ((k : ℕ) → 1 ≤ k → k ≤ MOST_BATCH_CARDS → is_same (decimal k) back ≡ false) → NamesNone id
 no_number id front back e n f b k v first most =
     differs (card_id (card b k)) id
     (λ s. both_ways (is_same (decimal k) back) (f k first most) ((bytes_decides (decimal k) back).1 (cut_card b k front back most n (s ∙ e)).1))
@@ -83,7 +85,8 @@ names id batch k e first most = record {
     passes = (bytes_decides (card_id (card batch k)) id).1 e;
     alone = λ j low high other.
         differs (card_id (card batch j)) id
-        (λ s. other (decimal_injective j k (omega (arith, high)) (omega (arith, most)) (cut_card batch j batch (decimal k) high (none_in_decimal k most) (s ∙ sym e)).1));
+        (λ s. other (decimal_injective j k (omega (arith, high)) (omega (arith, most)) (cut_card batch j batch (decimal k) high (none_in_decimal k most) (s
+        ∙ sym e)).1));
   };
   others = λ b v other j low high.
       differs (card_id (card b j)) id

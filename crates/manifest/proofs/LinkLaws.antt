@@ -16,7 +16,8 @@ use Rattle.manifest.proofs.Placed.{card_undoes_place}
 position_at : (ids : List Id) (i : ℕ) (id : Id) → all_differ ids ≡ true → slice_get ids i ≡ Some id → position (is_same id) ids ≡ Some i
 position_at ids i id d h =
     let below = slice_get_within ids i id h in
-    let split : ids ≡ take i ids ++ id ∷ drop (i + 1) ids = parted ids i [] below ∙ ap (λ x. take i ids ++ x ∷ drop (i + 1) ids) (get_or_from_slice_get ids i id [] h) in
+    let split : ids ≡ take i ids ++ id ∷ drop (i + 1) ids = parted ids i [] below
+    ∙ ap (λ x. take i ids ++ x ∷ drop (i + 1) ids) (get_or_from_slice_get ids i id [] h) in
     let out = differ-split (take i ids) id (drop (i + 1) ids) (ap all_differ (sym split) ∙ d) in
     ap (position (is_same id)) split
     ∙ first_after (is_same id) (take i ids) id (drop (i + 1) ids) (none_passes (is_same id) (take i ids) (among-set (take i ids) id ∙ out)) (same-refl id)

@@ -42,7 +42,8 @@ none_any p (x ∷ xs) h = by (p x) refl (none_any p xs) where
 still_none : {X : Type 0} (p : X → Bool) (xs : List X) (x : X) → position p xs ≡ None → p x ≡ false → position p (xs ++ x ∷ []) ≡ None
 still_none p xs x h f = none_first p xs (x ∷ []) h ∙ ap (option_map (λ i. length xs + i)) (later p x [] f)
 
-pub first_after : {X : Type 0} (p : X → Bool) (xs : List X) (x : X) (rest : List X) → position p xs ≡ None → p x ≡ true → position p (xs ++ x ∷ rest) ≡ Some (length xs)
+pub first_after : {X : Type 0} (p : X → Bool) (xs : List X) (x : X) (rest : List X) → position p xs ≡ None → p x ≡ true →
+    position p (xs ++ x ∷ rest) ≡ Some (length xs)
 first_after p xs x rest h t = none_first p xs (x ∷ rest) h ∙ ap (option_map (λ i. length xs + i)) (here p x rest t) ∙ ap Some (omega arith)
 
 pub parted : {X : Type 0} (xs : List X) (i : ℕ) (d : X) → i < length xs → xs ≡ take i xs ++ get_or xs i d ∷ drop (i + 1) xs
@@ -65,13 +66,15 @@ of_own ids id c e out =
     ap (λ a. from_one (position (is_same a) (ids ++ id ∷ []))) e
     ∙ ap from_one (first_after (is_same id) ids id [] (none_passes (is_same id) ids (among-set ids id ∙ out)) (same-refl id))
 
-of_none : (ids : List Id) (id : Id) (cards : List Card) → ((k : ℕ) (c : Card) → slice_get cards k ≡ Some c → card_id c ≡ id → ⊥) → ballot_numbers (ids ++ id ∷ []) cards ≡ ballot_numbers ids cards
+of_none : (ids : List Id) (id : Id) (cards : List Card) → ((k : ℕ) (c : Card) → slice_get cards k ≡ Some c → card_id c ≡ id → ⊥) →
+    ballot_numbers (ids ++ id ∷ []) cards ≡ ballot_numbers ids cards
 of_none ids id [] h = refl
 of_none ids id (c ∷ cards) h =
     ap (λ n. n ∷ ballot_numbers (ids ++ id ∷ []) cards) (of_another ids id c (h 0 c refl))
     ∙ ap (λ ns. ballot_number ids c ∷ ns) (of_none ids id cards (λ k. h (suc k)))
 
-put : (ids : List Id) (id : Id) (cards : List Card) (i : ℕ) (c : Card) → slice_get cards i ≡ Some c → card_id c ≡ id → ((k : ℕ) (d : Card) → slice_get cards k ≡ Some d → card_id d ≡ id → k ≡ i) → is_among ids id ≡ false
+put : (ids : List Id) (id : Id) (cards : List Card) (i : ℕ) (c : Card) → slice_get cards i ≡ Some c → card_id c ≡ id →
+    ((k : ℕ) (d : Card) → slice_get cards k ≡ Some d → card_id d ≡ id → k ≡ i) → is_among ids id ≡ false
     → ballot_numbers (ids ++ id ∷ []) cards ≡ set (ballot_numbers ids cards) i (length ids + 1)
 put ids id [] i c at e alone out = absurd cc
 put ids id (d ∷ cards) zero c at e alone out =
@@ -94,7 +97,8 @@ within ids c = by (position (is_same (card_id c)) ids) refl where
 
 pub all_within : (n : ℕ) (ids : List Id) (cards : List Card) → length ids ≡ n → All (λ number. number ≤ n) (ballot_numbers ids cards)
 all_within n ids [] e = All-nil (λ number. number ≤ n)
-all_within n ids (c ∷ cards) e = All-cons (λ number. number ≤ n) (ballot_number ids c) (ballot_numbers ids cards) (omega (arith, within ids c, e)) (all_within n ids cards e)
+all_within n ids (c ∷ cards) e = All-cons (λ number. number ≤ n) (ballot_number ids c) (ballot_numbers ids cards) (omega (arith, within ids c, e))
+    (all_within n ids cards e)
 
 -- ---- the ballots so far
 
@@ -103,9 +107,11 @@ pub record IsLinking (batches : Batches) (ids : List Id) (i : ℕ) (numbers : Li
   pub all_placed : position (λ id. not (has_card batches id)) (take i ids) ≡ None
 
 -- the card at a place has the id
-pub is_placed : (batches : Batches) (id : Id) (place : ℕ) → place_of (cards_of batches) id ≡ Some place → (1 ≤ place) × (place ≤ length (cards_of batches)) × (has_card batches id ≡ true)
+pub is_placed : (batches : Batches) (id : Id) (place : ℕ) → place_of (cards_of batches) id ≡ Some place →
+    (1 ≤ place) × (place ≤ length (cards_of batches)) × (has_card batches id ≡ true)
 is_placed batches id place h = by (position (λ card. is_same (card_id card) id) (cards_of batches)) refl h where
-  by : (o : Option ℕ) → position (λ card. is_same (card_id card) id) (cards_of batches) ≡ o → option_map (λ i. i + 1) o ≡ Some place → (1 ≤ place) × (place ≤ length (cards_of batches)) × (has_card batches id ≡ true)
+  by : (o : Option ℕ) → position (λ card. is_same (card_id card) id) (cards_of batches) ≡ o → option_map (λ i. i + 1) o ≡ Some place →
+      (1 ≤ place) × (place ≤ length (cards_of batches)) × (has_card batches id ≡ true)
   by None e g = absurd cc
   by (Some j) e g =
       let s : j + 1 ≡ place = cc in
@@ -114,13 +120,15 @@ is_placed batches id place h = by (position (λ card. is_same (card_id card) id)
       (omega (arith, s), omega (arith, s, at.0), one_passes (λ card. is_same (card_id card) id) (cards_of batches) j none e)
 
 pub isnt_placed : (batches : Batches) (id : Id) → place_of (cards_of batches) id ≡ None → has_card batches id ≡ false
-isnt_placed batches id h = none_any (λ card. is_same (card_id card) id) (cards_of batches) (unmapped (position (λ card. is_same (card_id card) id) (cards_of batches)) h) where
-  unmapped : (o : Option ℕ) → option_map (λ i. i + 1) o ≡ None → o ≡ None
-  unmapped None e = refl
-  unmapped (Some j) e = absurd cc
+isnt_placed batches id h = none_any (λ card. is_same (card_id card) id) (cards_of batches)
+    (unmapped (position (λ card. is_same (card_id card) id) (cards_of batches)) h) where
+      unmapped : (o : Option ℕ) → option_map (λ i. i + 1) o ≡ None → o ≡ None
+      unmapped None e = refl
+      unmapped (Some j) e = absurd cc
 
 -- the card with that number is the only one with the id
-pub links_one : (batches : Batches) (ids : List Id) (id : Id) (place : ℕ) → AreBatches batches.ids batches.counts → place_of (cards_of batches) id ≡ Some place → is_among ids id ≡ false
+pub links_one : (batches : Batches) (ids : List Id) (id : Id) (place : ℕ) → AreBatches batches.ids batches.counts →
+    place_of (cards_of batches) id ≡ Some place → is_among ids id ≡ false
     → ballot_numbers (ids ++ id ∷ []) (cards_of batches) ≡ set (ballot_numbers ids (cards_of batches)) (place - 1) (length ids + 1)
 links_one batches ids id place m h out =
     let some = (is_placed batches id place h).0 in
@@ -128,7 +136,8 @@ links_one batches ids id place m h out =
     let (c, at, same) = card_undoes_place batches id (place - 1) (h ∙ ap Some e) in
     put ids id (cards_of batches) (place - 1) c at same (λ k d g f. card_ids_differ batches k (place - 1) d c m g at (f ∙ sym same)) out
 
-pub links_next : (batches : Batches) (ids : List Id) (i place : ℕ) (id : Id) (numbers : List ℕ) → AreBatches batches.ids batches.counts → all_differ ids ≡ true → i < length ids → get_or ids i [] ≡ id
+pub links_next : (batches : Batches) (ids : List Id) (i place : ℕ) (id : Id) (numbers : List ℕ) → AreBatches batches.ids batches.counts →
+    all_differ ids ≡ true → i < length ids → get_or ids i [] ≡ id
     → place_of (cards_of batches) id ≡ Some place → IsLinking batches ids i numbers → IsLinking batches ids (i + 1) (set numbers (place - 1) (i + 1))
 links_next batches ids i place id numbers m d below e h so_far =
     let more : take (i + 1) ids ≡ take i ids ++ id ∷ [] = take_more ids i [] below ∙ ap (λ x. take i ids ++ x ∷ []) e in
@@ -136,12 +145,15 @@ links_next batches ids i place id numbers m d below e h so_far =
     let out = differ-split (take i ids) id (drop (i + 1) ids) (ap all_differ (sym split) ∙ d) in
     let len : length (take i ids) ≡ i = length-take-le i ids (omega (arith, below)) in
     record {
-      numbered = ap (λ ns. set ns (place - 1) (i + 1)) so_far.numbered ∙ ap (λ n. set (ballot_numbers (take i ids) (cards_of batches)) (place - 1) (n + 1)) (sym len)
+      numbered = ap (λ ns. set ns (place - 1) (i + 1)) so_far.numbered
+          ∙ ap (λ n. set (ballot_numbers (take i ids) (cards_of batches)) (place - 1) (n + 1)) (sym len)
           ∙ sym (links_one batches (take i ids) id place m h out) ∙ ap (λ before. ballot_numbers before (cards_of batches)) (sym more);
-      all_placed = ap (position (λ x. not (has_card batches x))) more ∙ still_none (λ x. not (has_card batches x)) (take i ids) id so_far.all_placed (ap not (is_placed batches id place h).2);
+      all_placed = ap (position (λ x. not (has_card batches x))) more
+          ∙ still_none (λ x. not (has_card batches x)) (take i ids) id so_far.all_placed (ap not (is_placed batches id place h).2);
     }
 
-pub lacks_card : (batches : Batches) (file : BallotFile) (i at : ℕ) (id : Id) (numbers : List ℕ) → i < length file.ids → get_or file.ids i [] ≡ id → get_or file.places i 0 ≡ at
+pub lacks_card : (batches : Batches) (file : BallotFile) (i at : ℕ) (id : Id) (numbers : List ℕ) → i < length file.ids → get_or file.ids i [] ≡ id →
+    get_or file.places i 0 ≡ at
     → place_of (cards_of batches) id ≡ None → IsLinking batches file.ids i numbers → first_without_card batches file ≡ Some at
 lacks_card batches file i at id numbers below e p h so_far =
     let ids = file.ids in
@@ -171,7 +183,8 @@ same_record rankings file e (Some i) =
     let less : (i + 1) - 1 ≡ i = omega arith in
     rw (if_some i) (ap (λ n. Ranked (get_or rankings n [])) less ∙ ap (λ rs. Ranked (get_or rs i [])) e)
 
-pub recorded_all : (rankings : List (List ℕ)) (file : BallotFile) → rankings ≡ file.rankings → (cards : List Card) → map (recorded_at rankings) (ballot_numbers file.ids cards) ≡ map (recorded_of file) cards
+pub recorded_all : (rankings : List (List ℕ)) (file : BallotFile) → rankings ≡ file.rankings → (cards : List Card) →
+    map (recorded_at rankings) (ballot_numbers file.ids cards) ≡ map (recorded_of file) cards
 recorded_all rankings file e [] = refl
 recorded_all rankings file e (c ∷ cards) =
     ap (λ r. r ∷ map (recorded_at rankings) (ballot_numbers file.ids cards)) (same_record rankings file e (position (is_same (card_id c)) file.ids))

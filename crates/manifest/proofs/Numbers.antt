@@ -41,7 +41,8 @@ written text k first h = by (is_number text) refl h where
       let (range, digits) = and_parts (nat_le 1 (length text) && nat_le (length text) MOST_NUMBER_DIGITS) (list_all is_ascii_digit text) t in
       let (low, high) = and_parts (nat_le 1 (length text)) (nat_le (length text) MOST_NUMBER_DIGITS) range in
       let less = few text digits (leb-true (length text) MOST_NUMBER_DIGITS high) in
-      let same : decimal (digits_value 10 text) ≡ text = decimal-digits_value own text digits (omega (arith, leb-true 1 (length text) low)) (λ z. absurd (first z)) (omega (arith, less)) in
+      let same : decimal (digits_value 10 text) ≡ text = decimal-digits_value own text digits (omega (arith, leb-true 1 (length text) low))
+      (λ z. absurd (first z)) (omega (arith, less)) in
       let same_k : decimal k ≡ text = ap decimal (sym e) ∙ same in
       (same_k, positive k same_k)
     where
@@ -57,12 +58,14 @@ pub reads : (k : ℕ) (text : List ℕ) → k ≤ MOST_BATCH_CARDS → decimal k
 reads k text most e = subst (λ t. number_of t ≡ Some k) e (rw digits (ap Some (digits_value-decimal own k (omega (arith, most))))) where
   digits : is_number (decimal k) ≡ true
   digits =
-      is_number-from (decimal k) (digits_decimal own k (omega (arith, most))) (omega (arith, decimal_nonempty k (omega (arith, most)))) (omega (arith, length-decimal-le MOST_NUMBER_DIGITS k (omega arith) (omega (arith, most)) (omega (arith, most))))
+      is_number-from (decimal k) (digits_decimal own k (omega (arith, most))) (omega (arith, decimal_nonempty k (omega (arith, most))))
+      (omega (arith, length-decimal-le MOST_NUMBER_DIGITS k (omega arith) (omega (arith, most)) (omega (arith, most))))
 
 pub unread : (text : List ℕ) → number_of text ≡ None → (k : ℕ) → 1 ≤ k → k ≤ MOST_BATCH_CARDS → is_same (decimal k) text ≡ false
 unread text h k some most = not_written k text (λ e. let r = reads k text most e in cc)
 
-pub too_many : (text : List ℕ) (n : ℕ) → number_of text ≡ Some n → MOST_BATCH_CARDS < n → (k : ℕ) → 1 ≤ k → k ≤ MOST_BATCH_CARDS → is_same (decimal k) text ≡ false
+pub too_many : (text : List ℕ) (n : ℕ) → number_of text ≡ Some n → MOST_BATCH_CARDS < n → (k : ℕ) → 1 ≤ k → k ≤ MOST_BATCH_CARDS →
+    is_same (decimal k) text ≡ false
 too_many text n h many k some most = not_written k text (λ e. let r = reads k text most e in let s : k ≡ n = cc in omega (arith, s, many, most))
 
 -- ---- lengths

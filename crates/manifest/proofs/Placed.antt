@@ -34,51 +34,59 @@ record IsPlaced (ids : List Id) (counts : List ℕ) (i : ℕ) (c : Card) : Type 
 same-refl : (a : Id) → is_same a a ≡ true
 same-refl a = (bytes_decides a a).1 refl
 
-placed : (ids : List Id) (counts : List ℕ) (i : ℕ) (c : Card) → length counts ≡ length ids → list_all is_batch_id ids ≡ true → all_differ ids ≡ true → list_all is_count counts ≡ true
+placed : (ids : List Id) (counts : List ℕ) (i : ℕ) (c : Card) → length counts ≡ length ids → list_all is_batch_id ids ≡ true → all_differ ids ≡ true →
+    list_all is_count counts ≡ true
     → slice_get (cards_in ids counts) i ≡ Some c → IsPlaced ids counts i c
 placed [] counts i c l v d k h = absurd cc
 placed (b ∷ ids) [] i c l v d k h = absurd cc
-placed (b ∷ ids) (n ∷ counts) i c l v d k h = by (cases_Bool (nat_lt i n)) (λ at. placed ids counts (i - n) c (omega (arith, l)) (named b ids v).1 (and_parts (not (is_among ids b)) (all_differ ids) d).1 (counted n counts k).1 at) where
-  few : n ≤ MOST_BATCH_CARDS
-  few = (counted n counts k).0
+placed (b ∷ ids) (n ∷ counts) i c l v d k h =
+    by (cases_Bool (nat_lt i n)) (λ at. placed ids counts (i - n) c (omega (arith, l)) (named b ids v).1
+    (and_parts (not (is_among ids b)) (all_differ ids) d).1 (counted n counts k).1 at) where
+      few : n ≤ MOST_BATCH_CARDS
+      few = (counted n counts k).0
 
-  in_batch : i < n → IsPlaced (b ∷ ids) (n ∷ counts) i (card b (1 + i))
-  in_batch less =
-      let one = names (card_id (card b (1 + i))) b (1 + i) refl (omega arith) (omega (arith, less, few)) in
-      let e : (1 + i) - 1 ≡ i = omega arith in
-      record {
-        among = rw (same-refl b) refl;
-        first = omega arith;
-        most = omega (arith, less, few);
-        placed = some_first (has_id (card_id (card b (1 + i)))) (cards_of_batch b n) (cards_in ids counts) i
-            (found_in (has_id (card_id (card b (1 + i)))) b (1 + i) 1 n (omega arith) (omega (arith, few)) (omega arith) (omega (arith, less)) one.alone ∙ ap Some e);
-      }
+      in_batch : i < n → IsPlaced (b ∷ ids) (n ∷ counts) i (card b (1 + i))
+      in_batch less =
+          let one = names (card_id (card b (1 + i))) b (1 + i) refl (omega arith) (omega (arith, less, few)) in
+          let e : (1 + i) - 1 ≡ i = omega arith in
+          record {
+            among = rw (same-refl b) refl;
+            first = omega arith;
+            most = omega (arith, less, few);
+            placed = some_first (has_id (card_id (card b (1 + i)))) (cards_of_batch b n) (cards_in ids counts) i
+                (found_in (has_id (card_id (card b (1 + i)))) b (1 + i) 1 n (omega arith) (omega (arith, few)) (omega arith) (omega (arith, less)) one.alone
+                ∙ ap Some e);
+          }
 
-  later : n ≤ i → IsPlaced ids counts (i - n) c → IsPlaced (b ∷ ids) (n ∷ counts) i c
-  later more rest =
-      let apart = not-true (is_among ids b) (and_parts (not (is_among ids b)) (all_differ ids) d).0 in
-      let other : is_same b c.batch ≡ false = not_same ids b c.batch apart rest.among in
-      record {
-        among = or_true (is_same b c.batch) (is_among ids c.batch) rest.among;
-        first = rest.first;
-        most = rest.most;
-        placed = none_then (has_id (card_id c)) b n ids counts few ((names (card_id c) c.batch c.k refl rest.first rest.most).others b (named b ids v).0 other) ∙ ap (option_map (λ j. n + j)) rest.placed ∙ ap Some (omega (arith, more));
-      }
+      later : n ≤ i → IsPlaced ids counts (i - n) c → IsPlaced (b ∷ ids) (n ∷ counts) i c
+      later more rest =
+          let apart = not-true (is_among ids b) (and_parts (not (is_among ids b)) (all_differ ids) d).0 in
+          let other : is_same b c.batch ≡ false = not_same ids b c.batch apart rest.among in
+          record {
+            among = or_true (is_same b c.batch) (is_among ids c.batch) rest.among;
+            first = rest.first;
+            most = rest.most;
+            placed = none_then (has_id (card_id c)) b n ids counts few
+                ((names (card_id c) c.batch c.k refl rest.first rest.most).others b (named b ids v).0 other) ∙ ap (option_map (λ j. n + j)) rest.placed
+                ∙ ap Some (omega (arith, more));
+          }
 
-  by : (nat_lt i n ≡ true) ⊎ (nat_lt i n ≡ false) → (slice_get (cards_in ids counts) (i - n) ≡ Some c → IsPlaced ids counts (i - n) c) → IsPlaced (b ∷ ids) (n ∷ counts) i c
-  by (inl t) ih =
-      let less : i < n = ltb-true i n t in
-      let s : card b (1 + i) ≡ c = (let q = sym (in_first b 1 n i (cards_in ids counts) less) ∙ h in cc) in
-      subst (IsPlaced (b ∷ ids) (n ∷ counts) i) s (in_batch less)
-  by (inr f) ih =
-      let more : n ≤ i = ltb-false i n f in
-      let e : i ≡ n + (i - n) = omega (arith, more) in
-      later more (ih (sym (in_rest b 1 n (i - n) (cards_in ids counts)) ∙ ap (slice_get (cards_in (b ∷ ids) (n ∷ counts))) (sym e) ∙ h))
+      by : (nat_lt i n ≡ true) ⊎ (nat_lt i n ≡ false) → (slice_get (cards_in ids counts) (i - n) ≡ Some c → IsPlaced ids counts (i - n) c) →
+          IsPlaced (b ∷ ids) (n ∷ counts) i c
+      by (inl t) ih =
+          let less : i < n = ltb-true i n t in
+          let s : card b (1 + i) ≡ c = (let q = sym (in_first b 1 n i (cards_in ids counts) less) ∙ h in cc) in
+          subst (IsPlaced (b ∷ ids) (n ∷ counts) i) s (in_batch less)
+      by (inr f) ih =
+          let more : n ≤ i = ltb-false i n f in
+          let e : i ≡ n + (i - n) = omega (arith, more) in
+          later more (ih (sym (in_rest b 1 n (i - n) (cards_in ids counts)) ∙ ap (slice_get (cards_in (b ∷ ids) (n ∷ counts))) (sym e) ∙ h))
 
 card_of_pair : (card : Card) → card ≡ record { batch = card.batch; k = card.k }
 card_of_pair c = refl
 
-at_place : (batches : Batches) (i : ℕ) (c : Card) → AreBatches batches.ids batches.counts → slice_get (cards_of batches) i ≡ Some c → position (has_id (card_id c)) (cards_of batches) ≡ Some i
+at_place : (batches : Batches) (i : ℕ) (c : Card) → AreBatches batches.ids batches.counts → slice_get (cards_of batches) i ≡ Some c →
+    position (has_id (card_id c)) (cards_of batches) ≡ Some i
 at_place batches i c m h = (placed batches.ids batches.counts i c m.a_count_each m.named m.differ m.counted h).placed
 
 pub place_undoes_card : PlaceUndoesCard
@@ -91,7 +99,8 @@ card_ids_differ batches i j c d m h g e =
 
 pub card_undoes_place : CardUndoesPlace
 card_undoes_place batches id i h = by (position (has_id id) (cards_of batches)) refl h where
-  by : (o : Option ℕ) → position (has_id id) (cards_of batches) ≡ o → option_map (λ j. j + 1) o ≡ Some (i + 1) → (c : Card) × (slice_get (cards_of batches) i ≡ Some c) × (card_id c ≡ id)
+  by : (o : Option ℕ) → position (has_id id) (cards_of batches) ≡ o → option_map (λ j. j + 1) o ≡ Some (i + 1) →
+      (c : Card) × (slice_get (cards_of batches) i ≡ Some c) × (card_id c ≡ id)
   by None e g = absurd cc
   by (Some j) e g =
       let q : j + 1 ≡ i + 1 = cc in

@@ -16,7 +16,8 @@ use Rattle.manifest.specs.Manifest.{and_then, at_end, batch_of, batch_with, batc
 use Rattle.manifest.specs.declared.batch.Batch.{Batch}
 use Rattle.manifest.specs.declared.fault.MRule.{MRule}
 use Rattle.manifest.specs.declared.fault.MRule.TheVariants.{M6}
-use Rattle.manifest.specs.declared.limits.TheConstants.{MOST_BATCH_CARDS, MOST_CARDS}
+use Rattle.manifest.specs.declared.limits.TheConstants.{MOST_BATCH_CARDS}
+use Rattle.irv_base.specs.declared.limits.TheConstants.{MOST_CARDS}
 
 -- ---- a batch that is accepted
 
@@ -26,10 +27,13 @@ pub record IsNext (ids : List Id) (others : ℕ) (batch : Batch) : Type 0 where
   pub counted : is_count batch.cards ≡ true
   pub most : others + batch.cards ≤ MOST_CARDS
 
-next_with : (ids : List Id) (others : ℕ) (id : Id) (o : Option ℕ) (batch : Batch) → is_batch_id id ≡ true → is_among ids id ≡ false → batch_with id others o ≡ Ok batch → IsNext ids others batch
+next_with : (ids : List Id) (others : ℕ) (id : Id) (o : Option ℕ) (batch : Batch) → is_batch_id id ≡ true → is_among ids id ≡ false →
+    batch_with id others o ≡ Ok batch → IsNext ids others batch
 next_with ids others id None batch named new h = absurd cc
 next_with ids others id (Some n) batch named new h = by (is_count n) (nat_le (others + n) MOST_CARDS) refl refl h where
-  by : (c m : Bool) → is_count n ≡ c → nat_le (others + n) MOST_CARDS ≡ m → (if c then (if m then Ok (record { id = id; cards = n }) else Err Rattle.manifest.specs.declared.fault.MRule.TheVariants.M5) else Err Rattle.manifest.specs.declared.fault.MRule.TheVariants.M3) ≡ Ok batch
+  by : (c m : Bool) → is_count n ≡ c → nat_le (others + n) MOST_CARDS ≡ m →
+      (if c then (if m then Ok (record { id = id; cards = n }) else Err Rattle.manifest.specs.declared.fault.MRule.TheVariants.M5) else Err
+      Rattle.manifest.specs.declared.fault.MRule.TheVariants.M3) ≡ Ok batch
       → IsNext ids others batch
   by true true e f g =
       let s : record { id = id; cards = n } ≡ batch = cc in
@@ -41,7 +45,9 @@ pub is_next : (ids : List Id) (others : ℕ) (row : Fields) (batch : Batch) → 
 is_next ids others [] batch h = absurd cc
 is_next ids others (id ∷ []) batch h = absurd cc
 is_next ids others (id ∷ number ∷ []) batch h = by (is_batch_id id) (is_among ids id) refl refl h where
-  by : (v a : Bool) → is_batch_id id ≡ v → is_among ids id ≡ a → (if not v || a then Err Rattle.manifest.specs.declared.fault.MRule.TheVariants.M4 else batch_with id others (number_of number)) ≡ Ok batch → IsNext ids others batch
+  by : (v a : Bool) → is_batch_id id ≡ v → is_among ids id ≡ a →
+      (if not v || a then Err Rattle.manifest.specs.declared.fault.MRule.TheVariants.M4 else batch_with id others (number_of number)) ≡ Ok batch →
+      IsNext ids others batch
   by false a e f g = absurd cc
   by true true e f g = absurd cc
   by true false e f g = next_with ids others id (number_of number) batch e f g
@@ -55,12 +61,15 @@ sum-push counts n = sum_by_push (λ x. x) counts n
 pub none_yet : AreBatches [] []
 none_yet = record { a_count_each = refl; named = refl; differ = refl; counted = refl; most = omega arith }
 
-pub one_more : (ids : List Id) (counts : List ℕ) (batch : Batch) → AreBatches ids counts → IsNext ids (sum counts) batch → AreBatches (ids ++ batch.id ∷ []) (counts ++ batch.cards ∷ [])
+pub one_more : (ids : List Id) (counts : List ℕ) (batch : Batch) → AreBatches ids counts → IsNext ids (sum counts) batch →
+    AreBatches (ids ++ batch.id ∷ []) (counts ++ batch.cards ∷ [])
 one_more ids counts batch so_far next = record {
   a_count_each = length-append counts (batch.cards ∷ []) ∙ ap (λ n. n + 1) so_far.a_count_each ∙ sym (length-append ids (batch.id ∷ []));
-  named = list_all-append is_batch_id ids (batch.id ∷ []) ∙ and_from (list_all is_batch_id ids) (is_batch_id batch.id && true) so_far.named (and_from (is_batch_id batch.id) true next.named refl);
+  named = list_all-append is_batch_id ids (batch.id ∷ []) ∙ and_from (list_all is_batch_id ids) (is_batch_id batch.id && true) so_far.named
+      (and_from (is_batch_id batch.id) true next.named refl);
   differ = differ-push ids batch.id so_far.differ next.new;
-  counted = list_all-append is_count counts (batch.cards ∷ []) ∙ and_from (list_all is_count counts) (is_count batch.cards && true) so_far.counted (and_from (is_count batch.cards) true next.counted refl);
+  counted = list_all-append is_count counts (batch.cards ∷ [])
+      ∙ and_from (list_all is_count counts) (is_count batch.cards && true) so_far.counted (and_from (is_count batch.cards) true next.counted refl);
   most = omega (arith, sum-push counts batch.cards, next.most);
 }
 
@@ -95,10 +104,12 @@ goes_on rows ids counts firsts cards row rest batch so_far h =
     let at : (2 + length counts) + 1 ≡ 2 + length (counts ++ batch.cards ∷ []) = omega (arith, length-append counts (batch.cards ∷ [])) in
     record {
       split = so_far.split
-          ∙ ap (λ o. and_then o (2 + length counts) (λ (b : Batch). batches_after (ids ++ b.id ∷ []) (counts ++ b.cards ∷ []) ((2 + length counts) + 1) rest)) judged
+          ∙ ap (λ o. and_then o (2 + length counts) (λ (b : Batch). batches_after (ids ++ b.id ∷ []) (counts ++ b.cards ∷ []) ((2 + length counts) + 1) rest))
+          judged
           ∙ ap (λ n. batches_after (ids ++ batch.id ∷ []) (counts ++ batch.cards ∷ []) n rest) at;
       batches = one_more ids counts batch so_far.batches next;
-      first_each = ap (λ k. firsts ++ k ∷ []) (omega (arith, so_far.all)) ∙ ap (λ fs. fs ++ (1 + sum counts) ∷ []) so_far.first_each ∙ sym (firsts-push 1 counts batch.cards);
+      first_each = ap (λ k. firsts ++ k ∷ []) (omega (arith, so_far.all)) ∙ ap (λ fs. fs ++ (1 + sum counts) ∷ []) so_far.first_each
+          ∙ sym (firsts-push 1 counts batch.cards);
       all = omega (arith, so_far.all, sum-push counts batch.cards);
     }
 
@@ -106,7 +117,8 @@ pub stops : (rows : List Fields) (ids : List Id) (counts firsts : List ℕ) (car
     → BatchesSoFar rows ids counts firsts cards (row ∷ rest) → batch_of ids cards row ≡ Err rule → batches_after [] [] 2 rows ≡ refused rule (2 + length counts)
 stops rows ids counts firsts cards row rest rule so_far h =
     let judged : batch_of ids (sum counts) row ≡ Err rule = ap (λ n. batch_of ids n row) (sym so_far.all) ∙ h in
-    so_far.split ∙ ap (λ o. and_then o (2 + length counts) (λ (b : Batch). batches_after (ids ++ b.id ∷ []) (counts ++ b.cards ∷ []) ((2 + length counts) + 1) rest)) judged
+    so_far.split ∙ ap (λ o. and_then o (2 + length counts) (λ (b : Batch). batches_after (ids ++ b.id ∷ []) (counts ++ b.cards ∷ []) ((2 + length counts) + 1)
+    rest)) judged
 
 end_none : (ids : List Id) (counts : List ℕ) → length ids ≡ 0 → at_end ids counts ≡ refused M6 1
 end_none [] counts h = refl
@@ -116,7 +128,8 @@ end_some : (ids : List Id) (counts : List ℕ) → 1 ≤ length ids → at_end i
 end_some [] counts h = absurd (omega (arith, h))
 end_some (id ∷ ids) counts h = refl
 
-pub ends_empty : (rows : List Fields) (ids : List Id) (counts firsts : List ℕ) (cards : ℕ) → BatchesSoFar rows ids counts firsts cards [] → length counts ≡ 0 → batches_after [] [] 2 rows ≡ refused M6 1
+pub ends_empty : (rows : List Fields) (ids : List Id) (counts firsts : List ℕ) (cards : ℕ) → BatchesSoFar rows ids counts firsts cards [] →
+    length counts ≡ 0 → batches_after [] [] 2 rows ≡ refused M6 1
 ends_empty rows ids counts firsts cards so_far h = so_far.split ∙ end_none ids counts (omega (arith, so_far.batches.a_count_each, h))
 
 pub ends : (rows : List Fields) (ids : List Id) (counts firsts : List ℕ) (cards : ℕ) → BatchesSoFar rows ids counts firsts cards [] → 1 ≤ length counts

@@ -10,15 +10,16 @@ use Rattle.std.proofs.lemmas.List.Sums.{sum_by-append}
 use Rattle.std.proofs.lemmas.Option.{get_or_from_slice_get, slice_get-map}
 use Rattle.ballot_reader.proofs.Differing.{differ-split}
 use Rattle.ballot_reader.proofs.Ended.{got}
+use Rattle.csv_rows.specs.Broken.{IsFirstBroken}
 use Rattle.csv_rows.specs.Numbers.{number_of}
 use Rattle.csv_rows.specs.Rows.{Fields}
 use Rattle.irv_base.specs.Names.{Id, all_differ, is_among, is_same}
 use Rattle.manifest.specs.Cards.{AreBatches, Batches, is_batch_id, is_count}
 use Rattle.manifest.specs.Manifest.{Refusal, at_end, batches_after, is_header, manifest_in, refused}
-use Rattle.manifest.specs.Spelling.{FirstBrokenRuleRefuses, IsFirstBroken, IsRefusedIn, RecordsSpellBatches, Spells, broken_rule, number_or_0, row_cards, row_id}
+use Rattle.manifest.specs.Spelling.{FirstBrokenRuleRefuses, IsRefusedIn, RecordsSpellBatches, Spells, broken_rule, number_or_0, row_cards, row_id}
 use Rattle.manifest.specs.declared.fault.MRule.{MRule}
 use Rattle.manifest.specs.declared.fault.MRule.TheVariants.{M1, M3, M4, M5, M6}
-use Rattle.manifest.specs.declared.limits.TheConstants.{MOST_CARDS}
+use Rattle.irv_base.specs.declared.limits.TheConstants.{MOST_CARDS}
 use Rattle.manifest.proofs.CardAt.{sum-cons}
 use Rattle.manifest.proofs.SoFar.{none_yet}
 use Rattle.manifest.proofs.Walked.{AreBroken, AreFine, AreSound, walked}
@@ -49,13 +50,15 @@ record IsSpelled (row : Fields) : Type 0 where
 spelled : (before : List Fields) (row : Fields) → broken_rule before row ≡ None → IsSpelled row
 spelled before [] h = absurd cc
 spelled before (id ∷ []) h = absurd cc
-spelled before (id ∷ number ∷ []) h = record { text = number; is = refl; number = by (not (is_batch_id id) || is_among (map row_id before) id) (number_of number) h } where
-  by : (b : Bool) (o : Option ℕ)
-      → (if b then Some M4 else (if is_count (number_or_0 o) then (if nat_le (sum (map row_cards before) + number_or_0 o) MOST_CARDS then None else Some M5) else Some M3)) ≡ None
-      → o ≡ Some (number_or_0 o)
-  by true o g = absurd cc
-  by false None g = absurd cc
-  by false (Some n) g = refl
+spelled before (id ∷ number ∷ []) h =
+    record { text = number; is = refl; number = by (not (is_batch_id id) || is_among (map row_id before) id) (number_of number) h } where
+      by : (b : Bool) (o : Option ℕ)
+          → (if b then Some M4 else (if is_count (number_or_0 o) then (if nat_le (sum (map row_cards before) + number_or_0 o) MOST_CARDS then None else Some M5)
+          else Some M3)) ≡ None
+          → o ≡ Some (number_or_0 o)
+      by true o g = absurd cc
+      by false None g = absurd cc
+      by false (Some n) g = refl
 spelled before (id ∷ number ∷ next ∷ rest) h = absurd cc
 
 -- ---- records that spell sound batches break no rule
@@ -91,7 +94,8 @@ unbroken before id number n rest e h =
     let new = differ-split (map row_id before) id (map row_id rest) (ap all_differ (sym ids) ∙ h.differ) in
     let counted = and_parts (list_all is_count (map row_cards before)) (list_all is_count (map row_cards (row ∷ rest)))
     (sym (list_all-append is_count (map row_cards before) (map row_cards (row ∷ rest))) ∙ ap (list_all is_count) (sym counts) ∙ h.counted) in
-    let count : is_count (number_or_0 (number_of number)) ≡ true = (and_parts (is_count (number_or_0 (number_of number))) (list_all is_count (map row_cards rest)) counted.1).0 in
+    let count : is_count (number_or_0 (number_of number)) ≡ true =
+    (and_parts (is_count (number_or_0 (number_of number))) (list_all is_count (map row_cards rest)) counted.1).0 in
     let total : sum (map row_cards (before ++ row ∷ rest)) ≡ sum (map row_cards before) + sum (map row_cards (row ∷ rest)) =
     ap sum counts ∙ sum_by-append (λ x. x) (map row_cards before) (map row_cards (row ∷ rest)) in
     let most = less-eq (sum (map row_cards before) + number_or_0 (number_of number)) MOST_CARDS
@@ -114,7 +118,8 @@ no_header header batches f = ap (λ b. if b then batches_after [] [] 2 batches e
 abbrev batches-in : List Fields → Batches
 batches-in rows = record { ids = map row_id rows; counts = map row_cards rows }
 
-spells-of : (header : Fields) (batches : List Fields) → is_header header ≡ true → AreFine [] batches → 1 ≤ length batches → Spells (header ∷ batches) (batches-in batches)
+spells-of : (header : Fields) (batches : List Fields) → is_header header ≡ true → AreFine [] batches → 1 ≤ length batches →
+    Spells (header ∷ batches) (batches-in batches)
 spells-of header batches t f some = record {
   header = ap Some (header-is header t);
   a_row_each = omega (arith, length-map batches row_id);
@@ -123,7 +128,8 @@ spells-of header batches t f some = record {
   sound = f.sound;
 } where
   each : (i : ℕ) → i < length (map row_id batches) → (text : List ℕ)
-      × (slice_get (header ∷ batches) (i + 1) ≡ Some (get_or (map row_id batches) i [] ∷ text ∷ [])) × (number_of text ≡ Some (get_or (map row_cards batches) i 0))
+      × (slice_get (header ∷ batches) (i + 1) ≡ Some (get_or (map row_id batches) i [] ∷ text ∷ [])) ×
+      (number_of text ≡ Some (get_or (map row_cards batches) i 0))
   each i less =
       let (row, there) = got batches i (omega (arith, less, length-map batches row_id)) in
       let own = spelled (take i batches) row (f.none i row there) in
@@ -165,8 +171,10 @@ spelled-is [] b s = absurd (let e = s.header in cc)
 spelled-is (header ∷ batches) b s =
     let e : header ≡ header_row = (let g = s.header in cc) in
     let t : is_header header ≡ true = ap is_header e ∙ is-header in
-    let later : (i : ℕ) → i < length b.ids → (text : List ℕ) × (slice_get batches i ≡ Some (get_or b.ids i [] ∷ text ∷ [])) × (number_of text ≡ Some (get_or b.counts i 0)) =
-    λ i less. (let (text, there, number) = s.each i less in let next : i + 1 ≡ suc i = omega arith in (text, sym (ap (slice_get (header ∷ batches)) next) ∙ there, number)) in
+    let later : (i : ℕ) → i < length b.ids → (text : List ℕ) × (slice_get batches i ≡ Some (get_or b.ids i [] ∷ text ∷ [])) ×
+    (number_of text ≡ Some (get_or b.counts i 0)) =
+    λ i less. (let (text, there, number) = s.each i less in let next : i + 1 ≡ suc i = omega arith in
+    (text, sym (ap (slice_get (header ∷ batches)) next) ∙ there, number)) in
     let (ids, counts) = same-columns batches b.ids b.counts (omega (arith, s.a_row_each)) s.sound.a_count_each later in
     let sound : AreSound batches = subst (λ xs. AreBatches xs (map row_cards batches)) (sym ids) (subst (AreBatches b.ids) (sym counts) s.sound) in
     behind_header header batches t ∙ elim (walked [] batches none_yet) [
@@ -175,7 +183,8 @@ spelled-is (header ∷ batches) b s =
     ]
   where
     never : (batches : List Fields) (broken : AreBroken [] batches) → AreSound batches
-        → ((i : ℕ) → i < length batches → (text : List ℕ) × (slice_get batches i ≡ Some (get_or b.ids i [] ∷ text ∷ [])) × (number_of text ≡ Some (get_or b.counts i 0))) → ⊥
+        → ((i : ℕ) → i < length batches → (text : List ℕ) × (slice_get batches i ≡ Some (get_or b.ids i [] ∷ text ∷ [])) ×
+        (number_of text ≡ Some (get_or b.counts i 0))) → ⊥
     never batches broken sound each =
         let (text, there, number) = each broken.k (within batches broken.k broken.row broken.there) in
         let id = get_or b.ids broken.k [] in
@@ -213,7 +222,8 @@ is-refused (header ∷ batches) rule at h = elim (cases_Bool (is_header header))
   ]
 ]
 
-one-first : (batches : List Fields) (broken : AreBroken [] batches) (k : ℕ) (rule : MRule) → IsFirstBroken broken_rule batches k rule → (broken.k ≡ k) × (broken.rule ≡ rule)
+one-first : (batches : List Fields) (broken : AreBroken [] batches) (k : ℕ) (rule : MRule) → IsFirstBroken broken_rule batches k rule →
+    (broken.k ≡ k) × (broken.rule ≡ rule)
 one-first batches broken k rule first = elim (cases_Bool (nat_lt k broken.k)) [
   | inl less ↦ absurd (let e = sym (broken.earlier k first.row (ltb-true k broken.k less) first.there) ∙ first.breaks in cc)
   | inr more ↦ elim (cases_Bool (nat_lt broken.k k)) [
@@ -222,7 +232,8 @@ one-first batches broken k rule first = elim (cases_Bool (nat_lt k broken.k)) [
         let same : broken.k ≡ k = omega (arith, ltb-false k broken.k more, ltb-false broken.k k none) in
         let rows = sym broken.there ∙ ap (slice_get batches) same ∙ first.there in
         let row : broken.row ≡ first.row = cc in
-        let rules = sym broken.broken ∙ ap (λ r. broken_rule (take broken.k batches) r) row ∙ ap (λ j. broken_rule (take j batches) first.row) same ∙ first.breaks in
+        let rules = sym broken.broken ∙ ap (λ r. broken_rule (take broken.k batches) r) row ∙ ap (λ j. broken_rule (take j batches) first.row) same
+        ∙ first.breaks in
         (same, cc)
   ]
 ]

@@ -12,14 +12,15 @@ use Rattle.manifest.specs.Spelling.{broken_rule, number_or_0, row_cards, row_id}
 use Rattle.manifest.specs.declared.batch.Batch.{Batch}
 use Rattle.manifest.specs.declared.fault.MRule.{MRule}
 use Rattle.manifest.specs.declared.fault.MRule.TheVariants.{M3, M4, M5}
-use Rattle.manifest.specs.declared.limits.TheConstants.{MOST_CARDS}
+use Rattle.irv_base.specs.declared.limits.TheConstants.{MOST_CARDS}
 use Rattle.manifest.proofs.SoFar.{is_next, one_more}
 
 abbrev as_judged : Option MRule → Id → ℕ → Result Batch MRule
 as_judged None id n = Ok (record { id = id; cards = n })
 as_judged (Some rule) id n = Err rule
 
-judged : (before : List Fields) (row : Fields) → batch_of (map row_id before) (sum (map row_cards before)) row ≡ as_judged (broken_rule before row) (row_id row) (row_cards row)
+judged : (before : List Fields) (row : Fields) → batch_of (map row_id before) (sum (map row_cards before)) row
+    ≡ as_judged (broken_rule before row) (row_id row) (row_cards row)
 judged before [] = refl
 judged before (id ∷ []) = refl
 judged before (id ∷ number ∷ []) = by (not (is_batch_id id) || is_among (map row_id before) id) (number_of number) where
@@ -33,7 +34,8 @@ judged before (id ∷ number ∷ []) = by (not (is_batch_id id) || is_among (map
   counted n false m = refl
 
   by : (b : Bool) (o : Option ℕ) → (if b then Err M4 else batch_with id others o)
-      ≡ as_judged (if b then Some M4 else (if is_count (number_or_0 o) then (if nat_le (others + number_or_0 o) MOST_CARDS then None else Some M5) else Some M3)) id (number_or_0 o)
+      ≡ as_judged (if b then Some M4 else (if is_count (number_or_0 o) then (if nat_le (others + number_or_0 o) MOST_CARDS then None else Some M5) else Some
+      M3)) id (number_or_0 o)
   by true o = refl
   by false None = refl
   by false (Some n) = counted n (is_count n) (nat_le (others + n) MOST_CARDS)
@@ -69,7 +71,8 @@ first-broken before row rest rule e = record {
   there = refl;
   broken = ap (λ b. broken_rule b row) (append-nil before) ∙ e;
   earlier = λ j other less there. absurd (omega (arith, less));
-  is = ap (λ o. and_then o (2 + length before) (λ (b : Batch). batches_after (map row_id before ++ b.id ∷ []) (map row_cards before ++ b.cards ∷ []) ((2 + length before) + 1) rest))
+  is = ap (λ o. and_then o (2 + length before) (λ (b : Batch). batches_after (map row_id before ++ b.id ∷ []) (map row_cards before ++ b.cards ∷ [])
+      ((2 + length before) + 1) rest))
       (judged before row ∙ ap (λ o. as_judged o (row_id row) (row_cards row)) e)
       ∙ ap (refused rule) (omega arith);
 }
@@ -84,7 +87,8 @@ module _ (before : List Fields) (row : Fields) (rest : List Fields) (e : broken_
 
   steps : after before (row ∷ rest) ≡ after (before ++ row ∷ []) rest
   steps =
-      ap (λ o. and_then o (2 + length before) (λ (b : Batch). batches_after (map row_id before ++ b.id ∷ []) (map row_cards before ++ b.cards ∷ []) ((2 + length before) + 1) rest)) accepted
+      ap (λ o. and_then o (2 + length before) (λ (b : Batch). batches_after (map row_id before ++ b.id ∷ []) (map row_cards before ++ b.cards ∷ [])
+      ((2 + length before) + 1) rest)) accepted
       ∙ ap (λ ids. batches_after ids (map row_cards before ++ row_cards row ∷ []) ((2 + length before) + 1) rest) (sym (map-append row_id before (row ∷ [])))
       ∙ ap (λ counts. batches_after (map row_id (before ++ row ∷ [])) counts ((2 + length before) + 1) rest) (sym (map-append row_cards before (row ∷ [])))
       ∙ ap (λ at. batches_after (map row_id (before ++ row ∷ [])) (map row_cards (before ++ row ∷ [])) at rest) (omega (arith, length-append before (row ∷ [])))

@@ -3,7 +3,7 @@ use Rattle.std.specs.Prelude.{ℕ, ◌+◌, ◌-◌, ◌==◌, ◌≤◌, if◌t
 use Rattle.irv_base.specs.Names.{Id, is_same}
 use Rattle.manifest.specs.Cards.{card_id}
 use Rattle.manifest.specs.declared.card.Card.{Card}
-use Rattle.manifest.specs.declared.limits.TheConstants.{MOST_CARDS}
+use Rattle.irv_base.specs.declared.limits.TheConstants.{MOST_CARDS}
 use Rattle.manifest.specs.declared.recorded.Recorded.{Recorded}
 use Rattle.manifest.specs.declared.recorded.Recorded.TheVariants.{Ranked, Without}
 

@@ -3,7 +3,8 @@ use Rattle.std.specs.Prelude.{◌≡◌, ◌≤◌, ℕ, ◌+◌, Bool, true, fa
 use Rattle.std.specs.List.{list_all, range_with_len, sum}
 use Rattle.irv_base.specs.Names.{Id, is_name, is_same, all_differ}
 use Rattle.manifest.specs.declared.card.Card.{Card}
-use Rattle.manifest.specs.declared.limits.TheConstants.{MOST_BATCH_BYTES, MOST_BATCH_CARDS, MOST_CARDS}
+use Rattle.manifest.specs.declared.limits.TheConstants.{MOST_BATCH_BYTES, MOST_BATCH_CARDS}
+use Rattle.irv_base.specs.declared.limits.TheConstants.{MOST_CARDS}
 
 -- the batch with number i has the id ids i and so many cards as counts i
 pub record Batches : Type 0 where

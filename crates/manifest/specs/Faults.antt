@@ -7,7 +7,7 @@ use Rattle.manifest.specs.declared.fault.ManifestFault.TheVariants.{Refused, Mem
 use Rattle.manifest.specs.declared.fault.MRule.{MRule}
 use Rattle.manifest.specs.declared.fault.MRule.TheVariants.{M1, M2, M3, M4, M5, M6}
 
--- it is refused by this rule at this record; memory may always be wanting
+-- the manifest is refused by this rule at this record; memory may always be wanting
 abbrev pub Refuses : Result Batches Refusal → ManifestFault → Type 0
 Refuses said (Refused rule at) = said ≡ Err (record { rule = rule; at = at })
 Refuses said Memory = Unit {0}

@@ -34,7 +34,7 @@ first_without_card batches file =
     option_map (λ i. slice_index_or file.places i 0)
     (position (λ id. not (has_card batches id)) file.ids)
 
--- so it is refused; memory may always be wanting
+-- the ballots aren't linked for this reason; memory may always be wanting
 abbrev pub RefusesLink : Option ℕ → LinkFault → Type 0
 RefusesLink first (NoCard at) = first ≡ Some at
 RefusesLink first Memory = Unit {0}

@@ -9,7 +9,7 @@ use Rattle.manifest.specs.Cards.{Batches, is_batch_id, is_count}
 use Rattle.manifest.specs.declared.batch.Batch.{Batch}
 use Rattle.manifest.specs.declared.fault.MRule.{MRule}
 use Rattle.manifest.specs.declared.fault.MRule.TheVariants.{M1, M2, M3, M4, M5, M6}
-use Rattle.manifest.specs.declared.limits.TheConstants.{MOST_CARDS}
+use Rattle.irv_base.specs.declared.limits.TheConstants.{MOST_CARDS}
 
 -- ---- the first record
 
@@ -21,7 +21,7 @@ is_header (first ∷ second ∷ next ∷ rest) = false
 
 -- ---- a batch's record: its id, and the number of its cards
 
--- that many cards after so many others
+-- the batch with its number of cards, or the rule that the number breaks behind so many other cards
 abbrev pub batch_with : Id → ℕ → Option ℕ → Result Batch MRule
 batch_with id others None = Err M3
 batch_with id others (Some n) =

@@ -1,6 +1,7 @@
 -- What the records of a manifest spell, and which of them breaks a rule first. Each rule is stated of records alone.
-use Rattle.std.specs.Prelude.{◌≡◌, ◌⊎◌, ◌↔◌, ◌≤◌, ◌<◌, ℕ, ◌+◌, false, true, not, ◌||◌, nat_le, if◌then◌else◌, List, [], ◌∷◌, map, take, length, slice_index_or, Option, Some, None, Ok, Err, codes}
+use Rattle.std.specs.Prelude.{◌≡◌, ◌⊎◌, ◌↔◌, ◌≤◌, ◌<◌, ℕ, ◌+◌, false, true, not, ◌||◌, nat_le, if◌then◌else◌, List, [], ◌∷◌, map, length, slice_index_or, Option, Some, None, Ok, Err, codes}
 use Rattle.std.specs.List.{slice_get, sum}
+use Rattle.csv_rows.specs.Broken.{IsFirstBroken}
 use Rattle.csv_rows.specs.Numbers.{number_of}
 use Rattle.csv_rows.specs.Rows.{Fields}
 use Rattle.irv_base.specs.Names.{Id, is_among}
@@ -8,7 +9,7 @@ use Rattle.manifest.specs.Cards.{AreBatches, Batches, is_batch_id, is_count}
 use Rattle.manifest.specs.Manifest.{is_header, manifest_in}
 use Rattle.manifest.specs.declared.fault.MRule.{MRule}
 use Rattle.manifest.specs.declared.fault.MRule.TheVariants.{M1, M2, M3, M4, M5, M6}
-use Rattle.manifest.specs.declared.limits.TheConstants.{MOST_CARDS}
+use Rattle.irv_base.specs.declared.limits.TheConstants.{MOST_CARDS}
 
 -- ---- what is spelled
 
@@ -50,23 +51,14 @@ broken_rule before (id ∷ number ∷ []) =
     else Some M5) else Some M3)
 broken_rule before (id ∷ number ∷ next ∷ rest) = Some M2
 
--- of these rows the one at place k breaks this rule, and none before it breaks any; broken is the rule that one breaks behind others
-pub record IsFirstBroken
-    {Rule : Type 0} (broken : List Fields → Fields → Option Rule) (rows : List Fields) (k : ℕ) (rule : Rule)
-    : Type 0 where
-  pub row : Fields
-  pub there : slice_get rows k ≡ Some row
-  pub breaks : broken (take k rows) row ≡ Some rule
-  pub earlier : (j : ℕ) (other : Fields) → j < k → slice_get rows j ≡ Some other →
-      broken (take j rows) other ≡ None
-
 -- there is no header, or there is no batch, or a batch's record breaks a rule; the first batch's record has number 2
 abbrev pub IsRefusedIn : List Fields → MRule → ℕ → Type 0
 IsRefusedIn [] rule at = (rule ≡ M1) × (at ≡ 1)
 IsRefusedIn (header ∷ batches) rule at =
     ((is_header header ≡ false) × (rule ≡ M1) × (at ≡ 1))
     ⊎ ((is_header header ≡ true) × (batches ≡ []) × (rule ≡ M6) × (at ≡ 1))
-    ⊎ ((is_header header ≡ true) × (k : ℕ) × (at ≡ k + 2) × IsFirstBroken broken_rule batches k rule)
+    ⊎ ((is_header header ≡ true) × (k : ℕ) × (at ≡ k + 2)
+    × IsFirstBroken broken_rule batches k rule)
 
 -- ---- the laws
 

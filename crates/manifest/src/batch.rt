@@ -5,19 +5,21 @@ ghost use Rattle.csv_rows.specs.Fields.{trimmed_fields};
 ghost use Rattle.csv_rows.specs.Numbers.{number_of};
 ghost use Rattle.manifest.specs.Cards.{is_batch_id};
 ghost use Rattle.manifest.specs.Manifest.{batch_of, batch_with, is_header};
-ghost use Rattle.manifest.specs.declared.limits.TheConstants.{MOST_CARDS};
+ghost use Rattle.irv_base.specs.declared.limits.TheConstants.{MOST_CARDS};
 
 use crate::fault::MRule;
-use crate::limits::{MOST_BATCH_BYTES, MOST_BATCH_CARDS, MOST_CARDS};
+use crate::limits::{MOST_BATCH_BYTES, MOST_BATCH_CARDS};
 use csv::ByteRecord;
 use csv_rows::{number_of, trimmed};
 use indexmap::IndexSet;
-use irv_base::Name;
+use irv_base::{MOST_CARDS, Name};
 
 /// A batch: its id, and how many cards it has.
 #[derive(Clone, Copy)]
 pub struct Batch {
+    /// Its id, with which the ids of its cards begin.
     pub id: Name,
+    /// How many cards it has, 1 to `MOST_BATCH_CARDS`.
     pub cards: u32,
 }
 

@@ -43,5 +43,4 @@ pub fn first_broken_rule_refuses()
 pub fn limits()
     ensures most_batch_bytes { limit.MOST_BATCH_BYTES ≡ 56 }
     ensures most_batch_cards { limit.MOST_BATCH_CARDS ≡ 1000000 }
-    ensures most_cards { limit.MOST_CARDS ≡ 10000000 }
 {}

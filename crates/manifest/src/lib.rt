@@ -16,12 +16,9 @@ mod recorded;
 
 pub use card::Card;
 pub use fault::{MRule, ManifestFault};
-pub use limits::{MOST_BATCH_BYTES, MOST_BATCH_CARDS, MOST_CARDS};
+pub use limits::{MOST_BATCH_BYTES, MOST_BATCH_CARDS};
 pub use link_fault::LinkFault;
 pub use linked::{Linked, link};
 pub use manifest::Manifest;
 pub use read::read_manifest;
 pub use recorded::Recorded;
-
-#[cfg(test)]
-mod tests;

@@ -5,6 +5,3 @@ pub const MOST_BATCH_BYTES: usize = 56;
 
 /// The most cards of a batch.
 pub const MOST_BATCH_CARDS: u32 = 1_000_000;
-
-/// The most cards of a manifest.
-pub const MOST_CARDS: u32 = irv_base::MOST_CARDS;

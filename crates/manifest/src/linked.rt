@@ -3,7 +3,7 @@ ghost use Rattle.std.specs.Prelude.{◌≡◌, ◌≤◌, ◌-◌, length, slice
 ghost use Rattle.manifest.specs.Cards.{cards_of};
 ghost use Rattle.manifest.specs.Linked.{RefusesLink, first_without_card, linked_of};
 ghost use Rattle.manifest.specs.BallotNumbers.{AreNumbers, ballot_numbers};
-ghost use Rattle.manifest.specs.declared.limits.TheConstants.{MOST_CARDS};
+ghost use Rattle.irv_base.specs.declared.limits.TheConstants.{MOST_CARDS};
 
 use crate::link_fault::LinkFault;
 use crate::manifest::Manifest;

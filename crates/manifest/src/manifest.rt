@@ -2,7 +2,8 @@
 ghost use Rattle.std.specs.Prelude.{◌≡◌, ◌≤◌, ◌+◌, ◌-◌, ◌<◌, ◌==◌, ◌++◌, ◌∷◌, length, slice_get, slice_index_or, Some, IsTrue, IfSome, IfNone, false};
 ghost use Rattle.std.specs.List.{list_any, sum};
 ghost use Rattle.manifest.specs.Cards.{AreBatches, NamesNone, card_id, cards_of, place_of, underscore};
-ghost use Rattle.manifest.specs.declared.limits.TheConstants.{MOST_BATCH_CARDS, MOST_CARDS};
+ghost use Rattle.manifest.specs.declared.limits.TheConstants.{MOST_BATCH_CARDS};
+ghost use Rattle.irv_base.specs.declared.limits.TheConstants.{MOST_CARDS};
 ghost use Rattle.manifest.specs.Firsts.{IsManifest};
 
 use crate::batch::batch_id;

@@ -18,7 +18,8 @@ no-rounds ids i [] = refl
 no-rounds ids i (c ∷ rest) = refl
 
 pub rounds_more : (ids : List Id) (i : ℕ) (order : List ℕ) (rounds : List Round) (c : ℕ) (round : Round) (text lines whole : List ℕ) →
-    i < length order → i < length rounds → c ≡ get_or order i c → round ≡ get_or rounds i round → lines ≡ round_text ids (i + 1) (drop i order) c (count_in round) →
+    i < length order → i < length rounds → c ≡ get_or order i c → round ≡ get_or rounds i round →
+    lines ≡ round_text ids (i + 1) (drop i order) c (count_in round) →
     text ++ rounds_text ids (i + 1) (drop i order) (drop i (counts_in rounds)) ≡ whole →
     (text ++ lines) ++ rounds_text ids (i + 1 + 1) (drop (i + 1) order) (drop (i + 1) (counts_in rounds)) ≡ whole
 rounds_more ids i order rounds c round text lines whole place within at is told same =
@@ -28,7 +29,8 @@ rounds_more ids i order rounds c round text lines whole place within at is told 
     let next : get_or counts i (count_in round) ≡ count_in round = get_or-map count_in rounds i round (count_in round) within ∙ ap count_in (sym is) in
     let later : drop i counts ≡ count_in round ∷ drop (i + 1) counts = drop_more counts i (count_in round) inside ∙ ap (λ x. x ∷ drop (i + 1) counts) next in
     let after = rounds_text ids (i + 1 + 1) (drop (i + 1) order) (drop (i + 1) counts) in
-    let lines' : lines ≡ round_text ids (i + 1) (c ∷ drop (i + 1) order) c (count_in round) = told ∙ ap (λ cs. round_text ids (i + 1) cs c (count_in round)) left in
+    let lines' : lines ≡ round_text ids (i + 1) (c ∷ drop (i + 1) order) c (count_in round) = told
+    ∙ ap (λ cs. round_text ids (i + 1) cs c (count_in round)) left in
     append_assoc text lines after
     ∙ ap (λ t. text ++ (t ++ after)) lines'
     ∙ sym (ap (λ cs. text ++ rounds_text ids (i + 1) cs (drop i counts)) left ∙ ap (λ cs. text ++ rounds_text ids (i + 1) (c ∷ drop (i + 1) order) cs) later)

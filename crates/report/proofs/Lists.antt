@@ -10,7 +10,8 @@ use Rattle.assertion_file.specs.Ids.{id_of, ids_of}
 use Rattle.report.specs.Texts.{joined}
 
 -- ---- those that are chosen
-pub chosen_more : (p : ℕ → Bool) (n : ℕ) (xs : List ℕ) (b : Bool) → b ≡ p n → xs ≡ filter p (candidates n) → (if b then xs ++ n ∷ [] else xs) ≡ filter p (candidates (n + 1))
+pub chosen_more : (p : ℕ → Bool) (n : ℕ) (xs : List ℕ) (b : Bool) → b ≡ p n → xs ≡ filter p (candidates n) →
+    (if b then xs ++ n ∷ [] else xs) ≡ filter p (candidates (n + 1))
 chosen_more p n xs b is same =
     ap₂ (λ v (ys : List ℕ). if v then ys ++ n ∷ [] else ys) is same
     ∙ last (p n)
@@ -21,7 +22,12 @@ chosen_more p n xs b is same =
     last false = sym (append-nil (filter p (candidates n)))
 
 pub chosen-below : (p : ℕ → Bool) (n : ℕ) → All (λ c. c < n) (filter p (candidates n))
-chosen-below p n i d within = from_candidates (from_filter p (candidates n) (member-from_contains (get_or (filter p (candidates n)) i d) (filter p (candidates n)) (i, within, get_or_default (filter p (candidates n)) i (get_or (filter p (candidates n)) i d) d within))).0
+chosen-below p n i d within = from_candidates (from_filter p (candidates n)
+    (member-from_contains (get_or (filter p (candidates n)) i d) (filter p (candidates n)) (
+      i,
+      within,
+      get_or_default (filter p (candidates n)) i (get_or (filter p (candidates n)) i d) d within,
+    ))).0
 
 -- ---- joined ids
 with_comma : List Id → Id → List ℕ

@@ -23,5 +23,6 @@ county = record {
   candidates = codes "A" ∷ codes "B" ∷ codes "C" ∷ codes "D" ∷ [];
   ids = [];
   places = [];
-  rankings = replicate 4 (1 ∷ []) ++ replicate 3 (2 ∷ []) ++ (3 ∷ 2 ∷ []) ∷ (3 ∷ []) ∷ (0 ∷ 1 ∷ []) ∷ [];
+  rankings =
+      replicate 4 (1 ∷ []) ++ replicate 3 (2 ∷ []) ++ (3 ∷ 2 ∷ []) ∷ (3 ∷ []) ∷ (0 ∷ 1 ∷ []) ∷ [];
 }

@@ -20,8 +20,10 @@ tallies_text ids votes remaining = flat_map (tally_text ids votes) remaining
 -- the lines of round i, in which these remain and the loser is eliminated
 abbrev pub round_text : List Id → ℕ → List ℕ → ℕ → Count → List ℕ
 round_text ids i remaining loser count =
-    codes "round " ++ decimal i ++ codes ":" ++ tallies_text ids count.votes (in_number_order (length ids) remaining)
-    ++ codes " exhausted=" ++ decimal count.exhausted ++ codes "\neliminated " ++ id_of ids loser ++ codes "\n"
+    codes "round " ++ decimal i ++ codes ":"
+    ++ tallies_text ids count.votes (in_number_order (length ids) remaining)
+    ++ codes " exhausted=" ++ decimal count.exhausted
+    ++ codes "\neliminated " ++ id_of ids loser ++ codes "\n"
 
 -- the lines of the rounds from round i on, in which these candidates of the order remain
 abbrev pub rounds_text : List Id → ℕ → List ℕ → List Count → List ℕ
@@ -33,6 +35,8 @@ rounds_text ids i (c ∷ rest) (count ∷ counts) =
 -- the lines of ballots with their tabulated order and its winner
 abbrev pub tabulation_text : BallotFile → List ℕ → ℕ → List ℕ
 tabulation_text ballots order winner =
-    codes "contest " ++ ballots.contest ++ codes "\nrecords " ++ decimal (length ballots.rankings) ++ codes "\n"
-    ++ rounds_text ballots.candidates 1 order (rounds_of (length ballots.candidates) ballots.rankings order)
+    codes "contest " ++ ballots.contest
+    ++ codes "\nrecords " ++ decimal (length ballots.rankings) ++ codes "\n"
+    ++ rounds_text ballots.candidates 1 order
+    (rounds_of (length ballots.candidates) ballots.rankings order)
     ++ codes "winner " ++ id_of ballots.candidates winner ++ codes "\n"

@@ -22,4 +22,5 @@ set_text ids set = joined (ids_in ids set)
 abbrev pub assertion_text : List Id → Assertion → List ℕ
 assertion_text ids (Neb w l) = codes "NEB " ++ id_of ids w ++ codes " " ++ id_of ids l
 assertion_text ids (Nen w l rest) =
-    codes "NEN " ++ id_of ids w ++ codes " " ++ id_of ids l ++ codes " {" ++ set_text ids rest ++ codes "}"
+    codes "NEN " ++ id_of ids w ++ codes " " ++ id_of ids l
+    ++ codes " {" ++ set_text ids rest ++ codes "}"

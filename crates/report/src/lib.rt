@@ -8,6 +8,3 @@ mod text;
 
 pub use tabulations::tabulation;
 pub use text::{assertion_text, order_text, set_text};
-
-#[cfg(test)]
-mod tests;

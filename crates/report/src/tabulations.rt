@@ -67,7 +67,8 @@ fn round_lines(
 ) -> Result<String, AllocError>
     ensures { IfOk result (λ text. string_bytes text ≡
         codes "round " ++ decimal i ++ codes ":" ++ tallies.now ++
-        codes " exhausted=" ++ decimal exhausted ++ codes "\neliminated " ++ loser.now ++ codes "\n") }
+        codes " exhausted=" ++ decimal exhausted ++
+        codes "\neliminated " ++ loser.now ++ codes "\n") }
 {
     format!(in alloc; "round {i}:{tallies} exhausted={exhausted}\neliminated {loser}\n")
 }

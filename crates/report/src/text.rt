@@ -77,7 +77,8 @@ pub fn set_text(alloc: Global, names: &[Name], set: CandSet) -> Result<String, M
 }
 
 fn neb_text(alloc: Global, w: &str, l: &str) -> Result<String, AllocError>
-    ensures { IfOk result (λ text. string_bytes text ≡ codes "NEB " ++ w.now ++ codes " " ++ l.now) }
+    ensures { IfOk result (λ text.
+        string_bytes text ≡ codes "NEB " ++ w.now ++ codes " " ++ l.now) }
 {
     format!(in alloc; "NEB {w} {l}")
 }

@@ -9,7 +9,8 @@ use Rattle.irv_base.proofs.Positions.{stands_at, stands_nowhere}
 use Rattle.assertion_file.proofs.claims.claim_of.Goals as goal
 
 pub returns-in_default : goal.returns-in_default
-returns-in_default c = sym (claim-none c.args.names.now c.args.records (view c.args.value.now) (sym c.entry_in.ensures ∙ ap (option_map stated_entry) c.in_default.is))
+returns-in_default c = sym (claim-none c.args.names.now c.args.records (view c.args.value.now) (sym c.entry_in.ensures
+    ∙ ap (option_map stated_entry) c.in_default.is))
 
 pub returns-in_default-candidate : goal.returns-in_default-candidate
 returns-in_default-candidate c =
@@ -41,10 +42,12 @@ returns-in_err-assertion c =
     let entry = stated_entry c.in-Some.entry in
     let w = stands_at (λ other. is_same other entry.winner) names _ [] (sym c.in-Some-candidate.ensures) in
     let l = stands_at (λ other. is_same other entry.loser) names _ [] (sym c.in-Some-candidate-2.ensures) in
-    let pair : Pair names entry c.in-Some-candidate.w c.in-Some-candidate-2.l = record { winner = w.among; loser = l.among; differ = sym c.eq.ensures ∙ c.if-eq.false; w_is = w.number; l_is = l.number } in
+    let pair : Pair names entry c.in-Some-candidate.w c.in-Some-candidate-2.l =
+    record { winner = w.among; loser = l.among; differ = sym c.eq.ensures ∙ c.if-eq.false; w_is = w.number; l_is = l.number } in
     let p = err_from_is_err_and c.from_residual.result c.from_residual.ensures.1 in
     p.1 ∙ ap Err p.2
-    ∙ sym (claim-some names c.args.records (view c.args.value.now) entry (sym c.in-Some.ensures) ∙ no_assertion names c.args.records entry _ _ _ pair (sym c.in_err-assertion.ensures))
+    ∙ sym (claim-some names c.args.records (view c.args.value.now) entry (sym c.in-Some.ensures)
+    ∙ no_assertion names c.args.records entry _ _ _ pair (sym c.in_err-assertion.ensures))
 
 pub returns-then-not-is_margin : goal.returns-then-not-is_margin
 returns-then-not-is_margin c =
@@ -52,7 +55,8 @@ returns-then-not-is_margin c =
     let entry = stated_entry c.in-Some.entry in
     let w = stands_at (λ other. is_same other entry.winner) names _ [] (sym c.in-Some-candidate.ensures) in
     let l = stands_at (λ other. is_same other entry.loser) names _ [] (sym c.in-Some-candidate-2.ensures) in
-    let pair : Pair names entry c.in-Some-candidate.w c.in-Some-candidate-2.l = record { winner = w.among; loser = l.among; differ = sym c.eq.ensures ∙ c.if-eq.false; w_is = w.number; l_is = l.number } in
+    let pair : Pair names entry c.in-Some-candidate.w c.in-Some-candidate-2.l =
+    record { winner = w.among; loser = l.among; differ = sym c.eq.ensures ∙ c.if-eq.false; w_is = w.number; l_is = l.number } in
     sym (claim-some names c.args.records (view c.args.value.now) entry (sym c.in-Some.ensures)
     ∙ no_margin names c.args.records entry _ _ _ pair (sym c.in_ok-assertion.ensures) (sym c.is_margin.ensures ∙ c.if-not-is_margin.true))
 
@@ -62,6 +66,7 @@ returns c =
     let entry = stated_entry c.in-Some.entry in
     let w = stands_at (λ other. is_same other entry.winner) names _ [] (sym c.in-Some-candidate.ensures) in
     let l = stands_at (λ other. is_same other entry.loser) names _ [] (sym c.in-Some-candidate-2.ensures) in
-    let pair : Pair names entry c.in-Some-candidate.w c.in-Some-candidate-2.l = record { winner = w.among; loser = l.among; differ = sym c.eq.ensures ∙ c.if-eq.false; w_is = w.number; l_is = l.number } in
+    let pair : Pair names entry c.in-Some-candidate.w c.in-Some-candidate-2.l =
+    record { winner = w.among; loser = l.among; differ = sym c.eq.ensures ∙ c.if-eq.false; w_is = w.number; l_is = l.number } in
     sym (claim-some names c.args.records (view c.args.value.now) entry (sym c.in-Some.ensures)
     ∙ a_claim names c.args.records entry _ _ _ pair (sym c.in_ok-assertion.ensures) (sym c.is_margin.ensures ∙ c.if-not-is_margin.false))

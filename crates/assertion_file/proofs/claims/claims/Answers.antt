@@ -8,9 +8,11 @@ pub returns-in_err-claim-clause-refused : goal.returns-in_err-claim-clause-refus
 returns-in_err-claim-clause-refused c =
     let p = err_from_is_err_and c.from_residual.result c.from_residual.ensures.1 in
     rw (p.1, p.2)
-    (breaks c.args.names.now c.args.records c.loop-i.i c.loop-i.claims.items c.args.values.now c.index-values-i.result _ c.loop-i.invariant c.loop-i-test.true c.index-values-i.is c.in_err-claim.ensures.refused)
+    (breaks c.args.names.now c.args.records c.loop-i.i c.loop-i.claims.items c.args.values.now c.index-values-i.result _ c.loop-i.invariant c.loop-i-test.true
+    c.index-values-i.is c.in_err-claim.ensures.refused)
 
 pub loop-i-preserved : goal.loop-i-preserved
 loop-i-preserved c =
     subst (λ claims. SoFar c.args.names.now c.args.records (c.loop-i.i + 1) claims (map view c.args.values.now)) (sym c.in_ok-push.ensures.items)
-    (goes_on c.args.names.now c.args.records c.loop-i.i c.loop-i.claims.items c.args.values.now c.index-values-i.result c.in_ok-claim.claim c.loop-i.invariant c.loop-i-test.true c.index-values-i.is c.in_ok-claim.ensures.read)
+    (goes_on c.args.names.now c.args.records c.loop-i.i c.loop-i.claims.items c.args.values.now c.index-values-i.result c.in_ok-claim.claim c.loop-i.invariant
+    c.loop-i-test.true c.index-values-i.is c.in_ok-claim.ensures.read)

@@ -17,7 +17,8 @@ returns-then-is_among-clause-none c =
     let all = texts c.args.ids.now in
     let i = c.loop-id.id-index in
     let n = next c.args.ids.now i c.id-item.result c.loop-id-test.true c.id-item.is in
-    let id : c.bytes.result.now ≡ text_of (view c.id-item.result) = c.bytes.ensures.same ∙ c.in-Some.ensures.name ∙ c.as_bytes.ensures.value ∙ c.text_of.ensures in
+    let id : c.bytes.result.now ≡ text_of (view c.id-item.result) = c.bytes.ensures.same ∙ c.in-Some.ensures.name ∙ c.as_bytes.ensures.value
+    ∙ c.text_of.ensures in
     let names = c.as_slice.ensures.value ∙ c.loop-id.invariant.names in
     let among = sym (c.is_among.ensures ∙ ap₂ is_among names id) ∙ c.if-is_among.true in
     none-differ all (ap all_differ n.split ∙ repeated (take i all) _ (drop (i + 1) all) among)

@@ -21,6 +21,8 @@ loop-id-preserved c =
     record {
       numbers =
           c.in_ok-push.ensures.items ∙ ap₂ (λ cs d. cs ++ d ∷ []) c.loop-id.invariant.numbers same
-          ∙ sym (map-next (number_of names) (texts c.args.ids.now) c.loop-id.id-index _ c.in-Some.c n (ap (number_of names) (sym c.text_of.ensures) ∙ stands.number));
-      among = one_more (is_among names) (texts c.args.ids.now) c.loop-id.id-index _ n c.loop-id.invariant.among (ap (is_among names) (sym c.text_of.ensures) ∙ stands.among);
+          ∙ sym (map-next (number_of names) (texts c.args.ids.now) c.loop-id.id-index _ c.in-Some.c n (ap (number_of names) (sym c.text_of.ensures)
+          ∙ stands.number));
+      among = one_more (is_among names) (texts c.args.ids.now) c.loop-id.id-index _ n c.loop-id.invariant.among (ap (is_among names) (sym c.text_of.ensures)
+          ∙ stands.among);
     }

@@ -34,7 +34,8 @@ loop-id-preserved c =
           c.with-set.ensures.members d ∙ ap (λ b. b || (d == c.in-Some.c)) (c.loop-id.invariant.members d)
           ∙ sym (ap (λ cs. is_in cs d) numbers ∙ in-more so_far c.in-Some.c d);
       repeated =
-          repeats-more so_far c.in-Some.c c.loop-id.repeats c.has-repeats.result c.loop-id.invariant.repeated (c.has-repeats.ensures ∙ c.loop-id.invariant.members c.in-Some.c)
+          repeats-more so_far c.in-Some.c c.loop-id.repeats c.has-repeats.result c.loop-id.invariant.repeated (c.has-repeats.ensures
+          ∙ c.loop-id.invariant.members c.in-Some.c)
           ∙ sym (ap (λ cs. not (is_distinct cs)) numbers);
     }
 
@@ -45,6 +46,8 @@ returns c =
     let end : c.loop-id.id-index ≡ length c.args.ids.now = omega arith in
     let whole : take c.loop-id.id-index all ≡ all = ap (λ i. take i all) end ∙ all_taken c.args.ids.now in
     let among : list_all (is_among names) all ≡ true = ap (list_all (is_among names)) (sym whole) ∙ c.loop-id.invariant.among in
-    let distinct : is_distinct (numbers_of names all) ≡ true = not-false _ (ap (λ ids. not (is_distinct (numbers_of names ids))) (sym whole) ∙ sym c.loop-id.invariant.repeated ∙ c.if-repeats.false) in
-    let set = set_of_is c.loop-id.set (numbers_of names all) (distinct-from_test (numbers_of names all) distinct) (λ d. c.loop-id.invariant.members d ∙ ap (λ ids. is_in (numbers_of names ids) d) whole) in
+    let distinct : is_distinct (numbers_of names all) ≡ true =
+    not-false _ (ap (λ ids. not (is_distinct (numbers_of names ids))) (sym whole) ∙ sym c.loop-id.invariant.repeated ∙ c.if-repeats.false) in
+    let set = set_of_is c.loop-id.set (numbers_of names all) (distinct-from_test (numbers_of names all) distinct) (λ d. c.loop-id.invariant.members d
+    ∙ ap (λ ids. is_in (numbers_of names ids) d) whole) in
     rw (among, distinct, set) refl

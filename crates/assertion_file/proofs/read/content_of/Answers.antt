@@ -14,7 +14,8 @@ use Rattle.assertion_file.proofs.read.content_of.Goals as goal
 
 pub returns-in_default-clause-refused : goal.returns-in_default-clause-refused
 returns-in_default-clause-refused c =
-    subst (Refuses (content_of (view c.args.value.now))) (sym c.refused.ensures) (content-none (view c.args.value.now) (sym c.heading_in.ensures ∙ ap (option_map stated_heading) c.in_default.is))
+    subst (Refuses (content_of (view c.args.value.now))) (sym c.refused.ensures) (content-none (view c.args.value.now) (sym c.heading_in.ensures
+    ∙ ap (option_map stated_heading) c.in_default.is))
 
 pub returns-in_err-named-clause-refused : goal.returns-in_err-named-clause-refused
 returns-in_err-named-clause-refused c =
@@ -35,13 +36,16 @@ claims-requires c =
     omega (arith, s.most, ap length (c.as_slice.ensures.value ∙ c.in_ok-named.ensures.candidates))
 
 pub new-requires-clause-fewest : goal.new-requires-clause-fewest
-new-requires-clause-fewest c = let s = sound (stated_heading c.in-Some.heading) c.in_ok-named.ensures.kept in omega (arith, s.fewest, ap length c.in_ok-named.ensures.candidates)
+new-requires-clause-fewest c = let s = sound (stated_heading c.in-Some.heading) c.in_ok-named.ensures.kept in
+    omega (arith, s.fewest, ap length c.in_ok-named.ensures.candidates)
 
 pub new-requires-clause-most : goal.new-requires-clause-most
-new-requires-clause-most c = let s = sound (stated_heading c.in-Some.heading) c.in_ok-named.ensures.kept in omega (arith, s.most, ap length c.in_ok-named.ensures.candidates)
+new-requires-clause-most c = let s = sound (stated_heading c.in-Some.heading) c.in_ok-named.ensures.kept in
+    omega (arith, s.most, ap length c.in_ok-named.ensures.candidates)
 
 pub new-requires-clause-differ : goal.new-requires-clause-differ
-new-requires-clause-differ c = let s = sound (stated_heading c.in-Some.heading) c.in_ok-named.ensures.kept in ap all_differ c.in_ok-named.ensures.candidates ∙ s.differ
+new-requires-clause-differ c = let s = sound (stated_heading c.in-Some.heading) c.in_ok-named.ensures.kept in ap all_differ c.in_ok-named.ensures.candidates
+    ∙ s.differ
 
 pub new-requires-clause-some_records : goal.new-requires-clause-some_records
 new-requires-clause-some_records c = (sound (stated_heading c.in-Some.heading) c.in_ok-named.ensures.kept).some_records
@@ -60,7 +64,8 @@ new-requires-clause-margin c = (sound (stated_heading c.in-Some.heading) c.in_ok
 pub new-requires-clause-order : goal.new-requires-clause-order
 new-requires-clause-order c =
     let s = sound (stated_heading c.in-Some.heading) c.in_ok-named.ensures.kept in
-    ap (λ ids. is_order (length ids) c.in_ok-named.named.order) c.in_ok-named.ensures.candidates ∙ ap (is_order (length (stated_heading c.in-Some.heading).candidates)) c.in_ok-named.ensures.order ∙ s.order
+    ap (λ ids. is_order (length ids) c.in_ok-named.named.order) c.in_ok-named.ensures.candidates
+    ∙ ap (is_order (length (stated_heading c.in-Some.heading).candidates)) c.in_ok-named.ensures.order ∙ s.order
 
 pub new-requires-clause-claims : goal.new-requires-clause-claims
 new-requires-clause-claims c =
@@ -72,7 +77,8 @@ pub returns-clause-read : goal.returns-clause-read
 returns-clause-read c =
     let heading = stated_heading c.in-Some.heading in
     let names = c.as_slice.ensures.value ∙ c.in_ok-named.ensures.candidates in
-    let claims : claims_from heading.candidates heading.records 1 heading.assertions ≡ Ok c.in_ok-claims.claims.items = ap (λ ids. claims_from ids heading.records 1 heading.assertions) (sym names) ∙ c.in_ok-claims.ensures.read in
+    let claims : claims_from heading.candidates heading.records 1 heading.assertions ≡ Ok c.in_ok-claims.claims.items =
+    ap (λ ids. claims_from ids heading.records 1 heading.assertions) (sym names) ∙ c.in_ok-claims.ensures.read in
     let named = c.in_ok-named.ensures in
     let same = content-is heading c.in_ok-claims.claims.items _ _ _ _ named.contest named.candidates named.winner named.order in
     content-kept (view c.args.value.now) heading (sym c.in-Some.ensures) c.in_ok-named.ensures.kept

@@ -19,14 +19,16 @@ pub returns-in_default-clause-refused : goal.returns-in_default-clause-refused
 returns-in_default-clause-refused c =
     let heading = stated_heading c.args.heading.now in
     let has : HasNamed heading = record { ids = c.in_ok-ids.ensures.kept; named = c.in_ok-chosen.ensures.kept } in
-    let order = same_order heading _ _ (c.as_slice-names.ensures.value ∙ c.in_ok-ids.ensures.candidates) (c.as_slice.ensures.value ∙ c.in_ok-chosen.ensures.numbers) in
+    let order = same_order heading _ _ (c.as_slice-names.ensures.value ∙ c.in_ok-ids.ensures.candidates) (c.as_slice.ensures.value
+    ∙ c.in_ok-chosen.ensures.numbers) in
     refuse _ F5 _ (no_order heading has (order ∙ c.in_default.ensures.none)) c.refused.ensures
 
 pub returns-then-not-are_counts-clause-refused : goal.returns-then-not-are_counts-clause-refused
 returns-then-not-are_counts-clause-refused c =
     let heading = stated_heading c.args.heading.now in
     let has : HasNamed heading = record { ids = c.in_ok-ids.ensures.kept; named = c.in_ok-chosen.ensures.kept } in
-    let order = same_order heading _ _ (c.as_slice-names.ensures.value ∙ c.in_ok-ids.ensures.candidates) (c.as_slice.ensures.value ∙ c.in_ok-chosen.ensures.numbers) in
+    let order = same_order heading _ _ (c.as_slice-names.ensures.value ∙ c.in_ok-ids.ensures.candidates) (c.as_slice.ensures.value
+    ∙ c.in_ok-chosen.ensures.numbers) in
     let counts = sym c.are_counts.ensures ∙ c.if-not-are_counts.true in
     refuse _ F6 _ (no_counts heading has (order ∙ c.in-Some.ensures.valid) counts) c.refused-then-not-are_counts.ensures
 
@@ -34,5 +36,6 @@ pub returns-clause-kept : goal.returns-clause-kept
 returns-clause-kept c =
     let heading = stated_heading c.args.heading.now in
     let has : HasNamed heading = record { ids = c.in_ok-ids.ensures.kept; named = c.in_ok-chosen.ensures.kept } in
-    let order = same_order heading _ _ (c.as_slice-names.ensures.value ∙ c.in_ok-ids.ensures.candidates) (c.as_slice.ensures.value ∙ c.in_ok-chosen.ensures.numbers) in
+    let order = same_order heading _ _ (c.as_slice-names.ensures.value ∙ c.in_ok-ids.ensures.candidates) (c.as_slice.ensures.value
+    ∙ c.in_ok-chosen.ensures.numbers) in
     all_kept heading has (order ∙ c.in-Some.ensures.valid) (sym c.are_counts.ensures ∙ c.if-not-are_counts.false)

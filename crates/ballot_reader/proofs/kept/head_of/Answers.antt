@@ -8,11 +8,13 @@ pub returns-in_default-contest_place-clause-broken : goal.returns-in_default-con
 returns-in_default-contest_place-clause-broken c =
     let of = c.in-Some-Some.of.now in
     let e = sym c.of-fields.ensures ∙ c.in-Some-Some.ensures.steps ∙ ap (λ rest. of ∷ rest) c.in-Some-Some.ensures'.steps in
-    head-elsewhere c.args.contests.now (trimmed_fields (fields_of c.args.row.now)) of c.in-Some-Some.id.now c.next-2.new.self e (sym c.is_id.ensures ∙ c.if-not-is_id.false) (sym c.in_default-contest_place.ensures.place)
+    head-elsewhere c.args.contests.now (trimmed_fields (fields_of c.args.row.now)) of c.in-Some-Some.id.now c.next-2.new.self e (sym c.is_id.ensures
+    ∙ c.if-not-is_id.false) (sym c.in_default-contest_place.ensures.place)
 
 pub returns-clause-follows : goal.returns-clause-follows
 returns-clause-follows c =
     let of = c.in-Some-Some.of.now in
     let e = sym c.of-fields.ensures ∙ c.in-Some-Some.ensures.steps ∙ ap (λ rest. of ∷ rest) c.in-Some-Some.ensures'.steps in
-    head-follows c.args.contests.now (trimmed_fields (fields_of c.args.row.now)) of c.in-Some-Some.id.now c.in-Some-Some.id.now c.next-2.new.self c.in-Some.contest e refl (sym c.is_id.ensures ∙ c.if-not-is_id.false)
+    head-follows c.args.contests.now (trimmed_fields (fields_of c.args.row.now)) of c.in-Some-Some.id.now c.in-Some-Some.id.now c.next-2.new.self
+    c.in-Some.contest e refl (sym c.is_id.ensures ∙ c.if-not-is_id.false)
     (sym c.in-Some.ensures.place)

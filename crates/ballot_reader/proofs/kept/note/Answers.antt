@@ -17,4 +17,5 @@ returns-clause-noted c = λ ids there new.
     let sets = c.args.sets.now.items in
     let stood = c.index_mut.result.now in
     let same = same_at sets c.args.place stood ids (slice_get_read sets (length sets) c.args.place stood refl c.requires c.index_mut.ensures.value) there in
-    ap (set sets c.args.place) (c.in_ok-new.ensures.noted ∙ ap (λ b. if b then stood ++ c.args.id.now ∷ [] else stood) new ∙ ap (λ xs. xs ++ c.args.id.now ∷ []) same)
+    ap (set sets c.args.place) (c.in_ok-new.ensures.noted ∙ ap (λ b. if b then stood ++ c.args.id.now ∷ [] else stood) new
+    ∙ ap (λ xs. xs ++ c.args.id.now ∷ []) same)

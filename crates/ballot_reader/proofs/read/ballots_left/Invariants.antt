@@ -8,7 +8,7 @@ use Rattle.ballot_reader.proofs.read.ballots_left.Given as goal
 abbrev pub invariant-records : goal.invariant-records
 invariant-records l = (chosen : Contest) × (ballots : List Ballot) × record {
   there : slice_get l.contests l.audited ≡ Some chosen;
-  so_far : BallotsSoFar l.contests chosen (numbered l.fn.rows) ballots l.at (numbered l.rows) l.kept.ids.items l.kept.places.items l.kept.rankings.items l.kept.count;
+  so_far : BallotsSoFar l.contests chosen (numbered l.fn.rows) ballots l.at (numbered l.rows) l.kept;
 }
 
 abbrev pub decreases-records : goal.decreases-records

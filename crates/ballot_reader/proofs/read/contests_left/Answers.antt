@@ -15,7 +15,8 @@ returns-in-Err-clause-refused c =
     let next = rw c.if-not-branch.false at c.in_ok-read_numbered.ensures in
     let row = trimmed_fields (fields_of c.read_numbered.new.row) in
     let h = sym (ap (λ cs. contest_of cs (2 + c.loop-i.i) row) c.deref.ensures.value) ∙ sym c.in_ok-contest.ensures ∙ c.in-Err.is in
-    contests-broken c.args.n (numbered c.args.rows.now) c.loop-i.contests.items c.loop-i.i row (numbered c.read_numbered.new.self) c.in-Err.rule (rw next at c.loop-i.invariant) c.loop-i-test.true h
+    contests-broken c.args.n (numbered c.args.rows.now) c.loop-i.contests.items c.loop-i.i row (numbered c.read_numbered.new.self) c.in-Err.rule
+    (rw next at c.loop-i.invariant) c.loop-i-test.true h
 
 pub loop-i-preserved : goal.loop-i-preserved
 loop-i-preserved c =
@@ -23,4 +24,5 @@ loop-i-preserved c =
     let row = trimmed_fields (fields_of c.read_numbered.new.row) in
     let h = sym (ap (λ cs. contest_of cs (2 + c.loop-i.i) row) c.deref.ensures.value) ∙ sym c.in_ok-contest.ensures ∙ c.in-Ok.is in
     rw c.in_ok-push-in-Ok.ensures.items
-    (contests-more c.args.n (numbered c.args.rows.now) c.loop-i.contests.items c.loop-i.i row (numbered c.read_numbered.new.self) c.in-Ok.contest (rw next at c.loop-i.invariant) c.loop-i-test.true h)
+    (contests-more c.args.n (numbered c.args.rows.now) c.loop-i.contests.items c.loop-i.i row (numbered c.read_numbered.new.self) c.in-Ok.contest
+    (rw next at c.loop-i.invariant) c.loop-i-test.true h)

@@ -10,14 +10,16 @@ returns-in-Ok-None c = λ _.
     let kept = stands c.args.list.now in
     let standing = first_kept c.args.n c.args.winner kept in
     none-covered (walk.first_over c.args.n c.args.winner c.args.nodes (kept_count c.args.n kept standing)) standing
-    (sym (sym c.first_within.ensures ∙ c.in-Ok-None.is ∙ ap Ok c.in-Ok-None.field-0-is) ∙ ap (λ list. first_within c.args.n c.args.winner c.args.nodes (stands list)) c.in_ok-list.ensures)
+    (sym (sym c.first_within.ensures ∙ c.in-Ok-None.is ∙ ap Ok c.in-Ok-None.field-0-is)
+    ∙ ap (λ list. first_within c.args.n c.args.winner c.args.nodes (stands list)) c.in_ok-list.ensures)
 
 pub returns-in-Ok-Some : goal.returns-in-Ok-Some
 returns-in-Ok-Some c = λ _.
     let kept = stands c.args.list.now in
     let standing = first_kept c.args.n c.args.winner kept in
     some-stands c.in-Ok-Some.order (walk.first_over c.args.n c.args.winner c.args.nodes (kept_count c.args.n kept standing)) standing
-    (sym (sym c.first_within.ensures ∙ c.in-Ok-Some.is ∙ ap Ok c.in-Ok-Some.field-0-is) ∙ ap (λ list. first_within c.args.n c.args.winner c.args.nodes (stands list)) c.in_ok-list.ensures)
+    (sym (sym c.first_within.ensures ∙ c.in-Ok-Some.is ∙ ap Ok c.in-Ok-Some.field-0-is)
+    ∙ ap (λ list. first_within c.args.n c.args.winner c.args.nodes (stands list)) c.in_ok-list.ensures)
 
 pub returns : goal.returns
 returns c = λ _.

@@ -11,5 +11,6 @@ returns c =
     let margins = map (λ (claim : Claim). claim.margin) c.args.claims.now in
     c.unwrap_or.ensures
     ∙ ap (λ found. unwrap_or found 0) (sym (option_map_id c.min.result) ∙ min_from_yields_List c.map.result c.min.result c.min.ensures.ran
-    (YieldsList-from_map _ (λ (claim : Claim). claim.margin) (YieldsList-at c.map.ensures.source (YieldsList-from_slice c.args.claims.now cc)) c.map.ensures.closure (λ x r q k. search rules)))
+    (YieldsList-from_map _ (λ (claim : Claim). claim.margin) (YieldsList-at c.map.ensures.source (YieldsList-from_slice c.args.claims.now cc))
+    c.map.ensures.closure (λ x r q k. search rules)))
     ∙ least-reduce margins

@@ -10,7 +10,8 @@ loop-len-preserved c =
     let step = take_last text len c.loop-len-test.true c.loop-len.invariant.within in
     record {
       within = omega (arith, c.loop-len.invariant.within);
-      same = sym (end-blank (take (len - 1) text) (get_or text (len - 1) 0) (sym c.is_blank.ensures ∙ c.if-not-is_blank.false)) ∙ ap trimmed_end (sym step) ∙ c.loop-len.invariant.same;
+      same = sym (end-blank (take (len - 1) text) (get_or text (len - 1) 0) (sym c.is_blank.ensures ∙ c.if-not-is_blank.false)) ∙ ap trimmed_end (sym step)
+          ∙ c.loop-len.invariant.same;
     }
 
 pub returns-then-not-is_blank : goal.returns-then-not-is_blank
@@ -18,4 +19,5 @@ returns-then-not-is_blank c =
     let text = c.args.text.now in
     let len = c.loop-len.len in
     let step = take_last text len c.loop-len-test.true c.loop-len.invariant.within in
-    step ∙ sym (end-stays (take (len - 1) text) (get_or text (len - 1) 0) (sym c.is_blank.ensures ∙ c.if-not-is_blank.true)) ∙ ap trimmed_end (sym step) ∙ c.loop-len.invariant.same
+    step ∙ sym (end-stays (take (len - 1) text) (get_or text (len - 1) 0) (sym c.is_blank.ensures ∙ c.if-not-is_blank.true)) ∙ ap trimmed_end (sym step)
+    ∙ c.loop-len.invariant.same

@@ -12,5 +12,6 @@ returns-in_err-get-2-clause-not_two c = always c.from_residual-in_err-get-2.resu
 
 pub returns-clause-two : goal.returns-clause-two
 returns-clause-two c =
-    let e = two_fields (fields_of c.args.row.now) c.in_ok-get.field-0.now c.in_ok-get-2.field-0.now (omega (arith, c.len.ensures, c.if-len-ne2.false)) (sym c.in_ok-get.ensures.value) (sym c.in_ok-get-2.ensures.value) in
+    let e = two_fields (fields_of c.args.row.now) c.in_ok-get.field-0.now c.in_ok-get-2.field-0.now (omega (arith, c.len.ensures, c.if-len-ne2.false))
+    (sym c.in_ok-get.ensures.value) (sym c.in_ok-get-2.ensures.value) in
     ap trimmed_fields e ∙ rw (c.trimmed.ensures, c.trimmed-2.ensures) refl

@@ -7,4 +7,5 @@ pub invariant_of-result : goal.invariant_of-result
 invariant_of-result c = rw c.in_ok-rankings.ensures c.in_ok-numbers.ensures.kept
 
 pub returns-clause-linked : goal.returns-clause-linked
-returns-clause-linked c = rw (c.in_ok-numbers.ensures.numbers, c.in_ok-rankings.ensures) (recorded_all c.args.b.now.rankings c.args.b.now refl (cards_of c.args.m.now))
+returns-clause-linked c = rw (c.in_ok-numbers.ensures.numbers, c.in_ok-rankings.ensures)
+    (recorded_all c.args.b.now.rankings c.args.b.now refl (cards_of c.args.m.now))

@@ -42,17 +42,36 @@ loop-i-preserved c =
 pub returns-clause-numbers : goal.returns-clause-numbers
 returns-clause-numbers c =
     let file = c.args.b.now in
-    let all : c.loop-i.i ≡ length file.ids = omega (arith, c.loop-i-test.false, c.loop-i.auto.i-end, ap length c.rankings-i-end.ensures.same, c.ids-ids.ensures.one_each) in
+    let all : c.loop-i.i ≡ length file.ids = omega (
+      arith,
+      c.loop-i-test.false,
+      c.loop-i.auto.i-end,
+      ap length c.rankings-i-end.ensures.same,
+      c.ids-ids.ensures.one_each,
+    ) in
     (all_linked c.args.m.now file c.loop-i.i c.loop-i.numbers.items all c.loop-i.invariant).0
 
 pub returns-clause-placed : goal.returns-clause-placed
 returns-clause-placed c =
     let file = c.args.b.now in
-    let all : c.loop-i.i ≡ length file.ids = omega (arith, c.loop-i-test.false, c.loop-i.auto.i-end, ap length c.rankings-i-end.ensures.same, c.ids-ids.ensures.one_each) in
+    let all : c.loop-i.i ≡ length file.ids = omega (
+      arith,
+      c.loop-i-test.false,
+      c.loop-i.auto.i-end,
+      ap length c.rankings-i-end.ensures.same,
+      c.ids-ids.ensures.one_each,
+    ) in
     (all_linked c.args.m.now file c.loop-i.i c.loop-i.numbers.items all c.loop-i.invariant).1
 
 pub returns-clause-kept : goal.returns-clause-kept
 returns-clause-kept c =
     let file = c.args.b.now in
-    let all : c.loop-i.i ≡ length file.ids = omega (arith, c.loop-i-test.false, c.loop-i.auto.i-end, ap length c.rankings-i-end.ensures.same, c.ids-ids.ensures.one_each) in
-    kept c.args.m.now file c.loop-i.numbers.items c.ids-ids.ensures.one_each (omega (arith, c.cards.ensures.all, c.cards.ensures.most)) (all_linked c.args.m.now file c.loop-i.i c.loop-i.numbers.items all c.loop-i.invariant).0
+    let all : c.loop-i.i ≡ length file.ids = omega (
+      arith,
+      c.loop-i-test.false,
+      c.loop-i.auto.i-end,
+      ap length c.rankings-i-end.ensures.same,
+      c.ids-ids.ensures.one_each,
+    ) in
+    kept c.args.m.now file c.loop-i.numbers.items c.ids-ids.ensures.one_each (omega (arith, c.cards.ensures.all, c.cards.ensures.most))
+    (all_linked c.args.m.now file c.loop-i.i c.loop-i.numbers.items all c.loop-i.invariant).0

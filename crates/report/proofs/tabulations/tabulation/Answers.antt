@@ -5,7 +5,8 @@ use Rattle.report.proofs.tabulations.tabulation.Goals as goal
 
 pub rounds_text-requires-clause-fewer : goal.rounds_text-requires-clause-fewer
 rounds_text-requires-clause-fewer c =
-    subst (λ rounds. length rounds < length c.args.t.now.order) (sym c.deref.ensures.value) (rounds-few (length c.args.b.now.candidates) c.args.b.now.rankings c.args.t.now c.requires)
+    subst (λ rounds. length rounds < length c.args.t.now.order) (sym c.deref.ensures.value)
+    (rounds-few (length c.args.b.now.candidates) c.args.b.now.rankings c.args.t.now c.requires)
 
 pub rounds_text-requires-clause-tallied : goal.rounds_text-requires-clause-tallied
 rounds_text-requires-clause-tallied c =
@@ -15,4 +16,5 @@ rounds_text-requires-clause-tallied c =
 
 pub id_of-requires : goal.id_of-requires
 id_of-requires c =
-    subst (λ n. c.args.t.now.winner < n) (ap length (sym c.candidates-names.ensures.same)) (winner-below (length c.args.b.now.candidates) c.args.b.now.rankings c.args.t.now c.requires)
+    subst (λ n. c.args.t.now.winner < n) (ap length (sym c.candidates-names.ensures.same))
+    (winner-below (length c.args.b.now.candidates) c.args.b.now.rankings c.args.t.now c.requires)

@@ -5,4 +5,5 @@ use Rattle.report.proofs.text.set_text.Goals as goal
 
 pub joined-requires : goal.joined-requires
 joined-requires c =
-    subst (λ cs. All (λ x. x < length c.args.names.now) cs) (sym (c.deref.ensures.value ∙ c.in_ok-members.ensures)) (chosen-below (has c.args.set) (length c.args.names.now))
+    subst (λ cs. All (λ x. x < length c.args.names.now) cs) (sym (c.deref.ensures.value ∙ c.in_ok-members.ensures))
+    (chosen-below (has c.args.set) (length c.args.names.now))

@@ -6,4 +6,5 @@ use Rattle.cover_checker.proofs.index.Parts.none.Goals as goal
 
 pub returns : goal.returns
 returns c = λ first set.
-    ap₂ (λ a b. a || b) (ap (λ x. is_beaten (replicate ROOM x) first set) c.empty.ensures ∙ beaten-none first set) (ap (λ keys. is_next keys first set) c.new.ensures.empty)
+    ap₂ (λ a b. a || b) (ap (λ x. is_beaten (replicate ROOM x) first set) c.empty.ensures ∙ beaten-none first set)
+    (ap (λ keys. is_next keys first set) c.new.ensures.empty)

@@ -7,5 +7,6 @@ use Rattle.cover_checker.proofs.unrefuted.UnrefutedKeeps.keeps.Goals as goal
 pub returns : goal.returns
 returns c =
     let list = c.args.self.now.list in
-    ap not (c.is_any_new.ensures ∙ ap (λ x. list_any (λ a. is_new a x c.set.result) list) c.first.ensures ∙ ap (λ x. list_any (λ a. is_new a (slice_index c.args.suffix.now 0) x) list) c.set.ensures)
+    ap not (c.is_any_new.ensures ∙ ap (λ x. list_any (λ a. is_new a x c.set.result) list) c.first.ensures
+    ∙ ap (λ x. list_any (λ a. is_new a (slice_index c.args.suffix.now 0) x) list) c.set.ensures)
     ∙ sym (stands_is c.args.self.now.n list c.args.suffix.now c.requires.proper c.requires.some c.requires.parent)

@@ -11,10 +11,12 @@ returns-in_err-field-clause-steps c =
 
 pub returns-clause-steps : goal.returns-clause-steps
 returns-clause-steps c =
-    sym c.self.view_is ∙ ap trimmed_fields (drop-field (fields_of c.self.inside.row.now) c.self.inside.at c.in_ok-field.field.now (sym c.in_ok-field.ensures.value))
+    sym c.self.view_is ∙ ap trimmed_fields (drop-field (fields_of c.self.inside.row.now) c.self.inside.at c.in_ok-field.field.now
+    (sym c.in_ok-field.ensures.value))
     ∙ ap (λ first. first ∷ trimmed_fields (drop (c.self.inside.at + 1) (fields_of c.self.inside.row.now))) (sym c.trimmed.ensures)
 
 pub returns-clause-goes : goal.returns-clause-goes
 returns-clause-goes c =
-    let e = sym c.self.view_is ∙ ap trimmed_fields (drop-field (fields_of c.self.inside.row.now) c.self.inside.at c.in_ok-field.field.now (sym c.in_ok-field.ensures.value)) in
+    let e = sym c.self.view_is ∙ ap trimmed_fields (drop-field (fields_of c.self.inside.row.now) c.self.inside.at c.in_ok-field.field.now
+    (sym c.in_ok-field.ensures.value)) in
     rw e (record { on = λ _. (tt, tt, omega arith); keeps = tt; rests = λ _. tt })

@@ -17,7 +17,8 @@ invariant_of-self-2 c g =
     let i = c.self.invariant c.if-self.false in
     let e = c.in-Ok.ensures in
     let found = not-false c.in-Ok.found g in
-    read-between c.self.inside.reader c.read_byte_record.new.self (fields_of c.read_byte_record.new.row) i (rw found at (e.reads i.trim i.ready)) (e.ready i.trim) e.flexible
+    read-between c.self.inside.reader c.read_byte_record.new.self (fields_of c.read_byte_record.new.row) i (rw found at (e.reads i.trim i.ready))
+    (e.ready i.trim) e.flexible
 
 pub returns-clause-next : goal.returns-clause-next
 returns-clause-next c =

@@ -36,7 +36,14 @@ returns-then-card-index c =
 pub index-requires-2 : goal.index-requires-2
 index-requires-2 c =
     let m = c.self.invariant in
-    omega (arith, c.in-Some-get_index_of.ensures.within, m.batches.a_count_each, ap length m.first_each, length-firsts 1 c.self.inside.counts.items, c.self.inside.firsts.ok)
+    omega (
+      arith,
+      c.in-Some-get_index_of.ensures.within,
+      m.batches.a_count_each,
+      ap length m.first_each,
+      length-firsts 1 c.self.inside.counts.items,
+      c.self.inside.firsts.ok,
+    )
 
 pub overflow_add-result : goal.overflow_add-result
 overflow_add-result c =

@@ -19,7 +19,8 @@ use Rattle.assorters.specs.Laws.{LinkedMarginLaw}
 
 -- what the first ballots add to the cards
 module _ (value : List ℕ → ℕ) (batches : Batches) (ballots : BallotFile) (are : AreBatches batches.ids batches.counts)
-    (differ : all_differ ballots.ids ≡ true) (an_id_each : length ballots.ids ≡ length ballots.rankings) (placed : first_without_card batches ballots ≡ None) where
+    (differ : all_differ ballots.ids ≡ true) (an_id_each : length ballots.ids ≡ length ballots.rankings)
+    (placed : first_without_card batches ballots ≡ None) where
   -- what the number of a card's ballot is worth
   abbrev worth : ℕ → ℕ
   worth number = recorded_value value (recorded_at ballots.rankings number)
@@ -34,11 +35,13 @@ module _ (value : List ℕ → ℕ) (batches : Batches) (ballots : BallotFile) (
     unmapped None e = refl
     unmapped (Some j) e = absurd cc
 
-    go : (o : Option ℕ) → place_of (cards_of batches) (get_or ballots.ids i []) ≡ o → (place : ℕ) × (place_of (cards_of batches) (get_or ballots.ids i []) ≡ Some place)
+    go : (o : Option ℕ) → place_of (cards_of batches) (get_or ballots.ids i []) ≡ o →
+        (place : ℕ) × (place_of (cards_of batches) (get_or ballots.ids i []) ≡ Some place)
     go (Some place) e = (place, e)
     go None e =
         let none = none_any (λ id. not (has_card batches id)) ballots.ids (unmapped (position (λ id. not (has_card batches id)) ballots.ids) placed) in
-        let some = list_any_at (λ id. not (has_card batches id)) ballots.ids i [] below (not_from_false (has_card batches (get_or ballots.ids i [])) (isnt_placed batches (get_or ballots.ids i []) e)) in
+        let some = list_any_at (λ id. not (has_card batches id)) ballots.ids i [] below
+        (not_from_false (has_card batches (get_or ballots.ids i [])) (isnt_placed batches (get_or ballots.ids i []) e)) in
         absurd (both_ways _ none some)
 
   one_more : (i : ℕ) → i < length ballots.ids → sum_by worth (put_first i) + i ≡ length (cards_of batches) + sum_by value (take i ballots.rankings) →
@@ -82,14 +85,17 @@ module _ (value : List ℕ → ℕ) (batches : Batches) (ballots : BallotFile) (
       let none = ap (sum_by worth) (sym (none_yet (cards_of batches))) in
       omega (arith, none, sum_by-replicate worth (length (cards_of batches)) 0)
   so_many (suc i) below =
-      subst (λ n. sum_by worth (put_first n) + n ≡ length (cards_of batches) + sum_by value (take n ballots.rankings)) (add-one i) (one_more i (omega arith) (so_many i (omega arith)))
+      subst (λ n. sum_by worth (put_first n) + n ≡ length (cards_of batches) + sum_by value (take n ballots.rankings)) (add-one i)
+      (one_more i (omega arith) (so_many i (omega arith)))
 
-  pub linked-sum : sum_by (recorded_value value) (linked_of batches ballots) + length ballots.rankings ≡ length (linked_of batches ballots) + sum_by value ballots.rankings
+  pub linked-sum : sum_by (recorded_value value) (linked_of batches ballots) + length ballots.rankings
+      ≡ length (linked_of batches ballots) + sum_by value ballots.rankings
   linked-sum =
       let all = so_many (length ballots.ids) (omega arith) in
       let whole = take_all (length ballots.ids) ballots.ids (omega arith) in
       let ranked = take_all (length ballots.ids) ballots.rankings (omega (arith, an_id_each)) in
-      let linked : linked_of batches ballots ≡ map (recorded_at ballots.rankings) (ballot_numbers ballots.ids (cards_of batches)) = sym (recorded_all ballots.rankings ballots refl (cards_of batches)) in
+      let linked : linked_of batches ballots ≡ map (recorded_at ballots.rankings) (ballot_numbers ballots.ids (cards_of batches)) = sym
+      (recorded_all ballots.rankings ballots refl (cards_of batches)) in
       let summed = ap (sum_by (recorded_value value)) linked
       ∙ fold-map (λ a r. a + recorded_value value r) (recorded_at ballots.rankings) 0 (ballot_numbers ballots.ids (cards_of batches)) in
       let put = ap (λ ids. sum_by worth (ballot_numbers ids (cards_of batches))) whole in
@@ -101,5 +107,6 @@ difference s n f a e = omega (arith, ints)
 
 pub linked_margin_law : LinkedMarginLaw
 linked_margin_law value batches ballots are sound placed =
-    difference (sum_by (recorded_value value) (linked_of batches ballots)) (length (linked_of batches ballots)) (sum_by value ballots.rankings) (length ballots.rankings)
+    difference (sum_by (recorded_value value) (linked_of batches ballots)) (length (linked_of batches ballots)) (sum_by value ballots.rankings)
+    (length ballots.rankings)
     (linked-sum value batches ballots are sound.ballots.differ sound.ballots.an_id_each placed)

@@ -16,7 +16,8 @@ module _ (value : List ℕ → ℕ) where
   pub discrepancy-within : IsAssorter value → (r : Recorded) (s : Seen) → discrepancy value r s ≤ 4
   discrepancy-within is r s = let most = seen-within value is s in omega arith
 
-  length-discrepancies : (recorded : List Recorded) (seen : List Seen) → length seen ≡ length recorded → length (discrepancies value recorded seen) ≡ length recorded
+  length-discrepancies : (recorded : List Recorded) (seen : List Seen) → length seen ≡ length recorded →
+      length (discrepancies value recorded seen) ≡ length recorded
   length-discrepancies [] [] long = refl
   length-discrepancies [] (s ∷ seen) long = absurd (omega arith)
   length-discrepancies (r ∷ recorded) [] long = absurd (omega arith)

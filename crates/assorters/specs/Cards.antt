@@ -36,4 +36,6 @@ module _ (value : List ℕ → ℕ) where
 
     -- of the card with this number
     abbrev pub discrepancy_of : ℕ → ℕ
-    discrepancy_of card = discrepancy (slice_index_or recorded (card - 1) Without) (slice_index_or seen (card - 1) Missing)
+    discrepancy_of card =
+        discrepancy (slice_index_or recorded (card - 1) Without)
+        (slice_index_or seen (card - 1) Missing)

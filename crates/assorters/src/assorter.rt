@@ -2,7 +2,7 @@
 ghost use Rattle.std.specs.Prelude.{◌≡◌, ◌≤◌, ◌*◌, ℕ, List, sum_by};
 ghost use Rattle.assorters.specs.Calls.{AnswersValues, Computes};
 ghost use Rattle.assorters.specs.Cards.{discrepancy, margin_over, recorded_value, seen_value};
-ghost use Rattle.manifest.specs.declared.limits.TheConstants.{MOST_CARDS};
+ghost use Rattle.irv_base.specs.declared.limits.TheConstants.{MOST_CARDS};
 
 use crate::Seen;
 use irv_base::Ranking;

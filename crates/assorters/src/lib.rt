@@ -6,8 +6,6 @@ mod assorter;
 pub mod examples;
 pub mod laws;
 mod seen;
-#[cfg(test)]
-mod tests;
 
 pub use assorter::Assorter;
 pub use seen::Seen;

@@ -83,7 +83,8 @@ advanced_is_counted limit gamma draws most seed claims recorded entries actual s
         seen = seen;
         readings = subst (λ n. AreReadings actual (all_seen entries n)) long (partly_seen_law (seen_in entries) actual true').0;
         session = session;
-        drawn = of-more limit gamma (audited claims) recorded seen ds es session (omega arith) (λ end within. first-drawn seed cards draws most end few (omega arith)) of';
+        drawn = of-more limit gamma (audited claims) recorded seen ds es session (omega arith)
+            (λ end within. first-drawn seed cards draws most end few (omega arith)) of';
         signed_off = signed;
       },
     )

@@ -50,5 +50,6 @@ needs_no_more nodes cards gamma limit ballots file others rival =
       among,
       λ j d below.
           let within = margin-within nodes cards gamma ballots file others rival j d below in
-          larger_margin_law cards (true_margin ballots.rankings a) (get_or file.claims j d).margin gamma limit (omega (arith, within)) (less j d below) within.1 rival.positive,
+          larger_margin_law cards (true_margin ballots.rankings a) (get_or file.claims j d).margin gamma limit (omega (arith, within))
+          (less j d below) within.1 rival.positive,
     )

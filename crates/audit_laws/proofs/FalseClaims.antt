@@ -55,7 +55,8 @@ module _ (n winner : ℕ) (claims : List Claim) (recorded : List Recorded) (actu
   not_all = elim (cases_Bool (list_all (is_true actual) (claimed claims))) [
     | inr fails ↦ fails
     | inl all ↦
-        let (before, ends) = cover_is_sound n winner (claimed claims) audit.winner_below audit.proper audit.covering actual all wrong.order wrong.permutation wrong.possible in
+        let (before, ends) = cover_is_sound n winner (claimed claims) audit.winner_below audit.proper audit.covering actual all wrong.order wrong.permutation
+        wrong.possible in
         let (before', ends') = wrong.elects in
         absurd (wrong.differs ((same_from_push before' before wrong.other winner (sym ends' ∙ ends)).1))
   ]
@@ -110,7 +111,16 @@ module _ (n winner : ℕ) (claims : List Claim) (recorded : List Recorded) (actu
         let proper : is_proper n claim.assertion ≡ true = from_list_all (is_proper n) (member-map (λ c. c.assertion) among) audit.proper in
         let less = ltb-false (votes_against actual claim.assertion) (votes_for actual claim.assertion) fails in
         let all = discrepancies-sum value (assorter-is claim.assertion) recorded (all_found actual) (length-map actual (λ r. Found r) ∙ long) in
-        omega (arith, less, all, long, found-sum value actual, assorter-sum n actual claim.assertion proper, recorded-sum claim among, margin-within claim among)
+        omega (
+          arith,
+          less,
+          all,
+          long,
+          found-sum value actual,
+          assorter-sum n actual claim.assertion proper,
+          recorded-sum claim among,
+          margin-within claim among,
+        )
 
     -- so few sequences ever have an exact risk within the limit
     few : (limit gamma k : ℕ) →
@@ -120,7 +130,8 @@ module _ (n winner : ℕ) (claims : List Claim) (recorded : List Recorded) (actu
         let test : List ℕ → Bool = some_prefix (is_within (length recorded) claim.margin gamma limit) in
         let ds = numbered value recorded (all_found actual) (length-map actual (λ r. Found r) ∙ long) in
         let many : length (map found_discrepancy cards) ≡ length recorded = length-map cards found_discrepancy ∙ length-range_with_len 1 (length recorded) in
-        let reached = counting_law (length recorded) claim.margin gamma limit (map found_discrepancy cards) (some_card claim among) (margin-within claim among) many (rw ds found-within) k in
+        let reached = counting_law (length recorded) claim.margin gamma limit (map found_discrepancy cards) (some_card claim among)
+        (margin-within claim among) many (rw ds found-within) k in
         rw (← fold-map (λ a x. a + cond (test x) 1 0) (λ draws. map found_discrepancy draws) 0 (sequences cards k), (sequences_law cards found_discrepancy k).1)
         (rw (reach_law (length recorded) claim.margin gamma limit (map found_discrepancy cards) many k) at reached)
 
@@ -134,9 +145,11 @@ module _ (n winner : ℕ) (claims : List Claim) (recorded : List Recorded) (actu
         (All-map (λ c. c.margin ≤ length recorded) audited_claim claims every_margin)
         of' signed in
         let (k, few', within) = All-contains
-        (λ c. (k : ℕ) × (k ≤ length draws) × (is_within (length recorded) c.margin gamma limit (map (discrepancy_of c.value recorded seen) (take k draws)) ≡ true))
+        (λ c. (k : ℕ) × (k ≤ length draws) × (is_within (length recorded) c.margin gamma limit (map (discrepancy_of c.value recorded seen) (take k draws))
+        ≡ true))
         (audited claims) (audited_claim claim) each (contains-from_member (member-map audited_claim among)) in
-        let found = within_grows (length recorded) claim.margin gamma limit (discrepancy_of value recorded seen) found_discrepancy (found-le value recorded actual seen readings) (take k draws) within in
+        let found = within_grows (length recorded) claim.margin gamma limit (discrepancy_of value recorded seen) found_discrepancy
+        (found-le value recorded actual seen readings) (take k draws) within in
         list_any-member test {x = take k (map found_discrepancy draws)} {xs = prefixes (map found_discrepancy draws)}
         (prefix-member k (map found_discrepancy draws)) (rw (take-map found_discrepancy k draws) found)
 

@@ -62,10 +62,12 @@ goes_on contest seed digests =
       not_refused = ap (λ fault. first_of fault None) (ap without (same-card seed));
     }
 
-pub signed_off : (contest seed : List ℕ) (digests : Digests) → is_signed_off (next_session (one_begun contest seed digests) lead_of_one one_record one_entry 5) ≡ true
+pub signed_off : (contest seed : List ℕ) (digests : Digests) →
+    is_signed_off (next_session (one_begun contest seed digests) lead_of_one one_record one_entry 5) ≡ true
 unfolding printed_risk
 signed_off contest seed digests =
     let drawn : map (λ k. 1) (range_with_len 1 5) ≡ drawn_cards seed 1 5 = sym (ap (λ (card : ℕ → ℕ). map card (range_with_len 1 5)) (same-card seed)) in
     subst
-    (λ ds. is_signed_off (with_round (one_begun contest seed digests) (round_to 100 (audited lead_of_one) one_record (all_seen one_entry 1) ds 5)).session ≡ true)
+    (λ ds. is_signed_off (with_round (one_begun contest seed digests) (round_to 100 (audited lead_of_one) one_record (all_seen one_entry 1) ds 5)).session
+    ≡ true)
     drawn refl

@@ -37,8 +37,11 @@ ballots = record {
     an_id_each = refl;
     a_place_each = refl;
     differ = refl;
-    below = All-cons (λ r. All (λ c. c < 2) r) (0 ∷ []) ((0 ∷ []) ∷ []) zero_below (All-cons (λ r. All (λ c. c < 2) r) (0 ∷ []) [] zero_below (All-nil (λ r. All (λ c. c < 2) r)));
-    distinct = All-cons (λ r. is_distinct r ≡ true) (0 ∷ []) ((0 ∷ []) ∷ []) refl (All-cons (λ r. is_distinct r ≡ true) (0 ∷ []) [] refl (All-nil (λ r. is_distinct r ≡ true)));
+    below = All-cons (λ r. All (λ c. c < 2) r) (0 ∷ []) ((0 ∷ []) ∷ []) zero_below
+        (All-cons (λ r. All (λ c. c < 2) r) (0 ∷ []) [] zero_below (All-nil (λ r. All (λ c. c < 2) r)));
+    distinct =
+        All-cons (λ r. is_distinct r ≡ true) (0 ∷ []) ((0 ∷ []) ∷ []) refl
+        (All-cons (λ r. is_distinct r ≡ true) (0 ∷ []) [] refl (All-nil (λ r. is_distinct r ≡ true)));
   };
 }
   where
@@ -55,7 +58,9 @@ file = record {
   winner = omega arith;
   order = refl;
   margin = record { some = omega arith; most = omega arith };
-  claims = All-cons (IsSoundClaim 2 2) (record { assertion = Neb 0 1; margin = 2 }) [] (record { proper = refl; margin = record { some = omega arith; most = omega arith } }) (All-nil (IsSoundClaim 2 2));
+  claims =
+      All-cons (IsSoundClaim 2 2) (record { assertion = Neb 0 1; margin = 2 }) []
+      (record { proper = refl; margin = record { some = omega arith; most = omega arith } }) (All-nil (IsSoundClaim 2 2));
 }
 
 pub published : ArePublished 10 two_batches two_ballots two_file

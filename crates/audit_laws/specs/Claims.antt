@@ -12,7 +12,8 @@ use Rattle.assorters.specs.Cards.{margin_over}
 abbrev pub claimed : List Claim → List Assertion
 claimed claims = map (λ claim. claim.assertion) claims
 
-pub record AreAuditable (n winner : ℕ) (claims : List Claim) (recorded : List Recorded) : Type 0 where
+pub record AreAuditable (n winner : ℕ) (claims : List Claim)
+    (recorded : List Recorded) : Type 0 where
   pub winner_below : winner < n
   pub proper : IsTrue (list_all (is_proper n) (claimed claims))
   pub covering : IsTrue (covers n winner (claimed claims))

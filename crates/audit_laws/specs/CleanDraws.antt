@@ -14,13 +14,15 @@ use Rattle.km_risk.specs.Printed.{printed_risk}
 use Rattle.km_risk.specs.Clean.{clean_draws}
 
 -- a set of true assertions that refutes every order that elects another candidate, and so proves the winner
-pub record ProveWinner (n winner : ℕ) (records : List (List ℕ)) (assertions : List Assertion) : Type 0 where
+pub record ProveWinner (n winner : ℕ) (records : List (List ℕ))
+    (assertions : List Assertion) : Type 0 where
   pub proper : IsTrue (list_all (is_proper n) assertions)
   pub hold : IsTrue (list_all (is_true records) assertions)
   pub covering : IsTrue (covers n winner assertions)
 
 -- ballots of so many cards at most, a file that the check accepts, gamma above 0, and another set that proves its winner
-pub record IsRival (nodes cards gamma : ℕ) (ballots : BallotFile) (file : Content) (others : List Assertion) : Type 0 where
+pub record IsRival (nodes cards gamma : ℕ) (ballots : BallotFile) (file : Content)
+    (others : List Assertion) : Type 0 where
   pub file_sound : IsSound file
   pub accepted : IsAnswer nodes ballots file (Ok Accepted)
   pub enough_cards : length ballots.rankings ≤ cards
@@ -34,7 +36,8 @@ AreEnough cards gamma limit k margin = printed_risk cards margin gamma (clean k)
 -- clean draws that are enough for each assertion of the other set are enough for each of the file
 abbrev pub FewestCleanDraws : Type 0
 FewestCleanDraws =
-    (nodes cards gamma limit k : ℕ) (ballots : BallotFile) (file : Content) (others : List Assertion) →
+    (nodes cards gamma limit k : ℕ) (ballots : BallotFile) (file : Content)
+    (others : List Assertion) →
     IsRival nodes cards gamma ballots file others →
     All (λ a. AreEnough cards gamma limit k (true_margin ballots.rankings a)) others →
     All (λ claim. AreEnough cards gamma limit k claim.margin) file.claims
@@ -43,7 +46,8 @@ FewestCleanDraws =
 -- set needs at least as many as any of the file
 abbrev pub NeedsNoMore : Type 0
 NeedsNoMore =
-    (nodes cards gamma limit : ℕ) (ballots : BallotFile) (file : Content) (others : List Assertion) →
+    (nodes cards gamma limit : ℕ) (ballots : BallotFile) (file : Content)
+    (others : List Assertion) →
     IsRival nodes cards gamma ballots file others →
     (a : Assertion) × Contains others a
     × All

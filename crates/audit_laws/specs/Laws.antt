@@ -28,7 +28,8 @@ use Rattle.audit_laws.specs.RiskLimit.{AreTerms, MayElectAnother, MayBeSignedOff
 -- ---- the risk limit by claims
 
 -- three files that were read and fit together: each ballot has a card, and the assertion file holds of the ballots
-pub record FitTogether (batches : Batches) (ballots : BallotFile) (file : FileContent) : Type 0 where
+pub record FitTogether (batches : Batches) (ballots : BallotFile)
+    (file : FileContent) : Type 0 where
   pub manifest_sound : AreBatches batches.ids batches.counts
   pub ballots_sound : AreSound ballots
   pub file_sound : IsSoundFile file
@@ -38,30 +39,37 @@ pub record FitTogether (batches : Batches) (ballots : BallotFile) (file : FileCo
 -- the claims of such files are fit for an audit of the linked records
 abbrev pub HeldIsAuditable : Type 0
 HeldIsAuditable =
-    (batches : Batches) (ballots : BallotFile) (file : FileContent) → FitTogether batches ballots file →
+    (batches : Batches) (ballots : BallotFile) (file : FileContent) →
+    FitTogether batches ballots file →
     AreAuditable (candidate_count file) file.winner file.claims (linked_of batches ballots)
 
--- and of such claims, whoever made them, the risk limit holds
+-- the risk limit holds of such claims, whoever made them
 abbrev pub ClaimsRiskLimit : Type 0
 ClaimsRiskLimit =
-    (n winner limit gamma draws : ℕ) (claims : List Claim) (recorded : List Recorded) (actual signed : List (List ℕ)) →
-    AreAuditable n winner claims recorded → AreTerms limit gamma → MayElectAnother n winner (length recorded) actual →
+    (n winner limit gamma draws : ℕ) (claims : List Claim) (recorded : List Recorded)
+    (actual signed : List (List ℕ)) →
+    AreAuditable n winner claims recorded → AreTerms limit gamma →
+    MayElectAnother n winner (length recorded) actual →
     AreSignedOff limit gamma claims recorded actual draws signed →
     length signed * millionths_in_one ≤ limit * length recorded ^ draws
 
--- the same as a count of the listed sequences, where what is read of the cards is fixed before anything is drawn
+-- the risk limit as a count of the listed sequences, where what is read of the cards is fixed before anything is drawn
 abbrev pub CountedRiskLimit : Type 0
 CountedRiskLimit =
-    (n winner limit gamma draws : ℕ) (claims : List Claim) (recorded : List Recorded) (actual : List (List ℕ)) (seen : List Seen) →
-    AreAuditable n winner claims recorded → AreTerms limit gamma → MayElectAnother n winner (length recorded) actual →
+    (n winner limit gamma draws : ℕ) (claims : List Claim) (recorded : List Recorded)
+    (actual : List (List ℕ)) (seen : List Seen) →
+    AreAuditable n winner claims recorded → AreTerms limit gamma →
+    MayElectAnother n winner (length recorded) actual →
     AreReadings actual seen →
-    count_by (is_signed_off_on limit gamma (audited claims) recorded seen) (sequences (range_with_len 1 (length recorded)) draws) * millionths_in_one
+    count_by (is_signed_off_on limit gamma (audited claims) recorded seen)
+    (sequences (range_with_len 1 (length recorded)) draws) * millionths_in_one
     ≤ limit * length recorded ^ draws
 
--- it holds of the files too, by whichever check it is known that they fit together
+-- the risk limit holds of files that fit together, by whichever check that is known
 abbrev pub HeldRiskLimit : Type 0
 HeldRiskLimit =
-    (limit gamma n : ℕ) (batches : Batches) (ballots : BallotFile) (file : FileContent) (actual sequences : List (List ℕ)) →
+    (limit gamma n : ℕ) (batches : Batches) (ballots : BallotFile) (file : FileContent)
+    (actual sequences : List (List ℕ)) →
     FitTogether batches ballots file → AreTerms limit gamma →
     MayElectAnother (candidate_count file) file.winner (length (cards_of batches)) actual →
     AreSignedOff limit gamma file.claims (linked_of batches ballots) actual n sequences →
@@ -72,14 +80,16 @@ HeldRiskLimit =
 -- in the plain case instant runoff over the actual rankings has no tie, and another winner
 abbrev pub OtherWinnerIsWrong : Type 0
 OtherWinnerIsWrong =
-    (n winner other cards : ℕ) (actual : List (List ℕ)) → length actual ≡ cards → IsWinner n actual other → other ≢ winner →
+    (n winner other cards : ℕ) (actual : List (List ℕ)) → length actual ≡ cards →
+    IsWinner n actual other → other ≢ winner →
     MayElectAnother n winner cards actual
 
--- and where each possible order of the actual rankings elects another candidate, one does: there is always a possible order
+-- where each possible order of the actual rankings elects another candidate, one does: there is always a possible order
 abbrev pub EachElectsAnother : Type 0
 EachElectsAnother =
     (n winner cards : ℕ) (actual : List (List ℕ)) → length actual ≡ cards →
-    ((order : List ℕ) → IsTrue (is_order n order) → IsTrue (is_possible actual order) → IsAlternative n winner order) →
+    ((order : List ℕ) → IsTrue (is_order n order) → IsTrue (is_possible actual order) →
+    IsAlternative n winner order) →
     MayElectAnother n winner cards actual
 
 -- ---- the calls
@@ -94,36 +104,44 @@ AreTrueEntries actual entries =
 -- more draws, however many the seed then gives
 abbrev pub AdvancedIsCounted : Type 0
 AdvancedIsCounted =
-    (limit gamma draws most : ℕ) (seed : List ℕ) (claims : List Claim) (recorded : List Recorded) (entries : List Entry)
+    (limit gamma draws most : ℕ) (seed : List ℕ) (claims : List Claim) (recorded : List Recorded)
+    (entries : List Entry)
     (actual : List (List ℕ)) (session : Session) →
-    1 ≤ length recorded → draws ≤ most → length actual ≡ length recorded → AreTrueEntries actual entries →
-    IsSessionOf limit gamma (audited claims) recorded (all_seen entries (length recorded)) (drawn_cards seed (length recorded) draws) session →
+    1 ≤ length recorded → draws ≤ most → length actual ≡ length recorded →
+    AreTrueEntries actual entries →
+    IsSessionOf limit gamma (audited claims) recorded (all_seen entries (length recorded))
+    (drawn_cards seed (length recorded) draws) session →
     IsTrue (is_signed_off session) →
     IsSequence (length recorded) most (drawn_cards seed (length recorded) most)
     × MayBeSignedOff limit gamma claims recorded actual (drawn_cards seed (length recorded) most)
 
 -- a session goes on by a round, whatever its earlier rounds say
-pub record GoesOn (content : Content) (claims : List Claim) (recorded : List Recorded) (entries : List Entry) (draws : ℕ) : Type 0 where
-  -- what `advance` requires
+pub record GoesOn (content : Content) (claims : List Claim) (recorded : List Recorded)
+    (entries : List Entry) (draws : ℕ) : Type 0 where
+  -- these are what `advance` requires
   pub sound : IsSound content
   pub cards : content.session.cards ≡ length recorded
   pub margins : content.session.margins ≡ map (λ claim. claim.margin) claims
   pub some : 1 ≤ draws
-  -- and what it promises where it answers
+  -- these are what `advance` promises where it answers
   pub not_refused : refusal content claims recorded entries draws ≡ None
 
 -- the session with that round
 abbrev pub next_session : Content → List Claim → List Recorded → List Entry → ℕ → Session
 next_session content claims recorded entries draws =
     (with_round content
-    (round_to content.session.gamma (audited claims) recorded (all_seen entries (length recorded)) (drawn_cards content.seed (length recorded) draws)
+    (round_to content.session.gamma (audited claims) recorded (all_seen entries (length recorded))
+    (drawn_cards content.seed (length recorded) draws)
     draws)).session
 
--- so if it is signed off then, it is counted
+-- a session that has gone on and is signed off is counted
 abbrev pub NextIsCounted : Type 0
 NextIsCounted =
-    (content : Content) (draws most : ℕ) (claims : List Claim) (recorded : List Recorded) (entries : List Entry) (actual : List (List ℕ)) →
-    GoesOn content claims recorded entries draws → draws ≤ most → length actual ≡ length recorded → AreTrueEntries actual entries →
+    (content : Content) (draws most : ℕ) (claims : List Claim) (recorded : List Recorded)
+    (entries : List Entry) (actual : List (List ℕ)) →
+    GoesOn content claims recorded entries draws → draws ≤ most → length actual ≡ length recorded →
+    AreTrueEntries actual entries →
     IsTrue (is_signed_off (next_session content claims recorded entries draws)) →
     IsSequence (length recorded) most (drawn_cards content.seed (length recorded) most)
-    × MayBeSignedOff content.session.limit content.session.gamma claims recorded actual (drawn_cards content.seed (length recorded) most)
+    × MayBeSignedOff content.session.limit content.session.gamma claims recorded actual
+    (drawn_cards content.seed (length recorded) most)

@@ -28,7 +28,8 @@ use Rattle.audit_session.specs.Going.{audited}
 -- ---- what is given
 
 -- three files, of which the calls of the suite answered that they are fit
-pub record ArePublished (nodes : ℕ) (batches : Batches) (ballots : BallotFile) (file : Content) : Type 0 where
+pub record ArePublished (nodes : ℕ) (batches : Batches) (ballots : BallotFile)
+    (file : Content) : Type 0 where
   -- what the readers keep of a manifest, of ballots and of an assertion file
   pub manifest_sound : AreBatches batches.ids batches.counts
   pub ballots_sound : AreSound ballots
@@ -55,7 +56,8 @@ pub record MayElectAnother (n winner cards : ℕ) (actual : List (List ℕ)) : T
 
 -- ---- what is counted
 
-module _ (limit gamma : ℕ) (claims : List Claim) (recorded : List Recorded) (actual : List (List ℕ)) where
+module _ (limit gamma : ℕ) (claims : List Claim) (recorded : List Recorded)
+    (actual : List (List ℕ)) where
   -- the audit can be signed off on these draws: some cards may be missing, and the others are read as they are; the rounds end
   -- where one likes, also by a look at the draws; and the session of the draws is signed off at its last round
   pub record MayBeSignedOff (draws : List ℕ) : Type 0 where
@@ -65,7 +67,7 @@ module _ (limit gamma : ℕ) (claims : List Claim) (recorded : List Recorded) (a
     pub drawn : IsSessionOf limit gamma (audited claims) recorded seen draws session
     pub signed_off : IsTrue (is_signed_off session)
 
-  -- so it is on each of these sequences of n cards, no two of which are the same
+  -- a session may be signed off on each of these sequences of n cards, no two of which are the same
   pub record AreSignedOff (n : ℕ) (sequences : List (List ℕ)) : Type 0 where
     pub drawn : All (IsSequence (length recorded) n) sequences
     pub differ : AllPairs ◌≢◌ sequences

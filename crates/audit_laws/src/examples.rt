@@ -20,7 +20,8 @@ ghost use Rattle.audit_laws.specs.Examples as examples;
 /// Two cards are recorded for candidate 0, and in truth there is a tie. At a limit of 0.7 a draw of the first card is
 /// enough, and a draw of the second isn't: of the two sequences of one card, one is signed off, and 1 of 2 is at most 0.7.
 pub fn wrong_winner()
-    ensures published { ArePublished 10 examples.two_batches examples.two_ballots examples.two_file }
+    ensures published { ArePublished 10
+        examples.two_batches examples.two_ballots examples.two_file }
     ensures terms { AreTerms 700000 500 }
     ensures wrong { MayElectAnother 2 0 2 examples.two_actual }
     ensures linked { linked_of examples.two_batches examples.two_ballots ≡ examples.two_records }

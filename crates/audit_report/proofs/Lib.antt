@@ -5,4 +5,3 @@ pub mod Marks
 pub mod Confirmed
 pub mod Rounds
 pub mod Needs
-pub mod OneCard

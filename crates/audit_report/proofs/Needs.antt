@@ -51,7 +51,8 @@ stays top [] within = refl
 stays top (need ∷ needs) within =
     ap (λ t. fold both_need t needs) (stays_in need top (within need here)) ∙ stays top needs (λ n m. within n (there m))
 
-reaches : (top so_far : Option ℕ) (needs : List (Option ℕ)) → IsWithin so_far top → ((need : Option ℕ) → Member need needs → IsWithin need top) → Member top needs →
+reaches : (top so_far : Option ℕ) (needs : List (Option ℕ)) → IsWithin so_far top → ((need : Option ℕ) → Member need needs → IsWithin need top) →
+    Member top needs →
     fold both_need so_far needs ≡ top
 reaches top so_far [] below within member = absurd (member_nil member)
 reaches top so_far (need ∷ needs) below within member = elim (member_cases member) [
@@ -100,13 +101,15 @@ one_of (Some k) (Some m) n e = let is : max k m ≡ n = cc e in elim (larger k m
 abbrev IsGreatest : Option ℕ → List (Option ℕ) → Option ℕ → Type 0
 IsGreatest so_far needs all =
     MatchOption all ((so_far ≡ None) ⊎ Member None needs) (λ most.
-    IsSomeAnd so_far (λ n. n ≤ most) × ((need : Option ℕ) → Member need needs → IsSomeAnd need (λ n. n ≤ most)) × ((so_far ≡ Some most) ⊎ Member (Some most) needs))
+    IsSomeAnd so_far (λ n. n ≤ most) × ((need : Option ℕ) → Member need needs → IsSomeAnd need (λ n. n ≤ most))
+    × ((so_far ≡ Some most) ⊎ Member (Some most) needs))
 
 greatest-none : (so_far : Option ℕ) → IsGreatest so_far [] so_far
 greatest-none None = inl refl
 greatest-none (Some n) = (omega arith, (λ need member. absurd (member_nil member)), inl refl)
 
-greatest-more : (so_far need : Option ℕ) (needs : List (Option ℕ)) (all : Option ℕ) → IsGreatest (both_need so_far need) needs all → IsGreatest so_far (need ∷ needs) all
+greatest-more : (so_far need : Option ℕ) (needs : List (Option ℕ)) (all : Option ℕ) → IsGreatest (both_need so_far need) needs all →
+    IsGreatest so_far (need ∷ needs) all
 greatest-more so_far need needs None (inl e) = elim (none_of so_far need e) [
   | inl first ↦ inl first
   | inr second ↦ inr (subst (λ n. Member None (n ∷ needs)) (sym second) here)

@@ -12,7 +12,8 @@ use Rattle.audit_report.proofs.Lines.{same_lines}
 
 -- ---- its lengths
 
-module _ (session : Session) (is_session : IsSession session) (i : ℕ) (round : Round) (within : i < length session.rounds) (is : round ≡ get_or session.rounds i round) where
+module _ (session : Session) (is_session : IsSession session) (i : ℕ) (round : Round) (within : i < length session.rounds)
+    (is : round ≡ get_or session.rounds i round) where
   is_round : IsRound session round
   is_round = subst (IsRound session) (sym is) (is_session.rounds i round within)
 
@@ -21,7 +22,8 @@ module _ (session : Session) (is_session : IsSession session) (i : ℕ) (round :
 
   pub risks-long : length round.risks ≡ length session.margins
   risks-long =
-      let long : length (zip session.margins round.counts) ≡ length session.margins = (let e = length-zip session.margins round.counts in omega (arith, e, counts-long)) in
+      let long : length (zip session.margins round.counts) ≡ length session.margins = (let e = length-zip session.margins round.counts in
+      omega (arith, e, counts-long)) in
       ap length is_round.printed ∙ length-map (zip session.margins round.counts) (λ claim. printed_risk session.cards claim.0 session.gamma claim.1) ∙ long
 
 -- ---- its lines
@@ -40,8 +42,10 @@ rounds_more session i round confirmed text headed told whole within is head clai
     let lines = flat_map (claim_in session.margins round (is_confirmed_at session (i + 1))) (range_with_len 0 n) in
     let alike : flat_map (claim_in session.margins round confirmed) (range_with_len 0 n) ≡ lines =
     same_lines (claim_in session.margins round confirmed) (claim_in session.margins round (is_confirmed_at session (i + 1))) 0 n (λ j below.
-    ap (claim_line (j + 1) (slice_index session.margins j) (slice_index_or round.counts j (clean 0)) (slice_index round.risks j)) (same j (omega (arith, below)))) in
-    let left : drop i session.rounds ≡ round ∷ drop (i + 1) session.rounds = drop_more session.rounds i round within ∙ ap (λ r. r ∷ drop (i + 1) session.rounds) (sym is) in
+    ap (claim_line (j + 1) (slice_index session.margins j) (slice_index_or round.counts j (clean 0)) (slice_index round.risks j))
+    (same j (omega (arith, below)))) in
+    let left : drop i session.rounds ≡ round ∷ drop (i + 1) session.rounds = drop_more session.rounds i round within
+    ∙ ap (λ r. r ∷ drop (i + 1) session.rounds) (sym is) in
     ap (λ t. t ++ rest) (claims ∙ ap₂ (λ (s t : List ℕ). s ++ t) head alike)
     ∙ append_assoc (text ++ line) lines rest
     ∙ append_assoc text line (lines ++ rest)

@@ -32,7 +32,8 @@ abbrev pub one_card : Content
 one_card = record {
   contest = codes "7";
   seed = codes "2024";
-  digests = record { ballots = replicate 32 1; manifest = replicate 32 2; assertions = replicate 32 3 };
+  digests =
+      record { ballots = replicate 32 1; manifest = replicate 32 2; assertions = replicate 32 3 };
   session = record {
     cards = 1;
     margins = 1 ∷ [];

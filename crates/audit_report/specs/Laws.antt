@@ -17,4 +17,5 @@ ClosestClaimLaw =
     (file : Content) (cards gamma limit : ℕ) (closest : Claim) → 1 ≤ cards → 1 ≤ gamma →
     Contains file.claims closest →
     All (λ claim. (closest.margin ≤ claim.margin) × (claim.margin ≤ cards)) file.claims →
-    all_need (map (need_of file cards gamma limit) file.claims) ≡ need_of file cards gamma limit closest
+    all_need (map (need_of file cards gamma limit) file.claims)
+    ≡ need_of file cards gamma limit closest

@@ -26,7 +26,8 @@ abbrev pub margin_text : List ℕ → ℕ → List ℕ
 margin_text assertion margin = assertion ++ codes " margin " ++ decimal margin ++ codes ": "
 
 abbrev pub claim_line : List Id → Claim → Option ℕ → List ℕ
-claim_line ids claim need = margin_text (assertion_text ids claim.assertion) claim.margin ++ need_text need ++ codes "\n"
+claim_line ids claim need =
+    margin_text (assertion_text ids claim.assertion) claim.margin ++ need_text need ++ codes "\n"
 
 abbrev pub last_line : Option ℕ → List ℕ
 last_line need = codes "all: " ++ need_text need ++ codes "\n"

@@ -24,8 +24,8 @@ risk_text units = decimal (units / ONE) ++ codes "." ++ in_digits 18 (units % ON
 
 abbrev pub counts_text : Counts → List ℕ
 counts_text counts =
-    decimal counts.n0 ++ codes " " ++ decimal counts.n1 ++ codes " " ++ decimal counts.n2 ++ codes " "
-    ++ decimal counts.n3 ++ codes " " ++ decimal counts.n4
+    decimal counts.n0 ++ codes " " ++ decimal counts.n1 ++ codes " " ++ decimal counts.n2
+    ++ codes " " ++ decimal counts.n3 ++ codes " " ++ decimal counts.n4
 
 abbrev pub state_text : Bool → List ℕ
 state_text true = codes "confirmed"
@@ -54,7 +54,8 @@ module _ (session : Session) where
   abbrev pub round_lines : ℕ → Round → List ℕ
   round_lines i round =
       draws_line i round.draws
-      ++ flat_map (claim_in session.margins round (is_confirmed_at session i)) (range_with_len 0 (length session.margins))
+      ++ flat_map (claim_in session.margins round (is_confirmed_at session i))
+      (range_with_len 0 (length session.margins))
 
   -- these rounds, the first of which has number i
   abbrev pub rounds_from : ℕ → List Round → List ℕ
@@ -65,7 +66,8 @@ module _ (session : Session) where
 
 abbrev pub head_lines : Id → ℕ → ℕ → ℕ → List ℕ → List ℕ
 head_lines contest cards limit gamma seed =
-    codes "contest " ++ contest ++ codes "\ncards " ++ decimal cards ++ codes "\nlimit " ++ decimal limit
+    codes "contest " ++ contest ++ codes "\ncards " ++ decimal cards ++ codes "\nlimit "
+    ++ decimal limit
     ++ codes "\ngamma " ++ decimal gamma ++ codes "\nseed " ++ seed ++ codes "\n"
 
 abbrev pub yes_or_no : Bool → List ℕ

@@ -11,6 +11,3 @@ mod session;
 pub use plan::plan_table;
 pub use sample::sample_table;
 pub use session::session_table;
-
-#[cfg(test)]
-mod tests;

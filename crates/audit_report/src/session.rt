@@ -40,7 +40,8 @@ fn state_text(confirmed: bool) -> &'static str
 
 fn add_margin(text: &mut String, j: usize, margin: u32) -> Result<(), AllocError>
     ensures { IfOk result (λ _. string_bytes text.new ≡ string_bytes text.old
-        ++ (codes "assertion " ++ decimal j ++ codes " margin " ++ decimal margin ++ codes " counts ")) }
+        ++ (codes "assertion " ++ decimal j
+        ++ codes " margin " ++ decimal margin ++ codes " counts ")) }
 {
     write!(text, "assertion {j} margin {margin} counts ")
 }
@@ -97,7 +98,8 @@ fn add_claims(
 }
 
 fn add_draws(text: &mut String, i: usize, draws: u32) -> Result<(), AllocError>
-    ensures { IfOk result (λ _. string_bytes text.new ≡ string_bytes text.old ++ draws_line i draws) }
+    ensures { IfOk result (λ _.
+        string_bytes text.new ≡ string_bytes text.old ++ draws_line i draws) }
 {
     writeln!(text, "round {i} draws {draws}")
 }
@@ -162,7 +164,8 @@ fn yes_or_no(yes: bool) -> &'static str
 }
 
 fn add_last(text: &mut String, s: &Session) -> Result<(), AllocError>
-    ensures { IfOk result (λ _. string_bytes text.new ≡ string_bytes text.old ++ last_line s.now.session) }
+    ensures { IfOk result (λ _.
+        string_bytes text.new ≡ string_bytes text.old ++ last_line s.now.session) }
 {
     let answer = yes_or_no(signed_off(s));
     writeln!(text, "signed off {answer}")

@@ -35,7 +35,8 @@ added content round sound is later most =
         rising = all_pairs_push (λ r next. r.draws < next.draws) session.rounds round sound.session.rising later;
         rounds = All-append (IsRound (record session { rounds = rounds })) session.rounds (round ∷ [])
             (All-weaker (IsRound session) (IsRound (record session { rounds = rounds })) (λ r. moved session rounds r) session.rounds sound.session.rounds)
-            (All-cons (IsRound (record session { rounds = rounds })) round [] (moved session rounds round is) (All-nil (IsRound (record session { rounds = rounds }))));
+            (All-cons (IsRound (record session { rounds = rounds })) round [] (moved session rounds round is)
+            (All-nil (IsRound (record session { rounds = rounds }))));
       };
     }
 
@@ -56,7 +57,9 @@ begun-sound contest cards n records file seed limit gamma digests some fit sound
       };
       session = record {
         some = rw (length-map file.claims (λ claim. claim.margin)) some;
-        margins = All-map (λ margin. (1 ≤ margin) × (margin ≤ cards)) (λ claim. claim.margin) file.claims (λ k d below. ((sound k d below).margin.some, fit k d below));
+        margins =
+            All-map (λ margin. (1 ≤ margin) × (margin ≤ cards)) (λ claim. claim.margin) file.claims
+            (λ k d below. ((sound k d below).margin.some, fit k d below));
         rising = λ i j d before within. absurd (omega arith);
         rounds = All-nil (IsRound session);
       };

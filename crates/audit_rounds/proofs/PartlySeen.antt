@@ -27,7 +27,8 @@ module _ (looked_at : ℕ → Option Seen) where
       )
 
   pub kept : (cards card : ℕ) → 1 ≤ card → card ≤ cards → get_or (seen_of_all looked_at cards) (card - 1) Missing ≡ unwrap_or (looked_at card) Missing
-  kept cards card some within = get_or-map-range_with_len (λ card. unwrap_or (looked_at card) Missing) 1 cards (card - 1) card Missing (omega arith) (omega arith)
+  kept cards card some within =
+      get_or-map-range_with_len (λ card. unwrap_or (looked_at card) Missing) 1 cards (card - 1) card Missing (omega arith) (omega arith)
 
   is_kept : (x : Seen) (o : Option Seen) → x ≡ unwrap_or o Missing → IfSome o (λ seen. x ≡ seen)
   is_kept x None h = tt
@@ -38,5 +39,6 @@ partly_seen_law looked_at actual h = (
   readings looked_at 1 actual (λ k below.
       let back : 1 + k - 1 ≡ k = omega arith in
       subst (λ n. IfSome (looked_at (1 + k)) (IsReading (get_or actual n []))) back (h (1 + k) (omega arith) (omega arith))),
-  λ card some within. is_kept looked_at (get_or (seen_of_all looked_at (length actual)) (card - 1) Missing) (looked_at card) (kept looked_at (length actual) card some within),
+  λ card some within. is_kept looked_at (get_or (seen_of_all looked_at (length actual)) (card - 1) Missing) (looked_at card)
+      (kept looked_at (length actual) card some within),
 )

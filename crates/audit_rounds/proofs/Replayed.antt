@@ -37,7 +37,11 @@ module _ (limit gamma : ℕ) (claims : List Audited) (recorded : List Recorded) 
     margins = All-map (λ margin. (1 ≤ margin) × (margin ≤ length recorded)) (λ claim. claim.margin) claims within;
     rising = λ i j d before below.
         let long = length-map ends (round_to gamma claims recorded seen draws) in
-        rw (get_or-map (round_to gamma claims recorded seen draws) ends i 0 d (omega arith), get_or-map (round_to gamma claims recorded seen draws) ends j 0 d (omega arith))
+        rw (
+          get_or-map (round_to gamma claims recorded seen draws) ends i 0 d (omega arith),
+          get_or-map (round_to gamma claims recorded seen draws) ends j 0 d
+              (omega arith),
+        )
         (are.rising i j 0 before (omega arith));
     rounds = All-map (IsRound (session_to limit gamma claims recorded seen draws ends)) (round_to gamma claims recorded seen draws) ends
         (λ k e below. record {
@@ -48,14 +52,17 @@ module _ (limit gamma : ℕ) (claims : List Audited) (recorded : List Recorded) 
         });
   }
 
-  agreeing : (ends : List ℕ) → AreRoundEnds (length draws) ends → Agrees limit gamma claims recorded seen draws (session_to limit gamma claims recorded seen draws ends)
+  agreeing : (ends : List ℕ) → AreRoundEnds (length draws) ends →
+      Agrees limit gamma claims recorded seen draws (session_to limit gamma claims recorded seen draws ends)
   agreeing ends are = record {
     cards = refl;
     margins = refl;
     same_limit = refl;
     same_gamma = refl;
     drawn = All-map (λ round. round.draws ≤ length draws) (round_to gamma claims recorded seen draws) ends are.drawn;
-    counts = All-map (λ round. round.counts ≡ map (λ claim. counts_after claim.value recorded seen draws round.draws) claims) (round_to gamma claims recorded seen draws) ends
+    counts =
+        All-map (λ round. round.counts ≡ map (λ claim. counts_after claim.value recorded seen draws round.draws) claims)
+        (round_to gamma claims recorded seen draws) ends
         (λ k e below. refl);
   }
 
@@ -74,7 +81,8 @@ module _ (limit gamma : ℕ) (claims : List Audited) (recorded : List Recorded) 
       (All-tail (λ round. round.risks ≡ risks_of (length recorded) gamma (map (λ claim. claim.margin) claims) round.counts) round rounds risks) in
       λ i. record { draws = round.draws; counts = c i; risks = r' i } ∷ rest i
 
-  back : (session : Session) → IsSession session → Agrees limit gamma claims recorded seen draws session → IsSessionOf limit gamma claims recorded seen draws session
+  back : (session : Session) → IsSession session → Agrees limit gamma claims recorded seen draws session →
+      IsSessionOf limit gamma claims recorded seen draws session
   back session is agrees =
       let ends : List ℕ = map (λ round. round.draws) session.rounds in
       let rounds = same_rounds session.rounds agrees.counts
@@ -89,7 +97,10 @@ module _ (limit gamma : ℕ) (claims : List Audited) (recorded : List Recorded) 
           rising = λ i j d before below.
               let long = length-map session.rounds (λ round. round.draws) in
               let none : Round = record { draws = 0; counts = []; risks = [] } in
-              rw (get_or-map (λ round. round.draws) session.rounds i none d (omega arith), get_or-map (λ round. round.draws) session.rounds j none d (omega arith))
+              rw (
+                get_or-map (λ round. round.draws) session.rounds i none d (omega arith),
+                get_or-map (λ round. round.draws) session.rounds j none d (omega arith),
+              )
               (is.rising i j none before (omega arith));
           some = All-map (λ e. 1 ≤ e) (λ round. round.draws) session.rounds (λ k d below. (is.rounds k d below).some);
           drawn = All-map (λ e. e ≤ length draws) (λ round. round.draws) session.rounds agrees.drawn;

@@ -43,7 +43,8 @@ module _ (limit gamma : ℕ) (claims : List Audited) (recorded : List Recorded) 
   meets-is : (end j : ℕ) (claim : Audited) → slice_get claims j ≡ Some claim →
       meets limit j (round_to gamma claims recorded seen draws end) ≡ is_met_after end claim
   meets-is end j claim at =
-      ap (is_at_most limit) (slice_get-map (risk_after gamma claims recorded seen draws end) claims j ∙ ap (option_map (risk_after gamma claims recorded seen draws end)) at)
+      ap (is_at_most limit) (slice_get-map (risk_after gamma claims recorded seen draws end) claims j
+      ∙ ap (option_map (risk_after gamma claims recorded seen draws end)) at)
 
   -- each claim of a session that is signed off met the limit at the end of a round
   pub met_at : (ends : List ℕ) → is_signed_off (session_to limit gamma claims recorded seen draws ends) ≡ true →
@@ -51,11 +52,13 @@ module _ (limit gamma : ℕ) (claims : List Audited) (recorded : List Recorded) 
       (end : ℕ) × Member end ends × (is_met_after end claim ≡ true)
   met_at ends signed j claim below at =
       let session = session_to limit gamma claims recorded seen draws ends in
-      let each = (and_parts (nat_le 1 (length session.rounds)) (list_all (is_confirmed_at session (length session.rounds)) (range_with_len 0 (length session.margins))) signed).1 in
+      let each = (and_parts (nat_le 1 (length session.rounds))
+      (list_all (is_confirmed_at session (length session.rounds)) (range_with_len 0 (length session.margins))) signed).1 in
       let within : j < 0 + length session.margins = rw (length-map claims (λ claim. claim.margin)) (omega arith) in
       let confirmed = from_list_all (is_confirmed_at session (length session.rounds)) {x = j} {xs = range_with_len 0 (length session.margins)}
       (range-member j 0 (length session.margins) (omega arith) within) each in
-      let (round, member, met) = from_list_any (meets limit j) session.rounds (rw (take_all (length session.rounds) session.rounds (omega arith)) at confirmed) in
+      let (round, member, met) = from_list_any (meets limit j) session.rounds
+      (rw (take_all (length session.rounds) session.rounds (omega arith)) at confirmed) in
       let (end, among, same) = from_map (round_to gamma claims recorded seen draws) round ends member in
       (end, among, sym (meets-is end j claim at) ∙ subst (λ r. meets limit j r ≡ true) (sym same) met)
 
@@ -77,7 +80,8 @@ module _ (limit gamma : ℕ) (claims : List Audited) (recorded : List Recorded) 
       (member-map (round_to gamma claims recorded seen draws) among) (meets-is end j claim at ∙ met))))
 
   -- there is a round, and so there is a draw
-  some_draw : (ends : List ℕ) → AreRoundEnds (length draws) ends → is_signed_off (session_to limit gamma claims recorded seen draws ends) ≡ true → 1 ≤ length draws
+  some_draw : (ends : List ℕ) → AreRoundEnds (length draws) ends → is_signed_off (session_to limit gamma claims recorded seen draws ends) ≡ true →
+      1 ≤ length draws
   some_draw [] are signed = absurd (true≢false (sym signed))
   some_draw (end ∷ ends) are signed =
       let first = All-head (λ e. 1 ≤ e) end ends are.some in
@@ -97,8 +101,11 @@ module _ (limit gamma : ℕ) (claims : List Audited) (recorded : List Recorded) 
         (end, range-member end 1 (length draws) first (omega arith), met))
 
     back : is_signed_off_on limit gamma claims recorded seen draws ≡ true → IsSignedOffOn limit gamma claims recorded seen draws
-    back signed =
-        (session_to limit gamma claims recorded seen draws (range_with_len 1 (length draws)), record { ends = range_with_len 1 (length draws); are = every_end (length draws); is = refl }, signed)
+    back signed = (
+      session_to limit gamma claims recorded seen draws (range_with_len 1 (length draws)),
+      record { ends = range_with_len 1 (length draws); are = every_end (length draws); is = refl },
+      signed,
+    )
 
 pub every_draw_law : EveryDrawLaw
 every_draw_law = every_draw

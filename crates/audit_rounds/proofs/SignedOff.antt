@@ -28,6 +28,7 @@ signed_off_law limit gamma claims recorded seen draws session some lasting part 
     let (end, among, met) = met_at limit gamma claims recorded seen draws of'.ends signed_to j claim below (slice_get-get_or claims j d below) in (
       end,
       All-contains (λ e. e ≤ length draws) of'.ends end of'.are.drawn (contains-from_member among),
-      confirmed_law (length recorded) claim.margin gamma limit (map (discrepancy_of claim.value recorded seen) (take end draws)) some (smaller j d below) lasting part
+      confirmed_law (length recorded) claim.margin gamma limit (map (discrepancy_of claim.value recorded seen) (take end draws)) some
+          (smaller j d below) lasting part
           (each_within claim.value (assorters j d below) recorded seen (take end draws)) met,
     )

@@ -33,8 +33,18 @@ begun contest cards file seed limit gamma digests = record {
   contest = contest;
   seed = seed;
   digests = digests;
-  session = record { cards = cards; margins = map (λ claim. claim.margin) file.claims; limit = limit; gamma = gamma; rounds = [] };
+  session =
+      record {
+        cards = cards;
+        margins = map (λ claim. claim.margin) file.claims;
+        limit = limit;
+        gamma = gamma;
+        rounds = [];
+      };
 }
 
 abbrev pub with_round : Content → Round → Content
-with_round content round = record content { session = record content.session { rounds = content.session.rounds ++ round ∷ [] } }
+with_round content round =
+    record content {
+      session = record content.session { rounds = content.session.rounds ++ round ∷ [] };
+    }

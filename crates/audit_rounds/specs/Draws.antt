@@ -13,11 +13,13 @@ use Rattle.audit_rounds.specs.Sessions.{Round, Session, is_signed_off}
 
 -- what is seen of each of so many cards, where only some were looked at: each other counts as missing
 abbrev pub seen_of_all : (ℕ → Option Seen) → ℕ → List Seen
-seen_of_all looked_at cards = map (λ card. unwrap_or (looked_at card) Missing) (range_with_len 1 cards)
+seen_of_all looked_at cards =
+    map (λ card. unwrap_or (looked_at card) Missing) (range_with_len 1 cards)
 
 -- the counts over the first k draws
 abbrev pub counts_after : (List ℕ → ℕ) → List Recorded → List Seen → List ℕ → ℕ → Counts
-counts_after value recorded seen draws k = counts_of (map (discrepancy_of value recorded seen) (take k draws))
+counts_after value recorded seen draws k =
+    counts_of (map (discrepancy_of value recorded seen) (take k draws))
 
 -- what is audited of a claim: a function of rankings, and its margin in votes
 pub record Audited : Type 0 where
@@ -30,10 +32,13 @@ pub record AreRoundEnds (most : ℕ) (ends : List ℕ) : Type 0 where
   pub some : All (λ end. 1 ≤ end) ends
   pub drawn : All (λ end. end ≤ most) ends
 
-module _ (gamma : ℕ) (claims : List Audited) (recorded : List Recorded) (seen : List Seen) (draws : List ℕ) where
+module _ (gamma : ℕ) (claims : List Audited) (recorded : List Recorded) (seen : List Seen)
+    (draws : List ℕ) where
   -- the printed risk of a claim after the first k draws
   abbrev pub risk_after : ℕ → Audited → ℕ
-  risk_after k claim = printed_risk (length recorded) claim.margin gamma (counts_after claim.value recorded seen draws k)
+  risk_after k claim =
+      printed_risk (length recorded) claim.margin gamma
+      (counts_after claim.value recorded seen draws k)
 
   abbrev pub round_to : ℕ → Round
   round_to end = record {
@@ -42,7 +47,8 @@ module _ (gamma : ℕ) (claims : List Audited) (recorded : List Recorded) (seen 
     risks = map (risk_after end) claims;
   }
 
-module _ (limit gamma : ℕ) (claims : List Audited) (recorded : List Recorded) (seen : List Seen) (draws : List ℕ) where
+module _ (limit gamma : ℕ) (claims : List Audited) (recorded : List Recorded) (seen : List Seen)
+    (draws : List ℕ) where
   -- with a round to each of these ends
   abbrev pub session_to : List ℕ → Session
   session_to ends = record {
@@ -60,7 +66,9 @@ module _ (limit gamma : ℕ) (claims : List Audited) (recorded : List Recorded) 
     pub same_limit : session.limit ≡ limit
     pub same_gamma : session.gamma ≡ gamma
     pub drawn : All (λ round. round.draws ≤ length draws) session.rounds
-    pub counts : All (λ round. round.counts ≡ map (λ claim. counts_after claim.value recorded seen draws round.draws) claims) session.rounds
+    pub counts : All (λ round. round.counts
+        ≡ map (λ claim. counts_after claim.value recorded seen draws round.draws) claims)
+        session.rounds
 
   -- the session has rounds of these draws; where they end is free
   pub record IsSessionOf (session : Session) : Type 0 where

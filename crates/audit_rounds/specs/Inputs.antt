@@ -16,7 +16,8 @@ IsFirstDifferent k (pair ∷ pairs) which expected found =
 -- the digest of each file in the session, and that of the file
 abbrev pub digest_pairs : Digests → Digests → List (List ℕ × List ℕ)
 digest_pairs session files =
-    (session.ballots, files.ballots) ∷ (session.manifest, files.manifest) ∷ (session.assertions, files.assertions) ∷ []
+    (session.ballots, files.ballots) ∷ (session.manifest, files.manifest)
+    ∷ (session.assertions, files.assertions) ∷ []
 
 pub record HasFacts (content : Content) (cards : ℕ) (file : FileContent) : Type 0 where
   pub cards_are : content.session.cards ≡ cards
@@ -32,7 +33,8 @@ module _ (content : Content) (digests : Digests) (cards : ℕ) (file : FileConte
 
   -- the first digest that differs, and else a fact that does
   abbrev pub IsInputFault : InputFault → Type 0
-  IsInputFault (Differs which expected found) = IsFirstDifferent 1 (digest_pairs content.digests digests) which expected found
+  IsInputFault (Differs which expected found) =
+      IsFirstDifferent 1 (digest_pairs content.digests digests) which expected found
   IsInputFault Facts =
       (content.digests.ballots ≡ digests.ballots) × (content.digests.manifest ≡ digests.manifest)
       × (content.digests.assertions ≡ digests.assertions) × (HasFacts content cards file → ⊥)

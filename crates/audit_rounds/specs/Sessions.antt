@@ -39,13 +39,15 @@ module _ (session : Session) where
   abbrev pub is_signed_off : Bool
   is_signed_off =
       nat_le 1 (length session.rounds)
-      && list_all (is_confirmed_at (length session.rounds)) (range_with_len 0 (length session.margins))
+      && list_all (is_confirmed_at (length session.rounds))
+      (range_with_len 0 (length session.margins))
 
 -- ---- what it keeps of itself
 
 -- the risk of each claim, from its counts
 abbrev pub risks_of : ℕ → ℕ → List ℕ → List Counts → List ℕ
-risks_of cards gamma margins counts = map (λ claim. printed_risk cards claim.0 gamma claim.1) (zip margins counts)
+risks_of cards gamma margins counts =
+    map (λ claim. printed_risk cards claim.0 gamma claim.1) (zip margins counts)
 
 pub record IsRound (session : Session) (round : Round) : Type 0 where
   pub some : 1 ≤ round.draws

@@ -3,7 +3,10 @@
 /// The SHA-256 digests of the files that an audit stands on.
 #[derive(Clone, Copy, Debug, PartialEq, Eq)]
 pub struct Digests {
+    /// That of the ballot file.
     pub ballots: [u8; 32],
+    /// That of the manifest.
     pub manifest: [u8; 32],
+    /// That of the assertion file.
     pub assertions: [u8; 32],
 }

@@ -43,18 +43,23 @@ counts-are (claim ∷ claims) recorded seen ds k =
     let rest = counts-are claims recorded seen ds k in
     λ i. first i ∷ rest i
 
-pub long-drawn : (recorded : List Recorded) (seen : List Seen) (seed : List ℕ) (n draws : ℕ) → length (map (drawn_at recorded seen) (drawn_cards seed n draws)) ≡ draws
-long-drawn recorded seen seed n draws = length-map (drawn_cards seed n draws) (drawn_at recorded seen) ∙ length-map-range_with_len (λ k. drawn_card seed k n) 1 draws
+pub long-drawn : (recorded : List Recorded) (seen : List Seen) (seed : List ℕ) (n draws : ℕ) →
+    length (map (drawn_at recorded seen) (drawn_cards seed n draws)) ≡ draws
+long-drawn recorded seen seed n draws =
+    length-map (drawn_cards seed n draws) (drawn_at recorded seen) ∙ length-map-range_with_len (λ k. drawn_card seed k n) 1 draws
 
 -- where there are more draws, and each has its record, what is left to judge are the earlier rounds
 pub refusal-is : (content : Content) (claims : List Claim) (recorded : List Recorded) (entries : List Entry) (draws : ℕ) →
     last_draws content.session.rounds < draws → without_record content.seed (length recorded) entries draws ≡ None →
     refusal content claims recorded entries draws
-    ≡ changed_from claims (map (drawn_at recorded (all_seen entries (length recorded))) (drawn_cards content.seed (length recorded) draws)) 1 content.session.rounds
+    ≡ changed_from claims (map (drawn_at recorded (all_seen entries (length recorded))) (drawn_cards content.seed (length recorded) draws)) 1
+    content.session.rounds
 refusal-is content claims recorded entries draws more none =
-    let changed = changed_from claims (map (drawn_at recorded (all_seen entries (length recorded))) (drawn_cards content.seed (length recorded) draws)) 1 content.session.rounds in
+    let changed = changed_from claims (map (drawn_at recorded (all_seen entries (length recorded))) (drawn_cards content.seed (length recorded) draws)) 1
+    content.session.rounds in
     let last = last_draws content.session.rounds in
-    ap (λ b. first_of (if b then Some (Smaller last) else None) (first_of (without_record content.seed (length recorded) entries draws) changed)) (lt-leb draws last more)
+    ap (λ b. first_of (if b then Some (Smaller last) else None) (first_of (without_record content.seed (length recorded) entries draws) changed))
+    (lt-leb draws last more)
     ∙ ap (λ o. first_of o changed) none
 
 module _ (content : Content) (claims : List Claim) (recorded : List Recorded) (entries : List Entry) (draws : ℕ)
@@ -104,7 +109,8 @@ module _ (content : Content) (claims : List Claim) (recorded : List Recorded) (e
   assorters = All-map (λ claim. IsAssorter claim.value) audited_claim claims (λ k d below. assorter-is (get_or claims k d).assertion)
 
   module _ (none : refusal content claims recorded entries draws ≡ None) where
-    parts : (smaller session.rounds draws ≡ None) × (without_record content.seed (length recorded) entries draws ≡ None) × (changed_from claims drawn 1 session.rounds ≡ None)
+    parts : (smaller session.rounds draws ≡ None) × (without_record content.seed (length recorded) entries draws ≡ None)
+        × (changed_from claims drawn 1 session.rounds ≡ None)
     parts =
         let a = first-none (smaller session.rounds draws) _ none in
         let b = first-none (without_record content.seed (length recorded) entries draws) (changed_from claims drawn 1 session.rounds) a.1 in
@@ -114,7 +120,8 @@ module _ (content : Content) (claims : List Claim) (recorded : List Recorded) (e
     more = by (nat_le draws (last_draws session.rounds)) refl where
       by : (b : Bool) → nat_le draws (last_draws session.rounds) ≡ b → last_draws session.rounds < draws
       by true h =
-          let refused : Some (Smaller (last_draws session.rounds)) ≡ None = sym (ap (λ b. if b then Some (Smaller (last_draws session.rounds)) else None) h) ∙ parts.0 in
+          let refused : Some (Smaller (last_draws session.rounds)) ≡ None = sym (ap (λ b. if b then Some (Smaller (last_draws session.rounds)) else None) h)
+          ∙ parts.0 in
           absurd cc
       by false h = leb-false draws (last_draws session.rounds) h
 
@@ -126,7 +133,8 @@ module _ (content : Content) (claims : List Claim) (recorded : List Recorded) (e
       same_gamma = refl;
       drawn = All-weaker (λ r. r.draws < draws) (λ r. r.draws ≤ length ds) (λ r before. omega (arith, long)) session.rounds (earlier more);
       counts = λ k d below.
-          unchanged-from claims drawn 1 session.rounds each-long (λ n. length-map claims (λ claim. counts_over claim.assertion (take n drawn))) parts.2 k d below
+          unchanged-from claims drawn 1 session.rounds each-long (λ n. length-map claims (λ claim. counts_over claim.assertion (take n drawn))) parts.2 k d
+          below
           ∙ counts-are claims recorded seen ds (get_or session.rounds k d).draws;
     }
 
@@ -144,10 +152,12 @@ module _ (content : Content) (claims : List Claim) (recorded : List Recorded) (e
             rising = all_pairs_push ◌<◌ old.ends draws old.are.rising (λ k d below.
                 let at = get_or-map round old.ends k d next below in
                 let before = earlier more k next (rw (rounds-are, length-map old.ends round) below) in
-                let same : (get_or session.rounds k next).draws ≡ get_or old.ends k d = ap (λ (rs : List Round). (get_or rs k next).draws) rounds-are ∙ ap (λ (r : Round). r.draws) at in
+                let same : (get_or session.rounds k next).draws ≡ get_or old.ends k d = ap (λ (rs : List Round). (get_or rs k next).draws) rounds-are
+                ∙ ap (λ (r : Round). r.draws) at in
                 omega (arith, before, same));
             some = All-append (λ e. 1 ≤ e) old.ends (draws ∷ []) old.are.some (All-cons (λ e. 1 ≤ e) draws [] some (All-nil (λ e. 1 ≤ e)));
-            drawn = All-append (λ e. e ≤ length ds) old.ends (draws ∷ []) old.are.drawn (All-cons (λ e. e ≤ length ds) draws [] (omega (arith, long)) (All-nil (λ e. e ≤ length ds)));
+            drawn = All-append (λ e. e ≤ length ds) old.ends (draws ∷ []) old.are.drawn
+                (All-cons (λ e. e ≤ length ds) draws [] (omega (arith, long)) (All-nil (λ e. e ≤ length ds)));
           };
           is =
               ap (λ (s : Session). record s { rounds = s.rounds ++ next ∷ [] }) old.is
@@ -157,7 +167,8 @@ module _ (content : Content) (claims : List Claim) (recorded : List Recorded) (e
     -- so the round is one of the session
     pub is-round : IsRound session next
     is-round =
-        let new = (session_law session.limit session.gamma (audited claims) recorded seen ds (with_round content next).session some-claim assorters within).0 of-draws in
+        let new = (session_law session.limit session.gamma (audited claims) recorded seen ds (with_round content next).session some-claim assorters within).0
+        of-draws in
         let at = length session.rounds in
         let here = new.0.rounds at next (rw (length-append session.rounds (next ∷ [])) (omega arith)) in
         let last : get_or (session.rounds ++ next ∷ []) at next ≡ next = get_or-append_seam session.rounds next [] next in

@@ -24,7 +24,8 @@ same-counts-is a b h =
     λ i. record { n0 = e0 i; n1 = e1 i; n2 = e2 i; n3 = e3 i; n4 = e4 i }
 
 -- where none is changed, the counts are the same
-pub unchanged-in : (round claim : ℕ) (expected found : List Counts) → length expected ≡ length found → changed_in round claim expected found ≡ None → expected ≡ found
+pub unchanged-in : (round claim : ℕ) (expected found : List Counts) → length expected ≡ length found → changed_in round claim expected found ≡ None →
+    expected ≡ found
 unchanged-in round claim [] [] long none = refl
 unchanged-in round claim [] (f ∷ found) long none = absurd (omega arith)
 unchanged-in round claim (e ∷ expected) [] long none = absurd (omega arith)
@@ -35,7 +36,8 @@ unchanged-in round claim (e ∷ expected) (f ∷ found) long none = by (same_cou
       let rest = later (sym (ap (λ b. cond b (changed_in round (claim + 1) expected found) (Some (Changed round claim e f))) h) ∙ none) in
       λ i. first i ∷ rest i
   by false h later =
-      let some : Some (Changed round claim e f) ≡ None = sym (ap (λ b. cond b (changed_in round (claim + 1) expected found) (Some (Changed round claim e f))) h) ∙ none in
+      let some : Some (Changed round claim e f) ≡ None = sym (ap (λ b. cond b (changed_in round (claim + 1) expected found) (Some (Changed round claim e f))) h)
+      ∙ none in
       absurd cc
 
 pub first-none : {A : Type 0} (o other : Option A) → first_of o other ≡ None → (o ≡ None) × (other ≡ None)
@@ -47,7 +49,8 @@ pub unchanged-from : (claims : List Claim) (drawn : List Drawn) (number : ℕ) (
     changed_from claims drawn number rounds ≡ None → All (λ round. round.counts ≡ all_counts claims (take round.draws drawn)) rounds
 unchanged-from claims drawn number [] each long none = All-nil (λ round. round.counts ≡ all_counts claims (take round.draws drawn))
 unchanged-from claims drawn number (round ∷ rounds) each long none =
-    let parts = first-none (changed_in number 1 round.counts (all_counts claims (take round.draws drawn))) (changed_from claims drawn (number + 1) rounds) none in
+    let parts = first-none (changed_in number 1 round.counts (all_counts claims (take round.draws drawn)))
+    (changed_from claims drawn (number + 1) rounds) none in
     let here = All-head (λ r. length r.counts ≡ length claims) round rounds each in
     All-cons (λ r. r.counts ≡ all_counts claims (take r.draws drawn)) round rounds
     (unchanged-in number 1 round.counts (all_counts claims (take round.draws drawn)) (here ∙ sym (long round.draws)) parts.0)
@@ -60,7 +63,8 @@ last-from a rounds = fold (λ earlier round. round.draws) a rounds
 rising-head : (round : Round) (rounds : List Round) → AllPairs (λ r later. r.draws < later.draws) (round ∷ rounds) → All (λ r. round.draws < r.draws) rounds
 rising-head round rounds rising k d below = rising 0 (suc k) d (omega arith) (omega arith)
 
-rising-tail : (round : Round) (rounds : List Round) → AllPairs (λ r later. r.draws < later.draws) (round ∷ rounds) → AllPairs (λ r later. r.draws < later.draws) rounds
+rising-tail : (round : Round) (rounds : List Round) → AllPairs (λ r later. r.draws < later.draws) (round ∷ rounds) →
+    AllPairs (λ r later. r.draws < later.draws) rounds
 rising-tail round rounds rising i j d before within = rising (suc i) (suc j) d (omega arith) (omega arith)
 
 most-from : (a : ℕ) (rounds : List Round) → All (λ r. a < r.draws) rounds → AllPairs (λ r later. r.draws < later.draws) rounds →

@@ -64,4 +64,5 @@ over-draws assertion drawn =
 
 pub all-draws : (claims : List Claim) (drawn : List Drawn) → All (λ counts. draws_in counts ≡ length drawn) (all_counts claims drawn)
 all-draws claims drawn =
-    All-map (λ counts. draws_in counts ≡ length drawn) (λ claim. counts_over claim.assertion drawn) claims (λ k claim below. over-draws (get_or claims k claim).assertion drawn)
+    All-map (λ counts. draws_in counts ≡ length drawn) (λ claim. counts_over claim.assertion drawn) claims
+    (λ k claim below. over-draws (get_or claims k claim).assertion drawn)

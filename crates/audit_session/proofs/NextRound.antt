@@ -20,7 +20,8 @@ pub counted-whole : (claims : List Claim) (drawn front rest : List Drawn) (befor
 counted-whole claims drawn front rest before counts had before-is front-is whole step =
     step front (before-is ∙ ap (all_counts claims) (sym front-is)) ∙ ap (all_counts claims) (sym whole)
 
-pub round-is : (session : Session) (claims : List Claim) (recorded : List Recorded) (seen : List Seen) (ds : List ℕ) (draws : ℕ) (counts : List Counts) (risks : List ℕ) →
+pub round-is : (session : Session) (claims : List Claim) (recorded : List Recorded) (seen : List Seen) (ds : List ℕ) (draws : ℕ) (counts : List Counts)
+    (risks : List ℕ) →
     session.cards ≡ length recorded → session.margins ≡ map (λ claim. claim.margin) claims → length (map (drawn_at recorded seen) ds) ≡ draws →
     counts ≡ all_counts claims (map (drawn_at recorded seen) ds) → risks ≡ risks_of session.cards session.gamma session.margins counts →
     record { draws = draws; counts = counts; risks = risks } ≡ round_to session.gamma (audited claims) recorded seen ds draws
@@ -30,7 +31,8 @@ round-is session claims recorded seen ds draws counts risks cards margins long c
     counts-is ∙ ap (all_counts claims) (sym (take_all draws drawn (omega (arith, long)))) ∙ counts-are claims recorded seen ds draws in
     let margins-to : session.margins ≡ map (λ claim. claim.margin) (audited claims) = margins ∙ sym (map-map (λ claim. claim.margin) audited_claim claims) in
     let moved : risks_of session.cards session.gamma session.margins counts
-    ≡ risks_of (length recorded) session.gamma (map (λ claim. claim.margin) (audited claims)) (map (λ claim. counts_after claim.value recorded seen ds draws) (audited claims)) =
+    ≡ risks_of (length recorded) session.gamma (map (λ claim. claim.margin) (audited claims))
+    (map (λ claim. counts_after claim.value recorded seen ds draws) (audited claims)) =
     λ i. risks_of (cards i) session.gamma (margins-to i) (counts-to i) in
     let risks-to : risks ≡ map (risk_after session.gamma (audited claims) recorded seen ds draws) (audited claims) =
     risks-is ∙ moved ∙ risks-are session.limit session.gamma (audited claims) recorded seen ds (audited claims) draws in

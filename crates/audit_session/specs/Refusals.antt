@@ -52,7 +52,7 @@ changed_from claims drawn number (round ∷ rounds) =
     first_of (changed_in number 1 round.counts (all_counts claims (take round.draws drawn)))
     (changed_from claims drawn (number + 1) rounds)
 
--- by the draws so far, then by the cards without a record, then by the counts of earlier rounds
+-- a round is refused by the draws so far, then by the cards without a record, then by the counts of earlier rounds
 abbrev pub refusal :
     Content → List Claim → List Recorded → List Entry → ℕ → Option AdvanceFault
 refusal content claims recorded entries draws =
@@ -63,7 +63,7 @@ refusal content claims recorded entries draws =
     (first_of (without_record content.seed cards entries draws)
     (changed_from claims drawn 1 content.session.rounds))
 
--- so it is refused; memory may always be wanting
+-- a round is refused for this first reason; memory may always be wanting
 abbrev pub Refuses : Option AdvanceFault → AdvanceFault → Type 0
 Refuses first Memory = Unit {0}
 Refuses first fault = first ≡ Some fault

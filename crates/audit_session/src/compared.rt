@@ -6,6 +6,8 @@ use manifest::Recorded;
 /// What is compared of a drawn card.
 #[derive(Clone, Copy)]
 pub struct Drawn {
+    /// What the ballot file has of it.
     pub recorded: Recorded,
+    /// What people saw of it.
     pub seen: Seen,
 }

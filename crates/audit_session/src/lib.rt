@@ -8,8 +8,6 @@ mod drawn;
 mod earlier;
 mod fault;
 mod next;
-#[cfg(test)]
-mod tests;
 
 pub use audit_rounds::{
     Digests, DoneRound, InputFault, Session, begin_session, same_inputs, signed_off,

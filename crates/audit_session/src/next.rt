@@ -56,6 +56,7 @@ fn next_round(
         (all_seen seen.now (length l.now)) (drawn_cards s.now.seed (length l.now) draws) draws) }
     ensures refused { IfErr result (Refuses (refusal s.now f.now.claims l.now seen.now draws)) }
 {
+    // Asked for what its contract tells: the session is sound.
     let _cards = s.cards();
     let had = last_draws(s.rounds());
     if draws <= had {
@@ -100,6 +101,7 @@ pub fn advance(
     ensures refused { IfErr result (Refuses (refusal s.old f.now.claims l.now seen.now draws)) }
     ensures kept { OnErr result (s.new ≡ s.old) }
 {
+    // Asked for what its contract tells: the session is sound.
     let _cards = s.cards();
     let round = next_round(alloc, s, l, f, seen, draws)?;
     s.add_round(round)?;

@@ -28,7 +28,8 @@ few batches candidates rows entries at left so_far =
     (λ card m. let h = so_far.within card m in range-member card 1 (length (cards_of batches)) h.0 (omega arith)) in
     omega (arith, fewer, length-range 1 (length (cards_of batches)), length-map entries (λ entry. entry.0))
 
-pub goes_on : (batches : Batches) (candidates : List Id) (rows : List Fields) (entries : List Entry) (at : ℕ) (row : Fields) (left : List Fields) (card : ℕ) (seen : Seen) →
+pub goes_on : (batches : Batches) (candidates : List Id) (rows : List Fields) (entries : List Entry) (at : ℕ) (row : Fields) (left : List Fields) (card : ℕ)
+    (seen : Seen) →
     SeenSoFar batches candidates rows entries at (row ∷ left) → entry_of batches candidates entries row ≡ Ok (card, seen) → seen_in entries card ≡ None →
     1 ≤ card → card ≤ length (cards_of batches) → SeenSoFar batches candidates rows (entries ++ (card, seen) ∷ []) (at + 1) left
 goes_on batches candidates rows entries at row left card seen so_far is new first last =
@@ -43,7 +44,8 @@ goes_on batches candidates rows entries at row left card seen so_far is new firs
       ];
     }
 
-pub refused : (batches : Batches) (candidates : List Id) (rows : List Fields) (entries : List Entry) (at : ℕ) (row : Fields) (left : List Fields) (rule : VRule) →
+pub refused : (batches : Batches) (candidates : List Id) (rows : List Fields) (entries : List Entry) (at : ℕ) (row : Fields) (left : List Fields)
+    (rule : VRule) →
     SeenSoFar batches candidates rows entries at (row ∷ left) → entry_of batches candidates entries row ≡ Err rule →
     entries_after batches candidates [] 1 rows ≡ Err (record { rule = rule; at = at })
 refused batches candidates rows entries at row left rule so_far is =

@@ -19,11 +19,13 @@ is_missing word = is_same word (codes "missing")
 
 -- the word, and that nothing but blank fields is behind `missing`
 abbrev pub is_told : Id → Fields → Bool
-is_told word rest = is_same word (codes "ballot") || (is_missing word && not (list_any is_marked rest))
+is_told word rest =
+    is_same word (codes "ballot") || (is_missing word && not (list_any is_marked rest))
 
 -- what it tells of the card, where each preference is one of the candidates
-abbrev pub told : List Id → Id → Fields → Option Seen
-told candidates word rest = if is_missing word then Some Missing else option_map Found (ranking_of candidates rest)
+abbrev pub seen_of_record : List Id → Id → Fields → Option Seen
+seen_of_record candidates word rest =
+    if is_missing word then Some Missing else option_map Found (ranking_of candidates rest)
 
 abbrev pub entry_with : ℕ → Option Seen → Result Entry VRule
 entry_with card None = Err V5
@@ -33,14 +35,16 @@ entry_with card (Some seen) = Ok (card, seen)
 abbrev pub entry_of_card : List Id → List Entry → Id → Fields → Option ℕ → Result Entry VRule
 entry_of_card candidates earlier word rest None = Err V2
 entry_of_card candidates earlier word rest (Some card) =
-    if is_some (seen_in earlier card) then Err V3 else entry_with card (told candidates word rest)
+    if is_some (seen_in earlier card) then Err V3
+    else entry_with card (seen_of_record candidates word rest)
 
 -- the entry of a record, or the first rule that the record breaks
 abbrev pub entry_of : Batches → List Id → List Entry → Fields → Result Entry VRule
 entry_of batches candidates earlier [] = Err V1
 entry_of batches candidates earlier (id ∷ []) = Err V1
 entry_of batches candidates earlier (id ∷ word ∷ rest) =
-    if is_told word rest then entry_of_card candidates earlier word rest (place_of (cards_of batches) id) else Err V1
+    if is_told word rest
+    then entry_of_card candidates earlier word rest (place_of (cards_of batches) id) else Err V1
 
 -- ---- the file
 
@@ -49,15 +53,18 @@ pub record Refusal : Type 0 where
   pub rule : VRule
   pub at : ℕ
 
-abbrev pub and_then : Result Entry VRule → ℕ → (Entry → Result (List Entry) Refusal) → Result (List Entry) Refusal
+abbrev pub and_then : Result Entry VRule → ℕ → (Entry → Result (List Entry) Refusal) →
+    Result (List Entry) Refusal
 and_then (Ok entry) at more = more entry
 and_then (Err rule) at more = Err (record { rule = rule; at = at })
 
 -- after these entries come the records from number at on
-abbrev pub entries_after : Batches → List Id → List Entry → ℕ → List Fields → Result (List Entry) Refusal
+abbrev pub entries_after : Batches → List Id → List Entry → ℕ → List Fields →
+    Result (List Entry) Refusal
 entries_after batches candidates earlier at [] = Ok earlier
 entries_after batches candidates earlier at (row ∷ rows) =
-    and_then (entry_of batches candidates earlier row) at (λ entry. entries_after batches candidates (earlier ++ entry ∷ []) (at + 1) rows)
+    and_then (entry_of batches candidates earlier row) at
+    (λ entry. entries_after batches candidates (earlier ++ entry ∷ []) (at + 1) rows)
 
 abbrev pub seen_of : Batches → List Id → List ℕ → Result (List Entry) Refusal
 seen_of batches candidates bytes = entries_after batches candidates [] 1 (numbered_records bytes)

@@ -6,8 +6,6 @@ mod preferences;
 mod read;
 mod record;
 mod seen_cards;
-#[cfg(test)]
-mod tests;
 
 pub use fault::{SeenFault, VRule};
 pub use read::read_seen;

@@ -32,6 +32,7 @@ pub fn read_seen(
     ensures read { IfOk result (λ seen. seen_of manifest.now candidates.now bytes.now ≡ Ok seen) }
     ensures refused { IfErr result (Refuses (seen_of manifest.now candidates.now bytes.now)) }
 {
+    // Asked for what its contract tells: the cards are few enough to count the records in a u32.
     let _cards = manifest.cards();
     let mut rows = Rows::of(alloc, without_mark(bytes));
     let mut row = ByteRecord::new(alloc);

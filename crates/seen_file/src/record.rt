@@ -7,7 +7,7 @@ ghost use Rattle.irv_base.specs.declared.limits.TheConstants.{ROOM};
 ghost use Rattle.ballot_reader.specs.Grammar.{is_marked};
 ghost use Rattle.manifest.specs.Cards.{cards_of};
 ghost use Rattle.seen_file.specs.Seen.{seen_in};
-ghost use Rattle.seen_file.specs.Reading.{entry_of, is_missing, is_told, told};
+ghost use Rattle.seen_file.specs.Reading.{entry_of, is_missing, is_told, seen_of_record};
 
 use crate::fault::VRule;
 use crate::preferences::ranking_of;
@@ -53,9 +53,10 @@ fn is_told(word: &[u8], row: &ByteRecord) -> bool
 }
 
 // What the record tells of its card.
-fn told(candidates: &[Name], word: &[u8], row: &ByteRecord) -> Option<Seen>
+fn seen_of_record(candidates: &[Name], word: &[u8], row: &ByteRecord) -> Option<Seen>
     requires { length candidates.now ≤ ROOM }
-    ensures { result ≡ told candidates.now word.now (drop 2 (trimmed_fields (fields_of row.now))) }
+    ensures { result ≡ seen_of_record candidates.now word.now
+        (drop 2 (trimmed_fields (fields_of row.now))) }
 {
     if is_missing(word) {
         return Some(Seen::Missing);
@@ -93,7 +94,7 @@ pub fn entry_of(
     if earlier.get(card).is_some() {
         return Err(VRule::V3);
     }
-    let Some(seen) = told(candidates, word, row) else {
+    let Some(seen) = seen_of_record(candidates, word, row) else {
         return Err(VRule::V5);
     };
     Ok((card, seen))

@@ -11,13 +11,13 @@ use Rattle.assertion_file.specs.Stated.{◌>>=◌, number}
 use Rattle.audit_rounds.specs.Content.{Content}
 use Rattle.audit_rounds.specs.Sessions.{Round}
 use Rattle.session_file.specs.Faults.{Refuses}
-use Rattle.session_file.specs.Reading.{content_of, content_with, kept, session_of}
+use Rattle.session_file.specs.Reading.{content_of, content_with, sound_session, session_of}
 use Rattle.session_file.specs.Stated.{Heading, each, heading_in, round}
 use Rattle.session_file.specs.declared.fault.SessionFault.{SessionFault}
 use Rattle.session_file.proofs.Refused.{refused_first, refused_same}
 
 abbrev with_margins : Heading → List ℕ → Option Content
-with_margins heading margins = each round heading.rounds >>= λ rounds. kept heading (content_with heading margins rounds)
+with_margins heading margins = each round heading.rounds >>= λ rounds. sound_session heading (content_with heading margins rounds)
 
 abbrev with_heading : Heading → Option Content
 with_heading heading = each number heading.margins >>= with_margins heading
@@ -32,17 +32,22 @@ is-with value heading h = ap (λ o. o >>= with_heading) h
 
 module _ (value : Data) (heading : Heading) (there : heading_in value ≡ Some heading) where
   pub no_margins : (fault : SessionFault) → Refuses (each number heading.margins) fault → Refuses (content_of value) fault
-  no_margins fault r = refused_same (content_of value) (with_heading heading) fault (is-with value heading there) (refused_first (each number heading.margins) (with_margins heading) fault r)
+  no_margins fault r =
+      refused_same (content_of value) (with_heading heading) fault (is-with value heading there)
+      (refused_first (each number heading.margins) (with_margins heading) fault r)
 
   module _ (margins : List ℕ) (read : each number heading.margins ≡ Some margins) where
     with-margins : content_of value ≡ with_margins heading margins
     with-margins = is-with value heading there ∙ ap (λ o. o >>= with_margins heading) read
 
     pub no_rounds : (fault : SessionFault) → Refuses (each round heading.rounds) fault → Refuses (content_of value) fault
-    no_rounds fault r = refused_same (content_of value) (with_margins heading margins) fault with-margins (refused_first (each round heading.rounds) (λ rounds. kept heading (content_with heading margins rounds)) fault r)
+    no_rounds fault r =
+        refused_same (content_of value) (with_margins heading margins) fault with-margins
+        (refused_first (each round heading.rounds) (λ rounds. sound_session heading (content_with heading margins rounds)) fault r)
 
-    pub with-rounds : (rounds : List Round) → each round heading.rounds ≡ Some rounds → content_of value ≡ kept heading (content_with heading margins rounds)
-    with-rounds rounds r = with-margins ∙ ap (λ o. o >>= λ rounds. kept heading (content_with heading margins rounds)) r
+    pub with-rounds : (rounds : List Round) → each round heading.rounds ≡ Some rounds →
+        content_of value ≡ sound_session heading (content_with heading margins rounds)
+    with-rounds rounds r = with-margins ∙ ap (λ o. o >>= λ rounds. sound_session heading (content_with heading margins rounds)) r
 
 -- ---- the bytes
 

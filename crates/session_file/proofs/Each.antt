@@ -20,12 +20,13 @@ module _ {A : Type 0} (kind : Data → Option A) where
     by : (o : Option (List A)) → o ≡ before (Some []) o
     by None = refl
     by (Some ys) = refl
-  each-append (value ∷ these) more = ap (λ o. kind value >>= λ x. o >>= λ xs. Some (x ∷ xs)) (each-append these more) ∙ by (kind value) (each kind these) (each kind more) where
-    by : (v : Option A) (o p : Option (List A)) → (v >>= λ x. before o p >>= λ xs. Some (x ∷ xs)) ≡ before (v >>= λ x. o >>= λ xs. Some (x ∷ xs)) p
-    by None o p = refl
-    by (Some x) None p = refl
-    by (Some x) (Some xs) None = refl
-    by (Some x) (Some xs) (Some ys) = refl
+  each-append (value ∷ these) more =
+      ap (λ o. kind value >>= λ x. o >>= λ xs. Some (x ∷ xs)) (each-append these more) ∙ by (kind value) (each kind these) (each kind more) where
+        by : (v : Option A) (o p : Option (List A)) → (v >>= λ x. before o p >>= λ xs. Some (x ∷ xs)) ≡ before (v >>= λ x. o >>= λ xs. Some (x ∷ xs)) p
+        by None o p = refl
+        by (Some x) None p = refl
+        by (Some x) (Some xs) None = refl
+        by (Some x) (Some xs) (Some ys) = refl
 
   at : (values : List Value) (i : ℕ) (value : Value) → i < length values → value ≡ get_or values i value → get_or (map view values) i (view value) ≡ view value
   at values i value within is = get_or-map view values i value (view value) within ∙ ap view (sym is)
@@ -37,10 +38,12 @@ module _ {A : Type 0} (kind : Data → Option A) where
       ap (each kind) (take_more (map view values) i (view value) seen ∙ ap (λ v. take i (map view values) ++ v ∷ []) (at values i value within is))
       ∙ each-append (take i (map view values)) (view value ∷ []) ∙ rw (h, k) refl
 
-  pub each_stops : (values : List Value) (i : ℕ) (value : Value) → i < length values → value ≡ get_or values i value → kind (view value) ≡ None → each kind (map view values) ≡ None
+  pub each_stops : (values : List Value) (i : ℕ) (value : Value) → i < length values → value ≡ get_or values i value → kind (view value) ≡ None →
+      each kind (map view values) ≡ None
   each_stops values i value within is k =
       let seen : i < length (map view values) = omega (arith, length-map values view) in
-      ap (each kind) (sym (take-append-drop i (map view values)) ∙ ap (λ r. take i (map view values) ++ r) (drop_more (map view values) i (view value) seen ∙ ap (λ v. v ∷ drop (i + 1) (map view values)) (at values i value within is)))
+      ap (each kind) (sym (take-append-drop i (map view values)) ∙ ap (λ r. take i (map view values) ++ r)
+      (drop_more (map view values) i (view value) seen ∙ ap (λ v. v ∷ drop (i + 1) (map view values)) (at values i value within is)))
       ∙ each-append (take i (map view values)) (view value ∷ drop (i + 1) (map view values))
       ∙ by (each kind (take i (map view values)))
     where
@@ -48,9 +51,11 @@ module _ {A : Type 0} (kind : Data → Option A) where
       by None = refl
       by (Some xs) = rw k refl
 
-  pub each_all : (values : List Value) (i : ℕ) (xs : List A) → i ≡ length values → each kind (take i (map view values)) ≡ Some xs → each kind (map view values) ≡ Some xs
+  pub each_all : (values : List Value) (i : ℕ) (xs : List A) → i ≡ length values → each kind (take i (map view values)) ≡ Some xs →
+      each kind (map view values) ≡ Some xs
   each_all values i xs end h = ap (each kind) (sym (take_all i (map view values) (omega (arith, length-map values view)))) ∙ h
 
-  pub each_refused : (values : List Value) (i : ℕ) (value : Value) (fault : SessionFault) → i < length values → value ≡ get_or values i value → Refuses (kind (view value)) fault → Refuses (each kind (map view values)) fault
+  pub each_refused : (values : List Value) (i : ℕ) (value : Value) (fault : SessionFault) → i < length values → value ≡ get_or values i value →
+      Refuses (kind (view value)) fault → Refuses (each kind (map view values)) fault
   each_refused values i value Refused within is r = each_stops values i value within is r
   each_refused values i value Memory within is r = tt

@@ -9,7 +9,7 @@ use Rattle.audit_rounds.specs.Content.{Content, IsSound}
 use Rattle.audit_rounds.specs.Sessions.{is_signed_off}
 use Rattle.session_text.specs.Forms.{HasForms}
 use Rattle.session_text.specs.declared.print.TheConstants.{VERSION}
-use Rattle.session_file.specs.Reading.{kept}
+use Rattle.session_file.specs.Reading.{sound_session}
 use Rattle.session_file.specs.Sound.{are_margins, are_rounds, is_cards, is_gamma, is_limit, is_session, is_sound}
 use Rattle.session_file.specs.Stated.{Heading}
 use Rattle.session_file.proofs.SoundSessions.{session-from, session-is}
@@ -27,12 +27,13 @@ module _ (content : Content) where
 
   sound-is : IsSound content → HasForms content → is_sound content ≡ true
   sound-is s f =
-      and_from (is_name content.contest && is_seed content.seed) (is_session content.session) (and_from (is_name content.contest) (is_seed content.seed) f.contest f.seed)
+      and_from (is_name content.contest && is_seed content.seed) (is_session content.session)
+      (and_from (is_name content.contest) (is_seed content.seed) f.contest f.seed)
       (session-from content.session (record { limits = s.limits; session_is = s.session }))
 
   -- a sound session, of which the file says rightly whether it is signed off
   pub kept-sound : (heading : Heading) → (heading.version == VERSION) ≡ true → IsSound content → HasForms content →
-      beq heading.signed_off (is_signed_off content.session) ≡ true → kept heading content ≡ Some content
+      beq heading.signed_off (is_signed_off content.session) ≡ true → sound_session heading content ≡ Some content
   kept-sound heading v s f b =
       ap (λ c. if c then Some content else None)
       (and_from ((heading.version == VERSION) && is_sound content) (beq heading.signed_off (is_signed_off content.session))

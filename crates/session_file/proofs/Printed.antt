@@ -17,7 +17,8 @@ module _ (cards gamma : ℕ) (margins : List ℕ) (counts : List Counts) (same :
   pub length-risks : length (risks_of cards gamma margins counts) ≡ length margins
   length-risks = length-map (zip margins counts) (λ claim. printed_risk cards claim.0 gamma claim.1) ∙ zipped
 
-  pub risk-at : (i : ℕ) (d : Counts) → i < length margins → get_or (risks_of cards gamma margins counts) i 0 ≡ printed_risk cards (get_or margins i 0) gamma (get_or counts i d)
+  pub risk-at : (i : ℕ) (d : Counts) → i < length margins → get_or (risks_of cards gamma margins counts) i 0 ≡ printed_risk cards (get_or margins i 0) gamma
+      (get_or counts i d)
   risk-at i d within =
       let inside : i < length (zip margins counts) = omega (arith, zipped) in
       let counted : i < length counts = omega (arith, same) in
@@ -29,7 +30,8 @@ module _ (cards gamma : ℕ) (margins : List ℕ) (counts : List Counts) (same :
   too_few risks apart = unequal ◌==◌ risks (risks_of cards gamma margins counts) (λ e. apart (e ∙ length-risks))
 
   -- another risk for some claim
-  pub another : (risks : List ℕ) (i : ℕ) (d : Counts) → i < length margins → (get_or risks i 0 ≢ printed_risk cards (get_or margins i 0) gamma (get_or counts i d)) →
+  pub another : (risks : List ℕ) (i : ℕ) (d : Counts) → i < length margins →
+      (get_or risks i 0 ≢ printed_risk cards (get_or margins i 0) gamma (get_or counts i d)) →
       pointwise ◌==◌ risks (risks_of cards gamma margins counts) ≡ false
   another risks i d within apart =
       elim (cases_Bool (pointwise ◌==◌ risks (risks_of cards gamma margins counts))) [
@@ -38,7 +40,8 @@ module _ (cards gamma : ℕ) (margins : List ℕ) (counts : List Counts) (same :
       ]
 
   pub all_printed : (risks : List ℕ) (end : ℕ) → length risks ≡ length margins → length margins < end + 1 →
-      ((k : ℕ) → k < end → get_or risks k 0 ≡ get_or (risks_of cards gamma margins counts) k 0) → pointwise ◌==◌ risks (risks_of cards gamma margins counts) ≡ true
+      ((k : ℕ) → k < end → get_or risks k 0 ≡ get_or (risks_of cards gamma margins counts) k 0) → pointwise ◌==◌ risks (risks_of cards gamma margins counts)
+      ≡ true
   all_printed risks end long past each =
       (bytes_decides risks (risks_of cards gamma margins counts)).1
       (same_number_lists risks (risks_of cards gamma margins counts) (long ∙ sym length-risks) (λ k within. each k (omega (arith, long))))

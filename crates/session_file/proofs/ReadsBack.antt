@@ -32,7 +32,8 @@ use Rattle.session_file.proofs.Rounds.{a_round}
 -- ---- lists
 
 -- what each is shown as says what it is
-each-back : {A : Type 0} (kind : Data → Option A) (shown : A → Data) (P : A → Type 0) → ((x : A) → P x → kind (shown x) ≡ Some x) → (xs : List A) → All P xs → each kind (map shown xs) ≡ Some xs
+each-back : {A : Type 0} (kind : Data → Option A) (shown : A → Data) (P : A → Type 0) → ((x : A) → P x → kind (shown x) ≡ Some x) → (xs : List A) → All P xs →
+    each kind (map shown xs) ≡ Some xs
 each-back kind shown P back [] all = refl
 each-back kind shown P back (x ∷ xs) all =
     ap (λ o. o >>= λ first. each kind (map shown xs) >>= λ rest. Some (first ∷ rest)) (back x (All-head P x xs all))
@@ -55,7 +56,13 @@ risks-back ns = each-back risk whole_number (λ _. Unit {0}) (λ n _. refl) ns (
 counts-value : (c : Counts) → draws_in c ≤ MOST_DRAWS → counts (counts_value c) ≡ Some c
 counts-value c few =
     ap (λ o. o >>= counts_from) (list-value (map whole_number (c.n0 ∷ c.n1 ∷ c.n2 ∷ c.n3 ∷ c.n4 ∷ [])))
-    ∙ rw (number-value c.n0 (omega arith), number-value c.n1 (omega arith), number-value c.n2 (omega arith), number-value c.n3 (omega arith), number-value c.n4 (omega arith)) refl
+    ∙ rw (
+      number-value c.n0 (omega arith),
+      number-value c.n1 (omega arith),
+      number-value c.n2 (omega arith),
+      number-value c.n3 (omega arith),
+      number-value c.n4 (omega arith),
+    ) refl
 
 entry-from : (value : Data) (counts risks : List Data) (draws : ℕ) →
     list_in (codes "counts") value ≡ Some counts → number_in (codes "draws") value ≡ Some draws → list_in (codes "risks") value ≡ Some risks →
@@ -63,10 +70,12 @@ entry-from : (value : Data) (counts risks : List Data) (draws : ℕ) →
 unfolding entry_in
 entry-from value counts risks draws c d r = rw (c, d, r) refl
 
-entry-back : (r : Round) → r.draws ≤ MOST_DRAWS → entry_in (round_value r) ≡ Some (record { counts = map counts_value r.counts; draws = r.draws; risks = map whole_number r.risks })
+entry-back : (r : Round) → r.draws ≤ MOST_DRAWS → entry_in (round_value r)
+    ≡ Some (record { counts = map counts_value r.counts; draws = r.draws; risks = map whole_number r.risks })
 unfolding serde_json_on_literals
 entry-back r few =
-    entry-from (round_value r) (map counts_value r.counts) (map whole_number r.risks) r.draws (list-value (map counts_value r.counts)) (number-value r.draws (omega arith)) (list-value (map whole_number r.risks))
+    entry-from (round_value r) (map counts_value r.counts) (map whole_number r.risks) r.draws (list-value (map counts_value r.counts))
+    (number-value r.draws (omega arith)) (list-value (map whole_number r.risks))
 
 -- of as many draws, and not too many
 record IsPrintable (r : Round) : Type 0 where
@@ -76,7 +85,8 @@ record IsPrintable (r : Round) : Type 0 where
 round-back : (r : Round) → IsPrintable r → round (round_value r) ≡ Some r
 round-back r h =
     let few = h.few in
-    a_round (round_value r) (record { counts = map counts_value r.counts; draws = r.draws; risks = map whole_number r.risks }) (entry-back r few) r.counts r.risks
+    a_round (round_value r) (record { counts = map counts_value r.counts; draws = r.draws; risks = map whole_number r.risks })
+    (entry-back r few) r.counts r.risks
     (each-back counts counts_value (λ c. draws_in c ≤ MOST_DRAWS) counts-value r.counts (λ k d within. omega (arith, h.all_draws k d within)))
     (risks-back r.risks)
 
@@ -93,7 +103,8 @@ digest-value : (bytes : List ℕ) → IsDigest bytes → digest (digest_value by
 digest-value bytes h = ap result_ok (decode_sized-encode_lower bytes 32 h.long (bytes-are bytes h))
 
 digests-from : (value : Data) (ballots manifest assertions : List ℕ) →
-    member_as digest (codes "assertions") value ≡ Some assertions → member_as digest (codes "ballots") value ≡ Some ballots → member_as digest (codes "manifest") value ≡ Some manifest →
+    member_as digest (codes "assertions") value ≡ Some assertions → member_as digest (codes "ballots") value ≡ Some ballots →
+    member_as digest (codes "manifest") value ≡ Some manifest →
     digests_in value ≡ Some (record { ballots = ballots; manifest = manifest; assertions = assertions })
 unfolding digests_in
 digests-from value ballots manifest assertions a b m = rw (a, b, m) refl
@@ -126,7 +137,8 @@ digests-back : (content : Content) → HasForms content → digests_in (session_
 unfolding session_value serde_json_on_literals
 digests-back content f =
     let d = content.digests in
-    digests-from (session_value content) d.ballots d.manifest d.assertions (digest-value d.assertions f.assertions) (digest-value d.ballots f.ballots) (digest-value d.manifest f.manifest)
+    digests-from (session_value content) d.ballots d.manifest d.assertions (digest-value d.assertions f.assertions) (digest-value d.ballots f.ballots)
+    (digest-value d.manifest f.manifest)
 
 heading-back : (content : Content) → IsSound content → HasForms content → heading_in (session_value content) ≡ Some (heading_for content)
 unfolding session_value serde_json_on_literals
@@ -135,8 +147,10 @@ heading-back content s f =
     let cards = s.limits.most_cards in
     let limit = s.limits.most_limit in
     let gamma = s.limits.most_gamma in
-    heading-from (session_value content) (heading_for content) refl (number-value session.cards (omega arith)) (list-value (map whole_number session.margins)) refl
-    (number-value session.limit (omega arith)) (number-value session.gamma (omega arith)) (digests-back content f) (list-value (map round_value session.rounds)) refl
+    heading-from (session_value content) (heading_for content) refl (number-value session.cards (omega arith))
+    (list-value (map whole_number session.margins)) refl
+    (number-value session.limit (omega arith)) (number-value session.gamma (omega arith)) (digests-back content f)
+    (list-value (map round_value session.rounds)) refl
     (number-value VERSION (omega arith))
 
 pub printed_reads_back : (content : Content) → IsSound content → HasForms content → session_of (session_text content) ≡ Some content
@@ -145,7 +159,8 @@ printed_reads_back content s f =
     let session = content.session in
     let cards = s.limits.most_cards in
     let margins = numbers-back session.margins (λ k d within. let within_cards = (s.session.margins k d within).1 in omega arith) in
-    let rounds = each-back round round_value IsPrintable round-back session.rounds (λ k d within. record { few = s.limits.most_draws k d within; all_draws = (s.session.rounds k d within).all_draws }) in
+    let rounds = each-back round round_value IsPrintable round-back session.rounds
+    (λ k d within. record { few = s.limits.most_draws k d within; all_draws = (s.session.rounds k d within).all_draws }) in
     ap (λ o. o >>= content_of) (text_reads_back content s f)
     ∙ with-rounds (session_value content) (heading_for content) (heading-back content s f) session.margins margins session.rounds rounds
     ∙ kept-sound content (heading_for content) (eq-eqb VERSION VERSION refl) s f ((booleans_Decides (is_signed_off session) (is_signed_off session)).1 refl)

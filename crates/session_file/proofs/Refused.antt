@@ -9,7 +9,8 @@ pub refused_first : {A B : Type 0} (said : Option A) (more : A → Option B) (fa
 refused_first said more Refused h = ap (λ o. o >>= more) h
 refused_first said more Memory h = tt
 
-pub refused_then : {A B : Type 0} (said : Option A) (value : A) (more : A → Option B) (fault : SessionFault) → said ≡ Some value → Refuses (more value) fault → Refuses (said >>= more) fault
+pub refused_then : {A B : Type 0} (said : Option A) (value : A) (more : A → Option B) (fault : SessionFault) → said ≡ Some value → Refuses (more value) fault →
+    Refuses (said >>= more) fault
 refused_then said value more fault h r = subst (λ o. Refuses (o >>= more) fault) (sym h) r
 
 pub refused_same : {A : Type 0} (said other : Option A) (fault : SessionFault) → said ≡ other → Refuses other fault → Refuses said fault

@@ -25,14 +25,19 @@ is-with value entry h = ap (λ o. o >>= with_entry) h
 
 module _ (value : Data) (entry : Entry) (there : entry_in value ≡ Some entry) where
   pub no_counts : (fault : SessionFault) → Refuses (each counts entry.counts) fault → Refuses (round value) fault
-  no_counts fault r = refused_same (round value) (with_entry entry) fault (is-with value entry there) (refused_first (each counts entry.counts) (λ counts. each risk entry.risks >>= λ risks. Some (round_with entry counts risks)) fault r)
+  no_counts fault r =
+      refused_same (round value) (with_entry entry) fault (is-with value entry there)
+      (refused_first (each counts entry.counts) (λ counts. each risk entry.risks >>= λ risks. Some (round_with entry counts risks)) fault r)
 
-  pub no_risks : (found : List Counts) (fault : SessionFault) → each counts entry.counts ≡ Some found → Refuses (each risk entry.risks) fault → Refuses (round value) fault
+  pub no_risks : (found : List Counts) (fault : SessionFault) → each counts entry.counts ≡ Some found → Refuses (each risk entry.risks) fault →
+      Refuses (round value) fault
   no_risks found fault c r =
       refused_same (round value) (with_entry entry) fault (is-with value entry there)
       (refused_then (each counts entry.counts) found (λ counts. each risk entry.risks >>= λ risks. Some (round_with entry counts risks)) fault c
       (refused_first (each risk entry.risks) (λ risks. Some (round_with entry found risks)) fault r))
 
-  pub a_round : (found : List Counts) (risks : List ℕ) → each counts entry.counts ≡ Some found → each risk entry.risks ≡ Some risks → round value ≡ Some (record { draws = entry.draws; counts = found; risks = risks })
+  pub a_round : (found : List Counts) (risks : List ℕ) → each counts entry.counts ≡ Some found → each risk entry.risks ≡ Some risks →
+      round value ≡ Some (record { draws = entry.draws; counts = found; risks = risks })
   a_round found risks c r =
-      is-with value entry there ∙ ap (λ o. o >>= λ counts. each risk entry.risks >>= λ risks. Some (round_with entry counts risks)) c ∙ ap (λ o. o >>= λ risks. Some (round_with entry found risks)) r
+      is-with value entry there ∙ ap (λ o. o >>= λ counts. each risk entry.risks >>= λ risks. Some (round_with entry counts risks)) c
+      ∙ ap (λ o. o >>= λ risks. Some (round_with entry found risks)) r

@@ -43,7 +43,8 @@ decoded text bytes h =
 
 digest-is : (value : Data) (bytes : List ℕ) → digest value ≡ Some bytes → IsDigest bytes
 digest-is value bytes h =
-    option_and_then_some (λ text. result_ok (decode_sized text 32)) (as_str value) bytes h (λ text there d. decoded text bytes (ok-is (decode_sized text 32) bytes d))
+    option_and_then_some (λ text. result_ok (decode_sized text 32)) (as_str value) bytes h
+    (λ text there d. decoded text bytes (ok-is (decode_sized text 32) bytes d))
 
 member-is : (name : List ℕ) (value : Data) (bytes : List ℕ) → member_as digest name value ≡ Some bytes → IsDigest bytes
 member-is name value bytes h = option_and_then_some digest (get name value) bytes h (λ found there d. digest-is found bytes d)

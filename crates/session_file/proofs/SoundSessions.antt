@@ -103,7 +103,9 @@ module _ (session : Session) (round : Round) where
         round_is = record {
           some = leb-true 1 round.draws least;
           each = eqb-true (length round.counts) (length margins) counts;
-          all_draws = λ k d within. eqb-true (draws_in (get_or round.counts k d)) round.draws (AllPass-from_list_all (λ counts. draws_in counts == round.draws) round.counts all k d within);
+          all_draws =
+              λ k d within. eqb-true (draws_in (get_or round.counts k d)) round.draws
+              (AllPass-from_list_all (λ counts. draws_in counts == round.draws) round.counts all k d within);
           printed = same_text round.risks (risks_of cards gamma margins round.counts) (sym risks);
         };
       }
@@ -116,7 +118,8 @@ module _ (session : Session) (round : Round) where
       let r = h.round_is in
       let draws = and_from (nat_le 1 round.draws) (nat_le round.draws MOST_DRAWS) (le-leb 1 round.draws r.some) (le-leb round.draws MOST_DRAWS h.most) in
       let two = and_from (is_draws round.draws) (has_counts margins round) draws (eq-eqb (length round.counts) (length margins) r.each) in
-      let all = list_all-from_AllPass (λ counts. draws_in counts == round.draws) round.counts (λ k d within. eq-eqb (draws_in (get_or round.counts k d)) round.draws (r.all_draws k d within)) in
+      let all = list_all-from_AllPass (λ counts. draws_in counts == round.draws) round.counts
+      (λ k d within. eq-eqb (draws_in (get_or round.counts k d)) round.draws (r.all_draws k d within)) in
       let three = and_from (is_draws round.draws && has_counts margins round) (counts_all round) two all in
       and_from (is_draws round.draws && has_counts margins round && counts_all round) (has_risks cards gamma margins round) three
       ((bytes_decides round.risks (risks_of cards gamma margins round.counts)).1 r.printed)
@@ -162,12 +165,17 @@ session-from session h =
     let l = h.limits in
     let s = h.session_is in
     let test = is_round session.cards session.gamma session.margins in
-    let limit = and_from (nat_le 1 session.limit) (nat_le session.limit GREATEST_LIMIT) (le-leb 1 session.limit l.some_limit) (le-leb session.limit GREATEST_LIMIT l.most_limit) in
-    let gamma = and_from (nat_le 1 session.gamma) (nat_le session.gamma GREATEST_GAMMA) (le-leb 1 session.gamma l.some_gamma) (le-leb session.gamma GREATEST_GAMMA l.most_gamma) in
+    let limit = and_from (nat_le 1 session.limit) (nat_le session.limit GREATEST_LIMIT) (le-leb 1 session.limit l.some_limit)
+    (le-leb session.limit GREATEST_LIMIT l.most_limit) in
+    let gamma = and_from (nat_le 1 session.gamma) (nat_le session.gamma GREATEST_GAMMA) (le-leb 1 session.gamma l.some_gamma)
+    (le-leb session.gamma GREATEST_GAMMA l.most_gamma) in
     let two = and_from (is_cards session.cards) (is_limit session.limit) (le-leb session.cards MOST_CARDS l.most_cards) limit in
     let three = and_from (is_cards session.cards && is_limit session.limit) (is_gamma session.gamma) two gamma in
     let margins = margins-from session.cards session.margins (record { some = s.some; each = s.margins }) in
-    let rise = rises-from 0 (map (λ round. round.draws) session.rounds) (all-mapped (λ round. round.draws) session.rounds 0 (λ k d within. (s.rounds k d within).some)) (pairs-mapped (λ round. round.draws) session.rounds s.rising) in
-    let all = list_all-from_AllPass test session.rounds (λ k d within. round-from session (get_or session.rounds k d) (record { most = l.most_draws k d within; round_is = s.rounds k d within })) in
+    let rise = rises-from 0 (map (λ round. round.draws) session.rounds) (all-mapped (λ round. round.draws) session.rounds 0
+    (λ k d within. (s.rounds k d within).some)) (pairs-mapped (λ round. round.draws) session.rounds s.rising) in
+    let all = list_all-from_AllPass test session.rounds
+    (λ k d within. round-from session (get_or session.rounds k d) (record { most = l.most_draws k d within; round_is = s.rounds k d within })) in
     let rounds = and_from (rises_above 0 (map (λ round. round.draws) session.rounds)) (list_all test session.rounds) rise all in
-    and_from (limited && are_margins session.cards session.margins) (are_rounds session) (and_from limited (are_margins session.cards session.margins) three margins) rounds
+    and_from (limited && are_margins session.cards session.margins) (are_rounds session)
+    (and_from limited (are_margins session.cards session.margins) three margins) rounds

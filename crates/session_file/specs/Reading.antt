@@ -15,23 +15,31 @@ content_with heading margins rounds = record {
   contest = heading.contest;
   seed = heading.seed;
   digests = heading.digests;
-  session = record { cards = heading.cards; margins = margins; limit = heading.limit; gamma = heading.gamma; rounds = rounds };
+  session =
+      record {
+        cards = heading.cards;
+        margins = margins;
+        limit = heading.limit;
+        gamma = heading.gamma;
+        rounds = rounds;
+      };
 }
 
 -- the session is sound, and the file says rightly whether it is signed off
 abbrev pub is_kept : Heading → Content → Bool
 is_kept heading content =
-    heading.version == VERSION && is_sound content && beq heading.signed_off (is_signed_off content.session)
+    heading.version == VERSION && is_sound content
+    && beq heading.signed_off (is_signed_off content.session)
 
-abbrev pub kept : Heading → Content → Option Content
-kept heading content = if is_kept heading content then Some content else None
+abbrev pub sound_session : Heading → Content → Option Content
+sound_session heading content = if is_kept heading content then Some content else None
 
 unfoldable pub content_of : Data → Option Content
 content_of value = do
   heading ← heading_in value
   margins ← each number heading.margins
   rounds ← each round heading.rounds
-  kept heading (content_with heading margins rounds)
+  sound_session heading (content_with heading margins rounds)
 
 unfoldable pub session_of : List ℕ → Option Content
 session_of bytes = do

@@ -103,4 +103,15 @@ heading_in value = do
   rounds ← list_in (codes "rounds") value
   signed_off ← member_as as_bool (codes "signed_off") value
   version ← number_in (codes "version") value
-  Some (record { contest = contest; cards = cards; margins = margins; seed = seed; limit = limit; gamma = gamma; digests = digests; rounds = rounds; signed_off = signed_off; version = version })
+  Some (record {
+    contest = contest;
+    cards = cards;
+    margins = margins;
+    seed = seed;
+    limit = limit;
+    gamma = gamma;
+    digests = digests;
+    rounds = rounds;
+    signed_off = signed_off;
+    version = version;
+  })

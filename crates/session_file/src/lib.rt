@@ -8,8 +8,6 @@ mod lists;
 mod members;
 mod read;
 mod sound;
-#[cfg(test)]
-mod tests;
 
 pub use fault::SessionFault;
 pub use read::read_session;

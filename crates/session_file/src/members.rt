@@ -14,23 +14,36 @@ use serde_json::Value;
 /// The members of a session's object.
 #[derive(Clone, Copy)]
 pub struct Heading<'a> {
+    /// The id of the contest.
     pub contest: &'a str,
+    /// How many cards the manifest has.
     pub cards: u32,
+    /// The margin of each claim.
     pub margins: &'a [Value],
+    /// The seed of the draws.
     pub seed: &'a str,
+    /// The risk limit, in millionths.
     pub limit: u32,
+    /// Gamma, in thousandths.
     pub gamma: u32,
+    /// The digests of the files.
     pub digests: Digests,
+    /// The rounds that are done.
     pub rounds: &'a [Value],
+    /// Whether the file says that it is signed off.
     pub signed_off: bool,
+    /// The version of the format.
     pub version: u32,
 }
 
 /// The members of a round.
 #[derive(Clone, Copy)]
 pub struct Entry<'a> {
+    /// The counts of each claim.
     pub counts: &'a [Value],
+    /// How many draws there were in all.
     pub draws: u32,
+    /// The printed risk of each claim.
     pub risks: &'a [Value],
 }
 

@@ -2,7 +2,7 @@
 ghost use Rattle.std.specs.Prelude.{◌≡◌, Some, IfOk, IfErr};
 ghost use Rattle.serde_json.specs.View.{view};
 ghost use Rattle.session_file.specs.Faults.{Refuses};
-ghost use Rattle.session_file.specs.Reading.{content_of, content_with, kept, session_of};
+ghost use Rattle.session_file.specs.Reading.{content_of, content_with, sound_session, session_of};
 ghost use Rattle.session_file.specs.Views.{stated_heading};
 
 use crate::SessionFault;
@@ -17,9 +17,13 @@ use session_text::VERSION;
 use std::alloc::Global;
 
 // The session with these members, margins and rounds, if it is sound and the file says rightly whether it is signed off.
-fn kept(heading: &Heading<'_>, margins: Vec<u32>, rounds: Vec<DoneRound>) -> Option<Session>
+fn sound_session(
+    heading: &Heading<'_>,
+    margins: Vec<u32>,
+    rounds: Vec<DoneRound>,
+) -> Option<Session>
     ensures { let stated = stated_heading heading.now in
-        result ≡ kept stated (content_with stated margins.items rounds.items) }
+        result ≡ sound_session stated (content_with stated margins.items rounds.items) }
 {
     if heading.version != VERSION {
         return None;
@@ -62,7 +66,7 @@ fn content_of(alloc: Global, value: &Value) -> Result<Session, SessionFault>
     };
     let margins = list(alloc, heading.margins)?;
     let rounds = list(alloc, heading.rounds)?;
-    let Some(session) = kept(&heading, margins, rounds) else {
+    let Some(session) = sound_session(&heading, margins, rounds) else {
         return Err(SessionFault::Refused);
     };
     Ok(session)

@@ -60,7 +60,12 @@ is_session = record {
 
 pub one_card_is_sound : (contest : Id) (seed : List ℕ) (digests : Digests) (margins : List ℕ) (rounds : List Round) →
     margins ≡ 1 ∷ [] → rounds ≡ four_draws ∷ five_draws ∷ [] →
-    IsSound (record { contest = contest; seed = seed; digests = digests; session = record { cards = 1; margins = margins; limit = 50000; gamma = 100; rounds = rounds } })
+    IsSound (record {
+      contest = contest;
+      seed = seed;
+      digests = digests;
+      session = record { cards = 1; margins = margins; limit = 50000; gamma = 100; rounds = rounds };
+    })
 one_card_is_sound contest seed digests margins rounds one two =
     let is : session_with margins rounds ≡ both = ap (λ ms. session_with ms rounds) one ∙ ap (session_with (1 ∷ [])) two in
     record { limits = subst IsWithinLimits (sym is) within_limits; session = subst IsSession (sym is) is_session }

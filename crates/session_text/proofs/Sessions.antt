@@ -60,9 +60,13 @@ counts_are_exact counts draws few all = (omega arith, (omega arith, (omega arith
 
 all_counts_are_exact : (all : List Counts) (draws : ℕ) → draws ≤ MOST_DRAWS → All (HasDraws draws) all → ItemsAreExact (items_of (map counts_value all))
 all_counts_are_exact [] draws few each = tt
-all_counts_are_exact (counts ∷ all) draws few each = (counts_are_exact counts draws few (All-head (HasDraws draws) counts all each), all_counts_are_exact all draws few (All-tail (HasDraws draws) counts all each))
+all_counts_are_exact (counts ∷ all) draws few each = (
+  counts_are_exact counts draws few (All-head (HasDraws draws) counts all each),
+  all_counts_are_exact all draws few (All-tail (HasDraws draws) counts all each),
+)
 
-risks_are_short : (cards gamma : ℕ) (margins : List ℕ) (all : List Counts) → 1 ≤ gamma → All (IsMarginOf cards) margins → All IsShort (risks_of cards gamma margins all)
+risks_are_short : (cards gamma : ℕ) (margins : List ℕ) (all : List Counts) → 1 ≤ gamma → All (IsMarginOf cards) margins →
+    All IsShort (risks_of cards gamma margins all)
 risks_are_short cards gamma [] all some within = All-nil IsShort
 risks_are_short cards gamma (margin ∷ margins) [] some within = All-nil IsShort
 risks_are_short cards gamma (margin ∷ margins) (counts ∷ all) some within =

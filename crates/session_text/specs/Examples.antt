@@ -1,5 +1,5 @@
 -- The worked examples: sessions of one card.
-use Rattle.std.specs.Prelude.{ℕ, List, [], ◌∷◌, codes, replicate}
+use Rattle.std.specs.Prelude.{ℕ, List, [], ◌∷◌, ◌++◌, codes, replicate}
 use Rattle.km_risk.specs.Counts.{clean}
 use Rattle.audit_rounds.specs.declared.digests.Digests.{Digests}
 use Rattle.audit_rounds.specs.Sessions.{Round}
@@ -30,3 +30,12 @@ one_card seed rounds = record {
   digests = some_digests;
   session = record { cards = 1; margins = 1 ∷ []; limit = 50000; gamma = 100; rounds = rounds };
 }
+
+-- what the text of each begins with: all that stands before its rounds
+abbrev pub head : List ℕ
+head =
+    codes "{\"assertions\":\"2c2c2c2c2c2c2c2c2c2c2c2c2c2c2c2c2c2c2c2c2c2c2c2c2c2c2c2c2c2c2c2c\"," ++
+    codes "\"ballots\":\"ab00000000000000000000000000000000000000000000000000000000000000\"," ++
+    codes "\"cards\":1,\"contest\":\"7\",\"gamma\":100,\"limit\":50000," ++
+    codes "\"manifest\":\"0a01010101010101010101010101010101010101010101010101010101010101\"," ++
+    codes "\"margins\":[1],"

@@ -16,7 +16,7 @@ digest_value digest = string (encode_lower digest)
 abbrev pub numbers_value : List ℕ → Data
 numbers_value numbers = array_of (map whole_number numbers)
 
--- for d from 0 to 4
+-- the counts of the discrepancies 0 to 4
 abbrev pub counts_value : Counts → Data
 counts_value counts = numbers_value (counts.n0 ∷ counts.n1 ∷ counts.n2 ∷ counts.n3 ∷ counts.n4 ∷ [])
 
@@ -28,7 +28,7 @@ round_value round = object_of (
     (codes "risks", numbers_value round.risks) ∷
     [])
 
--- with whether it is signed off
+-- a session, with whether it is signed off
 unfoldable pub session_value : Content → Data
 session_value content = object_of (
     (codes "assertions", digest_value content.digests.assertions) ∷

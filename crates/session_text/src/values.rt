@@ -10,7 +10,7 @@ use km_risk::Counts;
 use serde_json::{Value, json};
 use std::alloc::{AllocError, Global};
 
-// In lower-case hexadecimal digits.
+/// A digest, as a text of lower-case hexadecimal digits.
 pub fn digest_value(alloc: Global, digest: &[u8; 32]) -> Result<Value, AllocError>
     ensures value { IfOk result (λ v. view v ≡ digest_value digest.now) }
     ensures form { IfOk result (λ _. IsDigest digest.now) }
@@ -18,6 +18,7 @@ pub fn digest_value(alloc: Global, digest: &[u8; 32]) -> Result<Value, AllocErro
     Ok(Value::String(hex::encode(alloc, digest.as_slice())?))
 }
 
+/// The margins of the claims, as an array of numbers.
 pub fn margins_value(alloc: Global, margins: &[u32]) -> Result<Value, AllocError>
     ensures { IfOk result (λ v. view v ≡ numbers_value margins.now) }
 {
@@ -28,6 +29,7 @@ pub fn margins_value(alloc: Global, margins: &[u32]) -> Result<Value, AllocError
     Ok(Value::Array(values))
 }
 
+// The printed risks of the claims, as an array of numbers.
 fn risks_value(alloc: Global, risks: &[u64]) -> Result<Value, AllocError>
     ensures { IfOk result (λ v. view v ≡ numbers_value risks.now) }
 {
@@ -38,14 +40,14 @@ fn risks_value(alloc: Global, risks: &[u64]) -> Result<Value, AllocError>
     Ok(Value::Array(values))
 }
 
-// How many draws have each discrepancy, from 0 to 4.
+// How many draws have each discrepancy, from 0 to 4, as an array of numbers.
 fn counts_value(alloc: Global, counts: &Counts) -> Result<Value, AllocError>
     ensures { IfOk result (λ v. view v ≡ counts_value counts.now) }
 {
     json!(in alloc; [counts.n0, counts.n1, counts.n2, counts.n3, counts.n4])
 }
 
-// The counts of each claim.
+// The counts of each claim, as an array of arrays.
 fn all_counts_value(alloc: Global, all: &[Counts]) -> Result<Value, AllocError>
     ensures { IfOk result (λ v. view v ≡ array_of (map counts_value all.now)) }
 {
@@ -56,6 +58,7 @@ fn all_counts_value(alloc: Global, all: &[Counts]) -> Result<Value, AllocError>
     Ok(Value::Array(values))
 }
 
+// A round, as an object with its counts, its draws and its risks.
 fn round_value(alloc: Global, round: &DoneRound) -> Result<Value, AllocError>
     ensures { IfOk result (λ v. view v ≡ round_value round.now) }
 {
@@ -64,6 +67,7 @@ fn round_value(alloc: Global, round: &DoneRound) -> Result<Value, AllocError>
     json!(in alloc; {"counts": counts, "draws": round.draws(), "risks": risks})
 }
 
+/// The rounds, as an array of objects.
 pub fn rounds_value(alloc: Global, rounds: &[DoneRound]) -> Result<Value, AllocError>
     ensures { IfOk result (λ v. view v ≡ array_of (map round_value rounds.now)) }
 {

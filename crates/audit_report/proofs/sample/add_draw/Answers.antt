@@ -7,5 +7,6 @@ use Rattle.audit_report.proofs.sample.add_draw.Goals as goal
 pub returns : goal.returns
 returns c =
     subst (λ id. IfOk c.add_line.result (λ _. string_bytes c.add_line.new.text ≡ string_bytes c.args.text.now ++ draw_line c.args.k c.args.number id))
-    (ap (λ batch. card_id (record { batch = batch; k = c.card-card.result.k })) c.text.ensures.same ∙ sym (id_there c.args.m.now c.args.number c.card-card.result c.card-card.ensures))
+    (ap (λ batch. card_id (record { batch = batch; k = c.card-card.result.k })) c.text.ensures.same
+    ∙ sym (id_there c.args.m.now c.args.number c.card-card.result c.card-card.ensures))
     c.add_line.ensures

@@ -42,10 +42,12 @@ loop-i-preserved c =
     ∙ ap₂ (λ was limit. was || meets limit j round) (c.loop-i.invariant.are j below) c.limit-limit.ensures.same
     ∙ sym (confirmed_more session i j round within is) in
     record {
-      lines = rounds_more session i round (λ claim. get_or c.confirm.new.confirmed claim false) (string_bytes c.loop-i.text) (string_bytes c.add_draws.new.text) (string_bytes c.add_claims.new.text) _
+      lines = rounds_more session i round (λ claim. get_or c.confirm.new.confirmed claim false) (string_bytes c.loop-i.text) (string_bytes c.add_draws.new.text)
+          (string_bytes c.add_claims.new.text) _
           within is (c.in_ok-add_draws.ensures ∙ ap (λ draws. string_bytes c.loop-i.text ++ draws_line (i + 1) draws) c.draws.ensures)
           (c.in_ok-add_claims.ensures
-          ∙ ap (λ margins. string_bytes c.add_draws.new.text ++ flat_map (claim_in margins round (λ claim. get_or c.confirm.new.confirmed claim false)) (range_with_len 0 (length margins))) c.margins-margins.ensures)
+          ∙ ap (λ margins. string_bytes c.add_draws.new.text ++ flat_map (claim_in margins round (λ claim. get_or c.confirm.new.confirmed claim false))
+          (range_with_len 0 (length margins))) c.margins-margins.ensures)
           are c.loop-i.invariant.lines;
       each = c.confirm.ensures.each ∙ c.loop-i.invariant.each;
       are = are;

@@ -17,8 +17,10 @@ no-number (suc n) h = let zero-is = eqb-true (suc n) 0 h in absurd (omega arith)
 signed-form : (session : Session) → 1 ≤ length session.rounds →
     is_signed_off session ≡ list_all (λ claim. list_any (meets session.limit claim) session.rounds) (range_with_len 0 (length session.margins))
 signed-form session some =
-    ap (λ b. b && list_all (is_confirmed_at session (length session.rounds)) (range_with_len 0 (length session.margins))) (le-leb 1 (length session.rounds) some)
-    ∙ ap (λ rounds. list_all (λ claim. list_any (meets session.limit claim) rounds) (range_with_len 0 (length session.margins))) (take_all (length session.rounds) session.rounds (omega arith))
+    ap (λ b. b && list_all (is_confirmed_at session (length session.rounds)) (range_with_len 0 (length session.margins)))
+    (le-leb 1 (length session.rounds) some)
+    ∙ ap (λ rounds. list_all (λ claim. list_any (meets session.limit claim) rounds) (range_with_len 0 (length session.margins)))
+    (take_all (length session.rounds) session.rounds (omega arith))
 
 -- the claims that are left begin with this one
 first_left : (test : ℕ → Bool) (i n : ℕ) → i < n → list_all test (range_with_len i (n - i)) ≡ (test i && list_all test (range_with_len (i + 1) (n - (i + 1))))
@@ -54,7 +56,8 @@ loop-claim-preserved c =
 pub returns-then-is_empty : goal.returns-then-is_empty
 returns-then-is_empty c =
     let session = c.args.s.now.session in
-    let none = no-number (length session.rounds) (ap (λ rounds. length rounds == 0) (sym c.rounds-rounds.ensures) ∙ sym c.is_empty.ensures ∙ c.if-is_empty.true) in
+    let none = no-number (length session.rounds) (ap (λ rounds. length rounds == 0) (sym c.rounds-rounds.ensures) ∙ sym c.is_empty.ensures
+    ∙ c.if-is_empty.true) in
     sym (ap (λ b. b && list_all (is_confirmed_at session (length session.rounds)) (range_with_len 0 (length session.margins))) none)
 
 pub returns-then-not-is_confirmed : goal.returns-then-not-is_confirmed

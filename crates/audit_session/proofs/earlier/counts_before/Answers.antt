@@ -74,7 +74,8 @@ loop-i-preserved c =
           omega (arith, rising, same, end-is);
       counted = counted;
       left = c.loop-i.invariant.left
-          ∙ ap (changed_from claims drawn (c.loop-i.i + 1)) (drop_more rounds c.loop-i.i round (omega arith) ∙ ap (λ (r : Round). r ∷ rest) (sym c.index-rounds-i.is))
+          ∙ ap (changed_from claims drawn (c.loop-i.i + 1)) (drop_more rounds c.loop-i.i round (omega arith)
+          ∙ ap (λ (r : Round). r ∷ rest) (sym c.index-rounds-i.is))
           ∙ ap (λ o. first_of o (changed_from claims drawn (c.loop-i.i + 1 + 1) rest)) unchanged;
     }
 

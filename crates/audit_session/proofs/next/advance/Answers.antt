@@ -10,7 +10,8 @@ pub add_round-requires-clause-round : goal.add_round-requires-clause-round
 add_round-requires-clause-round c =
     let content = c.args.s.now in
     subst (IsRound content.session) (sym c.in_ok-round.ensures.round)
-    (is-round content c.args.f.now.claims c.args.l.now c.args.seen.now c.args.draws c.requires.cards c.requires.margins c.cards-cards.ensures.sound c.requires.some
+    (is-round content c.args.f.now.claims c.args.l.now c.args.seen.now c.args.draws c.requires.cards c.requires.margins c.cards-cards.ensures.sound
+    c.requires.some
     c.in_ok-round.ensures.not_refused)
 
 pub add_round-requires-clause-later : goal.add_round-requires-clause-later
@@ -29,5 +30,6 @@ returns-clause-of_draws c =
     let next = c.in_ok-add_round.ensures.added ∙ ap (with_round content) c.in_ok-round.ensures.round in
     subst (λ (s : Content). IsSessionOf content.session.limit content.session.gamma (audited c.args.f.now.claims) c.args.l.now
     (all_seen c.args.seen.now n) (drawn_cards content.seed n c.args.draws) s.session) (sym next)
-    (of-draws content c.args.f.now.claims c.args.l.now c.args.seen.now c.args.draws c.requires.cards c.requires.margins c.cards-cards.ensures.sound c.requires.some
+    (of-draws content c.args.f.now.claims c.args.l.now c.args.seen.now c.args.draws c.requires.cards c.requires.margins c.cards-cards.ensures.sound
+    c.requires.some
     c.in_ok-round.ensures.not_refused)

@@ -23,7 +23,8 @@ counts_before-requires-clause-drawn c =
     let drawn = ap length (c.deref.ensures.value ∙ c.in_ok-drawn.ensures.cards) in
     let long = long-drawn c.args.l.now (all_seen c.args.seen.now n) c.seed.result.now n c.args.draws in
     let more : last_draws content.session.rounds < c.args.draws = omega (arith, c.last_draws-had.ensures, ap last_draws c.rounds.ensures) in
-    let before = earlier content c.args.f.now.claims c.args.l.now c.args.seen.now c.args.draws c.requires.cards c.requires.margins c.cards-cards.ensures.sound c.requires.some more in
+    let before = earlier content c.args.f.now.claims c.args.l.now c.args.seen.now c.args.draws c.requires.cards c.requires.margins c.cards-cards.ensures.sound
+    c.requires.some more in
     subst (All (λ r. r.draws ≤ length c.deref.result.now)) (sym c.rounds-2.ensures)
     (All-weaker (λ r. r.draws < c.args.draws) (λ r. r.draws ≤ length c.deref.result.now) (λ r less. omega (arith, drawn, long)) content.session.rounds before)
 
@@ -94,7 +95,8 @@ returns-clause-round c =
     let same-had : last_draws c.rounds-2.result.now ≡ had = ap last_draws (c.rounds-2.ensures ∙ sym c.rounds.ensures) ∙ sym c.last_draws-had.ensures in
     let same-drawn : c.deref.result.now ≡ slice = c.deref.ensures.value ∙ sym c.as_slice.ensures.value in
     let same-claims : c.claims.result.now ≡ c.claims-2.result.now = c.claims.ensures.same ∙ sym c.claims-2.ensures.same in
-    let moved : all_counts c.claims.result.now (take (last_draws c.rounds-2.result.now) c.deref.result.now) ≡ all_counts c.claims-2.result.now (take had slice) =
+    let moved : all_counts c.claims.result.now (take (last_draws c.rounds-2.result.now) c.deref.result.now) ≡ all_counts c.claims-2.result.now
+    (take had slice) =
     λ i. all_counts (same-claims i) (take (same-had i) (same-drawn i)) in
     let counts = counted-whole c.claims-2.result.now slice c.split_at.result.0.now c.split_at.result.1.now c.deref-2.result.now c.in_ok-counts.counts.items had
     (c.deref-2.ensures.value ∙ c.in_ok-before.ensures.counts ∙ moved) c.split_at.ensures.front c.split_at.ensures.by_index.0 c.in_ok-counts.ensures in

@@ -9,7 +9,8 @@ loop-j-preserved c =
     let session = c.args.s.now.session in
     let risk = rw (c.cards-cards.ensures.same, c.gamma.ensures, c.margins-margins.ensures) at c.risk.ensures.value in
     c.in_ok-push.ensures.items
-    ∙ one-risk-more session.cards session.gamma session.margins c.args.counts.now c.loop-j.risks.items c.loop-j.j c.risk.result _ _ c.requires.each (omega arith)
+    ∙ one-risk-more session.cards session.gamma session.margins c.args.counts.now c.loop-j.risks.items c.loop-j.j c.risk.result _ _ c.requires.each
+    (omega arith)
     c.loop-j.invariant risk
 
 pub returns : goal.returns

@@ -17,14 +17,15 @@ returns-in_err-margins-clause-refused c =
 pub returns-in_err-rounds-clause-refused : goal.returns-in_err-rounds-clause-refused
 returns-in_err-rounds-clause-refused c =
     let p = err_from_is_err_and c.from_residual-in_err-rounds.result c.from_residual-in_err-rounds.ensures.1 in
-    rw (p.1, p.2) (no_rounds (view c.args.value.now) (stated_heading c.in-Some.heading) (sym c.in-Some.ensures) _ c.in_ok-margins.ensures.read _ c.in_err-rounds.ensures.refused)
+    rw (p.1, p.2) (no_rounds (view c.args.value.now) (stated_heading c.in-Some.heading)
+    (sym c.in-Some.ensures) _ c.in_ok-margins.ensures.read _ c.in_err-rounds.ensures.refused)
 
-pub returns-in_default-kept-clause-refused : goal.returns-in_default-kept-clause-refused
-returns-in_default-kept-clause-refused c =
+pub returns-in_default-sound_session-clause-refused : goal.returns-in_default-sound_session-clause-refused
+returns-in_default-sound_session-clause-refused c =
     with-rounds (view c.args.value.now) (stated_heading c.in-Some.heading) (sym c.in-Some.ensures) _ c.in_ok-margins.ensures.read _ c.in_ok-rounds.ensures.read
-    ∙ sym c.kept.ensures ∙ c.in_default-kept.is
+    ∙ sym c.sound_session.ensures ∙ c.in_default-sound_session.is
 
 pub returns-clause-read : goal.returns-clause-read
 returns-clause-read c =
     with-rounds (view c.args.value.now) (stated_heading c.in-Some.heading) (sym c.in-Some.ensures) _ c.in_ok-margins.ensures.read _ c.in_ok-rounds.ensures.read
-    ∙ sym c.in-Some-kept.ensures
+    ∙ sym c.in-Some-sound_session.ensures

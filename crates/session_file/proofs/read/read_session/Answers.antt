@@ -7,7 +7,8 @@ use Rattle.session_file.proofs.read.read_session.Goals as goal
 pub returns-in-Ok-clause-read : goal.returns-in-Ok-clause-read
 returns-in-Ok-clause-read c =
     let e = c.in-Ok.ensures.ok in
-    subst (λ said. IfOk c.content_of.result (λ session. said ≡ Some session)) (sym (file-some c.args.bytes.now (view c.in-Ok.value) e.0 e.1)) c.content_of.ensures.read
+    subst (λ said. IfOk c.content_of.result (λ session. said ≡ Some session))
+    (sym (file-some c.args.bytes.now (view c.in-Ok.value) e.0 e.1)) c.content_of.ensures.read
 
 pub returns-in-Ok-clause-refused : goal.returns-in-Ok-clause-refused
 returns-in-Ok-clause-refused c =

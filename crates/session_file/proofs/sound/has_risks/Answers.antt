@@ -16,7 +16,8 @@ returns-then-risks-i c =
     let counts = c.counts-counts.result.now in
     let same : length counts ≡ length c.args.margins.now = ap length c.counts-counts.ensures ∙ c.requires.counts in
     sym (ap₂ (λ rs cs. pointwise ◌==◌ rs (risks_of c.args.cards c.args.gamma c.args.margins.now cs)) (sym c.risks-risks.ensures) (sym c.counts-counts.ensures)
-    ∙ another c.args.cards c.args.gamma c.args.margins.now counts same c.risks-risks.result.now c.loop-i.i _ c.loop-i-test.true (λ e. c.if-risks-i.true (e ∙ sym c.risk.ensures.value)))
+    ∙ another c.args.cards c.args.gamma c.args.margins.now counts same c.risks-risks.result.now c.loop-i.i _ c.loop-i-test.true
+    (λ e. c.if-risks-i.true (e ∙ sym c.risk.ensures.value)))
 
 pub loop-i-preserved : goal.loop-i-preserved
 loop-i-preserved c =
@@ -30,4 +31,5 @@ returns c =
     let counts = c.counts-counts.result.now in
     let same : length counts ≡ length c.args.margins.now = ap length c.counts-counts.ensures ∙ c.requires.counts in
     sym (ap₂ (λ rs cs. pointwise ◌==◌ rs (risks_of c.args.cards c.args.gamma c.args.margins.now cs)) (sym c.risks-risks.ensures) (sym c.counts-counts.ensures)
-    ∙ all_printed c.args.cards c.args.gamma c.args.margins.now counts same c.risks-risks.result.now c.loop-i.i c.if-risks-margins.false (omega arith) c.loop-i.invariant)
+    ∙ all_printed c.args.cards c.args.gamma c.args.margins.now counts same c.risks-risks.result.now c.loop-i.i c.if-risks-margins.false
+    (omega arith) c.loop-i.invariant)

@@ -17,8 +17,10 @@ returns-in_err-counts-clause-refused c =
 pub returns-in_err-risks-clause-refused : goal.returns-in_err-risks-clause-refused
 returns-in_err-risks-clause-refused c =
     let p = err_from_is_err_and c.from_residual-in_err-risks.result c.from_residual-in_err-risks.ensures.1 in
-    rw (p.1, p.2) (no_risks (view c.args.value.now) (stated_entry c.in-Some.entry) (sym c.in-Some.ensures) _ _ c.in_ok-counts.ensures.read c.in_err-risks.ensures.refused)
+    rw (p.1, p.2) (no_risks (view c.args.value.now) (stated_entry c.in-Some.entry)
+    (sym c.in-Some.ensures) _ _ c.in_ok-counts.ensures.read c.in_err-risks.ensures.refused)
 
 pub returns-clause-read : goal.returns-clause-read
 returns-clause-read c =
-    a_round (view c.args.value.now) (stated_entry c.in-Some.entry) (sym c.in-Some.ensures) _ _ c.in_ok-counts.ensures.read c.in_ok-risks.ensures.read ∙ sym (ap Some c.new.ensures)
+    a_round (view c.args.value.now) (stated_entry c.in-Some.entry) (sym c.in-Some.ensures) _ _ c.in_ok-counts.ensures.read c.in_ok-risks.ensures.read
+    ∙ sym (ap Some c.new.ensures)

@@ -23,7 +23,8 @@ pub record IsWithinLimits (setting : Setting) : Type 0 where
 -- a plan over so many cards
 abbrev pub plan_over : Setting → ℕ → List ℕ → Content → Verdict
 plan_over setting cards name file =
-    if nat_le file.records cards then Answered Done (plan_table file cards setting.gamma setting.limit)
+    if nat_le file.records cards
+    then Answered Done (plan_table file cards setting.gamma setting.limit)
     else more_records name
 
 abbrev pub plan_in : Setting → ℕ → List ℕ → Result Content FileRefusal → Verdict
@@ -31,15 +32,18 @@ plan_in setting cards name (Err refusal) = refused_file name refusal
 plan_in setting cards name (Ok file) = plan_over setting cards name file
 
 abbrev pub plan_of : Setting → ℕ → List ℕ → Script
-plan_of setting cards assertions = Read assertions (λ bytes. ends (plan_in setting cards assertions (assertion_file_of bytes)))
+plan_of setting cards assertions =
+    Read assertions (λ bytes. ends (plan_in setting cards assertions (assertion_file_of bytes)))
 
 -- the manifest is judged before the assertion file is read
 abbrev pub plan_after : Setting → List ℕ → List ℕ → Result Batches Refusal → Script
 plan_after setting name assertions (Err refusal) = ends (refused name refusal)
-plan_after setting name assertions (Ok batches) = plan_of setting (length (cards_of batches)) assertions
+plan_after setting name assertions (Ok batches) =
+    plan_of setting (length (cards_of batches)) assertions
 
 abbrev pub script : List ℕ → List ℕ → Setting → Script
-script name assertions setting = Read name (λ bytes. plan_after setting name assertions (manifest_of bytes))
+script name assertions setting =
+    Read name (λ bytes. plan_after setting name assertions (manifest_of bytes))
 
 -- the kind of its answer
 abbrev pub Kinds : AnswerKind → Type 0

@@ -7,6 +7,3 @@ pub mod plan;
 pub mod sample;
 
 pub use files::manifest_in;
-
-#[cfg(test)]
-mod tests;

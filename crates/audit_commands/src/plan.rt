@@ -2,11 +2,10 @@
 ghost use Rattle.std.specs.Prelude.{◌≡◌, ◌≤◌};
 ghost use Rattle.desk.specs.Count.{Rose};
 ghost use Rattle.irv_base.specs.declared.limits.TheConstants.{MOST_CARDS};
-ghost use Rattle.assertion_file.specs.Reading.{assertion_file_of};
 ghost use Rattle.cli_base.specs.Accounts.{IsAccountedFor};
 ghost use Rattle.cli_base.specs.Due.{due, IsOneOrMemory};
 ghost use Rattle.cli_base.specs.Script.{ByDesk, MayOrMemory};
-ghost use Rattle.audit_commands.specs.Plan.{IsWithinLimits, plan_in, plan_of as script_of_cards, plan_over, script};
+ghost use Rattle.audit_commands.specs.Plan.{IsWithinLimits, plan_of as script_of_cards, plan_over, script};
 
 use crate::files::{assertions_in, manifest_in};
 use assertion_file::AssertionFile;
@@ -15,10 +14,12 @@ use cli_base::{Answer, AnswerKind, Refusal, read_file, refuse_at};
 use desk::Desk;
 use std::alloc::Global;
 
-/// What a plan is made for: the risk limit in millionths, and gamma in thousandths.
+/// What a plan is made for.
 #[derive(Clone, Copy)]
 pub struct Setting {
+    /// The risk limit, in millionths.
     pub limit: u32,
+    /// Gamma, in thousandths: the greater it is, the less a card costs that is seen otherwise.
     pub gamma: u32,
 }
 
@@ -39,10 +40,8 @@ pub fn answer<D: Desk>(
     ensures served { IsAccountedFor 2 (D.served desk.old) (D.served desk.new) (due result).status }
 {
     let bytes = read_file(alloc, desk, manifest)?;
-    match manifest_in(alloc, manifest, &bytes) {
-        Ok(manifest) => plan_of(alloc, desk, manifest.cards(), assertions, setting),
-        Err(refusal) => Err(refusal),
-    }
+    let batches = manifest_in(alloc, manifest, &bytes)?;
+    plan_of(alloc, desk, batches.cards(), assertions, setting)
 }
 
 // A plan over so many cards.
@@ -63,28 +62,11 @@ fn plan_of<D: Desk>(
     ensures served { IsAccountedFor 1 (D.served desk.old) (D.served desk.new) (due result).status }
 {
     let bytes = read_file(alloc, desk, assertions)?;
-    plan_in(alloc, cards, assertions, &bytes, setting)
+    let file = assertions_in(alloc, assertions, &bytes)?;
+    plan_over(alloc, cards, assertions, &file, setting)
 }
 
-// A plan of the bytes of an assertion file.
-fn plan_in(
-    alloc: Global,
-    cards: u32,
-    file: &str,
-    bytes: &[u8],
-    setting: Setting,
-) -> Result<Answer, Refusal>
-    requires limits { IsWithinLimits setting }
-    requires cards { cards ≤ MOST_CARDS }
-    ensures { IsOneOrMemory (λ verdict.
-        verdict ≡ plan_in setting cards file.now (assertion_file_of bytes.now)) (due result) }
-{
-    match assertions_in(alloc, file, bytes) {
-        Ok(assertions) => plan_over(alloc, cards, file, &assertions, setting),
-        Err(refusal) => Err(refusal),
-    }
-}
-
+// The plan for the assertions of the file with this name, unless they are of more records than there are cards.
 fn plan_over(
     alloc: Global,
     cards: u32,

@@ -1,14 +1,13 @@
 // `sample MANIFEST`: the cards that a seed draws.
 ghost use Rattle.std.specs.Prelude.{◌≡◌, ◌≤◌};
 ghost use Rattle.desk.specs.Count.{Rose};
-ghost use Rattle.manifest.specs.Manifest.{manifest_of};
 ghost use Rattle.cli_base.specs.Accounts.{IsAccountedFor};
 ghost use Rattle.audit_report.specs.Sample.{sample_table};
 ghost use Rattle.cli_base.specs.Due.{due, IsOneOrMemory};
 ghost use Rattle.cli_base.specs.Outcome.{Answered};
 ghost use Rattle.cli_base.specs.declared.outcome.AnswerKind.TheVariants.{Done};
 ghost use Rattle.cli_base.specs.Script.{ByDesk, MayOrMemory};
-ghost use Rattle.audit_commands.specs.Sample.{sample_of, script};
+ghost use Rattle.audit_commands.specs.Sample.{script};
 
 use crate::files::manifest_in;
 use audit_report::sample_table;
@@ -34,26 +33,11 @@ pub fn answer<D: Desk>(
     ensures served { IsAccountedFor 1 (D.served desk.old) (D.served desk.new) (due result).status }
 {
     let bytes = read_file(alloc, desk, manifest)?;
-    sample_in(alloc, manifest, &bytes, seed, draws)
+    let batches = manifest_in(alloc, manifest, &bytes)?;
+    sample(alloc, &batches, seed, draws)
 }
 
-// The answer to the bytes of a manifest.
-fn sample_in(
-    alloc: Global,
-    file: &str,
-    bytes: &[u8],
-    seed: &Seed,
-    draws: u32,
-) -> Result<Answer, Refusal>
-    ensures { IsOneOrMemory (λ verdict.
-        verdict ≡ sample_of file.now seed.now draws (manifest_of bytes.now)) (due result) }
-{
-    match manifest_in(alloc, file, bytes) {
-        Ok(manifest) => sample(alloc, &manifest, seed, draws),
-        Err(refusal) => Err(refusal),
-    }
-}
-
+// The answer to the batches of a manifest.
 fn sample(alloc: Global, manifest: &Manifest, seed: &Seed, draws: u32) -> Result<Answer, Refusal>
     ensures { IsOneOrMemory (λ verdict.
         verdict ≡ Answered Done (sample_table manifest.now seed.now draws)) (due result) }

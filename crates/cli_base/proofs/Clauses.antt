@@ -32,7 +32,8 @@ out_in due = due.out
 
 -- and what comes so may come
 
-verdict_to : (readings : Readings) (asked : Asked) (v : Verdict) → ComesTo readings asked v → (d : Outcome) × MayCome readings asked d × (d.status ≡ status_in (outcome v))
+verdict_to : (readings : Readings) (asked : Asked) (v : Verdict) → ComesTo readings asked v → (d : Outcome) × MayCome readings asked d
+    × (d.status ≡ status_in (outcome v))
 verdict_to readings Nothing v comes = absurd comes
 verdict_to readings (Runs script) v concludes = (outcome v, concludes_may readings script v concludes, refl)
 
@@ -43,7 +44,8 @@ stop_to readings (Runs script) name reading due reaches there stops = (due, stop
 
 -- ---- one end
 
-asked_determined : (R : Outcome → Outcome → Type 0) → ((d : Outcome) → R d d) → (files : List File) (asked : Asked) → AgreeOn R asked → (d e : Outcome) → MayCome (AsHeld files) asked d → MayCome (AsHeld files) asked e → R d e
+asked_determined : (R : Outcome → Outcome → Type 0) → ((d : Outcome) → R d d) → (files : List File) (asked : Asked) → AgreeOn R asked → (d e : Outcome) →
+    MayCome (AsHeld files) asked d → MayCome (AsHeld files) asked e → R d e
 asked_determined R itself files Nothing agree d e p q = subst (R d) (p ∙ sym q) (itself d)
 asked_determined R itself files (Runs script) agree d e p q = determined R itself files script d e agree p q
 
@@ -56,21 +58,25 @@ first_spent n d e is not_four (first, other, inr four) = absurd (not_four (sym i
 
 -- ---- causes of a status
 
-refused_from : (readings : Readings) (asked : Asked) (d : Outcome) → MayCome readings asked d → d.status ≡ 2 → (name text : List ℕ) × ComesTo readings asked (Refused name text)
+refused_from : (readings : Readings) (asked : Asked) (d : Outcome) → MayCome readings asked d → d.status ≡ 2 →
+    (name text : List ℕ) × ComesTo readings asked (Refused name text)
 refused_from readings asked d may two = elim (came readings asked d may) [
   | no_line none one out ↦ absurd (differ 1 2 (sym one ∙ two) refl)
   | concluded v comes is ↦ let (name, text, is_v) = refused_verdict v d is two in (name, text, subst (ComesTo readings asked) is_v comes)
   | stopped name reading reaches there stops ↦ absurd (omega (arith, two, stop_status name reading d stops))
 ]
 
-answer_told : (readings : Readings) (asked : Asked) (kind : AnswerKind) (d : Outcome) → MayCome readings asked d → d.status ≡ status_of kind → (text : List ℕ) × ComesTo readings asked (Answered kind text) × (d.out ≡ text)
+answer_told : (readings : Readings) (asked : Asked) (kind : AnswerKind) (d : Outcome) → MayCome readings asked d → d.status ≡ status_of kind →
+    (text : List ℕ) × ComesTo readings asked (Answered kind text) × (d.out ≡ text)
 answer_told readings asked kind d may n = elim (came readings asked d may) [
   | no_line none one out ↦ absurd (of_no_kind 1 refl kind (sym n ∙ one))
-  | concluded v comes is ↦ let (text, is_v) = answer_verdict kind v d is n in (text, subst (ComesTo readings asked) is_v comes, ap out_in is ∙ ap (λ v. out_in (outcome v)) is_v)
+  | concluded v comes is ↦
+      let (text, is_v) = answer_verdict kind v d is n in (text, subst (ComesTo readings asked) is_v comes, ap out_in is ∙ ap (λ v. out_in (outcome v)) is_v)
   | stopped name reading reaches there stops ↦ absurd (no_answer kind d n (stop_status name reading d stops))
 ]
 
-answer_from : (readings : Readings) (asked : Asked) (kind : AnswerKind) (d : Outcome) → MayCome readings asked d → d.status ≡ status_of kind → (text : List ℕ) × ComesTo readings asked (Answered kind text)
+answer_from : (readings : Readings) (asked : Asked) (kind : AnswerKind) (d : Outcome) → MayCome readings asked d → d.status ≡ status_of kind →
+    (text : List ℕ) × ComesTo readings asked (Answered kind text)
 answer_from readings asked kind d may n = let (text, comes, shown) = answer_told readings asked kind d may n in (text, comes)
 
 missing_from : (files : List File) (asked : Asked) (d : Outcome) → MayCome (AsHeld files) asked d → d.status ≡ 12 → HasFile asked files Missing
@@ -108,11 +114,13 @@ fault_told held failed name reading is (inr (failing, f)) = f
 fault_told None failed name reading is (inl told) = absurd (told is)
 fault_told (Some files) failed name reading is (inl told) = absurd (no_fault_held (held_bytes name files) (sym is ∙ told))
 
-asked_reaches : (held : Option (List File)) (failed : Type 0) (asked : Asked) (name : List ℕ) → ComesToRead (ByDesk held failed) asked name → ComesToRead (AsTold held) asked name
+asked_reaches : (held : Option (List File)) (failed : Type 0) (asked : Asked) (name : List ℕ) → ComesToRead (ByDesk held failed) asked name →
+    ComesToRead (AsTold held) asked name
 asked_reaches held failed Nothing name reaches = reaches
 asked_reaches held failed (Runs script) name reaches = told_reaches held failed script name reaches
 
-asked_or_fault : (held : Option (List File)) (failed : Type 0) (asked : Asked) (due : Outcome) → MayCome (ByDesk held failed) asked due → MayCome (AsTold held) asked due ⊎ (due.status ≡ 7)
+asked_or_fault : (held : Option (List File)) (failed : Type 0) (asked : Asked) (due : Outcome) → MayCome (ByDesk held failed) asked due →
+    MayCome (AsTold held) asked due ⊎ (due.status ≡ 7)
 asked_or_fault held failed Nothing due bad = inl bad
 asked_or_fault held failed (Runs script) due may = told_or_fault held failed script due may
 
@@ -210,7 +218,8 @@ module _ (asked : Asked) (failed : Type 0) (status : ℕ) (out err : Writing) wh
     ]
 
     -- and where it is so, what else may come, as far as ends of the command agree
-    wherever : (R : Outcome → Outcome → Type 0) → ((d : Outcome) → R d d) → AgreeOn R asked → (n : ℕ) → (d : Outcome) → MayCome (AsHeld files) asked d → d.status ≡ n
+    wherever : (R : Outcome → Outcome → Type 0) → ((d : Outcome) → R d d) → AgreeOn R asked → (n : ℕ) → (d : Outcome) → MayCome (AsHeld files) asked d →
+        d.status ≡ n
         → IsUndone status ⊎ (R due d × (status ≡ due.status))
     wherever R itself agree n d may_d is_d = elim (told (Some files) due is_due written) [
       | inl undone ↦ inl undone
@@ -225,7 +234,9 @@ module _ {asked : Asked} {held : Option (List File)} {failed : Type 0} {status :
       | inr cut ↦ absurd (differ 8 1 (sym cut.ends ∙ e) refl)
     ],
     λ none. elim story.written [
-      | inl whole ↦ ⊎_elim (λ one. inl (whole.ends ∙ one)) (λ nine. inr (inr (inr (whole.ends ∙ nine)))) (no_line_to (ByDesk held failed) asked story.due none story.is_due)
+      | inl whole ↦
+          ⊎_elim (λ one. inl (whole.ends ∙ one)) (λ nine. inr (inr (inr (whole.ends ∙ nine))))
+          (no_line_to (ByDesk held failed) asked story.due none story.is_due)
       | inr cut ↦ inr (inr (inl cut.ends))
     ],
   )
@@ -242,7 +253,7 @@ module _ {asked : Asked} {held : Option (List File)} {failed : Type 0} {status :
         cause = fault_told held failed name reading r there;
         name = name;
         reached = asked_reaches held failed asked name reaches;
-        said = subst (λ d. TookTexts d out err) (sym is) (whole.to_out, whole.to_err);
+        texts = subst (λ d. TookTexts d out err) (sym is) (whole.to_out, whole.to_err);
       }
     ]
   ]
@@ -274,7 +285,9 @@ module _ {asked : Asked} {held : Option (List File)} {failed : Type 0} {status :
   -- the statuses for `err` leave `out` as it was
   pub kept_clause : IsForErr status → Keeps out.before out.after
   kept_clause for_err = elim story.written [
-    | inl whole ↦ keeps out.before out.after (subst (Took out) (due_out (ByDesk held failed) asked story.due story.is_due (subst IsForErr whole.ends for_err)) whole.to_out)
+    | inl whole ↦
+        keeps out.before out.after (subst (Took out) (due_out (ByDesk held failed) asked story.due story.is_due (subst IsForErr whole.ends for_err))
+        whole.to_out)
     | inr cut ↦ absurd (omega (arith, for_err, cut.ends))
   ]
 
@@ -318,25 +331,30 @@ module _ {asked : Asked} {held : Option (List File)} {failed : Type 0} {status :
       ]
 
       budget_there : (n ≡ 4 → ⊥) → AgreeOn SameButBudget asked → (status ≡ n) ⊎ (status ≡ 4) ⊎ IsUndone status
-      budget_there not_four agree = elim (wherever asked failed status out err files story.due is_due story.written SameButBudget (λ d. inl refl) agree n d may is) [
-        | inl undone ↦ inr (inr undone)
-        | inr (inl same, ends) ↦ inl (ends ∙ ap status_in same ∙ is)
-        | inr (inr one, ends) ↦ inr (inl (ends ∙ first_spent n story.due d is not_four one))
-      ]
+      budget_there not_four agree =
+          elim (wherever asked failed status out err files story.due is_due story.written SameButBudget (λ d. inl refl) agree n d may is) [
+            | inl undone ↦ inr (inr undone)
+            | inr (inl same, ends) ↦ inl (ends ∙ ap status_in same ∙ is)
+            | inr (inr one, ends) ↦ inr (inl (ends ∙ first_spent n story.due d is not_four one))
+          ]
 
       exactly_there : (IsBudgeted n → ⊥) → AgreeOn SameButBudget asked → (status ≡ n) ⊎ IsUndone status
-      exactly_there unbudgeted agree = elim (wherever asked failed status out err files story.due is_due story.written SameButBudget (λ d. inl refl) agree n d may is) [
-        | inl undone ↦ inr undone
-        | inr (inl same, ends) ↦ inl (ends ∙ ap status_in same ∙ is)
-        | inr (inr one, ends) ↦ absurd (unbudgeted (other_budgeted n story.due d is one))
-      ]
+      exactly_there unbudgeted agree =
+          elim (wherever asked failed status out err files story.due is_due story.written SameButBudget (λ d. inl refl) agree n d may is) [
+            | inl undone ↦ inr undone
+            | inr (inl same, ends) ↦ inl (ends ∙ ap status_in same ∙ is)
+            | inr (inr one, ends) ↦ absurd (unbudgeted (other_budgeted n story.due d is one))
+          ]
 
   -- an answer of a kind, and its text
-  pub answered_with : (kind : AnswerKind) → IfSome held (λ files. status ≡ status_of kind → (text : List ℕ) × ComesTo (AsHeld files) asked (Answered kind text) × Took out text)
-  answered_with kind = where_told (λ files. status ≡ status_of kind → (text : List ℕ) × ComesTo (AsHeld files) asked (Answered kind text) × Took out text) (λ files is_due e.
+  pub answered_with : (kind : AnswerKind) → IfSome held (λ files. status ≡ status_of kind → (text : List ℕ) × ComesTo (AsHeld files) asked (Answered kind text)
+      × Took out text)
+  answered_with kind =
+      where_told (λ files. status ≡ status_of kind → (text : List ℕ) × ComesTo (AsHeld files) asked (Answered kind text) × Took out text) (λ files is_due e.
       elim (told asked failed status out err (Some files) story.due is_due story.written) [
         | inl undone ↦ absurd (kind_free kind (subst IsUndone e undone))
-        | inr (may, whole) ↦ let (text, comes, shown) = answer_told (AsHeld files) asked kind story.due may (sym whole.ends ∙ e) in (text, comes, subst (Took out) shown whole.to_out)
+        | inr (may, whole) ↦ let (text, comes, shown) = answer_told (AsHeld files) asked kind story.due may (sym whole.ends ∙ e) in
+            (text, comes, subst (Took out) shown whole.to_out)
       ])
 
   -- a command that no budget leaves open
@@ -360,11 +378,14 @@ module _ {asked : Asked} {held : Option (List File)} {failed : Type 0} {status :
     in_budget : (kind : AnswerKind) → (status_of kind ≡ 4 → ⊥) → IfSome held (λ files. ExactlyInBudget (status_of kind) status (HasAnswer asked files kind))
     in_budget kind not_four = where_told (λ files. ExactlyInBudget (status_of kind) status (HasAnswer asked files kind)) (λ files is_due. (
       only_there files is_due (status_of kind) (HasAnswer asked files kind) (kind_free kind) (answer_from (AsHeld files) asked kind),
-      λ (text, comes). let (d, may, is) = verdict_to (AsHeld files) asked (Answered kind text) comes in budget_there files is_due (status_of kind) d may is not_four agree,
+      λ (text, comes). let (d, may, is) = verdict_to (AsHeld files) asked (Answered kind text) comes in
+          budget_there files is_due (status_of kind) d may is not_four agree,
     ))
 
-    answer_exactly : (kind : AnswerKind) → (IsBudgeted (status_of kind) → ⊥) → IfSome held (λ files. Exactly (status_of kind) status (HasAnswer asked files kind))
-    answer_exactly kind unbudgeted = exactly (status_of kind) (λ files. HasAnswer asked files kind) (kind_free kind) unbudgeted (λ files. answer_from (AsHeld files) asked kind)
+    answer_exactly : (kind : AnswerKind) → (IsBudgeted (status_of kind) → ⊥) →
+        IfSome held (λ files. Exactly (status_of kind) status (HasAnswer asked files kind))
+    answer_exactly kind unbudgeted =
+        exactly (status_of kind) (λ files. HasAnswer asked files kind) (kind_free kind) unbudgeted (λ files. answer_from (AsHeld files) asked kind)
         (λ files (text, comes). verdict_to (AsHeld files) asked (Answered kind text) comes)
 
     pub statuses_clause : Statuses asked held failed status out err
@@ -375,7 +396,8 @@ module _ {asked : Asked} {held : Option (List File)} {failed : Type 0} {status :
       refused = exactly 2 (IsRefused asked) (free 2 refl refl refl) (unbudgeted 2 refl refl refl) (λ files. refused_from (AsHeld files) asked)
           (λ files (name, text, comes). verdict_to (AsHeld files) asked (Refused name text) comes);
       tie = answer_exactly Tie (unbudgeted 3 refl refl refl);
-      spent = where_told (λ files. status ≡ 4 → HasAnswer asked files Spent) (λ files is_due. only_there files is_due 4 (HasAnswer asked files Spent) (kind_free Spent) (answer_from (AsHeld files) asked Spent));
+      spent = where_told (λ files. status ≡ 4 → HasAnswer asked files Spent)
+          (λ files is_due. only_there files is_due 4 (HasAnswer asked files Spent) (kind_free Spent) (answer_from (AsHeld files) asked Spent));
       full_count = in_budget FullCount (λ e. differ 5 4 e refl);
       differs = answer_exactly Differs (unbudgeted 6 refl refl refl);
       read_fault = read_fault_clause;

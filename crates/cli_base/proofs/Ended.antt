@@ -3,7 +3,7 @@ use Rattle.std.proofs.Common.{◌≡◌, List, Result, Err, ℕ, inl, inr, refl,
 use Rattle.std.proofs.Common.{Vec, String, string_bytes}
 use Rattle.std.specs.String.{string_vec}
 use Rattle.std.specs.declared.alloc.Global.{Global}
-use Rattle.cli_base.specs.Outcome.{Outcome, Verdict, Answered, Refused, One, outcome, said_of, broken_at}
+use Rattle.cli_base.specs.Outcome.{Outcome, Verdict, Answered, Refused, One, outcome, file_refusal, broken_at}
 use Rattle.cli_base.specs.declared.outcome.AnswerKind.{AnswerKind}
 use Rattle.cli_base.specs.declared.outcome.RefusalKind.TheVariants.{Input}
 use Rattle.cli_base.specs.Script.{IsOfKind, SameButBudget}
@@ -12,12 +12,15 @@ use Rattle.cli_base.specs.declared.outcome.Refusal.{Refusal}
 
 -- ---- a file that is refused
 
-pub refusal_of : {A Why : Type 0} (told : Why → Verdict) (name : List ℕ) (read : Result A Why) (why : Why) (rule text : List ℕ) (at : ℕ) (refusal : Refusal) → read ≡ Err why → outcome (told why) ≡ said_of Input name (broken_at rule at) →
-    text ≡ rule → IsOrMemory (said_of Input name (broken_at text at)) (due_refusal refusal) → IsReadAs told read (Err refusal)
-refusal_of told name read why rule text at refusal is shown named (inl due) = inl (why, is, due ∙ ap (λ t. said_of Input name (broken_at t at)) named ∙ sym shown)
+pub refusal_of : {A Why : Type 0} (told : Why → Verdict) (name : List ℕ) (read : Result A Why) (why : Why) (rule text : List ℕ) (at : ℕ) (refusal : Refusal) →
+    read ≡ Err why → outcome (told why) ≡ file_refusal Input name (broken_at rule at) →
+    text ≡ rule → IsOrMemory (file_refusal Input name (broken_at text at)) (due_refusal refusal) → IsReadAs told read (Err refusal)
+refusal_of told name read why rule text at refusal is shown named (inl due) =
+    inl (why, is, due ∙ ap (λ t. file_refusal Input name (broken_at t at)) named ∙ sym shown)
 refusal_of told name read why rule text at refusal is shown named (inr memory) = inr memory
 
-pub refused_in : {A Why : Type 0} (told : Why → Verdict) (ends : Result A Why → Verdict → Type 0) (read : Result A Why) (refusal : Refusal) → ((why : Why) → ends (Err why) (told why)) →
+pub refused_in : {A Why : Type 0} (told : Why → Verdict) (ends : Result A Why → Verdict → Type 0) (read : Result A Why) (refusal : Refusal) →
+    ((why : Why) → ends (Err why) (told why)) →
     IsReadAs told read (Err refusal) → IsOneOrMemory (ends read) (due_refusal refusal)
 refused_in told ends read refusal each (inl (why, is, due)) = inl (told why, subst (λ r. ends r (told why)) (sym is) (each why), due)
 refused_in told ends read refusal each (inr memory) = inr memory
@@ -29,7 +32,8 @@ bytes_of bytes text is = ap (λ (v : Vec ℕ Global). v.items) is
 
 -- ---- one verdict alone
 
-pub told_as : (verdicts : Verdict → Type 0) (verdict : Verdict) (due : Outcome) → verdicts verdict → IsOneOrMemory (λ v. v ≡ verdict) due → IsOneOrMemory verdicts due
+pub told_as : (verdicts : Verdict → Type 0) (verdict : Verdict) (due : Outcome) → verdicts verdict → IsOneOrMemory (λ v. v ≡ verdict) due →
+    IsOneOrMemory verdicts due
 told_as verdicts verdict due holds (inl (v, is, ends)) = inl (verdict, holds, ends ∙ ap outcome is)
 told_as verdicts verdict due holds (inr memory) = inr memory
 
@@ -38,7 +42,8 @@ told_as verdicts verdict due holds (inr memory) = inr memory
 pub ended_as : (verdicts : Verdict → Type 0) (verdict : Verdict) → verdicts verdict → IsOneOrMemory verdicts (outcome verdict)
 ended_as verdicts verdict holds = inl (verdict, holds, refl)
 
-pub one-same : (texts : List ℕ → Type 0) (kind : AnswerKind) → ((text other : List ℕ) → texts text → texts other → text ≡ other) → (v w : Verdict) → One texts kind v → One texts kind w → v ≡ w
+pub one-same : (texts : List ℕ → Type 0) (kind : AnswerKind) → ((text other : List ℕ) → texts text → texts other → text ≡ other) → (v w : Verdict) →
+    One texts kind v → One texts kind w → v ≡ w
 one-same texts kind one v w (text, holds, is) (other, holds', is') = is ∙ ap (Answered kind) (one text other holds holds') ∙ sym is'
 
 pub one-kind : (kinds : AnswerKind → Type 0) (texts : List ℕ → Type 0) (kind : AnswerKind) → kinds kind → (v : Verdict) → One texts kind v → IsOfKind kinds v
@@ -49,4 +54,5 @@ refused-kind kinds v name text e = subst (IsOfKind kinds) (sym e) tt
 
 pub of_answers : (k l : AnswerKind) (text other : List ℕ) (v w : Verdict) → v ≡ Answered k text → w ≡ Answered l other →
     SameButBudget (outcome (Answered k text)) (outcome (Answered l other)) → SameButBudget (outcome v) (outcome w)
-of_answers k l text other v w i j agree = subst (λ v. SameButBudget (outcome v) (outcome w)) (sym i) (subst (λ w. SameButBudget (outcome (Answered k text)) (outcome w)) (sym j) agree)
+of_answers k l text other v w i j agree =
+    subst (λ v. SameButBudget (outcome v) (outcome w)) (sym i) (subst (λ w. SameButBudget (outcome (Answered k text)) (outcome w)) (sym j) agree)

@@ -11,7 +11,8 @@ longer held bytes e l = sym (ap reading_of e ∙ by_length (nat_le (length bytes
   by_length true h = let le = leb-true (length bytes) limit h in absurd (omega arith)
   by_length false h = refl
 
-told_longer : (held : Option (List File)) (name : List ℕ) → IfSome held (λ files. (bytes : List ℕ) × (held_bytes name files ≡ Some bytes) × (limit < length bytes)) → AsTold held name TooLong
+told_longer : (held : Option (List File)) (name : List ℕ) →
+    IfSome held (λ files. (bytes : List ℕ) × (held_bytes name files ≡ Some bytes) × (limit < length bytes)) → AsTold held name TooLong
 told_longer None name h = λ e. cc
 told_longer (Some files) name (bytes, e, l) = longer (held_bytes name files) bytes e l
 

@@ -20,7 +20,8 @@ pub concludes_may : (readings : Readings) (script : Script) (v : Verdict) → Co
 concludes_may readings (Ends verdicts) v concludes = (v, concludes, refl)
 concludes_may readings (Read name next) v (bytes, may, rest) = inr (bytes, may, concludes_may readings (next bytes) v rest)
 
-pub stops_may : (readings : Readings) (script : Script) (name : List ℕ) (reading : Reading) (due : Outcome) → Reaches readings script name → readings name reading → stop_of name reading ≡ Some due
+pub stops_may : (readings : Readings) (script : Script) (name : List ℕ) (reading : Reading) (due : Outcome) → Reaches readings script name →
+    readings name reading → stop_of name reading ≡ Some due
     → May readings script due
 stops_may readings (Ends verdicts) name reading due reaches there stop = absurd reaches
 stops_may readings (Read first next) name reading due (inl is) there stop =
@@ -32,7 +33,8 @@ no_fault : (held : Option (List File)) (failed : Type 0) (name bytes : List ℕ)
 no_fault held failed name bytes (inl told) = told
 no_fault held failed name bytes (inr (fault, f)) = absurd (cc fault)
 
-pub told_reaches : (held : Option (List File)) (failed : Type 0) (script : Script) (name : List ℕ) → Reaches (ByDesk held failed) script name → Reaches (AsTold held) script name
+pub told_reaches : (held : Option (List File)) (failed : Type 0) (script : Script) (name : List ℕ) → Reaches (ByDesk held failed) script name →
+    Reaches (AsTold held) script name
 told_reaches held failed (Ends verdicts) name reaches = reaches
 told_reaches held failed (Read first next) name (inl is) = inl is
 told_reaches held failed (Read first next) name (inr (bytes, may, rest)) =
@@ -47,7 +49,8 @@ stopped_by_fault name reading due fault stop =
     ap (λ (o : Outcome). o.status) (sym is)
 
 -- It is what the files make it, or 7.
-pub told_or_fault : (held : Option (List File)) (failed : Type 0) (script : Script) (due : Outcome) → May (ByDesk held failed) script due → May (AsTold held) script due ⊎ (due.status ≡ 7)
+pub told_or_fault : (held : Option (List File)) (failed : Type 0) (script : Script) (due : Outcome) → May (ByDesk held failed) script due →
+    May (AsTold held) script due ⊎ (due.status ≡ 7)
 told_or_fault held failed (Ends verdicts) due may = inl may
 told_or_fault held failed (Read name next) due (inl (reading, inl told, stop)) = inl (inl (reading, told, stop))
 told_or_fault held failed (Read name next) due (inl (reading, inr (fault, f), stop)) = inr (stopped_by_fault name reading due fault stop)
@@ -69,13 +72,16 @@ determined R itself files (Ends verdicts) d e agree (v, may_v, is_d) (w, may_w, 
     subst (λ x. R x e) (sym is_d) (subst (R (outcome v)) (sym is_e) (agree v w may_v may_w))
 determined R itself files (Read name next) d e agree (inl (r, there_r, stop_d)) (inl (s, there_s, stop_e)) =
     subst (R d) (some_is (sym stop_d ∙ ap (λ x. stop_of name x) (there_r ∙ sym there_s) ∙ stop_e)) (itself d)
-determined R itself files (Read name next) d e agree (inl (r, there_r, stop_d)) (inr (bytes, there, rest)) = absurd (not_bytes name bytes r d (there_r ∙ sym there) stop_d)
-determined R itself files (Read name next) d e agree (inr (bytes, there, rest)) (inl (s, there_s, stop_e)) = absurd (not_bytes name bytes s e (there_s ∙ sym there) stop_e)
+determined R itself files (Read name next) d e agree (inl (r, there_r, stop_d)) (inr (bytes, there, rest)) =
+    absurd (not_bytes name bytes r d (there_r ∙ sym there) stop_d)
+determined R itself files (Read name next) d e agree (inr (bytes, there, rest)) (inl (s, there_s, stop_e)) =
+    absurd (not_bytes name bytes s e (there_s ∙ sym there) stop_e)
 determined R itself files (Read name next) d e agree (inr (bytes, there_d, rest_d)) (inr (others, there_e, rest_e)) =
     let same : bytes ≡ others = (let is : Bytes bytes ≡ Bytes others = there_d ∙ sym there_e in cc) in
     determined R itself files (next others) d e (agree others) (subst (λ b. May (AsHeld files) (next b) d) same rest_d) rest_e
 
 -- What a script concludes with is of its kinds.
-pub of_kind : (kinds : AnswerKind → Type 0) (readings : Readings) (script : Script) (v : Verdict) → AreOfKind kinds script → Concludes readings script v → IsOfKind kinds v
+pub of_kind : (kinds : AnswerKind → Type 0) (readings : Readings) (script : Script) (v : Verdict) → AreOfKind kinds script → Concludes readings script v →
+    IsOfKind kinds v
 of_kind kinds readings (Ends verdicts) v are concludes = are v concludes
 of_kind kinds readings (Read name next) v are (bytes, there, rest) = of_kind kinds readings (next bytes) v (are bytes) rest

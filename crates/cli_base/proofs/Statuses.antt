@@ -67,7 +67,8 @@ pub refused_verdict : (v : Verdict) (due : Outcome) → due ≡ outcome v → du
 refused_verdict (Answered kind text) due is two = absurd (of_no_kind 2 refl kind (sym (ap status_in is) ∙ two))
 refused_verdict (Refused name text) due is two = (name, text, refl)
 
-pub answer_verdict : (kind : AnswerKind) (v : Verdict) (due : Outcome) → due ≡ outcome v → due.status ≡ status_of kind → (text : List ℕ) × (v ≡ Answered kind text)
+pub answer_verdict : (kind : AnswerKind) (v : Verdict) (due : Outcome) → due ≡ outcome v → due.status ≡ status_of kind →
+    (text : List ℕ) × (v ≡ Answered kind text)
 answer_verdict kind (Answered other text) due is n = (text, ap (λ k. Answered k text) (same_kind other kind (sym (ap status_in is) ∙ n)))
 answer_verdict kind (Refused name text) due is n = absurd (of_no_kind 2 refl kind (sym n ∙ ap status_in is))
 

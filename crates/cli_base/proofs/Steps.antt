@@ -1,20 +1,25 @@
--- A command goes on from one file to the next.
-use Rattle.std.proofs.Common.{◌≡◌, ◌∙◌, inl, inr, ℕ, ◌+◌, ◌≤◌, max, List, Option, refl, ap, subst, arith}
-use Rattle.desk.specs.Count.{Rose, grown, one_more}
+-- A command goes on from one file to the next, and ends after the last one.
+use Rattle.std.proofs.Common.{◌≡◌, ◌∙◌, inl, inr, ℕ, ◌+◌, ◌≤◌, max, List, Option, refl, sym, ap, subst, arith}
+use Rattle.desk.specs.Count.{Rose, one_more}
 use Rattle.desk.specs.declared.served.Served.{Served}
 use Rattle.desk.specs.Desk.{File}
 use Rattle.cli_base.specs.Accounts.{IsBroken, IsAccountedFor}
-use Rattle.cli_base.specs.Outcome.{Outcome}
+use Rattle.cli_base.specs.Due.{IsOneOrMemory}
+use Rattle.cli_base.specs.Outcome.{Outcome, Verdict, Answered, Refused}
 use Rattle.cli_base.specs.Script.{Reading, Bytes, Script, Read, Ends, AsTold, ByDesk, May, MayOrMemory, limit}
+use Rattle.cli_base.proofs.Statuses.{differ, of_no_kind, status_in}
 
 -- the desk over a longer time
-longer : (held h : Option (List File)) (a b c d : ℕ) (name : List ℕ) (reading : Reading) → h ≡ held → a ≤ b → c ≤ d → ByDesk h (Rose b c) name reading → ByDesk held (Rose a d) name reading
+longer : (held h : Option (List File)) (a b c d : ℕ) (name : List ℕ) (reading : Reading) → h ≡ held → a ≤ b → c ≤ d → ByDesk h (Rose b c) name reading →
+    ByDesk held (Rose a d) name reading
 longer held h a b c d name reading same before after (inl told) = inl (subst (λ x. AsTold x name reading) same told)
 longer held h a b c d name reading same before after (inr (fault, rose)) = inr (fault, omega (arith, rose))
 
-longer_may : (held h : Option (List File)) (a b c d : ℕ) (script : Script) (due : Outcome) → h ≡ held → a ≤ b → c ≤ d → May (ByDesk h (Rose b c)) script due → May (ByDesk held (Rose a d)) script due
+longer_may : (held h : Option (List File)) (a b c d : ℕ) (script : Script) (due : Outcome) → h ≡ held → a ≤ b → c ≤ d → May (ByDesk h (Rose b c)) script due →
+    May (ByDesk held (Rose a d)) script due
 longer_may held h a b c d (Ends verdicts) due same before after may = may
-longer_may held h a b c d (Read name next) due same before after (inl (reading, there, stop)) = inl (reading, longer held h a b c d name reading same before after there, stop)
+longer_may held h a b c d (Read name next) due same before after (inl (reading, there, stop)) =
+    inl (reading, longer held h a b c d name reading same before after there, stop)
 longer_may held h a b c d (Read name next) due same before after (inr (bytes, there, rest)) =
     inr (bytes, longer held h a b c d name (Bytes bytes) same before after there, longer_may held h a b c d (next bytes) due same before after rest)
 
@@ -22,7 +27,11 @@ longer_may held h a b c d (Read name next) due same before after (inr (bytes, th
 pub gone_on : (held h : Option (List File)) (a b c : ℕ) (name bytes : List ℕ) (next : List ℕ → Script) (due : Outcome) → h ≡ held → a ≤ b → b ≤ c
     → ByDesk held (Rose a b) name (Bytes bytes) → MayOrMemory (ByDesk h (Rose b c)) (next bytes) due → MayOrMemory (ByDesk held (Rose a c)) (Read name next) due
 gone_on held h a b c name bytes next due same before after there (inl may) =
-    inl (inr (bytes, longer held held a a b c name (Bytes bytes) refl (omega arith) after there, longer_may held h a b c c (next bytes) due same before (omega arith) may))
+    inl (inr (
+      bytes,
+      longer held held a a b c name (Bytes bytes) refl (omega arith) after there,
+      longer_may held h a b c c (next bytes) due same before (omega arith) may,
+    ))
 gone_on held h a b c name bytes next due same before after there (inr memory) = inr memory
 
 -- what the desk served of both
@@ -49,3 +58,38 @@ accounted_on {m} {n} a b c status first rest = record {
 
     short : b.longest ≤ max a.longest limit
     short = first.short (λ e. omega (arith, e)) unbroken
+
+-- ---- the last file
+
+-- after it was read, a verdict
+pub ended_on : (held : Option (List File)) (a b : ℕ) (name bytes : List ℕ) (verdicts : List ℕ → Verdict → Type 0) (due : Outcome)
+    → ByDesk held (Rose a b) name (Bytes bytes) → IsOneOrMemory (verdicts bytes) due
+    → MayOrMemory (ByDesk held (Rose a b)) (Read name (λ bytes. Ends (verdicts bytes))) due
+ended_on held a b name bytes verdicts due there (inl ended) = inl (inr (bytes, there, ended))
+ended_on held a b name bytes verdicts due there (inr memory) = inr memory
+
+-- what the desk served, where the status tells of no file
+pub accounted_as : {n : ℕ} (a b : Served) (status : ℕ) → (status ≡ 12 → ⊥) → (status ≡ 11 → ⊥) → IsAccountedFor n a b 0 → IsAccountedFor n a b status
+accounted_as a b status no_miss no_length first = record {
+  begins = first.begins;
+  all_begun = λ is. first.all_begun refl;
+  missing = λ is. absurd (no_miss is);
+  found = λ no whole. first.found (λ e. omega (arith, e)) unbroken;
+  too_long = λ is. absurd (no_length is);
+  over = λ is. absurd (no_length is);
+  within = λ no whole. first.within (λ e. omega (arith, e)) unbroken;
+  short = λ no whole. first.short (λ e. omega (arith, e)) unbroken;
+}
+  where
+    unbroken : IsBroken 0 → ⊥
+    unbroken broken = omega (arith, broken)
+
+-- a command that ends with a verdict reads nothing more
+pub ended_accounted : {n : ℕ} (a b : Served) (verdicts : Verdict → Type 0) (due : Outcome)
+    → IsOneOrMemory verdicts due → IsAccountedFor n a b 0 → IsAccountedFor n a b due.status
+ended_accounted a b verdicts due (inl (Answered kind text, h, is)) first =
+    accounted_as a b due.status (λ e. of_no_kind 12 refl kind (sym (ap status_in is) ∙ e)) (λ e. of_no_kind 11 refl kind (sym (ap status_in is) ∙ e)) first
+ended_accounted a b verdicts due (inl (Refused name text, h, is)) first =
+    accounted_as a b due.status (λ e. differ 2 12 (sym (ap status_in is) ∙ e) refl) (λ e. differ 2 11 (sym (ap status_in is) ∙ e) refl) first
+ended_accounted a b verdicts due (inr memory) first =
+    accounted_as a b due.status (λ e. differ 9 12 (sym (ap status_in memory) ∙ e) refl) (λ e. differ 9 11 (sym (ap status_in memory) ∙ e) refl) first

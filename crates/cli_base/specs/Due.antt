@@ -10,7 +10,8 @@ use Rattle.cli_base.specs.declared.outcome.Refusal.TheVariants.{Words, Memory, L
 abbrev pub due_refusal : Refusal → Outcome
 due_refusal Words = bad_words
 due_refusal Memory = out_of_memory
-due_refusal (Line kind text) = record { status = refusal_status kind; out = []; err = string_bytes text }
+due_refusal (Line kind text) =
+    record { status = refusal_status kind; out = []; err = string_bytes text }
 
 abbrev pub due : Result Answer Refusal → Outcome
 due (Ok answer) = outcome (Answered answer.kind answer.text.items)
@@ -19,7 +20,8 @@ due (Err refusal) = due_refusal refusal
 -- a file was read whole, or the call is to stop, for its sake or for want of memory
 abbrev pub IsRead : Readings → List ℕ → Result (Vec ℕ Global) Refusal → Type 0
 IsRead readings name (Ok bytes) = readings name (Bytes bytes.items)
-IsRead readings name (Err refusal) = MayStop readings name (due_refusal refusal) ⊎ (due_refusal refusal ≡ out_of_memory)
+IsRead readings name (Err refusal) =
+    MayStop readings name (due_refusal refusal) ⊎ (due_refusal refusal ≡ out_of_memory)
 
 -- a reading that went well ends nothing yet
 abbrev pub status_so_far : Result (Vec ℕ Global) Refusal → ℕ
@@ -32,9 +34,12 @@ IsOrMemory defined outcome = (outcome ≡ defined) ⊎ (outcome ≡ out_of_memor
 
 -- one of these verdicts, or want of memory
 abbrev pub IsOneOrMemory : (Verdict → Type 0) → Outcome → Type 0
-IsOneOrMemory verdicts due = ((verdict : Verdict) × verdicts verdict × (due ≡ outcome verdict)) ⊎ (due ≡ out_of_memory)
+IsOneOrMemory verdicts due =
+    ((verdict : Verdict) × verdicts verdict × (due ≡ outcome verdict)) ⊎ (due ≡ out_of_memory)
 
 -- what a file says, or its refusal, which is told so
 abbrev pub IsReadAs : {A Why : Type 0} → (Why → Verdict) → Result A Why → Result A Refusal → Type 0
 IsReadAs told read (Ok value) = read ≡ Ok value
-IsReadAs {A} {Why} told read (Err refusal) = ((why : Why) × (read ≡ Err why) × (due_refusal refusal ≡ outcome (told why))) ⊎ (due_refusal refusal ≡ out_of_memory)
+IsReadAs {A} {Why} told read (Err refusal) =
+    ((why : Why) × (read ≡ Err why) × (due_refusal refusal ≡ outcome (told why)))
+    ⊎ (due_refusal refusal ≡ out_of_memory)

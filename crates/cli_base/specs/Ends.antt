@@ -13,7 +13,13 @@ pub record Writing : Type 0 where
   pub faults_after : ℕ
 
 abbrev pub writing : {S : Type 0} → Ghosts S → S → S → Writing
-writing sink old new = record { before = sink.taken old; after = sink.taken new; faults_before = sink.faults old; faults_after = sink.faults new }
+writing sink old new =
+    record {
+      before = sink.taken old;
+      after = sink.taken new;
+      faults_before = sink.faults old;
+      faults_after = sink.faults new;
+    }
 
 -- the sink took a text
 abbrev pub Took : Writing → List ℕ → Type 0

@@ -47,29 +47,29 @@ broken_at rule at = rule ++ codes " at " ++ decimal at
 abbrev pub line : List ℕ → List ℕ
 line text = text ++ 0x0A ∷ []
 
--- a line for `err`
-abbrev pub said : ℕ → List ℕ → Outcome
-said status text = record { status = status; out = []; err = line (codes "raire: " ++ text) }
+-- what a refusal says: a line for `err`
+abbrev pub refusal : ℕ → List ℕ → Outcome
+refusal status text = record { status = status; out = []; err = line (codes "raire: " ++ text) }
 
--- a line for `err` that names a file
-abbrev pub said_of : RefusalKind → List ℕ → List ℕ → Outcome
-said_of kind name text = said (refusal_status kind) (name ++ codes ": " ++ text)
+-- what a refusal that names a file says
+abbrev pub file_refusal : RefusalKind → List ℕ → List ℕ → Outcome
+file_refusal kind name text = refusal (refusal_status kind) (name ++ codes ": " ++ text)
 
 abbrev pub outcome : Verdict → Outcome
 outcome (Answered kind text) = record { status = status_of kind; out = text; err = [] }
-outcome (Refused name text) = said_of Input name text
+outcome (Refused name text) = file_refusal Input name text
 
 abbrev pub bad_words : Outcome
-bad_words = said 1 (codes "bad words")
+bad_words = refusal 1 (codes "bad words")
 
 abbrev pub out_of_memory : Outcome
-out_of_memory = said 9 (codes "out of memory")
+out_of_memory = refusal 9 (codes "out of memory")
 
 abbrev pub read_fault : List ℕ → Outcome
-read_fault name = said_of ReadFault name (codes "read fault")
+read_fault name = file_refusal ReadFault name (codes "read fault")
 
 abbrev pub too_long : List ℕ → Outcome
-too_long name = said_of TooLong name (codes "too long")
+too_long name = file_refusal TooLong name (codes "too long")
 
 abbrev pub no_such_file : List ℕ → Outcome
-no_such_file name = said_of Missing name (codes "no such file")
+no_such_file name = file_refusal Missing name (codes "no such file")

@@ -34,15 +34,15 @@ reading_of (Some bytes) = if nat_le (length bytes) limit then Bytes bytes else T
 abbrev pub Readings : Type 1
 Readings = List ℕ → Reading → Type 0
 
--- just those of the files that are held
+-- the readings of a desk that tells which files it holds: one for each name, held or not
 abbrev pub AsHeld : List File → Readings
 AsHeld files name reading = reading ≡ reading_of (held_bytes name files)
 
--- those where that is told, and any but a fault where it isn't
+-- the readings of what a desk tells that it holds, and any but a fault where it doesn't tell
 abbrev pub AsTold : Option (List File) → Readings
 AsTold held name reading = MatchOption held (reading ≢ Fault) (λ files. AsHeld files name reading)
 
--- those of a desk, which may have failed
+-- the readings of a desk, which may have failed
 abbrev pub ByDesk : Option (List File) → Type 0 → Readings
 ByDesk held failed name reading = AsTold held name reading ⊎ ((reading ≡ Fault) × failed)
 
@@ -55,15 +55,17 @@ stop_of name Fault = Some (read_fault name)
 
 -- a file may be read, and may stop the call with this
 abbrev pub MayStop : Readings → List ℕ → Outcome → Type 0
-MayStop readings name due = (reading : Reading) × readings name reading × (stop_of name reading ≡ Some due)
+MayStop readings name due =
+    (reading : Reading) × readings name reading × (stop_of name reading ≡ Some due)
 
 -- A script may come to this, by the readings that there may be.
 abbrev pub May : Readings → Script → Outcome → Type 0
 May readings (Ends verdicts) due = (verdict : Verdict) × verdicts verdict × (due ≡ outcome verdict)
 May readings (Read name next) due =
-    MayStop readings name due ⊎ ((bytes : List ℕ) × readings name (Bytes bytes) × May readings (next bytes) due)
+    MayStop readings name due
+    ⊎ ((bytes : List ℕ) × readings name (Bytes bytes) × May readings (next bytes) due)
 
--- the same, where memory may run out
+-- a script may come to this, or memory runs out
 abbrev pub MayOrMemory : Readings → Script → Outcome → Type 0
 MayOrMemory readings script due = May readings script due ⊎ (due ≡ out_of_memory)
 
@@ -71,7 +73,8 @@ MayOrMemory readings script due = May readings script due ⊎ (due ≡ out_of_me
 abbrev pub Reaches : Readings → Script → List ℕ → Type 0
 Reaches readings (Ends verdicts) name = ⊥
 Reaches readings (Read first next) name =
-    (first ≡ name) ⊎ ((bytes : List ℕ) × readings first (Bytes bytes) × Reaches readings (next bytes) name)
+    (first ≡ name)
+    ⊎ ((bytes : List ℕ) × readings first (Bytes bytes) × Reaches readings (next bytes) name)
 
 -- A script reads all its files, and may end with this verdict.
 abbrev pub Concludes : Readings → Script → Verdict → Type 0
@@ -91,7 +94,7 @@ abbrev pub MayCome : Readings → Asked → Outcome → Type 0
 MayCome readings Nothing due = due ≡ bad_words
 MayCome readings (Runs script) due = May readings script due
 
--- the same, where memory may run out
+-- what is asked for may come to this, or memory runs out
 abbrev pub IsDue : Readings → Asked → Outcome → Type 0
 IsDue readings asked due = MayCome readings asked due ⊎ (due ≡ out_of_memory)
 
@@ -125,9 +128,10 @@ IsBudgeted status = (status ≡ 0) ⊎ (status ≡ 4) ⊎ (status ≡ 5)
 
 -- a budget made the one end otherwise than the other
 abbrev pub OneIsSpent : Outcome → Outcome → Type 0
-OneIsSpent due other = IsBudgeted due.status × IsBudgeted other.status × ((due.status ≡ 4) ⊎ (other.status ≡ 4))
+OneIsSpent due other =
+    IsBudgeted due.status × IsBudgeted other.status × ((due.status ≡ 4) ⊎ (other.status ≡ 4))
 
--- but for a budget
+-- both ends are the same, but for a budget
 abbrev pub SameButBudget : Outcome → Outcome → Type 0
 SameButBudget due other = Same due other ⊎ OneIsSpent due other
 

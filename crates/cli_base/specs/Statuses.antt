@@ -13,7 +13,8 @@ IsUndone status = (status ≡ 7) ⊎ (status ≡ 8) ⊎ (status ≡ 9)
 
 -- the statuses whose text goes to `err` alone
 abbrev pub IsForErr : ℕ → Type 0
-IsForErr status = (status ≡ 1) ⊎ (status ≡ 2) ⊎ (status ≡ 7) ⊎ (status ≡ 9) ⊎ (status ≡ 11) ⊎ (status ≡ 12)
+IsForErr status =
+    (status ≡ 1) ⊎ (status ≡ 2) ⊎ (status ≡ 7) ⊎ (status ≡ 9) ⊎ (status ≡ 11) ⊎ (status ≡ 12)
 
 -- the statuses that there are
 abbrev pub IsStatus : ℕ → Type 0
@@ -31,11 +32,13 @@ pub record IsQuiet (failed : Type 0) (out err : Writing) : Type 0 where
 -- tell its files, they are some that it may have given.
 abbrev pub IsDefined : Asked → Option (List File) → ℕ → Writing → Writing → Type 0
 IsDefined asked held status out err =
-    (to_out to_err : List ℕ) × MayCome (AsTold held) asked (record { status = status; out = to_out; err = to_err })
+    (to_out to_err : List ℕ)
+    × MayCome (AsTold held) asked (record { status = status; out = to_out; err = to_err })
     × Took out to_out × Took err to_err
 
 -- The defined status and texts, or undone. Where no count of faults rose, want of memory alone is left.
-pub record IsAnswered (asked : Asked) (held : Option (List File)) (failed : Type 0) (status : ℕ) (out err : Writing) : Type 0 where
+pub record IsAnswered (asked : Asked) (held : Option (List File)) (failed : Type 0) (status : ℕ)
+    (out err : Writing) : Type 0 where
   pub quiet : IsQuiet failed out err → status ≢ 9 → IsDefined asked held status out err
   pub otherwise : IsUndone status ⊎ IsDefined asked held status out err
 
@@ -43,11 +46,13 @@ pub record IsAnswered (asked : Asked) (held : Option (List File)) (failed : Type
 
 -- The call ends with this status only where that is so, and where it is so, with this status or undone.
 abbrev pub Exactly : ℕ → ℕ → Type 0 → Type 0
-Exactly status result cause = (result ≡ status → cause) × (cause → (result ≡ status) ⊎ IsUndone result)
+Exactly status result cause =
+    (result ≡ status → cause) × (cause → (result ≡ status) ⊎ IsUndone result)
 
--- The same of an answer that a budget may have kept a command from.
+-- The call ends with this status only where that is so, and where it is so, with this status, undone, or with a budget that is spent.
 abbrev pub ExactlyInBudget : ℕ → ℕ → Type 0 → Type 0
-ExactlyInBudget status result cause = (result ≡ status → cause) × (cause → (result ≡ status) ⊎ (result ≡ 4) ⊎ IsUndone result)
+ExactlyInBudget status result cause =
+    (result ≡ status → cause) × (cause → (result ≡ status) ⊎ (result ≡ 4) ⊎ IsUndone result)
 
 abbrev pub IsNothing : Asked → Type 0
 IsNothing Nothing = ⊤
@@ -55,7 +60,8 @@ IsNothing (Runs script) = ⊥
 
 -- a file that the command comes to read is so
 abbrev pub HasFile : Asked → List File → Reading → Type 0
-HasFile asked files reading = (name : List ℕ) × ComesToRead (AsHeld files) asked name × AsHeld files name reading
+HasFile asked files reading =
+    (name : List ℕ) × ComesToRead (AsHeld files) asked name × AsHeld files name reading
 
 -- a rule refuses what a file holds
 abbrev pub IsRefused : Asked → List File → Type 0
@@ -70,11 +76,12 @@ abbrev pub TookTexts : Outcome → Writing → Writing → Type 0
 TookTexts due out err = Took out due.out × Took err due.err
 
 -- The desk failed at a file that the command reads. Where the desk tells, all before it are held and gone on with.
-pub record IsReadFault (asked : Asked) (held : Option (List File)) (failed : Type 0) (out err : Writing) : Type 0 where
+pub record IsReadFault (asked : Asked) (held : Option (List File)) (failed : Type 0)
+    (out err : Writing) : Type 0 where
   pub cause : failed
   pub name : List ℕ
   pub reached : ComesToRead (AsTold held) asked name
-  pub said : TookTexts (read_fault name) out err
+  pub texts : TookTexts (read_fault name) out err
 
 -- A write failed. The sinks took prefixes of what was due.
 pub record IsWriteFault (readings : Readings) (asked : Asked) (out err : Writing) : Type 0 where
@@ -84,7 +91,8 @@ pub record IsWriteFault (readings : Readings) (asked : Asked) (out err : Writing
   pub to_out : TookPrefix out due.out
   pub to_err : TookPrefix err due.err
 
-pub record Statuses (asked : Asked) (held : Option (List File)) (failed : Type 0) (status : ℕ) (out err : Writing) : Type 0 where
+pub record Statuses (asked : Asked) (held : Option (List File)) (failed : Type 0) (status : ℕ)
+    (out err : Writing) : Type 0 where
   -- there is no other
   pub known : IsStatus status
   pub done : IfSome held (λ files. ExactlyInBudget 0 status (HasAnswer asked files Done))
@@ -104,4 +112,6 @@ pub record Statuses (asked : Asked) (held : Option (List File)) (failed : Type 0
 
 -- Of a command that no budget leaves open each answer comes exactly where that is what the files make it.
 abbrev pub IsExact : Asked → Option (List File) → ℕ → Type 0
-IsExact asked held status = IfSome held (λ files. (kind : AnswerKind) → Exactly (status_of kind) status (HasAnswer asked files kind))
+IsExact asked held status =
+    IfSome held (λ files. (kind : AnswerKind) →
+    Exactly (status_of kind) status (HasAnswer asked files kind))

@@ -11,17 +11,19 @@ const BAD_WORDS: &[u8] = b"raire: bad words\n";
 const OUT_OF_MEMORY: &[u8] = b"raire: out of memory\n";
 
 /// Writes an answer to `out`, or a refusal to `err`, and gives the status that the call ends with.
-pub fn deliver<O: Sink, E: Sink>(said: &Result<Answer, Refusal>, out: &mut O, err: &mut E) -> u8
-    ensures { IsWritten (due said.now) result (writing O.Sink out.old out.new) (writing E.Sink err.old err.new) }
+pub fn deliver<O: Sink, E: Sink>(outcome: &Result<Answer, Refusal>, out: &mut O, err: &mut E) -> u8
+    ensures { IsWritten (due outcome.now) result
+        (writing O.Sink out.old out.new) (writing E.Sink err.old err.new) }
 {
-    match said {
+    match outcome {
         Ok(answer) => say(out, &answer.text, answer.kind.status()),
         Err(refusal) => say_refusal(err, refusal),
     }
 }
 
 fn say_refusal<S: Sink>(err: &mut S, refusal: &Refusal) -> u8
-    ensures { let due = due_refusal refusal.now in IsSaid due.err due.status result (writing S.Sink err.old err.new) }
+    ensures { let due = due_refusal refusal.now in
+        IsSaid due.err due.status result (writing S.Sink err.old err.new) }
 {
     match refusal {
         Refusal::Words => say(err, BAD_WORDS, 1),

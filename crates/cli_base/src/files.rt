@@ -2,7 +2,7 @@
 ghost use Rattle.std.specs.Prelude.{◌≡◌, ◌≤◌, ◌++◌, IfOk, string_bytes, codes};
 ghost use Rattle.desk.specs.Count.{Rose};
 ghost use Rattle.cli_base.specs.Script.{ByDesk};
-ghost use Rattle.cli_base.specs.Outcome.{line, said_of, broken_at};
+ghost use Rattle.cli_base.specs.Outcome.{line, file_refusal, broken_at};
 ghost use Rattle.cli_base.specs.Accounts.{IsAccountedFor};
 ghost use Rattle.cli_base.specs.declared.outcome.RefusalKind.TheVariants.{Input};
 ghost use Rattle.cli_base.specs.Due.{due_refusal, IsRead, IsOrMemory, status_so_far};
@@ -16,8 +16,10 @@ use std::alloc::{AllocError, Global};
 pub fn read_file<D: Desk>(alloc: Global, desk: &mut D, file: &str) -> Result<Vec<u8>, Refusal>
     ensures held { D.held desk.new ≡ D.held desk.old }
     ensures later { D.faults desk.old ≤ D.faults desk.new }
-    ensures read { IsRead (ByDesk (D.held desk.old) (Rose (D.faults desk.old) (D.faults desk.new))) file.now result }
-    ensures served { IsAccountedFor 1 (D.served desk.old) (D.served desk.new) (status_so_far result) }
+    ensures read { IsRead
+        (ByDesk (D.held desk.old) (Rose (D.faults desk.old) (D.faults desk.new))) file.now result }
+    ensures served { IsAccountedFor 1
+        (D.served desk.old) (D.served desk.new) (status_so_far result) }
 {
     match read_all(alloc, desk, file, MOST_FILE_BYTES) {
         Ok(bytes) => Ok(bytes),
@@ -30,7 +32,7 @@ pub fn read_file<D: Desk>(alloc: Global, desk: &mut D, file: &str) -> Result<Vec
 
 /// A refusal that names a file.
 pub fn refuse(alloc: Global, kind: RefusalKind, file: &str, text: &str) -> Refusal
-    ensures { IsOrMemory (said_of kind file.now text.now) (due_refusal result) }
+    ensures { IsOrMemory (file_refusal kind file.now text.now) (due_refusal result) }
 {
     match line_of_file(alloc, file, text) {
         Ok(line) => Refusal::Line(kind, line),
@@ -40,7 +42,8 @@ pub fn refuse(alloc: Global, kind: RefusalKind, file: &str, text: &str) -> Refus
 
 /// A refusal by a rule, at the place of a file that breaks it.
 pub fn refuse_at(alloc: Global, file: &str, rule: &str, at: u64) -> Refusal
-    ensures { IsOrMemory (said_of Input file.now (broken_at rule.now at)) (due_refusal result) }
+    ensures { IsOrMemory (file_refusal Input file.now (broken_at rule.now at))
+        (due_refusal result) }
 {
     match broken_at(alloc, rule, at) {
         Ok(text) => refuse(alloc, RefusalKind::Input, file, text.as_str()),
@@ -55,7 +58,8 @@ fn broken_at(alloc: Global, rule: &str, at: u64) -> Result<String, AllocError>
 }
 
 fn line_of_file(alloc: Global, file: &str, text: &str) -> Result<String, AllocError>
-    ensures { IfOk result (λ said. string_bytes said ≡ line (codes "raire: " ++ (file.now ++ codes ": " ++ text.now))) }
+    ensures { IfOk result (λ message. string_bytes message ≡
+        line (codes "raire: " ++ (file.now ++ codes ": " ++ text.now))) }
 {
     format!(in alloc; "raire: {file}: {text}\n")
 }

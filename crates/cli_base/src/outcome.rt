@@ -24,6 +24,7 @@ pub enum AnswerKind {
 }
 
 impl AnswerKind {
+    /// The status that the program ends with, where the answer is written whole.
     pub fn status(self) -> u8
         ensures { result ≡ status_of self }
     {
@@ -52,6 +53,7 @@ pub enum RefusalKind {
 }
 
 impl RefusalKind {
+    /// The status that the program ends with, where the line of the refusal is written whole.
     pub fn status(self) -> u8
         ensures { result ≡ refusal_status self }
     {
@@ -67,7 +69,9 @@ impl RefusalKind {
 /// What a command answers, for `out`.
 #[derive(Drop)]
 pub struct Answer {
+    /// Which kind of answer it is.
     pub kind: AnswerKind,
+    /// The bytes that `out` gets.
     pub text: Vec<u8>,
 }
 

@@ -46,12 +46,14 @@ file_named i (Given option text ∷ pieces) h less = file_named i pieces (and_pa
 file_named i (Stray ∷ pieces) h less = absurd (false≢true h)
 
 number_from_to : (least most : ℕ) (default : Option ℕ) (name : OptionName) → kind_of name ≡ Number least most default
-    → (pieces : List Piece) → list_all fits pieces ≡ true → (value name pieces ≡ None → IsFromTo least most (unwrap_or default 0)) → IsFromTo least most (number_of name pieces)
+    → (pieces : List Piece) → list_all fits pieces ≡ true → (value name pieces ≡ None → IsFromTo least most (unwrap_or default 0)) →
+    IsFromTo least most (number_of name pieces)
 number_from_to least most default name kind pieces h within =
     subst (λ k. IsFromTo least most (unwrap_or (option_map number (value name pieces)) (default_of k))) (sym kind)
     (by (value name pieces) (λ v e. subst (λ k. is_value k v ≡ true) kind (value-fits name pieces h v e)) within)
   where
-    by : (r : Option (List ℕ)) → ((v : List ℕ) → r ≡ Some v → is_value (Number least most default) v ≡ true) → (r ≡ None → IsFromTo least most (unwrap_or default 0))
+    by : (r : Option (List ℕ)) → ((v : List ℕ) → r ≡ Some v → is_value (Number least most default) v ≡ true) →
+        (r ≡ None → IsFromTo least most (unwrap_or default 0))
         → IsFromTo least most (unwrap_or (option_map number r) (unwrap_or default 0))
     by None fit within = within refl
     by (Some v) fit within =
@@ -100,11 +102,16 @@ meaning_checked name pieces right = by name (parts name pieces right) where
   by : (name : CommandName) → IsRight name pieces → IsChecked (meaning name pieces)
   by command.Search line = (file_named 0 pieces line.fit (omega (arith, line.count)), workers-are line.fit, nodes-are line.fit, floor-is line.fit)
   by command.Tabulate line = file_named 0 pieces line.fit (omega (arith, line.count))
-  by command.Check line = (file_named 0 pieces line.fit (omega (arith, line.count)), file_named 1 pieces line.fit (omega (arith, line.count)), nodes-are line.fit)
+  by command.Check line =
+      (file_named 0 pieces line.fit (omega (arith, line.count)), file_named 1 pieces line.fit (omega (arith, line.count)), nodes-are line.fit)
   by command.Sample line =
-      let (seed, draws) = and_parts (is_given_right option.Seed pieces) (is_given_right option.Draws pieces && true) line.options in
-      (file_named 0 pieces line.fit (omega (arith, line.count)), seed_given pieces line.fit seed, draws-are pieces line.fit (and_parts (is_given_right option.Draws pieces) true draws).0)
-  by command.Plan line = (file_named 0 pieces line.fit (omega (arith, line.count)), file_named 1 pieces line.fit (omega (arith, line.count)), limit-is line.fit, gamma-is line.fit)
+      let (seed, draws) = and_parts (is_given_right option.Seed pieces) (is_given_right option.Draws pieces && true) line.options in (
+        file_named 0 pieces line.fit (omega (arith, line.count)),
+        seed_given pieces line.fit seed,
+        draws-are pieces line.fit (and_parts (is_given_right option.Draws pieces) true draws).0,
+      )
+  by command.Plan line =
+      (file_named 0 pieces line.fit (omega (arith, line.count)), file_named 1 pieces line.fit (omega (arith, line.count)), limit-is line.fit, gamma-is line.fit)
   by command.Open line =
       let named = λ (i : ℕ) (less : i < 3). file_named i pieces line.fit (omega (arith, line.count, less)) in (
         named 0 (omega arith),
@@ -134,13 +141,15 @@ meaning_checked name pieces right = by name (parts name pieces right) where
     nodes-are line.fit,
   )
 
-pub checked-meaning : (command : CommandName) (words : List (List ℕ)) → are_right command (pieces_of command words) ≡ true → IsChecked (meaning command (pieces_of command words))
+pub checked-meaning : (command : CommandName) (words : List (List ℕ)) → are_right command (pieces_of command words) ≡ true →
+    IsChecked (meaning command (pieces_of command words))
 checked-meaning command words right = meaning_checked command (pieces_of command words) right
 
 checked_command : (found : Option CommandName) (words : List (List ℕ)) (command : Command) → command_by found words ≡ Some command → IsChecked command
 checked_command None words command e = cc
 checked_command (Some name) words command e = by (are_right name (pieces_of name words)) refl e where
-  by : (b : Bool) → are_right name (pieces_of name words) ≡ b → (if b then Some (meaning name (pieces_of name words)) else None) ≡ Some command → IsChecked command
+  by : (b : Bool) → are_right name (pieces_of name words) ≡ b → (if b then Some (meaning name (pieces_of name words)) else None) ≡ Some command →
+      IsChecked command
   by true right e = let same : meaning name (pieces_of name words) ≡ command = cc in subst IsChecked same (checked-meaning name words right)
   by false right e = cc
 

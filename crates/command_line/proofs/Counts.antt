@@ -13,7 +13,8 @@ abbrev waits : Option OptionName → ℕ
 waits None = 0
 waits (Some option) = 1
 
-at_most : (options : List OptionName) (waiting : Option OptionName) (words : List (List ℕ)) → length (pieces_from options waiting words) ≤ length words + waits waiting
+at_most : (options : List OptionName) (waiting : Option OptionName) (words : List (List ℕ)) →
+    length (pieces_from options waiting words) ≤ length words + waits waiting
 at_most options (Some option) [] = omega arith
 at_most options (Some option) (word ∷ words) = let h = at_most options None words in omega (arith, h)
 at_most options None [] = omega arith

@@ -12,11 +12,13 @@ length-kept {X} {Y} h (x ∷ xs) = by (h x) (length-kept h xs) where
   by None e = e
   by (Some y) e = omega (arith, e)
 
-pub kept_at : {X Y : Type 0} (h : X → Option Y) (xs : List X) (i : ℕ) → option_and_then h (slice_get (filter (λ x. is_some (h x)) xs) i) ≡ slice_get (filter_map h xs) i
+pub kept_at : {X Y : Type 0} (h : X → Option Y) (xs : List X) (i : ℕ) → option_and_then h (slice_get (filter (λ x. is_some (h x)) xs) i)
+    ≡ slice_get (filter_map h xs) i
 kept_at h [] i = refl
 kept_at {X} {Y} h (x ∷ xs) i = by (h x) refl i (kept_at h xs) where
   by : (r : Option Y) → h x ≡ r → (i : ℕ) → ((i : ℕ) → option_and_then h (slice_get (filter (λ x. is_some (h x)) xs) i) ≡ slice_get (filter_map h xs) i)
-      → option_and_then h (slice_get (cond (is_some r) (x ∷ filter (λ x. is_some (h x)) xs) (filter (λ x. is_some (h x)) xs)) i) ≡ slice_get (cons_option r (filter_map h xs)) i
+      → option_and_then h (slice_get (cond (is_some r) (x ∷ filter (λ x. is_some (h x)) xs) (filter (λ x. is_some (h x)) xs)) i)
+      ≡ slice_get (cons_option r (filter_map h xs)) i
   by None e i more = more i
   by (Some y) e zero more = e
   by (Some y) e (suc i) more = more i

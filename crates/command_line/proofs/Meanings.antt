@@ -55,7 +55,8 @@ small Ballots = omega arith
 
 -- ---- the text of an option
 
-pub value-fits : (option : OptionName) (pieces : List Piece) → list_all fits pieces ≡ true → (v : List ℕ) → value option pieces ≡ Some v → is_value (kind_of option) v ≡ true
+pub value-fits : (option : OptionName) (pieces : List Piece) → list_all fits pieces ≡ true → (v : List ℕ) → value option pieces ≡ Some v →
+    is_value (kind_of option) v ≡ true
 value-fits option [] h v e = cc
 value-fits option (File name ∷ pieces) h v e = value-fits option pieces (and_parts (fits (File name)) (list_all fits pieces) h).1 v e
 value-fits option (Stray ∷ pieces) h v e = absurd (false≢true h)

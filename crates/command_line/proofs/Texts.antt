@@ -12,7 +12,8 @@ texts-push [] s = refl
 texts-push (item ∷ items) s = ap (λ t. string_bytes item ∷ t) (texts-push items s)
 
 -- one more word
-pub pushed : (items new : List (String Global)) (s : String Global) (word : List ℕ) → new ≡ items ++ s ∷ [] → string_bytes s ≡ word → texts new ≡ texts items ++ word ∷ []
+pub pushed : (items new : List (String Global)) (s : String Global) (word : List ℕ) → new ≡ items ++ s ∷ [] → string_bytes s ≡ word →
+    texts new ≡ texts items ++ word ∷ []
 pushed items new s word e w = ap texts e ∙ texts-push items s ∙ ap (λ t. texts items ++ t ∷ []) w
 
 -- one more file

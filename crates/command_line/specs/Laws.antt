@@ -31,24 +31,32 @@ IsUpTo most n = IsFromTo 1 most n
 -- the files have names, the numbers are within their limits, and a seed is one
 abbrev pub IsChecked : Command → Type 0
 IsChecked (Search ballots contest workers nodes floor) =
-    IsNamed ballots × IsUpTo MOST_WORKERS workers × IsUpTo MOST_NODES nodes × IsUpTo MOST_FLOOR floor
+    IsNamed ballots × IsUpTo MOST_WORKERS workers × IsUpTo MOST_NODES nodes
+    × IsUpTo MOST_FLOOR floor
 IsChecked (Tabulate ballots contest) = IsNamed ballots
-IsChecked (Check ballots assertions contest nodes) = IsNamed ballots × IsNamed assertions × IsUpTo MOST_NODES nodes
-IsChecked (Sample manifest seed draws) = IsNamed manifest × (is_seed seed ≡ true) × IsUpTo MOST_DRAWS draws
+IsChecked (Check ballots assertions contest nodes) =
+    IsNamed ballots × IsNamed assertions × IsUpTo MOST_NODES nodes
+IsChecked (Sample manifest seed draws) =
+    IsNamed manifest × (is_seed seed ≡ true) × IsUpTo MOST_DRAWS draws
 IsChecked (Plan manifest assertions limit gamma) =
-    IsNamed manifest × IsNamed assertions × IsUpTo GREATEST_LIMIT limit × IsUpTo GREATEST_GAMMA gamma
+    IsNamed manifest × IsNamed assertions × IsUpTo GREATEST_LIMIT limit
+    × IsUpTo GREATEST_GAMMA gamma
 IsChecked (Open ballots manifest assertions seed contest limit gamma nodes) =
-    IsNamed ballots × IsNamed manifest × IsNamed assertions × (is_seed seed ≡ true) × IsUpTo GREATEST_LIMIT limit × IsUpTo GREATEST_GAMMA gamma
+    IsNamed ballots × IsNamed manifest × IsNamed assertions × (is_seed seed ≡ true)
+    × IsUpTo GREATEST_LIMIT limit × IsUpTo GREATEST_GAMMA gamma
     × IsUpTo MOST_NODES nodes
 IsChecked (Audit session ballots manifest assertions seen draws nodes) =
-    IsNamed session × IsNamed ballots × IsNamed manifest × IsNamed assertions × IsNamed seen × IsUpTo MOST_DRAWS draws × IsUpTo MOST_NODES nodes
+    IsNamed session × IsNamed ballots × IsNamed manifest × IsNamed assertions × IsNamed seen
+    × IsUpTo MOST_DRAWS draws × IsUpTo MOST_NODES nodes
 IsChecked (Report session) = IsNamed session
 IsChecked (Trial number candidates ballots workers nodes) =
-    (number ≤ MOST_TRIAL_NUMBER) × IsFromTo FEWEST_CANDIDATES MOST_CANDIDATES candidates × IsUpTo MOST_RECORDS ballots
+    (number ≤ MOST_TRIAL_NUMBER) × IsFromTo FEWEST_CANDIDATES MOST_CANDIDATES candidates
+    × IsUpTo MOST_RECORDS ballots
     × IsUpTo MOST_WORKERS workers × IsUpTo MOST_NODES nodes
 
 abbrev pub LinesAreChecked : Type 0
-LinesAreChecked = (words : List (List ℕ)) (command : Command) → command_of words ≡ Some command → IsChecked command
+LinesAreChecked = (words : List (List ℕ)) (command : Command) → command_of words ≡ Some command →
+    IsChecked command
 
 -- ---- the limits
 
@@ -126,7 +134,8 @@ pub record Searches : Type 0 where
   pub none : is_line (search_line []) ≡ true
   pub two_words : is_line (search_line (codes "--workers" ∷ codes "8" ∷ [])) ≡ true
   pub one_word : is_line (search_line (codes "--workers=8" ∷ [])) ≡ true
-  pub before_the_file : is_line (codes "search" ∷ codes "--workers" ∷ codes "1" ∷ codes "a.raire" ∷ []) ≡ true
+  pub before_the_file : is_line
+      (codes "search" ∷ codes "--workers" ∷ codes "1" ∷ codes "a.raire" ∷ []) ≡ true
   pub nine : is_line (search_line (codes "--workers=9" ∷ [])) ≡ false
   pub twice : is_line (search_line (codes "--workers=8" ∷ codes "--workers=8" ∷ [])) ≡ false
   pub no_value : is_line (search_line (codes "--workers" ∷ [])) ≡ false
@@ -136,11 +145,13 @@ sample_line options = codes "sample" ∷ codes "m.csv" ∷ options
 
 -- a sample needs a seed and a number of draws, in any order
 pub record Samples : Type 0 where
-  pub both : is_line (sample_line (codes "--seed" ∷ codes "2024" ∷ codes "--draws" ∷ codes "3" ∷ [])) ≡ true
+  pub both : is_line
+      (sample_line (codes "--seed" ∷ codes "2024" ∷ codes "--draws" ∷ codes "3" ∷ [])) ≡ true
   pub other_order : is_line (sample_line (codes "--draws=3" ∷ codes "--seed=2024" ∷ [])) ≡ true
   pub no_seed : is_line (sample_line (codes "--draws" ∷ codes "3" ∷ [])) ≡ false
   pub no_draws : is_line (sample_line (codes "--seed" ∷ codes "2024" ∷ [])) ≡ false
-  pub two_seeds : is_line (sample_line (codes "--seed" ∷ codes "1" ∷ codes "--seed" ∷ codes "2" ∷ codes "--draws=3" ∷ [])) ≡ false
+  pub two_seeds : is_line (sample_line
+      (codes "--seed" ∷ codes "1" ∷ codes "--seed" ∷ codes "2" ∷ codes "--draws=3" ∷ [])) ≡ false
 
 abbrev trial_line : List (List ℕ) → List (List ℕ)
 trial_line options = codes "trial" ∷ options
@@ -149,10 +160,13 @@ trial_line options = codes "trial" ∷ options
 pub record Trials : Type 0 where
   pub number : is_line (trial_line (codes "--number" ∷ codes "7" ∷ [])) ≡ true
   pub no_number : is_line (trial_line []) ≡ false
-  pub without_number : is_line (trial_line (codes "--candidates=6" ∷ codes "--ballots=100" ∷ [])) ≡ false
+  pub without_number : is_line (trial_line (codes "--candidates=6" ∷ codes "--ballots=100" ∷ []))
+      ≡ false
   pub two_numbers : is_line (trial_line (codes "--number=7" ∷ codes "--number=7" ∷ [])) ≡ false
   pub with_file : is_line (trial_line (codes "--number=7" ∷ codes "a.raire" ∷ [])) ≡ false
-  pub all : is_line (trial_line (codes "--nodes=9" ∷ codes "--workers=8" ∷ codes "--ballots=1" ∷ codes "--candidates=20" ∷ codes "--number=0" ∷ [])) ≡ true
+  pub all : is_line (trial_line
+      (codes "--nodes=9" ∷ codes "--workers=8" ∷ codes "--ballots=1" ∷ codes "--candidates=20"
+      ∷ codes "--number=0" ∷ [])) ≡ true
 
 -- a line of each command, with all its options, and with those alone that it needs
 pub record Meanings : Type 0 where

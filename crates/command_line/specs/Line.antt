@@ -60,30 +60,38 @@ seed pieces = unwrap_or (value Seed pieces) []
 
 -- the number that is given, or the one of a line that doesn't give it
 abbrev pub number_of : OptionName → List Piece → ℕ
-number_of option pieces = unwrap_or (option_map number (value option pieces)) (default_of (kind_of option))
+number_of option pieces =
+    unwrap_or (option_map number (value option pieces)) (default_of (kind_of option))
 
 -- the command with its files and the values of its options
 abbrev pub meaning : CommandName → List Piece → Command
 meaning name.Search pieces =
-    Search (file 0 pieces) (contest pieces) (number_of Workers pieces) (number_of Nodes pieces) (number_of Floor pieces)
+    Search (file 0 pieces) (contest pieces) (number_of Workers pieces) (number_of Nodes pieces)
+    (number_of Floor pieces)
 meaning name.Tabulate pieces = Tabulate (file 0 pieces) (contest pieces)
-meaning name.Check pieces = Check (file 0 pieces) (file 1 pieces) (contest pieces) (number_of Nodes pieces)
+meaning name.Check pieces =
+    Check (file 0 pieces) (file 1 pieces) (contest pieces) (number_of Nodes pieces)
 meaning name.Sample pieces = Sample (file 0 pieces) (seed pieces) (number_of Draws pieces)
-meaning name.Plan pieces = Plan (file 0 pieces) (file 1 pieces) (number_of Limit pieces) (number_of Gamma pieces)
+meaning name.Plan pieces =
+    Plan (file 0 pieces) (file 1 pieces) (number_of Limit pieces) (number_of Gamma pieces)
 meaning name.Open pieces =
-    Open (file 0 pieces) (file 1 pieces) (file 2 pieces) (seed pieces) (contest pieces) (number_of Limit pieces) (number_of Gamma pieces)
+    Open (file 0 pieces) (file 1 pieces) (file 2 pieces) (seed pieces) (contest pieces)
+    (number_of Limit pieces) (number_of Gamma pieces)
     (number_of Nodes pieces)
 meaning name.Audit pieces =
-    Audit (file 0 pieces) (file 1 pieces) (file 2 pieces) (file 3 pieces) (file 4 pieces) (number_of Draws pieces) (number_of Nodes pieces)
+    Audit (file 0 pieces) (file 1 pieces) (file 2 pieces) (file 3 pieces) (file 4 pieces)
+    (number_of Draws pieces) (number_of Nodes pieces)
 meaning name.Report pieces = Report (file 0 pieces)
 meaning name.Trial pieces =
-    Trial (number_of Number pieces) (number_of Candidates pieces) (number_of Ballots pieces) (number_of Workers pieces)
+    Trial (number_of Number pieces) (number_of Candidates pieces) (number_of Ballots pieces)
+    (number_of Workers pieces)
     (number_of Nodes pieces)
 
 abbrev pub command_by : Option CommandName → List (List ℕ) → Option Command
 command_by None words = None
 command_by (Some name) words =
-    let found = pieces_of name words in if are_right name found then Some (meaning name found) else None
+    let found = pieces_of name words in
+    if are_right name found then Some (meaning name found) else None
 
 -- the command that the words ask for
 abbrev pub command_of : List (List ℕ) → Option Command

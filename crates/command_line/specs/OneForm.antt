@@ -19,11 +19,11 @@ use Rattle.command_line.specs.declared.table.OptionName.TheVariants.{Seed}
 abbrev pub value_text : OptionName → List Piece → List ℕ
 value_text option pieces = unwrap_or (value option pieces) []
 
-abbrev pub given : OptionName → List ℕ → List ℕ
-given option value = codes "--" ++ (text_of option ++ (codes "=" ++ value))
+abbrev pub option_word : OptionName → List ℕ → List ℕ
+option_word option value = codes "--" ++ (text_of option ++ (codes "=" ++ value))
 
 abbrev pub options_given : List OptionName → List Piece → List (List ℕ)
-options_given options pieces = map (λ option. given option (value_text option pieces)) options
+options_given options pieces = map (λ option. option_word option (value_text option pieces)) options
 
 abbrev pub files_given : ℕ → List Piece → List (List ℕ)
 files_given n pieces = map (λ i. file i pieces) (range_with_len 0 n)
@@ -48,7 +48,8 @@ with_rules app rules = fold with_rule app rules
 
 -- the command with this word, these files and these options
 abbrev pub app_for : List ℕ → List (List ℕ) → List OptionName → App
-app_for word files options = with_rules (with_rules (new_app word) (option_rules options)) (map new_rule files)
+app_for word files options =
+    with_rules (with_rules (new_app word) (option_rules options)) (map new_rule files)
 
 abbrev pub app_of_command : CommandName → App
 app_of_command command = let form = form_of command in app_for form.word form.files form.options
@@ -60,11 +61,13 @@ IsShown option pieces rows = first_of (text_of option) rows ≡ Some (value_text
 
 abbrev pub ShowsOptions : List Row → List Piece → List OptionName → Type 0
 ShowsOptions rows pieces [] = Unit {0}
-ShowsOptions rows pieces (option ∷ options) = IsShown option pieces rows × ShowsOptions rows pieces options
+ShowsOptions rows pieces (option ∷ options) =
+    IsShown option pieces rows × ShowsOptions rows pieces options
 
 abbrev pub ShowsFiles : List Row → List Piece → ℕ → List (List ℕ) → Type 0
 ShowsFiles rows pieces i [] = Unit {0}
-ShowsFiles rows pieces i (name ∷ names) = (first_of name rows ≡ Some (file i pieces)) × ShowsFiles rows pieces (suc i) names
+ShowsFiles rows pieces i (name ∷ names) =
+    (first_of name rows ≡ Some (file i pieces)) × ShowsFiles rows pieces (suc i) names
 
 pub record Shows (command : CommandName) (pieces : List Piece) (rows : List Row) : Type 0 where
   pub options : ShowsOptions rows pieces (form_of command).options
@@ -83,7 +86,8 @@ HasSeed rows = (text : List ℕ) × (is_seed text ≡ true) × (first_of (text_o
 -- it is the command that the pieces mean which are shown, if there is one
 abbrev pub IsMeant : CommandName → List Row → Result Command AllocError → Type 0
 IsMeant name rows result =
-    (pieces : List Piece) → list_all fits pieces ≡ true → Shows name pieces rows → IfOk result (λ command. command ≡ meaning name pieces)
+    (pieces : List Piece) → list_all fits pieces ≡ true → Shows name pieces rows →
+    IfOk result (λ command. command ≡ meaning name pieces)
 
 -- ---- a text that is handed on
 

@@ -41,7 +41,8 @@ valued (Some option) value = Valued option value
 -- by what follows the two hyphens
 abbrev pub long_sort : List OptionName → List ℕ → WordSort
 long_sort options long =
-    if list_any is_equals long then valued (option_named options (before_first is_equals long)) (after_first is_equals long)
+    if list_any is_equals long
+    then valued (option_named options (before_first is_equals long)) (after_first is_equals long)
     else named (option_named options long)
 
 abbrev pub begins_with_hyphen : List ℕ → Bool
@@ -62,7 +63,8 @@ value_piece option word = if begins_with_hyphen word then Stray else Given optio
 
 -- the pieces of a word of this sort and of the words after it. Of these, more gives the pieces, the first of them being the value of
 -- the option that waits for one, if one does.
-abbrev pub pieces_at : WordSort → List ℕ → List (List ℕ) → (Option OptionName → List Piece) → List Piece
+abbrev pub pieces_at : WordSort → List ℕ → List (List ℕ) → (Option OptionName → List Piece) →
+    List Piece
 pieces_at Dashes word words more = map File words
 pieces_at Plain word words more = File word ∷ more None
 pieces_at (Named option) word words more = more (Some option)
@@ -71,9 +73,11 @@ pieces_at Unknown word words more = Stray ∷ more None
 
 abbrev pub pieces_from : List OptionName → Option OptionName → List (List ℕ) → List Piece
 pieces_from options (Some option) [] = Stray ∷ []
-pieces_from options (Some option) (word ∷ words) = value_piece option word ∷ pieces_from options None words
+pieces_from options (Some option) (word ∷ words) =
+    value_piece option word ∷ pieces_from options None words
 pieces_from options None [] = []
-pieces_from options None (word ∷ words) = pieces_at (word_sort options word) word words (λ waiting. pieces_from options waiting words)
+pieces_from options None (word ∷ words) =
+    pieces_at (word_sort options word) word words (λ waiting. pieces_from options waiting words)
 
 abbrev pub pieces : List OptionName → List (List ℕ) → List Piece
 pieces options words = pieces_from options None words
@@ -97,7 +101,8 @@ files_in pieces = filter_map file_in pieces
 
 abbrev pub value_in : OptionName → Piece → Option (List ℕ)
 value_in option (File name) = None
-value_in option (Given other value) = if bytes_eq (text_of other) (text_of option) then Some value else None
+value_in option (Given other value) =
+    if bytes_eq (text_of other) (text_of option) then Some value else None
 value_in option Stray = None
 
 abbrev pub gives : OptionName → Piece → Bool

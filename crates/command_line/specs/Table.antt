@@ -21,10 +21,26 @@ form_of Search = record {
   files = codes "ballots" ∷ [];
   options = option.Contest ∷ option.Workers ∷ option.Nodes ∷ option.Floor ∷ [];
 }
-form_of Tabulate = record { word = codes "tabulate"; files = codes "ballots" ∷ []; options = option.Contest ∷ [] }
-form_of Check = record { word = codes "check"; files = codes "ballots" ∷ codes "assertions" ∷ []; options = option.Contest ∷ option.Nodes ∷ [] }
-form_of Sample = record { word = codes "sample"; files = codes "manifest" ∷ []; options = option.Seed ∷ option.Draws ∷ [] }
-form_of Plan = record { word = codes "plan"; files = codes "manifest" ∷ codes "assertions" ∷ []; options = option.Limit ∷ option.Gamma ∷ [] }
+form_of Tabulate =
+    record { word = codes "tabulate"; files = codes "ballots" ∷ []; options = option.Contest ∷ [] }
+form_of Check =
+    record {
+      word = codes "check";
+      files = codes "ballots" ∷ codes "assertions" ∷ [];
+      options = option.Contest ∷ option.Nodes ∷ [];
+    }
+form_of Sample =
+    record {
+      word = codes "sample";
+      files = codes "manifest" ∷ [];
+      options = option.Seed ∷ option.Draws ∷ [];
+    }
+form_of Plan =
+    record {
+      word = codes "plan";
+      files = codes "manifest" ∷ codes "assertions" ∷ [];
+      options = option.Limit ∷ option.Gamma ∷ [];
+    }
 form_of Open = record {
   word = codes "open";
   files = codes "ballots" ∷ codes "manifest" ∷ codes "assertions" ∷ [];
@@ -32,7 +48,9 @@ form_of Open = record {
 }
 form_of Audit = record {
   word = codes "audit";
-  files = codes "session" ∷ codes "ballots" ∷ codes "manifest" ∷ codes "assertions" ∷ codes "seen" ∷ [];
+  files =
+      codes "session" ∷ codes "ballots" ∷ codes "manifest" ∷ codes "assertions"
+      ∷ codes "seen" ∷ [];
   options = option.Draws ∷ option.Nodes ∷ [];
 }
 form_of Report = record { word = codes "report"; files = codes "session" ∷ []; options = [] }

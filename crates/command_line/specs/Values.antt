@@ -11,7 +11,8 @@ use Rattle.command_line.specs.declared.table.ValueKind.TheVariants.{Id, Seed, Nu
 
 -- 1 to MOST_NUMBER_DIGITS digits, leading zeros allowed
 abbrev pub is_number : List ℕ → Bool
-is_number text = nat_le 1 (length text) && nat_le (length text) MOST_NUMBER_DIGITS && list_all is_ascii_digit text
+is_number text = nat_le 1 (length text) && nat_le (length text) MOST_NUMBER_DIGITS
+    && list_all is_ascii_digit text
 
 abbrev pub number : List ℕ → ℕ
 number text = digits_value 10 text
@@ -19,4 +20,5 @@ number text = digits_value 10 text
 abbrev pub is_value : ValueKind → List ℕ → Bool
 is_value Id text = is_name text
 is_value Seed text = is_seed text
-is_value (Number least most default) text = is_number text && nat_le least (number text) && nat_le (number text) most
+is_value (Number least most default) text =
+    is_number text && nat_le least (number text) && nat_le (number text) most

@@ -9,8 +9,8 @@ ghost use Rattle.command_line.specs.Laws.{IsChecked};
 use crate::arguments::{contest, file, number, seed};
 use crate::file_name::FileName;
 use crate::line::{are_right, command_named};
+use crate::matches::matches_of;
 use crate::one_form::one_form;
-use crate::parsed::parsed;
 use crate::table::{ASSERTIONS, BALLOTS, CommandName, MANIFEST, OptionName, SEEN, SESSION};
 use clap::ArgMatches;
 use irv_base::{Memory, Name};
@@ -220,7 +220,7 @@ fn read_line(alloc: Global, name: CommandName, words: &[String]) -> Result<Comma
     ensures { IfOk result (λ command. command ≡ meaning name (pieces_of name (texts words.now))) }
 {
     let form = one_form(alloc, name, words)?;
-    match parsed(alloc, name, form.as_slice()) {
+    match matches_of(alloc, name, form.as_slice()) {
         Ok(matches) => Ok(read_command(alloc, name, &matches)?),
         Err(_) => Err(Memory),
     }

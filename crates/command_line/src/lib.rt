@@ -7,8 +7,8 @@ mod file_name;
 pub mod laws;
 mod limits;
 mod line;
+mod matches;
 mod one_form;
-mod parsed;
 mod pieces;
 mod table;
 mod value;
@@ -20,6 +20,3 @@ pub use limits::{
     DEFAULT_NODES, DEFAULT_WORKERS, MOST_FLOOR, MOST_NODES, MOST_TRIAL_NUMBER,
 };
 pub use line::is_line;
-
-#[cfg(test)]
-mod tests;

@@ -45,8 +45,8 @@ fn all_fit(mut pieces: Pieces<'_>) -> bool
 }
 
 fn are_given_right(options: &[OptionName], words: &[String]) -> bool
-    ensures { let given = pieces options.now (texts words.now) in
-        result ≡ list_all (λ option. is_given_right option given) options.now }
+    ensures { let all = pieces options.now (texts words.now) in
+        result ≡ list_all (λ option. is_given_right option all) options.now }
 {
     options.iter().all(|option| is_given_right(*option, Pieces::of(options, words)))
 }

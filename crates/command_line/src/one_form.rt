@@ -4,7 +4,7 @@ ghost use Rattle.std.specs.Prelude.{◌≡◌, ◌++◌, IfOk, OnOk, string_byte
 ghost use Rattle.command_line.specs.Words.{texts};
 ghost use Rattle.command_line.specs.Line.{file, value, pieces_of};
 ghost use Rattle.command_line.specs.Pieces.{pieces};
-ghost use Rattle.command_line.specs.OneForm.{value_text, given, options_given, files_given, one_form};
+ghost use Rattle.command_line.specs.OneForm.{value_text, option_word, options_given, files_given, one_form};
 
 use crate::pieces::Pieces;
 use crate::table::{CommandName, OptionName};
@@ -28,8 +28,8 @@ fn file<'w>(i: usize, pieces: Pieces<'w>) -> &'w str
     }
 }
 
-fn given(alloc: Global, option: OptionName, value: &str) -> Result<String, AllocError>
-    ensures { IfOk result (λ word. string_bytes word ≡ given option value.now) }
+fn option_word(alloc: Global, option: OptionName, value: &str) -> Result<String, AllocError>
+    ensures { IfOk result (λ word. string_bytes word ≡ option_word option value.now) }
 {
     format!(in alloc; "--{}={value}", option.text())
 }
@@ -45,7 +45,7 @@ fn push_options(
 {
     for option in options {
         let value = value_text(*option, Pieces::of(options, words));
-        line.push(given(alloc, *option, value)?)?;
+        line.push(option_word(alloc, *option, value)?)?;
     }
     Ok(())
 }

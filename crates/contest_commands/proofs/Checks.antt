@@ -74,7 +74,8 @@ names-cover n winner nodes list = by (first_over n winner list nodes) (standing_
   standing-order order is =
       ((alternative_orders_are n winner order).0 (contains-from_member (from_find (stands list) order (alternative_orders n winner) is).0)).0
 
-  by : (over : Option ℕ) (standing : Option (List ℕ)) → ((last : ℕ) → over ≡ Some last → last < n) → ((order : List ℕ) → standing ≡ Some order → IsTrue (is_order n order))
+  by : (over : Option ℕ) (standing : Option (List ℕ)) → ((last : ℕ) → over ≡ Some last → last < n) →
+      ((order : List ℕ) → standing ≡ Some order → IsTrue (is_order n order))
       → IfSome (unless_covered (or_spent over (cover_verdict standing))) (Names n)
   by (Some last) standing below order = below last refl
   by None None below order = tt
@@ -84,7 +85,8 @@ names-elected : (n : ℕ) (b : Bool) → IfSome (if b then Some (Ok NotAlternati
 names-elected n true = tt
 names-elected n false = tt
 
-names-harder : (n hardness : ℕ) (b : Bool) (found : Option Assertion) → ((a : Assertion) → found ≡ Some a → IsTrue (is_proper n a)) → IfSome (if b then refuted_by hardness found else None) (Names n)
+names-harder : (n hardness : ℕ) (b : Bool) (found : Option Assertion) → ((a : Assertion) → found ≡ Some a → IsTrue (is_proper n a)) →
+    IfSome (if b then refuted_by hardness found else None) (Names n)
 names-harder n hardness true None proper = tt
 names-harder n hardness true (Some a) proper = proper a refl
 names-harder n hardness false found proper = tt
@@ -92,12 +94,14 @@ names-harder n hardness false found proper = tt
 won_as : (ballots : BallotFile) (winner : ℕ) → IsWinner (length ballots.candidates) ballots.rankings winner → IsWon ballots winner
 won_as ballots winner is = record { order = is.order; permutation = is.permutation; tabulated = is.tabulated; elects = is.elects }
 
-names-judged : (nodes : ℕ) (ballots : BallotFile) (file : Content) → is_about ballots file ≡ true → (contested : Contested) → IsOutcome (length ballots.candidates) ballots.rankings contested
+names-judged : (nodes : ℕ) (ballots : BallotFile) (file : Content) → is_about ballots file ≡ true → (contested : Contested) →
+    IsOutcome (length ballots.candidates) ballots.rankings contested
     → Names (length file.candidates) (checked_is nodes ballots.rankings file contested)
 names-judged nodes ballots file about (Tied round tied votes) is = tt
 names-judged nodes ballots file about (Won winner) is =
     let n = length file.candidates in
-    let below : winner < n = subst (λ m. winner < m) (sym (ap length (from_about ballots file about).candidates)) (winner-below ballots winner (won_as ballots winner is)) in
+    let below : winner < n = subst (λ m. winner < m) (sym (ap length (from_about ballots file about).candidates))
+    (winner-below ballots winner (won_as ballots winner is)) in
     of_first (Names n) (findings nodes ballots.rankings file winner) (Ok Accepted) (
       if_not (Names n) (file.winner == winner) (Ok (OtherWinner winner)) below,
       (
@@ -117,7 +121,8 @@ names-judged nodes ballots file about (Won winner) is =
 
 pub names : (nodes : ℕ) (ballots : BallotFile) (file : Content) (answer : Answer) → IsAnswer nodes ballots file answer → Names (length file.candidates) answer
 names nodes ballots file answer is = by (is_about ballots file) refl is where
-  by : (b : Bool) → is_about ballots file ≡ b → MatchBool b (Judges nodes ballots file answer) (answer ≡ Ok OtherContest) → Names (length file.candidates) answer
+  by : (b : Bool) → is_about ballots file ≡ b → MatchBool b (Judges nodes ballots file answer) (answer ≡ Ok OtherContest) →
+      Names (length file.candidates) answer
   by true about judges = subst (Names (length file.candidates)) judges.answer_is (names-judged nodes ballots file about judges.outcome judges.tabulated)
   by false about other = subst (Names (length file.candidates)) (sym other) tt
 
@@ -127,7 +132,8 @@ pub checks-one : (nodes : ℕ) (ballots : BallotFile) (file : Content) (v w : Ve
 checks-one nodes ballots file v w (answer, is, told) (other, is', told') =
     some_is (sym told ∙ ap (verdict_on file) (answer_is_one nodes ballots file answer other is is') ∙ told')
 
-checked_in-one : (nodes : ℕ) (ballots : BallotFile) (name : List ℕ) (read : Result Content FileRefusal) (v w : Verdict) → ChecksIn nodes ballots name read v → ChecksIn nodes ballots name read w → v ≡ w
+checked_in-one : (nodes : ℕ) (ballots : BallotFile) (name : List ℕ) (read : Result Content FileRefusal) (v w : Verdict) → ChecksIn nodes ballots name read v →
+    ChecksIn nodes ballots name read w → v ≡ w
 checked_in-one nodes ballots name (Err refusal) v w p q = p ∙ sym q
 checked_in-one nodes ballots name (Ok file) v w p q = checks-one nodes ballots file v w p q
 
@@ -156,7 +162,8 @@ answer-kind file (Err (Tie round tied votes)) v told = subst (IsOfKind Kinds) (s
 answer-kind file (Err (Spent last)) v told = subst (IsOfKind Kinds) (some_is told) (inr (inr (inl refl)))
 answer-kind file (Err Memory) v told = absurd (cc told)
 
-checked_in-kind : (nodes : ℕ) (ballots : BallotFile) (name : List ℕ) (read : Result Content FileRefusal) (v : Verdict) → ChecksIn nodes ballots name read v → IsOfKind Kinds v
+checked_in-kind : (nodes : ℕ) (ballots : BallotFile) (name : List ℕ) (read : Result Content FileRefusal) (v : Verdict) → ChecksIn nodes ballots name read v →
+    IsOfKind Kinds v
 checked_in-kind nodes ballots name (Err refusal) v is = refused-kind Kinds v _ _ is
 checked_in-kind nodes ballots name (Ok file) v (answer, is, told) = answer-kind file answer v told
 

@@ -34,13 +34,15 @@ winner-below ballots winner won =
 -- ---- the first tie
 
 -- the lines of a tie, told by the ids of the contest
-pub tie_told : (ballots : BallotFile) (names : List Id) (round tied votes : ℕ) → names ≡ ballots.candidates → IsTie ballots round tied votes → HasTie ballots (tie_text names round tied votes)
+pub tie_told : (ballots : BallotFile) (names : List Id) (round tied votes : ℕ) → names ≡ ballots.candidates → IsTie ballots round tied votes →
+    HasTie ballots (tie_text names round tied votes)
 tie_told ballots names round tied votes same is =
     record { round = round; tied = tied; votes = votes; is = is; shown = ap (λ ids. tie_text ids round tied votes) same }
 
 pub tie-one : (ballots : BallotFile) (text other : List ℕ) → HasTie ballots text → HasTie ballots other → text ≡ other
 tie-one ballots text other a b =
-    let (r, t, v) = first_tie_is_one (candidate_count ballots) ballots.rankings a.round a.tied a.votes b.round b.tied b.votes a.is.counted b.is.counted a.is.first b.is.first in
+    let (r, t, v) = first_tie_is_one (candidate_count ballots) ballots.rankings a.round a.tied a.votes b.round b.tied b.votes a.is.counted b.is.counted
+    a.is.first b.is.first in
     a.shown ∙ ap (λ x. tie_text ballots.candidates x a.tied a.votes) r ∙ ap (λ x. tie_text ballots.candidates b.round x a.votes) t
     ∙ ap (λ x. tie_text ballots.candidates b.round b.tied x) v ∙ sym b.shown
 

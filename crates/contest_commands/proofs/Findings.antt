@@ -40,7 +40,8 @@ tabulation_of ballots bag t c = subst (λ n. IsTabulation n ballots.rankings t) 
 abbrev pub won_by : (ballots : BallotFile) (t : Tabulated) → IsTabulation (candidate_count ballots) ballots.rankings t → IsWon ballots t.winner
 won_by ballots t is = record { order = t.order; permutation = is.order; tabulated = is.tabulated; elects = is.winner }
 
-best_of : (ballots : BallotFile) (bag : Kept) (t : Tabulated) (end : RaceEnd) → IsCounted ballots bag t → IsBestOf bag t end → IsBest (candidate_count ballots) ballots.rankings t.winner end
+best_of : (ballots : BallotFile) (bag : Kept) (t : Tabulated) (end : RaceEnd) → IsCounted ballots bag t → IsBestOf bag t end →
+    IsBest (candidate_count ballots) ballots.rankings t.winner end
 best_of ballots bag t end c best = subst (λ n. IsBest n ballots.rankings t.winner end) c.candidates (best ballots.rankings c.records)
 
 -- ---- a budget that is spent
@@ -60,32 +61,39 @@ race-spent ballots t nodes last upper order is much =
     }
 
 -- the start order is one of those that elect another candidate
-best-first : (n winner : ℕ) (records : List (List ℕ)) (t : Tabulated) → 1 < n → IsTabulation n records t → t.winner ≡ winner → best_margin n winner (low n records) ≤ first_bound n records t.order
+best-first : (n winner : ℕ) (records : List (List ℕ)) (t : Tabulated) → 1 < n → IsTabulation n records t → t.winner ≡ winner →
+    best_margin n winner (low n records) ≤ first_bound n records t.order
 best-first n winner records t two is w =
     subst (λ v. best_margin n v (low n records) ≤ first_bound n records t.order) w
-    (best-le n t.winner (low n records) (start_order t.order) (member-from_contains (start_order t.order) (alternative_orders n t.winner) ((alternative_orders_are n t.winner (start_order t.order)).1 (start_is_alternative n t.winner t.order two is.order is.winner))))
+    (best-le n t.winner (low n records) (start_order t.order) (member-from_contains (start_order t.order) (alternative_orders n t.winner)
+    ((alternative_orders_are n t.winner (start_order t.order)).1 (start_is_alternative n t.winner t.order two is.order is.winner))))
 
 over-above : (ballots : BallotFile) (winner nodes last : ℕ) (order : List ℕ) → order_of ballots winner ≡ Some order →
     IsOver (candidate_count ballots) (low_of ballots) (margin_of ballots winner) order nodes last → nodes < certificate_nodes ballots winner last
 over-above ballots winner nodes last order is (inl cover) = omega (arith, cover)
 over-above ballots winner nodes last order is (inr count) =
-    let same : order_count_of ballots (margin_of ballots winner) (order_of ballots winner) last ≡ order_count (candidate_count ballots) (low_of ballots) (margin_of ballots winner) order last =
+    let same : order_count_of ballots (margin_of ballots winner) (order_of ballots winner) last ≡ order_count (candidate_count ballots) (low_of ballots)
+    (margin_of ballots winner) order last =
     ap (λ o. order_count_of ballots (margin_of ballots winner) o last) is in
     omega (arith, count, same)
 
 within-budget : (ballots : BallotFile) (winner nodes : ℕ) (order : List ℕ) (c : ℕ) → order_of ballots winner ≡ Some order →
     IsWithin (candidate_count ballots) (low_of ballots) (margin_of ballots winner) order nodes c → certificate_nodes ballots winner c ≤ nodes
 within-budget ballots winner nodes order c is (cover, count) =
-    let same : order_count_of ballots (margin_of ballots winner) (order_of ballots winner) c ≡ order_count (candidate_count ballots) (low_of ballots) (margin_of ballots winner) order c =
+    let same : order_count_of ballots (margin_of ballots winner) (order_of ballots winner) c ≡ order_count (candidate_count ballots) (low_of ballots)
+    (margin_of ballots winner) order c =
     ap (λ o. order_count_of ballots (margin_of ballots winner) o c) is in
     omega (arith, cover, count, same)
 
-pub certificate-spent : (ballots : BallotFile) (t : Tabulated) (end : RaceEnd) (nodes last : ℕ) → 1 < candidate_count ballots → IsTabulation (candidate_count ballots) ballots.rankings t →
-    IsBest (candidate_count ballots) ballots.rankings t.winner end → IsOverBudget (candidate_count ballots) ballots.rankings t.winner end.margin nodes last → IsSpent nodes ballots last end.order end.margin
+pub certificate-spent : (ballots : BallotFile) (t : Tabulated) (end : RaceEnd) (nodes last : ℕ) → 1 < candidate_count ballots →
+    IsTabulation (candidate_count ballots) ballots.rankings t →
+    IsBest (candidate_count ballots) ballots.rankings t.winner end → IsOverBudget (candidate_count ballots) ballots.rankings t.winner end.margin nodes last →
+    IsSpent nodes ballots last end.order end.margin
 certificate-spent ballots t end nodes last two is best spent =
     let n = candidate_count ballots in
     let margin : end.margin ≡ margin_of ballots t.winner = best.best in
-    let order : order_of ballots t.winner ≡ Some spent.order = subst (λ m. certificate_order n t.winner (low_of ballots) m ≡ Some spent.order) margin spent.order_is in
+    let order : order_of ballots t.winner ≡ Some spent.order = subst
+    (λ m. certificate_order n t.winner (low_of ballots) m ≡ Some spent.order) margin spent.order_is in
     let over = over-above ballots t.winner nodes last spent.order order (subst (λ m. IsOver n (low_of ballots) m spent.order nodes last) margin spent.over) in
     let first : margin_of ballots t.winner ≤ first_bound n ballots.rankings t.order = best-first n t.winner ballots.rankings t two is refl in
     record {
@@ -95,7 +103,8 @@ certificate-spent ballots t end nodes last two is best spent =
       cause = inr (record {
         above = over;
         least = λ c other before.
-            within-budget ballots t.winner nodes spent.order c order (subst (λ m. IsWithin n (low_of ballots) m spent.order nodes c) margin (spent.least c before other.other));
+            within-budget ballots t.winner nodes spent.order c order
+            (subst (λ m. IsWithin n (low_of ballots) m spent.order nodes c) margin (spent.least c before other.other));
         best = margin;
       });
       alternative = best.alternative;
@@ -117,7 +126,8 @@ true-margin records a holds =
     let more = ltb-true (votes_against records a) (votes_for records a) holds in
     record { some = omega (arith, more); most = margin-le records a }
 
-pub claim-sound : (n winner : ℕ) (records : List (List ℕ)) (claim : Claim) → Member claim (certificate_claims n records winner) → IsSoundClaim n (length records) claim
+pub claim-sound : (n winner : ℕ) (records : List (List ℕ)) (claim : Claim) → Member claim (certificate_claims n records winner) →
+    IsSoundClaim n (length records) claim
 claim-sound n winner records claim m =
     let (a, k, e) = from_map (claim_of records) claim (certificate_assertions n records winner) m in
     subst (IsSoundClaim n (length records)) e (record {
@@ -125,14 +135,17 @@ claim-sound n winner records claim m =
       margin = true-margin records a (from_list_all (is_true records) k (certificate_is_true n winner records));
     })
 
-pub best-margin : (n winner : ℕ) (records : List (List ℕ)) → winner < n → 1 < n → 1 ≤ best_margin n winner (low n records) → IsMargin (length records) (best_margin n winner (low n records))
+pub best-margin : (n winner : ℕ) (records : List (List ℕ)) → winner < n → 1 < n → 1 ≤ best_margin n winner (low n records) →
+    IsMargin (length records) (best_margin n winner (low n records))
 best-margin n winner records below two positive =
     let (a, k, e) = certificate_has_best n winner records below two positive in
     let le = margin-le records a in
     record { some = positive; most = omega (arith, le, e) }
 
-pub printable : (ballots : BallotFile) (t : Tabulated) (end : RaceEnd) (nodes : ℕ) (x : Certificate) → 1 < candidate_count ballots → IsTabulation (candidate_count ballots) ballots.rankings t →
-    IsBest (candidate_count ballots) ballots.rankings t.winner end → IsCertified (candidate_count ballots) ballots.rankings t.winner end.margin nodes x → IsPrintable ballots t.winner x
+pub printable : (ballots : BallotFile) (t : Tabulated) (end : RaceEnd) (nodes : ℕ) (x : Certificate) → 1 < candidate_count ballots →
+    IsTabulation (candidate_count ballots) ballots.rankings t →
+    IsBest (candidate_count ballots) ballots.rankings t.winner end → IsCertified (candidate_count ballots) ballots.rankings t.winner end.margin nodes x →
+    IsPrintable ballots t.winner x
 printable ballots t end nodes x two is best c =
     let n = candidate_count ballots in
     let records = ballots.rankings in
@@ -149,11 +162,15 @@ printable ballots t end nodes x two is best c =
       candidate = below;
       margin = subst (IsMargin (length records)) same margin;
       order = subst (λ o. is_order n o ≡ true) found alternative.0;
-      claims = subst (All (IsSoundClaim n (length records))) (sym c.claims) (each (IsSoundClaim n (length records)) (certificate_claims n records t.winner) (claim-sound n t.winner records));
+      claims =
+          subst (All (IsSoundClaim n (length records))) (sym c.claims)
+          (each (IsSoundClaim n (length records)) (certificate_claims n records t.winner) (claim-sound n t.winner records));
     }
 
-pub certified : (ballots : BallotFile) (t : Tabulated) (end : RaceEnd) (nodes : ℕ) (x : Certificate) (file : Content) → IsTabulation (candidate_count ballots) ballots.rankings t →
-    IsBest (candidate_count ballots) ballots.rankings t.winner end → IsCertified (candidate_count ballots) ballots.rankings t.winner end.margin nodes x → file ≡ content_of ballots t.winner x → IsFoundIn nodes ballots file
+pub certified : (ballots : BallotFile) (t : Tabulated) (end : RaceEnd) (nodes : ℕ) (x : Certificate) (file : Content) →
+    IsTabulation (candidate_count ballots) ballots.rankings t →
+    IsBest (candidate_count ballots) ballots.rankings t.winner end → IsCertified (candidate_count ballots) ballots.rankings t.winner end.margin nodes x →
+    file ≡ content_of ballots t.winner x → IsFoundIn nodes ballots file
 certified ballots t end nodes x file is best c shown =
     let n = candidate_count ballots in
     let least : order_of ballots t.winner ≡ Some x.order = subst (λ m. certificate_order n t.winner (low_of ballots) m ≡ Some x.order) best.best c.order in
@@ -165,10 +182,13 @@ certified ballots t end nodes x file is best c shown =
         least = least;
         is = shown ∙ content_same ballots t.winner x (c.margin ∙ best.best) c.claims;
       };
-      budget = λ k other. within-budget ballots t.winner nodes x.order k least (subst (λ m. IsWithin n (low_of ballots) m x.order nodes k) best.best (c.within k other.candidate other.other));
+      budget =
+          λ k other. within-budget ballots t.winner nodes x.order k least
+          (subst (λ m. IsWithin n (low_of ballots) m x.order nodes k) best.best (c.within k other.candidate other.other));
     }
   where
-    content_same : (ballots : BallotFile) (winner : ℕ) (x : Certificate) → x.margin ≡ margin_of ballots winner → x.claims.items ≡ certificate_claims (candidate_count ballots) ballots.rankings winner →
+    content_same : (ballots : BallotFile) (winner : ℕ) (x : Certificate) → x.margin ≡ margin_of ballots winner →
+        x.claims.items ≡ certificate_claims (candidate_count ballots) ballots.rankings winner →
         content_of ballots winner x ≡ certificate_of ballots winner x.order
     content_same ballots winner x margin claims = λ i. record {
       contest = ballots.contest;
@@ -183,26 +203,32 @@ certified ballots t end nodes x file is best c shown =
 -- ---- from what the parts answer for whatever records the bag is of
 
 module _ (ballots : BallotFile) (bag : Kept) (t : Tabulated) (counted : IsCounted ballots bag t) where
-  of_ballots : (P : ℕ → List (List ℕ) → Type 0) → ((records : List (List ℕ)) → IsOf bag records → P bag.n records) → P (candidate_count ballots) ballots.rankings
+  of_ballots : (P : ℕ → List (List ℕ) → Type 0) → ((records : List (List ℕ)) → IsOf bag records → P bag.n records) →
+      P (candidate_count ballots) ballots.rankings
   of_ballots P h = subst (λ n. P n ballots.rankings) counted.candidates (h ballots.rankings counted.records)
 
-  pub race_is_spent : (nodes last upper : ℕ) (order : List ℕ) → ((records : List (List ℕ)) → IsOf bag records → IsTooMuch bag.n records t nodes last upper order) → IsSpent nodes ballots last order upper
+  pub race_is_spent : (nodes last upper : ℕ) (order : List ℕ) →
+      ((records : List (List ℕ)) → IsOf bag records → IsTooMuch bag.n records t nodes last upper order) → IsSpent nodes ballots last order upper
   race_is_spent nodes last upper order much =
-      race-spent ballots t nodes last upper order (tabulation_of ballots bag t counted) (of_ballots (λ n records. IsTooMuch n records t nodes last upper order) much)
+      race-spent ballots t nodes last upper order (tabulation_of ballots bag t counted)
+      (of_ballots (λ n records. IsTooMuch n records t nodes last upper order) much)
 
-  pub certificate_is_spent : (end : RaceEnd) (nodes last : ℕ) → IsBestOf bag t end → ((records : List (List ℕ)) → IsOf bag records → IsOverBudget bag.n records t.winner end.margin nodes last) →
+  pub certificate_is_spent : (end : RaceEnd) (nodes last : ℕ) → IsBestOf bag t end →
+      ((records : List (List ℕ)) → IsOf bag records → IsOverBudget bag.n records t.winner end.margin nodes last) →
       IsSpent nodes ballots last end.order end.margin
   certificate_is_spent end nodes last best spent =
       certificate-spent ballots t end nodes last counted.two (tabulation_of ballots bag t counted) (best_of ballots bag t end counted best)
       (of_ballots (λ n records. IsOverBudget n records t.winner end.margin nodes last) spent)
 
-  pub is_printable : (end : RaceEnd) (nodes : ℕ) (x : Certificate) → IsBestOf bag t end → ((records : List (List ℕ)) → IsOf bag records → IsCertified bag.n records t.winner end.margin nodes x) →
+  pub is_printable : (end : RaceEnd) (nodes : ℕ) (x : Certificate) → IsBestOf bag t end →
+      ((records : List (List ℕ)) → IsOf bag records → IsCertified bag.n records t.winner end.margin nodes x) →
       IsPrintable ballots t.winner x
   is_printable end nodes x best certified =
       printable ballots t end nodes x counted.two (tabulation_of ballots bag t counted) (best_of ballots bag t end counted best)
       (of_ballots (λ n records. IsCertified n records t.winner end.margin nodes x) certified)
 
-  pub is_found : (end : RaceEnd) (nodes : ℕ) (x : Certificate) (file : Content) → IsBestOf bag t end → ((records : List (List ℕ)) → IsOf bag records → IsCertified bag.n records t.winner end.margin nodes x) →
+  pub is_found : (end : RaceEnd) (nodes : ℕ) (x : Certificate) (file : Content) → IsBestOf bag t end →
+      ((records : List (List ℕ)) → IsOf bag records → IsCertified bag.n records t.winner end.margin nodes x) →
       file ≡ content_of ballots t.winner x → IsFoundIn nodes ballots file
   is_found end nodes x file best certificate shown =
       certified ballots t end nodes x file (tabulation_of ballots bag t counted) (best_of ballots bag t end counted best)

@@ -1,5 +1,5 @@
 -- What is found in what a search has to know of a ballot file, is found in the file.
-use Rattle.std.proofs.Common.{◌⊎◌, inl, inr, ℕ, List}
+use Rattle.std.proofs.Common.{◌≡◌, ◌⊎◌, inl, inr, ℕ, List, subst}
 use Rattle.ballot_reader.specs.Ballots.{BallotFile}
 use Rattle.assertion_file.specs.Content.{Content}
 use Rattle.contest_commands.specs.Contest.{searched, IsOther}
@@ -39,3 +39,9 @@ module _ (ballots : BallotFile) where
       record { is = certificate_there file found.is; budget = λ c other. found.budget c (other_searched found.is.winner c other) }
   found_there nodes (Tie round tied votes) is = record { counted = is.counted; first = is.first }
   found_there nodes (Spent last order margin) is = spent_there nodes last order margin is
+
+  -- of the contest of the file, and as that which is told apart
+  pub found_of : (nodes : ℕ) (found is : Found) (contest : BallotFile) → found ≡ is → contest ≡ searched ballots → FoundIn nodes contest found →
+      FoundIn nodes ballots is
+  found_of nodes found is contest same of there =
+      found_there nodes is (subst (λ contest. FoundIn nodes contest is) of (subst (FoundIn nodes contest) same there))

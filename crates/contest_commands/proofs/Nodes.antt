@@ -15,14 +15,17 @@ work-few n records order c below =
     let few = parts_are_few n c below in
     omega (arith, counted, few)
 
-order-few : (ballots : BallotFile) (margin : ℕ) (order : Option (List ℕ)) (c : ℕ) → c < candidate_count ballots → order_count_of ballots margin order c ≤ 2 * factorial (candidate_count ballots - 1)
+order-few : (ballots : BallotFile) (margin : ℕ) (order : Option (List ℕ)) (c : ℕ) → c < candidate_count ballots →
+    order_count_of ballots margin order c ≤ 2 * factorial (candidate_count ballots - 1)
 order-few ballots margin None c below = omega arith
 order-few ballots margin (Some order) c below = (counts_are_few (candidate_count ballots) c margin (low_of ballots) order below).1
 
-cover-few : (ballots : BallotFile) (margin c : ℕ) → c < candidate_count ballots → cover_count (candidate_count ballots) (low_of ballots) margin c ≤ 2 * factorial (candidate_count ballots - 1)
+cover-few : (ballots : BallotFile) (margin c : ℕ) → c < candidate_count ballots →
+    cover_count (candidate_count ballots) (low_of ballots) margin c ≤ 2 * factorial (candidate_count ballots - 1)
 cover-few ballots margin c below = (counts_are_few (candidate_count ballots) c margin (low_of ballots) [] below).0
 
-pub nodes_are_few : (ballots : BallotFile) (tabulated : List ℕ) (winner c : ℕ) → IsOther ballots winner c → nodes_for ballots tabulated winner c ≤ 2 * factorial (candidate_count ballots - 1)
+pub nodes_are_few : (ballots : BallotFile) (tabulated : List ℕ) (winner c : ℕ) → IsOther ballots winner c →
+    nodes_for ballots tabulated winner c ≤ 2 * factorial (candidate_count ballots - 1)
 nodes_are_few ballots tabulated winner c other =
     let a = work-few (candidate_count ballots) ballots.rankings tabulated c other.candidate in
     let b = cover-few ballots (margin_of ballots winner) c other.candidate in
@@ -36,5 +39,6 @@ by-cause nodes ballots tabulated winner last margin (inl race) =
 by-cause nodes ballots tabulated winner last margin (inr it) =
     let above : nodes < certificate_nodes ballots winner last = it.above in omega (arith, above)
 
-pub spent_above : (nodes : ℕ) (ballots : BallotFile) (last : ℕ) (order : List ℕ) (margin : ℕ) (is : IsSpent nodes ballots last order margin) → nodes < nodes_for ballots is.won.order is.winner last
+pub spent_above : (nodes : ℕ) (ballots : BallotFile) (last : ℕ) (order : List ℕ) (margin : ℕ) (is : IsSpent nodes ballots last order margin) →
+    nodes < nodes_for ballots is.won.order is.winner last
 spent_above nodes ballots last order margin is = by-cause nodes ballots is.won.order is.winner last margin is.cause

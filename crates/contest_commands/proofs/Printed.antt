@@ -30,7 +30,8 @@ use Rattle.contest_commands.proofs.Searches.{each}
 use Rattle.contest_commands.proofs.Findings.{best-margin, claim-sound}
 use Rattle.contest_commands.proofs.ReadBallots.{IsFit, ballots_fit}
 
-module _ (ballots : BallotFile) (fit : IsFit ballots) (winner : ℕ) (won : IsWon ballots winner) (order : List ℕ) (least : order_of ballots winner ≡ Some order) where
+module _ (ballots : BallotFile) (fit : IsFit ballots) (winner : ℕ) (won : IsWon ballots winner) (order : List ℕ)
+    (least : order_of ballots winner ≡ Some order) where
   is_an_order : is_order (candidate_count ballots) order ≡ true
   is_an_order =
       let n = candidate_count ballots in
@@ -44,7 +45,8 @@ module _ (ballots : BallotFile) (fit : IsFit ballots) (winner : ℕ) (won : IsWo
       let records = ballots.rankings in
       let below = winner-below ballots winner won in
       let two = fit.fewest in
-      let margin : IsMargin (length records) (margin_of ballots winner) = best-margin n winner records below two (best_is_positive n winner records won.order two won.permutation won.tabulated won.elects) in
+      let margin : IsMargin (length records) (margin_of ballots winner) = best-margin n winner records below two
+      (best_is_positive n winner records won.order two won.permutation won.tabulated won.elects) in
       record {
         fewest = omega (arith, two);
         most = fit.most;
@@ -77,11 +79,13 @@ module _ (ballots : BallotFile) (fit : IsFit ballots) (winner : ℕ) (won : IsWo
   reads = printed_reads_back (certificate_of ballots winner order) sound (record { contest = fit.contest; candidates = fit.candidates })
 
 -- an accepted file has no other verdict
-one_verdict : (nodes : ℕ) (ballots : BallotFile) (file : Content) → IsAnswer nodes ballots file (Ok Accepted) → (verdict : Verdict) → Checks nodes ballots file verdict → verdict ≡ Answered Done (yes_text file)
+one_verdict : (nodes : ℕ) (ballots : BallotFile) (file : Content) → IsAnswer nodes ballots file (Ok Accepted) → (verdict : Verdict) →
+    Checks nodes ballots file verdict → verdict ≡ Answered Done (yes_text file)
 one_verdict nodes ballots file known verdict (answer, is, told) =
     some_is (sym told ∙ ap (verdict_on file) (answer_is_one nodes ballots file answer (Ok Accepted) is known))
 
-pub printed_is_accepted : (terms : Terms) (bytes : List ℕ) (asked : Option Id) (ballots : BallotFile) (text : List ℕ) → ballots_of bytes asked ≡ Ok ballots → HasCertificate terms ballots text →
+pub printed_is_accepted : (terms : Terms) (bytes : List ℕ) (asked : Option Id) (ballots : BallotFile) (text : List ℕ) → ballots_of bytes asked ≡ Ok ballots →
+    HasCertificate terms ballots text →
     (file : Content) × (assertion_file_of text ≡ Ok file) × Checks terms.nodes ballots file (Answered Done (yes_text file))
     × ((verdict : Verdict) → Checks terms.nodes ballots file verdict → verdict ≡ Answered Done (yes_text file))
 printed_is_accepted terms bytes asked ballots text read has =

@@ -13,7 +13,7 @@ use Rattle.ballot_reader.specs.Ballots.{BallotFile}
 use Rattle.ballot_reader.specs.declared.fault.BRule.{BRule}
 use Rattle.ballot_reader.specs.declared.fault.BRule.TheVariants.{B2, B3, B4, B10}
 use Rattle.ballot_reader.specs.declared.limits.TheConstants.{MOST_LISTED}
-use Rattle.ballot_reader.specs.Grammar.{Refusal, Contest, Ballot, refused, and_then, then_on, are_names, has_id, listed, number_up_to, contest_named, contest_with, contest_of, contests_in, asked_for, has_audited_size, sized, ballots_in, ballot_in, ballots_after, contest_count, ballots_behind, ballots_from, ballots_of}
+use Rattle.ballot_reader.specs.Grammar.{Refusal, Contest, Ballot, refused, and_then, then_on, are_names, has_id, listed, number_up_to, contest_named, contest_with, contest_of, contests_in, asked_for, has_audited_size, audited_contest, ballots_in, ballot_in, ballots_after, contest_count, ballots_behind, ballots_from, ballots_of}
 use Rattle.contest_commands.specs.Contest.{candidate_count}
 use Rattle.cli_base.proofs.Scripts.{some_is}
 
@@ -44,7 +44,8 @@ record IsNamed (contest : Contest) : Type 0 where
 with-named : (at : ℕ) (id : Id) (o : Option (List Id)) (contest : Contest) → contest_with at id o ≡ Ok contest → IsNamed contest
 with-named at id None contest h = absurd cc
 with-named at id (Some ids) contest h = by (is_name id) refl (are_names ids) refl h where
-  by : (b : Bool) → is_name id ≡ b → (d : Bool) → are_names ids ≡ d → (if b then contest_named at id (if d then Some ids else None) else Err B4) ≡ Ok contest → IsNamed contest
+  by : (b : Bool) → is_name id ≡ b → (d : Bool) → are_names ids ≡ d → (if b then contest_named at id (if d then Some ids else None) else Err B4) ≡ Ok contest →
+      IsNamed contest
   by false e d f g = absurd cc
   by true e false f g = absurd cc
   by true e true f g =
@@ -70,14 +71,18 @@ one-more earlier contest h last c m =
       | inr k ↦ elim (member_cases k) [ inl same ↦ subst IsNamed same last | inr none ↦ absurd (member_nil none) ]
     ]
 
-all-named : (n : ℕ) (earlier : List Contest) (at : ℕ) (rows : List Fields) (contests : List Contest) → contests_in n earlier at rows ≡ Ok contests → AllNamed earlier → AllNamed contests
+all-named : (n : ℕ) (earlier : List Contest) (at : ℕ) (rows : List Fields) (contests : List Contest) → contests_in n earlier at rows ≡ Ok contests →
+    AllNamed earlier → AllNamed contests
 all-named zero earlier at rows contests e h = subst AllNamed (ok_is e) h
 all-named (suc n) earlier at [] contests e h = absurd cc
-all-named (suc n) earlier at (row ∷ rows) contests e h = by (contest_of earlier at row) refl e (λ contest g named. all-named n (earlier ++ contest ∷ []) (at + 1) rows contests g named) where
-  by : (judged : Result Contest BRule) → contest_of earlier at row ≡ judged → and_then at judged (λ contest. contests_in n (earlier ++ contest ∷ []) (at + 1) rows) ≡ Ok contests →
-      ((contest : Contest) → contests_in n (earlier ++ contest ∷ []) (at + 1) rows ≡ Ok contests → AllNamed (earlier ++ contest ∷ []) → AllNamed contests) → AllNamed contests
-  by (Err rule) f g more = absurd cc
-  by (Ok contest) f g more = more contest g (one-more earlier contest h (named earlier at row contest f))
+all-named (suc n) earlier at (row ∷ rows) contests e h =
+    by (contest_of earlier at row) refl e (λ contest g named. all-named n (earlier ++ contest ∷ []) (at + 1) rows contests g named) where
+      by : (judged : Result Contest BRule) → contest_of earlier at row ≡ judged →
+          and_then at judged (λ contest. contests_in n (earlier ++ contest ∷ []) (at + 1) rows) ≡ Ok contests →
+          ((contest : Contest) → contests_in n (earlier ++ contest ∷ []) (at + 1) rows ≡ Ok contests → AllNamed (earlier ++ contest ∷ []) → AllNamed contests) →
+          AllNamed contests
+      by (Err rule) f g more = absurd cc
+      by (Ok contest) f g more = more contest g (one-more earlier contest h (named earlier at row contest f))
 
 chosen-named : (asked : Option Id) (contests : List Contest) (audited : Contest) → asked_for contests asked ≡ Some audited → AllNamed contests → IsNamed audited
 chosen-named (Some id) contests audited e h = h audited (from_find (has_id id) audited contests e).0
@@ -85,32 +90,40 @@ chosen-named None [] audited e h = absurd cc
 chosen-named None (c ∷ []) audited e h = subst IsNamed (some_is e) (h c here)
 chosen-named None (c ∷ d ∷ rest) audited e h = absurd cc
 
-sized-some : (o : Option Contest) (audited : Contest) → sized o ≡ Ok audited → (o ≡ Some audited) × (has_audited_size audited.candidates ≡ true)
+sized-some : (o : Option Contest) (audited : Contest) → audited_contest o ≡ Ok audited → (o ≡ Some audited) × (has_audited_size audited.candidates ≡ true)
 sized-some None audited e = absurd cc
 sized-some (Some contest) audited e = by (has_audited_size contest.candidates) refl e where
-  by : (b : Bool) → has_audited_size contest.candidates ≡ b → (if b then Ok contest else refused B3 contest.at) ≡ Ok audited → (Some contest ≡ Some audited) × (has_audited_size audited.candidates ≡ true)
+  by : (b : Bool) → has_audited_size contest.candidates ≡ b → (if b then Ok contest else refused B3 contest.at) ≡ Ok audited →
+      (Some contest ≡ Some audited) × (has_audited_size audited.candidates ≡ true)
   by true t e = (ap Some (ok_is e), subst (λ (c : Contest). has_audited_size c.candidates ≡ true) (ok_is e) t)
   by false t e = absurd cc
 
 -- ---- ballots
 
-few-read : (contests : List Contest) (earlier : List Ballot) (at : ℕ) (rows : List Fields) (ballots : List Ballot) → ballots_after contests earlier at rows ≡ Ok ballots → length earlier ≤ MOST_RECORDS → length ballots ≤ MOST_RECORDS
+few-read : (contests : List Contest) (earlier : List Ballot) (at : ℕ) (rows : List Fields) (ballots : List Ballot) → ballots_after contests earlier at rows
+    ≡ Ok ballots → length earlier ≤ MOST_RECORDS → length ballots ≤ MOST_RECORDS
 few-read contests earlier at [] ballots e l = subst (λ (read : List Ballot). length read ≤ MOST_RECORDS) (ok_is e) l
-few-read contests earlier at (row ∷ rows) ballots e l = by (nat_lt (length earlier) MOST_RECORDS) refl e (λ ballot g few. few-read contests (earlier ++ ballot ∷ []) (at + 1) rows ballots g few) where
-  next : length earlier < MOST_RECORDS → (judged : Result Ballot BRule) → and_then at judged (λ ballot. ballots_after contests (earlier ++ ballot ∷ []) (at + 1) rows) ≡ Ok ballots →
-      ((ballot : Ballot) → ballots_after contests (earlier ++ ballot ∷ []) (at + 1) rows ≡ Ok ballots → length (earlier ++ ballot ∷ []) ≤ MOST_RECORDS → length ballots ≤ MOST_RECORDS) → length ballots ≤ MOST_RECORDS
-  next less (Err rule) g more = absurd cc
-  next less (Ok ballot) g more =
-      let one = length-append earlier (ballot ∷ []) in
-      more ballot g (omega (arith, less, one))
+few-read contests earlier at (row ∷ rows) ballots e l =
+    by (nat_lt (length earlier) MOST_RECORDS) refl e (λ ballot g few. few-read contests (earlier ++ ballot ∷ []) (at + 1) rows ballots g few) where
+      next : length earlier < MOST_RECORDS → (judged : Result Ballot BRule) →
+          and_then at judged (λ ballot. ballots_after contests (earlier ++ ballot ∷ []) (at + 1) rows) ≡ Ok ballots →
+          ((ballot : Ballot) → ballots_after contests (earlier ++ ballot ∷ []) (at + 1) rows ≡ Ok ballots → length (earlier ++ ballot ∷ []) ≤ MOST_RECORDS →
+          length ballots ≤ MOST_RECORDS) → length ballots ≤ MOST_RECORDS
+      next less (Err rule) g more = absurd cc
+      next less (Ok ballot) g more =
+          let one = length-append earlier (ballot ∷ []) in
+          more ballot g (omega (arith, less, one))
 
-  by : (b : Bool) → nat_lt (length earlier) MOST_RECORDS ≡ b →
-      and_then at (if b then ballot_in contests earlier at row else Err B10) (λ ballot. ballots_after contests (earlier ++ ballot ∷ []) (at + 1) rows) ≡ Ok ballots →
-      ((ballot : Ballot) → ballots_after contests (earlier ++ ballot ∷ []) (at + 1) rows ≡ Ok ballots → length (earlier ++ ballot ∷ []) ≤ MOST_RECORDS → length ballots ≤ MOST_RECORDS) → length ballots ≤ MOST_RECORDS
-  by false t g more = absurd cc
-  by true t g more = next (ltb-true (length earlier) MOST_RECORDS t) (ballot_in contests earlier at row) g more
+      by : (b : Bool) → nat_lt (length earlier) MOST_RECORDS ≡ b →
+          and_then at (if b then ballot_in contests earlier at row else Err B10) (λ ballot. ballots_after contests (earlier ++ ballot ∷ []) (at + 1) rows)
+          ≡ Ok ballots →
+          ((ballot : Ballot) → ballots_after contests (earlier ++ ballot ∷ []) (at + 1) rows ≡ Ok ballots → length (earlier ++ ballot ∷ []) ≤ MOST_RECORDS →
+          length ballots ≤ MOST_RECORDS) → length ballots ≤ MOST_RECORDS
+      by false t g more = absurd cc
+      by true t g more = next (ltb-true (length earlier) MOST_RECORDS t) (ballot_in contests earlier at row) g more
 
-few-rankings : (id : Id) (ballots : List Ballot) → length ballots ≤ MOST_RECORDS → length (map (λ (b : Ballot). b.ranking) (ballots_in id ballots)) ≤ MOST_RECORDS
+few-rankings : (id : Id) (ballots : List Ballot) → length ballots ≤ MOST_RECORDS →
+    length (map (λ (b : Ballot). b.ranking) (ballots_in id ballots)) ≤ MOST_RECORDS
 few-rankings id ballots l =
     let own = ballots_in id ballots in
     let mapped = length-map own (λ (b : Ballot). b.ranking) in
@@ -124,7 +137,7 @@ behind : (count : Option ℕ) (asked : Option Id) (rows : List Fields) (ballots 
 behind None asked rows ballots e = absurd cc
 behind (Some n) asked rows ballots e =
     let (contests, is, rest) = then_on-ok (contests_in n [] 2 rows) _ ballots e in
-    let (audited, right, last) = then_on-ok (sized (asked_for contests asked)) _ ballots rest in
+    let (audited, right, last) = then_on-ok (audited_contest (asked_for contests asked)) _ ballots rest in
     let (all, read, file) = then_on-ok (ballots_after contests [] (2 + n) (drop n rows)) _ ballots last in
     let (chosen, size) = sized-some (asked_for contests asked) audited right in
     let (fewest, most) = and_parts (nat_le FEWEST_CANDIDATES (length audited.candidates)) (nat_le (length audited.candidates) MOST_CANDIDATES) size in

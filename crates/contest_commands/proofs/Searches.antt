@@ -53,22 +53,29 @@ full-one terms ballots text other a b = a.shown ∙ ap (λ f. full_count_text f 
 found-one : (terms : Terms) (ballots : BallotFile) (v w : Verdict) → Finds terms ballots v → Finds terms ballots w → SameButBudget (outcome v) (outcome w)
 found-one terms ballots v w (inl a) (inl b) = inl (ap outcome (one-same (HasCertificate terms ballots) Done (done-one terms ballots) v w a b))
 found-one terms ballots v w (inl (text, a, i)) (inr (inl (other, b, j))) = absurd (never_both ballots a.is.winner other a.is.won b)
-found-one terms ballots v w (inl (text, a, i)) (inr (inr (inl (other, b, j)))) = of_answers Done Spent text other v w i j (inr (inl refl, inr (inl refl), inr refl))
+found-one terms ballots v w (inl (text, a, i)) (inr (inr (inl (other, b, j)))) =
+    of_answers Done Spent text other v w i j (inr (inl refl, inr (inl refl), inr refl))
 found-one terms ballots v w (inl (text, a, i)) (inr (inr (inr (other, b, j)))) = absurd (done-full terms ballots text other a b)
 found-one terms ballots v w (inr (inl (text, a, i))) (inl (other, b, j)) = absurd (never_both ballots b.is.winner text b.is.won a)
 found-one terms ballots v w (inr (inl a)) (inr (inl b)) = inl (ap outcome (one-same (HasTie ballots) Tie (tie-one ballots) v w a b))
 found-one terms ballots v w (inr (inl (text, a, i))) (inr (inr (inl (other, b, j)))) = absurd (never_both ballots b.is.winner text b.is.won a)
 found-one terms ballots v w (inr (inl (text, a, i))) (inr (inr (inr (other, b, j)))) = absurd (never_both ballots b.is.winner text b.is.won a)
-found-one terms ballots v w (inr (inr (inl (text, a, i)))) (inl (other, b, j)) = of_answers Spent Done text other v w i j (inr (inr (inl refl), inl refl, inl refl))
+found-one terms ballots v w (inr (inr (inl (text, a, i)))) (inl (other, b, j)) =
+    of_answers Spent Done text other v w i j (inr (inr (inl refl), inl refl, inl refl))
 found-one terms ballots v w (inr (inr (inl (text, a, i)))) (inr (inl (other, b, j))) = absurd (never_both ballots a.is.winner other a.is.won b)
-found-one terms ballots v w (inr (inr (inl (text, a, i)))) (inr (inr (inl (other, b, j)))) = of_answers Spent Spent text other v w i j (inr (inr (inl refl), inr (inl refl), inl refl))
-found-one terms ballots v w (inr (inr (inl (text, a, i)))) (inr (inr (inr (other, b, j)))) = of_answers Spent FullCount text other v w i j (inr (inr (inl refl), inr (inr refl), inl refl))
+found-one terms ballots v w (inr (inr (inl (text, a, i)))) (inr (inr (inl (other, b, j)))) =
+    of_answers Spent Spent text other v w i j (inr (inr (inl refl), inr (inl refl), inl refl))
+found-one terms ballots v w (inr (inr (inl (text, a, i)))) (inr (inr (inr (other, b, j)))) =
+    of_answers Spent FullCount text other v w i j (inr (inr (inl refl), inr (inr refl), inl refl))
 found-one terms ballots v w (inr (inr (inr (text, a, i)))) (inl (other, b, j)) = absurd (done-full terms ballots other text b a)
 found-one terms ballots v w (inr (inr (inr (text, a, i)))) (inr (inl (other, b, j))) = absurd (never_both ballots a.is.winner other a.is.won b)
-found-one terms ballots v w (inr (inr (inr (text, a, i)))) (inr (inr (inl (other, b, j)))) = of_answers FullCount Spent text other v w i j (inr (inr (inr refl), inr (inl refl), inr refl))
-found-one terms ballots v w (inr (inr (inr a))) (inr (inr (inr b))) = inl (ap outcome (one-same (HasFullCount terms ballots) FullCount (full-one terms ballots) v w a b))
+found-one terms ballots v w (inr (inr (inr (text, a, i)))) (inr (inr (inl (other, b, j)))) =
+    of_answers FullCount Spent text other v w i j (inr (inr (inr refl), inr (inl refl), inr refl))
+found-one terms ballots v w (inr (inr (inr a))) (inr (inr (inr b))) =
+    inl (ap outcome (one-same (HasFullCount terms ballots) FullCount (full-one terms ballots) v w a b))
 
-found_in-one : (terms : Terms) (name : List ℕ) (read : Result BallotFile Refusal) (v w : Verdict) → FindsIn terms name read v → FindsIn terms name read w → SameButBudget (outcome v) (outcome w)
+found_in-one : (terms : Terms) (name : List ℕ) (read : Result BallotFile Refusal) (v w : Verdict) → FindsIn terms name read v → FindsIn terms name read w →
+    SameButBudget (outcome v) (outcome w)
 found_in-one terms name (Err refusal) v w p q = inl (ap outcome (p ∙ sym q))
 found_in-one terms name (Ok ballots) v w p q = found-one terms ballots v w p q
 

@@ -15,7 +15,8 @@ use Rattle.contest_commands.proofs.Contests.{same_tabulated, winner-one, tie-one
 rounds-one : (ballots : BallotFile) (text other : List ℕ) → HasRounds ballots text → HasRounds ballots other → text ≡ other
 rounds-one ballots text other a b =
     let same = same_tabulated ballots a.winner b.winner a.won b.won in
-    a.shown ∙ ap (λ order. tabulation_text ballots order a.winner) same ∙ ap (tabulation_text ballots b.won.order) (winner-one ballots a.winner b.winner a.won b.won) ∙ sym b.shown
+    a.shown ∙ ap (λ order. tabulation_text ballots order a.winner) same
+    ∙ ap (tabulation_text ballots b.won.order) (winner-one ballots a.winner b.winner a.won b.won) ∙ sym b.shown
 
 tabulated-one : (ballots : BallotFile) (v w : Verdict) → Tabulates ballots v → Tabulates ballots w → v ≡ w
 tabulated-one ballots v w (inl a) (inl b) = one-same (HasRounds ballots) Done (rounds-one ballots) v w a b

@@ -36,10 +36,12 @@ decimal_is_name n small =
     let some : 0 < length text = decimal_nonempty n (omega (arith, small)) in
     let few : length text ≤ 10 = length-decimal-le 10 n (omega arith) (omega (arith, small)) (omega (arith, small)) in
     let long : has_name_length text ≡ true =
-    and_from (nat_le 1 (length text)) (nat_le (length text) MOST_NAME_BYTES) (le-leb 1 (length text) (omega (arith, some))) (le-leb (length text) MOST_NAME_BYTES (omega (arith, few))) in
+    and_from (nat_le 1 (length text)) (nat_le (length text) MOST_NAME_BYTES) (le-leb 1 (length text) (omega (arith, some)))
+    (le-leb (length text) MOST_NAME_BYTES (omega (arith, few))) in
     let apart : not (touches_space text) ≡ true =
     ap₂ (λ a b. not (a || b)) (no_space text 0 digits some) (no_space text (length text - 1) digits (omega (arith, some))) in
-    and_from (has_name_length text && not (touches_space text)) (list_all is_name_byte text) (and_from (has_name_length text) (not (touches_space text)) long apart) (name_digits text digits)
+    and_from (has_name_length text && not (touches_space text)) (list_all is_name_byte text)
+    (and_from (has_name_length text) (not (touches_space text)) long apart) (name_digits text digits)
 
 -- ---- one more
 
@@ -65,7 +67,8 @@ other_id j k below small = elim (cases_Bool (is_same (decimal j) (decimal k))) [
 none_among : (k first n : ℕ) → k < first → first + n < 2 ^ 32 → is_among (from first n) (decimal (k + 1)) ≡ false
 none_among k first zero below small = refl
 none_among k first (suc n) below small =
-    ap₂ (λ a b. a || b) (other_id (first + 1) (k + 1) (omega (arith, below)) (omega (arith, small))) (none_among k (first + 1) n (omega (arith, below)) (omega (arith, small)))
+    ap₂ (λ a b. a || b) (other_id (first + 1) (k + 1) (omega (arith, below)) (omega (arith, small)))
+    (none_among k (first + 1) n (omega (arith, below)) (omega (arith, small)))
 
 differ-from : (first n : ℕ) → first + n < 2 ^ 32 → all_differ (from first n) ≡ true
 differ-from first zero small = refl
@@ -81,11 +84,13 @@ trial_candidates_are_candidates n fewest most =
 pub named_are_candidates : (n : ℕ) (names : List Id) → names ≡ trial_candidates n → FEWEST_CANDIDATES ≤ n → n ≤ MOST_CANDIDATES → AreCandidates names
 named_are_candidates n names named fewest most = subst AreCandidates (sym named) (trial_candidates_are_candidates n fewest most)
 
-pub below_named : (n : ℕ) (names : List Id) (records read : List (List ℕ)) → names ≡ trial_candidates n → read ≡ records → All (λ ranking. All (λ c. c < n) ranking) records →
+pub below_named : (n : ℕ) (names : List Id) (records read : List (List ℕ)) → names ≡ trial_candidates n → read ≡ records →
+    All (λ ranking. All (λ c. c < n) ranking) records →
     All (λ ranking. All (λ c. c < length names) ranking) read
 below_named n names records read named same below =
     let long : n ≡ length names = sym (ap length named ∙ length-trial_candidates n) in
-    subst (λ read. All (λ ranking. All (λ c. c < length names) ranking) read) (sym same) (subst (λ m. All (λ ranking. All (λ c. c < m) ranking) records) long below)
+    subst (λ read. All (λ ranking. All (λ c. c < length names) ranking) read) (sym same)
+    (subst (λ m. All (λ ranking. All (λ c. c < m) ranking) records) long below)
 
 -- ---- an id that is read
 

@@ -70,7 +70,8 @@ not_spent terms text enough spent =
     ap (λ n. 2 * factorial (n - 1)) (length-trial_candidates terms.candidates) in
     omega (arith, enough, few, above, same)
 
-pub trial_is_complete : (terms : Terms) (verdict : Verdict) → 2 * factorial (terms.candidates - 1) ≤ terms.nodes → Tries terms verdict → One (HasLines terms) Done verdict ⊎ One (HasTie (contest_of terms)) Tie verdict
+pub trial_is_complete : (terms : Terms) (verdict : Verdict) → 2 * factorial (terms.candidates - 1) ≤ terms.nodes → Tries terms verdict →
+    One (HasLines terms) Done verdict ⊎ One (HasTie (contest_of terms)) Tie verdict
 trial_is_complete terms verdict enough (inl a) = inl a
 trial_is_complete terms verdict enough (inr (inl a)) = inr a
 trial_is_complete terms verdict enough (inr (inr (text, spent, e))) = absurd (not_spent terms text enough spent)

@@ -24,7 +24,8 @@ tried-one terms v w (inr (inl a)) (inr (inl b)) = inl (ap outcome (one-same (Has
 tried-one terms v w (inr (inl (text, a, i))) (inr (inr (other, b, j))) = absurd (never_both (contest_of terms) b.is.winner text b.is.won a)
 tried-one terms v w (inr (inr (text, a, i))) (inl (other, b, j)) = of_answers Spent Done text other v w i j (inr (inr (inl refl), inl refl, inl refl))
 tried-one terms v w (inr (inr (text, a, i))) (inr (inl (other, b, j))) = absurd (never_both (contest_of terms) a.is.winner other a.is.won b)
-tried-one terms v w (inr (inr (text, a, i))) (inr (inr (other, b, j))) = of_answers Spent Spent text other v w i j (inr (inr (inl refl), inr (inl refl), inl refl))
+tried-one terms v w (inr (inr (text, a, i))) (inr (inr (other, b, j))) =
+    of_answers Spent Spent text other v w i j (inr (inr (inl refl), inr (inl refl), inl refl))
 
 pub agrees : (terms : Terms) → Agree SameButBudget (script terms)
 agrees terms = tried-one terms

@@ -22,7 +22,8 @@ use Rattle.cli_base.specs.Script.{Script, Read, Ends, ends}
 -- ---- the texts
 
 abbrev pub yes_lines : ℕ → ℕ → List ℕ
-yes_lines assertions margin = codes "yes\nassertions " ++ decimal assertions ++ codes "\nmargin " ++ decimal margin ++ codes "\n"
+yes_lines assertions margin = codes "yes\nassertions " ++ decimal assertions ++ codes "\nmargin "
+    ++ decimal margin ++ codes "\n"
 
 abbrev pub yes_text : Content → List ℕ
 yes_text file = yes_lines (length file.claims) file.margin
@@ -39,7 +40,8 @@ abbrev pub winner_is : List ℕ → List ℕ
 winner_is winner = codes "winner is " ++ winner
 
 abbrev pub has_margin : ℕ → ℤ → List ℕ
-has_margin index found = codes "assertion " ++ decimal index ++ codes " has margin " ++ signed_decimal found
+has_margin index found =
+    codes "assertion " ++ decimal index ++ codes " has margin " ++ signed_decimal found
 
 abbrev pub stands : List ℕ → List ℕ
 stands order = codes "order " ++ order ++ codes " stands"
@@ -48,14 +50,15 @@ abbrev pub smallest_is : ℕ → List ℕ
 smallest_is found = codes "smallest margin is " ++ decimal found
 
 abbrev pub is_refuted_by : List ℕ → ℕ → List ℕ
-is_refuted_by assertion margin = codes "order is refuted by " ++ assertion ++ codes " margin " ++ decimal margin
+is_refuted_by assertion margin =
+    codes "order is refuted by " ++ assertion ++ codes " margin " ++ decimal margin
 
 -- ---- how a check ends
 
 abbrev pub differs : List ℕ → Verdict
 differs difference = Answered Differs (no_line difference)
 
--- by what the checker found, told by the ids of the file
+-- the verdict on what the checker found, told by the ids of the file
 abbrev pub found_verdict : Content → Checked → Verdict
 found_verdict file OtherContest = differs (codes "contest differs")
 found_verdict file (OtherWinner winner) = differs (winner_is (id_of file.candidates winner))
@@ -63,18 +66,21 @@ found_verdict file (OtherMargin index found) = differs (has_margin index found)
 found_verdict file (Stands order) = differs (stands (order_text file.candidates order))
 found_verdict file (NotLeast found) = differs (smallest_is found)
 found_verdict file NotAlternative = differs (codes "order elects the winner")
-found_verdict file (Harder assertion margin) = differs (is_refuted_by (assertion_text file.candidates assertion) margin)
+found_verdict file (Harder assertion margin) =
+    differs (is_refuted_by (assertion_text file.candidates assertion) margin)
 found_verdict file Accepted = Answered Done (yes_text file)
 
 abbrev pub verdict_on : Content → Answer → Option Verdict
 verdict_on file (Ok found) = Some (found_verdict file found)
-verdict_on file (Err (TieFound round tied votes)) = Some (Answered Tie (tie_text file.candidates round tied votes))
+verdict_on file (Err (TieFound round tied votes)) =
+    Some (Answered Tie (tie_text file.candidates round tied votes))
 verdict_on file (Err (SpentAt last)) = Some (Answered Spent (spent_at (id_of file.candidates last)))
 verdict_on file (Err Memory) = None
 
--- by the checker's answer
+-- a check comes to the verdict on an answer that the checker may give
 abbrev pub Checks : ℕ → BallotFile → Content → Verdict → Type 0
-Checks nodes ballots file verdict = (answer : Answer) × IsAnswer nodes ballots file answer × (verdict_on file answer ≡ Some verdict)
+Checks nodes ballots file verdict =
+    (answer : Answer) × IsAnswer nodes ballots file answer × (verdict_on file answer ≡ Some verdict)
 
 -- ---- the command
 
@@ -84,7 +90,8 @@ ChecksIn nodes ballots name (Ok file) verdict = Checks nodes ballots file verdic
 
 -- a check of these ballots
 abbrev pub check_of : ℕ → BallotFile → List ℕ → Script
-check_of nodes ballots assertions = Read assertions (λ bytes. Ends (ChecksIn nodes ballots assertions (assertion_file_of bytes)))
+check_of nodes ballots assertions =
+    Read assertions (λ bytes. Ends (ChecksIn nodes ballots assertions (assertion_file_of bytes)))
 
 -- the ballots are judged before the assertion file is read
 abbrev pub check_after : ℕ → List ℕ → List ℕ → Result BallotFile Refusal → Script
@@ -92,7 +99,8 @@ check_after nodes name assertions (Err refusal) = ends (refused name refusal)
 check_after nodes name assertions (Ok ballots) = check_of nodes ballots assertions
 
 abbrev pub script : List ℕ → List ℕ → Option Id → ℕ → Script
-script name assertions contest nodes = Read name (λ bytes. check_after nodes name assertions (ballots_of bytes contest))
+script name assertions contest nodes =
+    Read name (λ bytes. check_after nodes name assertions (ballots_of bytes contest))
 
 -- the kinds of its answers
 abbrev pub Kinds : AnswerKind → Type 0

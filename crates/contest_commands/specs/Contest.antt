@@ -21,9 +21,10 @@ candidate_count ballots = length ballots.candidates
 
 -- ---- what a search has to know of it
 
--- its id, the ids of its candidates and the rankings of its records, without ids of ballots and without places in a file
+-- a contest of this id, these ids of candidates and the rankings of its records, without ids of ballots and places in a file
 abbrev pub contest_with : Id → List Id → List (List ℕ) → BallotFile
-contest_with id candidates rankings = record { contest = id; candidates = candidates; ids = []; places = []; rankings = rankings }
+contest_with id candidates rankings =
+    record { contest = id; candidates = candidates; ids = []; places = []; rankings = rankings }
 
 abbrev pub searched : BallotFile → BallotFile
 searched ballots = contest_with ballots.contest ballots.candidates ballots.rankings
@@ -62,13 +63,15 @@ pub record IsOther (ballots : BallotFile) (winner c : ℕ) : Type 0 where
 
 -- ---- a tie
 
--- its round, the set of those who share the least tally, and that tally
+-- the first tie has this round, this set of those who share the least tally, and that tally
 pub record IsTie (ballots : BallotFile) (round tied votes : ℕ) : Type 0 where
   pub counted : 1 ≤ round
   pub first : IsFirstTie (candidate_count ballots) ballots.rankings round tied votes
 
 abbrev pub tie_lines : ℕ → List ℕ → ℕ → List ℕ
-tie_lines round tied votes = codes "tie\nround " ++ decimal round ++ codes "\ntied " ++ tied ++ codes "\ntally " ++ decimal votes ++ codes "\n"
+tie_lines round tied votes =
+    codes "tie\nround " ++ decimal round ++ codes "\ntied " ++ tied ++ codes "\ntally "
+    ++ decimal votes ++ codes "\n"
 
 abbrev pub tie_text : List Id → ℕ → ℕ → ℕ → List ℕ
 tie_text ids round tied votes = tie_lines round (set_text ids tied) votes

@@ -35,7 +35,8 @@ pub record IsCounted (ballots : BallotFile) (bag : Kept) (t : Tabulated) : Type 
 
 -- the race over them ended so
 abbrev pub IsBestOf : Kept → Tabulated → RaceEnd → Type 0
-IsBestOf bag t end = (records : List (List ℕ)) → IsOf bag records → IsBest bag.n records t.winner end
+IsBestOf bag t end =
+    (records : List (List ℕ)) → IsOf bag records → IsBest bag.n records t.winner end
 
 -- what a certificate says of the ballots
 abbrev pub content_of : BallotFile → ℕ → Certificate → Content
@@ -50,9 +51,11 @@ content_of ballots winner certificate = record {
 }
 
 -- it has what an assertion file of them keeps
-pub record IsPrintable (ballots : BallotFile) (winner : ℕ) (certificate : Certificate) : Type 0 where
+pub record IsPrintable (ballots : BallotFile) (winner : ℕ)
+    (certificate : Certificate) : Type 0 where
   pub some_records : 1 ≤ length ballots.rankings
   pub candidate : winner < candidate_count ballots
   pub margin : IsMargin (length ballots.rankings) certificate.margin
   pub order : IsTrue (is_order (candidate_count ballots) certificate.order)
-  pub claims : All (IsSoundClaim (candidate_count ballots) (length ballots.rankings)) certificate.claims.items
+  pub claims : All (IsSoundClaim (candidate_count ballots) (length ballots.rankings))
+      certificate.claims.items

@@ -19,21 +19,28 @@ use Rattle.contest_commands.specs.declared.trials.Terms.{Terms as TrialTerms}
 
 abbrev pub NodesAreFew : Type 0
 NodesAreFew =
-    (ballots : BallotFile) (tabulated : List ℕ) (winner c : ℕ) → IsOther ballots winner c → nodes_for ballots tabulated winner c ≤ 2 * factorial (candidate_count ballots - 1)
+    (ballots : BallotFile) (tabulated : List ℕ) (winner c : ℕ) → IsOther ballots winner c →
+    nodes_for ballots tabulated winner c ≤ 2 * factorial (candidate_count ballots - 1)
 
 -- Where the certificate needs more nodes for a candidate, a search is spent.
 abbrev pub SpentWhereAbove : Type 0
 SpentWhereAbove =
-    (terms : Terms) (ballots : BallotFile) (winner c : ℕ) (verdict : Verdict) → IsWon ballots winner → IsOther ballots winner c →
-    terms.nodes < certificate_nodes ballots winner c → Finds terms ballots verdict → One (HasSpent terms ballots) Spent verdict
+    (terms : Terms) (ballots : BallotFile) (winner c : ℕ) (verdict : Verdict) →
+    IsWon ballots winner → IsOther ballots winner c →
+    terms.nodes < certificate_nodes ballots winner c → Finds terms ballots verdict →
+    One (HasSpent terms ballots) Spent verdict
 
 -- What a search prints reads as an assertion file, and a check of it against the same ballots, with the same nodes, comes to yes and to
 -- nothing else.
 abbrev pub PrintedIsAccepted : Type 0
 PrintedIsAccepted =
-    (terms : Terms) (bytes : List ℕ) (asked : Option Id) (ballots : BallotFile) (text : List ℕ) → ballots_of bytes asked ≡ Ok ballots → HasCertificate terms ballots text →
-    (file : Content) × (assertion_file_of text ≡ Ok file) × Checks terms.nodes ballots file (Answered Done (yes_text file))
-    × ((verdict : Verdict) → Checks terms.nodes ballots file verdict → verdict ≡ Answered Done (yes_text file))
+    (terms : Terms) (bytes : List ℕ) (asked : Option Id) (ballots : BallotFile) (text : List ℕ) →
+    ballots_of bytes asked ≡ Ok ballots →
+    HasCertificate terms ballots text →
+    (file : Content) × (assertion_file_of text ≡ Ok file)
+    × Checks terms.nodes ballots file (Answered Done (yes_text file))
+    × ((verdict : Verdict) → Checks terms.nodes ballots file verdict →
+    verdict ≡ Answered Done (yes_text file))
 
 -- ---- a trial
 
@@ -50,5 +57,6 @@ TrialIsASearch =
 -- With twice the factorial of the number of the other candidates as nodes it has its lines, or a tie.
 abbrev pub TrialIsComplete : Type 0
 TrialIsComplete =
-    (terms : TrialTerms) (verdict : Verdict) → 2 * factorial (terms.candidates - 1) ≤ terms.nodes → Tries terms verdict →
+    (terms : TrialTerms) (verdict : Verdict) → 2 * factorial (terms.candidates - 1) ≤ terms.nodes →
+    Tries terms verdict →
     One (HasLines terms) Done verdict ⊎ One (HasTie (contest_of terms)) Tie verdict

@@ -30,7 +30,8 @@ margin_of ballots winner = best_margin (candidate_count ballots) winner (low_of 
 
 -- of the orders that elect another candidate, the one that is printed: no true assertion of larger margin refutes it
 abbrev pub order_of : BallotFile → ℕ → Option (List ℕ)
-order_of ballots winner = certificate_order (candidate_count ballots) winner (low_of ballots) (margin_of ballots winner)
+order_of ballots winner =
+    certificate_order (candidate_count ballots) winner (low_of ballots) (margin_of ballots winner)
 
 -- what is said of the contest that this candidate has won, with that order
 abbrev pub certificate_of : BallotFile → ℕ → List ℕ → Content
@@ -57,7 +58,8 @@ pub record IsCertificateOf (ballots : BallotFile) (file : Content) : Type 0 wher
 -- the order count of c, once there is the order
 abbrev pub order_count_of : BallotFile → ℕ → Option (List ℕ) → ℕ → ℕ
 order_count_of ballots margin None c = 0
-order_count_of ballots margin (Some order) c = order_count (candidate_count ballots) (low_of ballots) margin order c
+order_count_of ballots margin (Some order) c =
+    order_count (candidate_count ballots) (low_of ballots) margin order c
 
 -- the nodes that the certificate needs for c: its cover count or its order count
 abbrev pub certificate_nodes : BallotFile → ℕ → ℕ → ℕ
@@ -67,35 +69,46 @@ certificate_nodes ballots winner c =
 
 -- the most nodes that a search may need for c, where this is the tabulated order
 abbrev pub nodes_for : BallotFile → List ℕ → ℕ → ℕ → ℕ
-nodes_for ballots tabulated winner c = max (work_for (candidate_count ballots) ballots.rankings tabulated c) (certificate_nodes ballots winner c)
+nodes_for ballots tabulated winner c =
+    max (work_for (candidate_count ballots) ballots.rankings tabulated c)
+    (certificate_nodes ballots winner c)
 
 abbrev pub IsInBudget : BallotFile → ℕ → ℕ → Type 0
-IsInBudget ballots winner nodes = (c : ℕ) → IsOther ballots winner c → certificate_nodes ballots winner c ≤ nodes
+IsInBudget ballots winner nodes =
+    (c : ℕ) → IsOther ballots winner c → certificate_nodes ballots winner c ≤ nodes
 
 -- the race is spent at this candidate: the work of a piece whose orders elect it is above the nodes
-pub record IsRaceSpent (nodes : ℕ) (ballots : BallotFile) (tabulated : List ℕ) (last : ℕ) : Type 0 where
+pub record IsRaceSpent (nodes : ℕ) (ballots : BallotFile) (tabulated : List ℕ)
+    (last : ℕ) : Type 0 where
   pub above : nodes < work_for (candidate_count ballots) ballots.rankings tabulated last
 
--- the certificate is: of those who didn't win, this is the least candidate for whom it needs more; the margin is the best then
-pub record IsCertificateSpent (nodes : ℕ) (ballots : BallotFile) (winner last margin : ℕ) : Type 0 where
+-- the certificate is spent at this candidate: of those who didn't win, the least for whom it needs more; the margin is the best then
+pub record IsCertificateSpent (nodes : ℕ) (ballots : BallotFile)
+    (winner last margin : ℕ) : Type 0 where
   pub above : nodes < certificate_nodes ballots winner last
-  pub least : (c : ℕ) → IsOther ballots winner c → c < last → certificate_nodes ballots winner c ≤ nodes
+  pub least : (c : ℕ) → IsOther ballots winner c → c < last →
+      certificate_nodes ballots winner c ≤ nodes
   pub best : margin ≡ margin_of ballots winner
 
 -- ---- the texts
 
 abbrev pub spent_lines : List ℕ → List ℕ → ℕ → List ℕ
-spent_lines last order margin = codes "spent\ncandidate " ++ last ++ codes "\norder " ++ order ++ codes "\nmargin " ++ decimal margin ++ codes "\n"
+spent_lines last order margin =
+    codes "spent\ncandidate " ++ last ++ codes "\norder " ++ order ++ codes "\nmargin "
+    ++ decimal margin ++ codes "\n"
 
 abbrev pub full_count_lines : List ℕ → ℕ → ℕ → List ℕ
-full_count_lines order margin floor = codes "full count\norder " ++ order ++ codes "\nmargin " ++ decimal margin ++ codes "\nfloor " ++ decimal floor ++ codes "\n"
+full_count_lines order margin floor =
+    codes "full count\norder " ++ order ++ codes "\nmargin " ++ decimal margin ++ codes "\nfloor "
+    ++ decimal floor ++ codes "\n"
 
 abbrev pub full_count_text : Content → ℕ → List ℕ
-full_count_text file floor = full_count_lines (order_text file.candidates file.order) file.margin floor
+full_count_text file floor =
+    full_count_lines (order_text file.candidates file.order) file.margin floor
 
 -- ---- how a search ends
 
--- with the certificate, where its margin reaches the floor
+-- a search ends with the certificate where its margin reaches the floor
 pub record HasCertificate (terms : Terms) (ballots : BallotFile) (text : List ℕ) : Type 0 where
   pub file : Content
   pub is : IsCertificateOf ballots file
@@ -103,7 +116,7 @@ pub record HasCertificate (terms : Terms) (ballots : BallotFile) (text : List �
   pub floor : terms.floor ≤ file.margin
   pub shown : text ≡ assertion_file_text file
 
--- with its order alone, where it doesn't
+-- and with the certificate's order alone where it doesn't
 pub record HasFullCount (terms : Terms) (ballots : BallotFile) (text : List ℕ) : Type 0 where
   pub file : Content
   pub is : IsCertificateOf ballots file
@@ -113,11 +126,13 @@ pub record HasFullCount (terms : Terms) (ballots : BallotFile) (text : List ℕ)
 
 -- a search is spent at this candidate, in the race or then in the certificate, with an order that elects another candidate than the
 -- winner, no harder than the first that is tried
-pub record IsSpent (nodes : ℕ) (ballots : BallotFile) (last : ℕ) (order : List ℕ) (margin : ℕ) : Type 0 where
+pub record IsSpent (nodes : ℕ) (ballots : BallotFile) (last : ℕ) (order : List ℕ)
+    (margin : ℕ) : Type 0 where
   pub winner : ℕ
   pub won : IsWon ballots winner
   pub named : IsOther ballots winner last
-  pub cause : IsRaceSpent nodes ballots won.order last ⊎ IsCertificateSpent nodes ballots winner last margin
+  pub cause : IsRaceSpent nodes ballots won.order last
+      ⊎ IsCertificateSpent nodes ballots winner last margin
   pub alternative : IsAlternative (candidate_count ballots) winner order
   pub hardness : margin ≡ low_of ballots order
   pub within : margin ≤ first_bound (candidate_count ballots) ballots.rankings won.order
@@ -127,12 +142,14 @@ pub record HasSpent (terms : Terms) (ballots : BallotFile) (text : List ℕ) : T
   pub order : List ℕ
   pub margin : ℕ
   pub is : IsSpent terms.nodes ballots last order margin
-  pub shown : text ≡ spent_lines (id_of ballots.candidates last) (order_text ballots.candidates order) margin
+  pub shown : text ≡ spent_lines (id_of ballots.candidates last)
+      (order_text ballots.candidates order) margin
 
 abbrev pub Finds : Terms → BallotFile → Verdict → Type 0
 Finds terms ballots verdict =
     One (HasCertificate terms ballots) Done verdict ⊎ One (HasTie ballots) Tie verdict
-    ⊎ One (HasSpent terms ballots) Spent verdict ⊎ One (HasFullCount terms ballots) FullCount verdict
+    ⊎ One (HasSpent terms ballots) Spent verdict
+    ⊎ One (HasFullCount terms ballots) FullCount verdict
 
 -- ---- the command
 
@@ -141,7 +158,8 @@ FindsIn terms name (Err refusal) verdict = verdict ≡ refused name refusal
 FindsIn terms name (Ok ballots) verdict = Finds terms ballots verdict
 
 abbrev pub script : List ℕ → Option Id → Terms → Script
-script name contest terms = Read name (λ bytes. Ends (FindsIn terms name (ballots_of bytes contest)))
+script name contest terms =
+    Read name (λ bytes. Ends (FindsIn terms name (ballots_of bytes contest)))
 
 -- the kinds of its answers
 abbrev pub Kinds : AnswerKind → Type 0

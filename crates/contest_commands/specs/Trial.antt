@@ -26,7 +26,9 @@ trial_candidates n = map (λ c. decimal (c + 1)) (candidates n)
 
 -- the records are those that the number draws
 abbrev pub contest_of : Terms → BallotFile
-contest_of terms = contest_with (codes "trial") (trial_candidates terms.candidates) (trial_records terms.number terms.candidates terms.ballots)
+contest_of terms =
+    contest_with (codes "trial") (trial_candidates terms.candidates)
+    (trial_records terms.number terms.candidates terms.ballots)
 
 -- it is searched as that of a ballot file is, at floor 1
 abbrev pub search_of : Terms → SearchTerms
@@ -36,17 +38,20 @@ search_of terms = record { nodes = terms.nodes; floor = 1 }
 
 abbrev pub records_lines : ℕ → ℕ → ℕ → List ℕ
 records_lines number candidates records =
-    codes "number " ++ decimal number ++ codes "\ncandidates " ++ decimal candidates ++ codes "\nrecords " ++ decimal records ++ codes "\n"
+    codes "number " ++ decimal number ++ codes "\ncandidates " ++ decimal candidates
+    ++ codes "\nrecords " ++ decimal records ++ codes "\n"
 
 abbrev pub found_lines : List ℕ → ℕ → ℕ → List ℕ → List ℕ
 found_lines winner margin assertions order =
-    codes "winner " ++ winner ++ codes "\nmargin " ++ decimal margin ++ codes "\nassertions " ++ decimal assertions ++ codes "\norder " ++ order ++ codes "\n"
+    codes "winner " ++ winner ++ codes "\nmargin " ++ decimal margin ++ codes "\nassertions "
+    ++ decimal assertions ++ codes "\norder " ++ order ++ codes "\n"
 
--- with what an assertion file would say
+-- what a trial prints: its records, and then what an assertion file would say
 abbrev pub trial_text : ℕ → Content → List ℕ
 trial_text number file =
     records_lines number (length file.candidates) file.records
-    ++ found_lines (id_of file.candidates file.winner) file.margin (length file.claims) (order_text file.candidates file.order)
+    ++ found_lines (id_of file.candidates file.winner) file.margin (length file.claims)
+    (order_text file.candidates file.order)
 
 -- ---- how a trial ends
 

@@ -2,13 +2,11 @@
 ghost use Rattle.std.specs.Prelude.{◌≡◌, ◌≤◌, ◌<◌, Ok, length, option_copied};
 ghost use Rattle.desk.specs.Count.{Rose};
 ghost use Rattle.assertion_file.specs.Ids.{id_of};
-ghost use Rattle.assertion_file.specs.Reading.{assertion_file_of};
 ghost use Rattle.cli_base.specs.Accounts.{IsAccountedFor};
 ghost use Rattle.cli_base.specs.Script.{ByDesk, MayOrMemory};
-ghost use Rattle.contest_commands.specs.Contest.{tie_text};
 ghost use Rattle.cli_base.specs.Outcome.{Answered};
 ghost use Rattle.cli_base.specs.declared.outcome.AnswerKind.TheVariants.{Tie, Spent};
-ghost use Rattle.contest_commands.specs.Check.{Checks, ChecksIn, script, check_of as script_of_ballots, differs, found_verdict, spent_at};
+ghost use Rattle.contest_commands.specs.Check.{Checks, script, check_of as script_of_ballots, differs, found_verdict, spent_at};
 ghost use Rattle.contest_commands.specs.Named.{IsAmong};
 ghost use Rattle.cli_base.specs.Due.{due, IsOneOrMemory};
 
@@ -24,10 +22,11 @@ use desk::Desk;
 use irv_base::{Candidate, Name};
 use set_tallies::Counted;
 use std::alloc::Global;
+use std::thread::Threads;
 
 /// Whether the assertion file holds of the ballots of the contest.
-pub fn answer<D: Desk>(
-    alloc: Global,
+pub fn answer<R: AllocGlobal + Threads + Sync, D: Desk>(
+    rt: &R,
     desk: &mut D,
     file: &str,
     assertions: &str,
@@ -41,16 +40,15 @@ pub fn answer<D: Desk>(
         (script file.now assertions.now (option_copied contest.entry) nodes) (due result) }
     ensures served { IsAccountedFor 2 (D.served desk.old) (D.served desk.new) (due result).status }
 {
+    let alloc = rt.alloc();
     let bytes = read_file(alloc, desk, file)?;
-    match ballots_in(alloc, file, &bytes, contest) {
-        Ok(ballots) => check_of(alloc, desk, &ballots, assertions, nodes),
-        Err(refusal) => Err(refusal),
-    }
+    let ballots = ballots_in(alloc, file, &bytes, contest)?;
+    check_of(rt, desk, &ballots, assertions, nodes)
 }
 
 // A check of the ballots of the contest.
-fn check_of<D: Desk>(
-    alloc: Global,
+fn check_of<R: AllocGlobal + Threads + Sync, D: Desk>(
+    rt: &R,
     desk: &mut D,
     ballots: &Ballots,
     assertions: &str,
@@ -63,37 +61,23 @@ fn check_of<D: Desk>(
         (script_of_ballots nodes ballots.now assertions.now) (due result) }
     ensures served { IsAccountedFor 1 (D.served desk.old) (D.served desk.new) (due result).status }
 {
+    let alloc = rt.alloc();
     let bytes = read_file(alloc, desk, assertions)?;
-    check_in(alloc, ballots, assertions, &bytes, nodes)
-}
-
-// A check against the bytes of an assertion file.
-fn check_in(
-    alloc: Global,
-    ballots: &Ballots,
-    assertions: &str,
-    bytes: &[u8],
-    nodes: u32,
-) -> Result<Answer, Refusal>
-    ensures { IsOneOrMemory
-        (ChecksIn nodes ballots.now assertions.now (assertion_file_of bytes.now)) (due result) }
-{
-    match assertions_in(alloc, assertions, bytes) {
-        Ok(file) => check(alloc, ballots, &file, nodes),
-        Err(refusal) => Err(refusal),
-    }
+    let file = assertions_in(alloc, assertions, &bytes)?;
+    check(rt, ballots, &file, nodes)
 }
 
 /// Whether the file holds of the ballots, or the first difference.
-pub fn check(
-    alloc: Global,
+pub fn check<R: AllocGlobal + Threads + Sync>(
+    rt: &R,
     ballots: &Ballots,
     file: &AssertionFile,
     nodes: u32,
 ) -> Result<Answer, Refusal>
     ensures { IsOneOrMemory (Checks nodes ballots.now file.now) (due result) }
 {
-    let counted = Counted::of(alloc, ballots.candidates().len() as u32, ballots.rankings())?;
+    let alloc = rt.alloc();
+    let counted = Counted::of(rt, ballots.candidates().len() as u32, ballots.rankings(), 1)?;
     let mut tallies = counted.tallies()?;
     match check_file(alloc, ballots, &mut tallies, file, nodes) {
         Ok(found) => found_answer(alloc, file, found),
@@ -105,7 +89,7 @@ pub fn check(
                 tied,
                 tally,
             ),
-            CheckFault::Spent { last } => spent(alloc, file, last),
+            CheckFault::Spent { last } => spent_answer(alloc, file, last),
             CheckFault::Memory => Err(Refusal::Memory),
         },
     }
@@ -150,6 +134,7 @@ fn found_answer(alloc: Global, file: &AssertionFile, found: Checked) -> Result<A
     }
 }
 
+// The answer to a difference in words.
 fn difference(alloc: Global, text: &str) -> Result<Answer, Refusal>
     ensures { IsOneOrMemory (λ verdict. verdict ≡ differs text.now) (due result) }
 {
@@ -160,7 +145,8 @@ fn difference(alloc: Global, text: &str) -> Result<Answer, Refusal>
     })
 }
 
-fn spent(alloc: Global, file: &AssertionFile, last: Candidate) -> Result<Answer, Refusal>
+// The answer where the budget is spent at this candidate.
+fn spent_answer(alloc: Global, file: &AssertionFile, last: Candidate) -> Result<Answer, Refusal>
     requires { last < length (file.now).candidates }
     ensures { IsOneOrMemory (λ verdict.
         verdict ≡ Answered Spent (spent_at (id_of (file.now).candidates last))) (due result) }

@@ -11,7 +11,7 @@ ghost use Rattle.cli_base.specs.declared.outcome.AnswerKind.TheVariants.{Tie};
 use assertion_file::{AssertionFile, FileFault, read_file};
 use ballot_reader::{BallotFault, Ballots, read_ballots};
 use cli_base::{Answer, AnswerKind, Refusal, refuse_at};
-use irv_base::{CandSet, Memory, Name};
+use irv_base::{CandSet, Name};
 use report::set_text;
 use std::alloc::{AllocError, Global};
 
@@ -59,27 +59,15 @@ pub(crate) fn first_tie(
     ensures { IsOneOrMemory (λ verdict.
         verdict ≡ Answered Tie (tie_text names.now round tied votes)) (due result) }
 {
+    let tied = set_text(alloc, names, tied)?;
+    let text = tie_lines(alloc, round, tied.as_str(), votes)?;
     Ok(Answer {
         kind: AnswerKind::Tie,
-        text: tie(alloc, names, round, tied, votes)?,
+        text: text.into_bytes(),
     })
 }
 
-fn tie(
-    alloc: Global,
-    names: &[Name],
-    round: u32,
-    tied: CandSet,
-    votes: u32,
-) -> Result<Vec<u8>, Memory>
-    requires { length names.now ≤ ROOM }
-    ensures { IfOk result (λ text. text.items ≡ tie_text names.now round tied votes) }
-{
-    let tied = set_text(alloc, names, tied)?;
-    let text = tie_lines(alloc, round, tied.as_str(), votes)?;
-    Ok(text.into_bytes())
-}
-
+// The lines of a tie. `tied` tells who shares the least tally.
 fn tie_lines(alloc: Global, round: u32, tied: &str, votes: u32) -> Result<String, AllocError>
     ensures { IfOk result (λ text. string_bytes text ≡ tie_lines round tied.now votes) }
 {

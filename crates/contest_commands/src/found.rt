@@ -48,7 +48,12 @@ pub(crate) fn find<R: AllocGlobal + Threads + Sync, G: Gate + Sync>(
     ensures { IfOk result (FoundIn nodes contest.now) }
 {
     let alloc = rt.alloc();
-    let counted = Counted::of(alloc, contest.candidates().len() as u32, contest.rankings())?;
+    let counted = Counted::of(
+        rt,
+        contest.candidates().len() as u32,
+        contest.rankings(),
+        workers,
+    )?;
     let mut tallies = counted.tallies()?;
     match tabulate(alloc, &mut tallies) {
         Ok(tabulated) => race_of(rt, contest, &counted, &tabulated, workers, nodes, gate),

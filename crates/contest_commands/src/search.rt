@@ -1,11 +1,10 @@
 // `search FILE`: the assertions that together confirm the winner of a ballot file's contest, or why there are none.
-ghost use Rattle.std.specs.Prelude.{◌≡◌, ◌≤◌, IfOk, option_copied};
+ghost use Rattle.std.specs.Prelude.{◌≡◌, ◌≤◌, option_copied};
 ghost use Rattle.desk.specs.Count.{Rose};
-ghost use Rattle.ballot_reader.specs.Grammar.{ballots_of};
 ghost use Rattle.cli_base.specs.Accounts.{IsAccountedFor};
 ghost use Rattle.cli_base.specs.Script.{ByDesk, MayOrMemory};
-ghost use Rattle.contest_commands.specs.Search.{Finds, FindsIn, script};
-ghost use Rattle.contest_commands.specs.Found.{FoundIn, IsFoundIn};
+ghost use Rattle.contest_commands.specs.Search.{Finds, script};
+ghost use Rattle.contest_commands.specs.Found.{IsFoundIn};
 ghost use Rattle.cli_base.specs.Due.{due, IsOneOrMemory};
 ghost use Rattle.irv_base.specs.declared.limits.TheConstants.{MOST_WORKERS};
 
@@ -17,7 +16,7 @@ use assertion_file::{AssertionFile, print_file};
 use ballot_reader::Ballots;
 use cli_base::{Answer, AnswerKind, Refusal, read_file};
 use desk::{Desk, Gate};
-use irv_base::{Memory, Name};
+use irv_base::Name;
 use std::alloc::Global;
 use std::thread::Threads;
 
@@ -48,44 +47,13 @@ pub fn answer<R: AllocGlobal + Threads + Sync, D: Desk, G: Gate + Sync>(
         (script file.now (option_copied contest.entry) terms) (due result) }
     ensures served { IsAccountedFor 1 (D.served desk.old) (D.served desk.new) (due result).status }
 {
-    let bytes = read_file(rt.alloc(), desk, file)?;
-    search_in(rt, file, &bytes, contest, terms, workers, gate)
+    let alloc = rt.alloc();
+    let bytes = read_file(alloc, desk, file)?;
+    let ballots = ballots_in(alloc, file, &bytes, contest)?;
+    search(rt, &ballots, terms, workers, gate)
 }
 
-// The answer to the bytes of a ballot file.
-fn search_in<R: AllocGlobal + Threads + Sync, G: Gate + Sync>(
-    rt: &R,
-    file: &str,
-    bytes: &[u8],
-    contest: Option<&Name>,
-    terms: Terms,
-    workers: u32,
-    gate: &G,
-) -> Result<Answer, Refusal>
-    requires { (1 ≤ workers) × (workers ≤ MOST_WORKERS) }
-    ensures { IsOneOrMemory
-        (FindsIn terms file.now (ballots_of bytes.now (option_copied contest.entry))) (due result) }
-{
-    match ballots_in(rt.alloc(), file, bytes, contest) {
-        Ok(ballots) => search(rt, &ballots, terms, workers, gate),
-        Err(refusal) => Err(refusal),
-    }
-}
-
-// What is found in the ballots.
-fn find_in<R: AllocGlobal + Threads + Sync, G: Gate + Sync>(
-    rt: &R,
-    ballots: &Ballots,
-    workers: u32,
-    nodes: u32,
-    gate: &G,
-) -> Result<Found, Memory>
-    requires { (1 ≤ workers) × (workers ≤ MOST_WORKERS) }
-    ensures { IfOk result (FoundIn nodes ballots.now) }
-{
-    find(rt, &Contest::of(ballots), workers, nodes, gate)
-}
-
+// The answer to the ballots of the contest. The search of them knows nothing of their ids and places.
 fn search<R: AllocGlobal + Threads + Sync, G: Gate + Sync>(
     rt: &R,
     ballots: &Ballots,
@@ -98,7 +66,7 @@ fn search<R: AllocGlobal + Threads + Sync, G: Gate + Sync>(
 {
     let alloc = rt.alloc();
     let names = ballots.candidates();
-    let found = find_in(rt, ballots, workers, terms.nodes, gate)?;
+    let found = find(rt, &Contest::of(ballots), workers, terms.nodes, gate)?;
     match found {
         Found::Certificate(file) => certificate(alloc, ballots, &file, terms),
         Found::Tie { round, tied, votes } => first_tie(alloc, names, round, tied, votes),

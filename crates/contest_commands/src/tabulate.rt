@@ -1,27 +1,27 @@
 // `tabulate FILE`: the rounds of a ballot file's contest, or its first tie.
-ghost use Rattle.std.specs.Prelude.{◌≡◌, ◌≤◌, IfOk, option_copied};
+ghost use Rattle.std.specs.Prelude.{◌≡◌, ◌≤◌, option_copied};
 ghost use Rattle.irv_tabulator.specs.Results.{IsTabulation};
 ghost use Rattle.contest_commands.specs.Contest.{candidate_count, IsTie};
 ghost use Rattle.desk.specs.Count.{Rose};
-ghost use Rattle.ballot_reader.specs.Grammar.{ballots_of};
 ghost use Rattle.cli_base.specs.Accounts.{IsAccountedFor};
 ghost use Rattle.cli_base.specs.Script.{ByDesk, MayOrMemory};
-ghost use Rattle.contest_commands.specs.Tabulate.{HasRounds, Tabulates, TabulatesIn, script};
+ghost use Rattle.contest_commands.specs.Tabulate.{Tabulates, script};
 ghost use Rattle.cli_base.specs.Due.{due, IsOneOrMemory};
 
 use crate::contest::{ballots_in, first_tie};
 use ballot_reader::Ballots;
 use cli_base::{Answer, AnswerKind, Refusal, read_file};
 use desk::Desk;
-use irv_base::{CandSet, Memory, Name};
+use irv_base::{CandSet, Name};
 use irv_tabulator::{TabFault, Tabulated, tabulate};
 use report::tabulation;
 use set_tallies::Counted;
 use std::alloc::Global;
+use std::thread::Threads;
 
 /// The rounds of the contest, or its first tie.
-pub fn answer<D: Desk>(
-    alloc: Global,
+pub fn answer<R: AllocGlobal + Threads + Sync, D: Desk>(
+    rt: &R,
     desk: &mut D,
     file: &str,
     contest: Option<&Name>,
@@ -33,30 +33,21 @@ pub fn answer<D: Desk>(
         (script file.now (option_copied contest.entry)) (due result) }
     ensures served { IsAccountedFor 1 (D.served desk.old) (D.served desk.new) (due result).status }
 {
+    let alloc = rt.alloc();
     let bytes = read_file(alloc, desk, file)?;
-    tabulate_in(alloc, file, &bytes, contest)
+    let ballots = ballots_in(alloc, file, &bytes, contest)?;
+    tabulate_all(rt, &ballots)
 }
 
-// The answer to the bytes of a ballot file.
-fn tabulate_in(
-    alloc: Global,
-    file: &str,
-    bytes: &[u8],
-    contest: Option<&Name>,
+// The answer to the ballots of the contest.
+fn tabulate_all<R: AllocGlobal + Threads + Sync>(
+    rt: &R,
+    ballots: &Ballots,
 ) -> Result<Answer, Refusal>
-    ensures { IsOneOrMemory
-        (TabulatesIn file.now (ballots_of bytes.now (option_copied contest.entry))) (due result) }
-{
-    match ballots_in(alloc, file, bytes, contest) {
-        Ok(ballots) => tabulate_all(alloc, &ballots),
-        Err(refusal) => Err(refusal),
-    }
-}
-
-fn tabulate_all(alloc: Global, ballots: &Ballots) -> Result<Answer, Refusal>
     ensures { IsOneOrMemory (Tabulates ballots.now) (due result) }
 {
-    let counted = Counted::of(alloc, ballots.candidates().len() as u32, ballots.rankings())?;
+    let alloc = rt.alloc();
+    let counted = Counted::of(rt, ballots.candidates().len() as u32, ballots.rankings(), 1)?;
     let mut tallies = counted.tallies()?;
     match tabulate(alloc, &mut tallies) {
         Ok(tabulated) => rounds(alloc, ballots, &tabulated),
@@ -72,20 +63,14 @@ fn rounds(alloc: Global, ballots: &Ballots, tabulated: &Tabulated) -> Result<Ans
     requires { IsTabulation (candidate_count ballots.now) (ballots.now).rankings tabulated.now }
     ensures { IsOneOrMemory (Tabulates ballots.now) (due result) }
 {
+    let text = tabulation(alloc, ballots, tabulated)?;
     Ok(Answer {
         kind: AnswerKind::Done,
-        text: lines(alloc, ballots, tabulated)?,
+        text: text.into_bytes(),
     })
 }
 
-fn lines(alloc: Global, ballots: &Ballots, tabulated: &Tabulated) -> Result<Vec<u8>, Memory>
-    requires { IsTabulation (candidate_count ballots.now) (ballots.now).rankings tabulated.now }
-    ensures { IfOk result (λ text. HasRounds ballots.now text.items) }
-{
-    let text = tabulation(alloc, ballots, tabulated)?;
-    Ok(text.into_bytes())
-}
-
+// The first tie of a contest that has one, told by the ids of its candidates.
 fn tied_answer(
     alloc: Global,
     ballots: &Ballots,

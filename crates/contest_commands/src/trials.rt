@@ -1,5 +1,5 @@
 // `trial`: the assertions that confirm the winner of a contest whose records a number draws, in a few lines.
-ghost use Rattle.std.specs.Prelude.{◌≡◌, ◌≤◌, length, IfOk};
+ghost use Rattle.std.specs.Prelude.{◌≡◌, ◌≤◌};
 ghost use Rattle.irv_base.specs.declared.limits.TheConstants.{FEWEST_CANDIDATES, MOST_CANDIDATES, MOST_RECORDS};
 ghost use Rattle.irv_base.specs.declared.limits.TheConstants.{MOST_WORKERS};
 ghost use Rattle.cli_base.specs.Due.{due, IsOneOrMemory};
@@ -13,7 +13,7 @@ use crate::searched::Contest;
 use crate::trial_texts::{contest_id, lines, trial_candidates};
 use cli_base::{Answer, AnswerKind, Refusal};
 use desk::Gate;
-use irv_base::{Memory, Name};
+use irv_base::Name;
 use std::alloc::Global;
 use std::thread::Threads;
 use trial::trial_records;
@@ -45,39 +45,22 @@ pub fn answer<R: AllocGlobal + Threads + Sync, G: Gate + Sync>(
     requires ballots { terms.ballots ≤ MOST_RECORDS }
     ensures { IsOneOrMemory (Tries terms) (due result) }
 {
-    let names = trial_candidates(rt.alloc(), terms.candidates)?;
-    let found = find_in(rt, &names, terms, workers, gate)?;
-    told(rt.alloc(), &names, terms, found)
-}
-
-// What a search of the trial's contest finds.
-fn find_in<R: AllocGlobal + Threads + Sync, G: Gate + Sync>(
-    rt: &R,
-    names: &[Name],
-    terms: Terms,
-    workers: u32,
-    gate: &G,
-) -> Result<Found, Memory>
-    requires workers { (1 ≤ workers) × (workers ≤ MOST_WORKERS) }
-    requires candidates { (FEWEST_CANDIDATES ≤ terms.candidates)
-        × (terms.candidates ≤ MOST_CANDIDATES) }
-    requires ballots { terms.ballots ≤ MOST_RECORDS }
-    requires names { names.now ≡ trial_candidates terms.candidates }
-    ensures { IfOk result (FoundIn terms.nodes (contest_of terms)) }
-{
+    let alloc = rt.alloc();
     let id = contest_id();
-    let records = trial_records(rt.alloc(), terms.number, terms.candidates, terms.ballots)?;
-    find(
-        rt,
-        &Contest::new(&id, names, &records),
-        workers,
-        terms.nodes,
-        gate,
-    )
+    let names = trial_candidates(alloc, terms.candidates)?;
+    let records = trial_records(alloc, terms.number, terms.candidates, terms.ballots)?;
+    let contest = Contest::new(&id, &names, &records);
+    let found = find(rt, &contest, workers, terms.nodes, gate)?;
+    found_answer(alloc, &names, terms, found)
 }
 
 // What is told of what the search found.
-fn told(alloc: Global, names: &[Name], terms: Terms, found: Found) -> Result<Answer, Refusal>
+fn found_answer(
+    alloc: Global,
+    names: &[Name],
+    terms: Terms,
+    found: Found,
+) -> Result<Answer, Refusal>
     requires candidates { terms.candidates ≤ MOST_CANDIDATES }
     requires names { names.now ≡ trial_candidates terms.candidates }
     requires found { FoundIn terms.nodes (contest_of terms) found }

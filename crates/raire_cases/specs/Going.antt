@@ -11,9 +11,12 @@ use Rattle.audit_session.specs.Refusals.{Refuses, refusal}
 use Rattle.audit_session.specs.declared.fault.AdvanceFault.{AdvanceFault}
 
 -- the answer to a call that goes on with a session, and the session after it
-pub record GoesOn (session : Content) (claims : List Claim) (recorded : List Recorded) (entries : List Entry) (draws : ℕ) (answer : Result Bool AdvanceFault) (after : Content) : Type 0 where
+pub record GoesOn (session : Content) (claims : List Claim) (recorded : List Recorded)
+    (entries : List Entry) (draws : ℕ) (answer : Result Bool AdvanceFault)
+    (after : Content) : Type 0 where
   pub next : IfOk answer (λ _. after ≡ with_round session
-      (round_to session.session.gamma (audited claims) recorded (all_seen entries (length recorded)) (drawn_cards session.seed (length recorded) draws) draws))
+      (round_to session.session.gamma (audited claims) recorded (all_seen entries (length recorded))
+      (drawn_cards session.seed (length recorded) draws) draws))
   pub told : IfOk answer (λ done. done ≡ is_signed_off after.session)
   pub refused : IfErr answer (Refuses (refusal session claims recorded entries draws))
   pub kept : OnErr answer (after ≡ session)

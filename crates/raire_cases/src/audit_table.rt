@@ -2,6 +2,7 @@
 // the numbers of draws were worked out by a plain program (acceptance/plain_audit.py), which shares no code with the suite.
 use crate::table::{BAD_WORDS, File};
 
+/// The files of the commands that need no ballots.
 pub const FILES: [File; 14] = [
     File {
         name: "m.csv",

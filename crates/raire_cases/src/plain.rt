@@ -7,11 +7,13 @@ use std::alloc::{AllocError, Global};
 /// A contest whose candidates have numbers one after another as ids.
 #[derive(Drop)]
 pub struct Contest {
+    /// The number that is its id.
     pub id: u32,
     /// The id of the first candidate.
     pub first_id: u32,
     /// In rising order.
     pub candidates: Vec<Candidate>,
+    /// A ranking for each record.
     pub rankings: Vec<Ranking>,
 }
 

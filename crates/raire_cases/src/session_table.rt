@@ -25,6 +25,7 @@ const SIGNED: &str = "\
     \"rounds\":[{\"counts\":[[0,0,4,0,0]],\"draws\":4,\"risks\":[88518543815313162]},{\"counts\":[[0,0,5,0,0]],\"draws\":5,\
     \"risks\":[48282842081079907]}],\"seed\":\"2024\",\"signed_off\":true,\"version\":1}\n";
 
+/// The files of the audit of one card.
 pub const FILES: [File; 22] = [
     File {
         name: "one_card.raire",

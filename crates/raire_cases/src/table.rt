@@ -14,10 +14,13 @@ pub const PRINTED: &str = "\
 
 /// A file of a case.
 pub struct File {
+    /// Its name, as the words of a call give it.
     pub name: &'static str,
+    /// What it holds.
     pub text: &'static str,
 }
 
+/// The files of the commands on a contest.
 pub const FILES: [File; 16] = [
     File {
         name: "five.raire",

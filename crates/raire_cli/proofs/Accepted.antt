@@ -41,12 +41,15 @@ module _ (words : List (List ℕ)) (files : List File) (asks : AsksForCheck word
   abbrev Held : Type 0
   Held = (file : Content) × HoldsAsked words files file × (text ≡ yes_text file)
 
-  by_file : (bytes more : List ℕ) (ballots : BallotFile) (read : Result Content FileRefusal) → held_bytes asks.ballots files ≡ Some bytes → ballots_of bytes asks.contest ≡ Ok ballots →
-      held_bytes asks.assertions files ≡ Some more → assertion_file_of more ≡ read → ChecksIn asks.nodes ballots asks.assertions read (Answered Done text) → Held
+  by_file : (bytes more : List ℕ) (ballots : BallotFile) (read : Result Content FileRefusal) → held_bytes asks.ballots files ≡ Some bytes →
+      ballots_of bytes asks.contest ≡ Ok ballots →
+      held_bytes asks.assertions files ≡ Some more → assertion_file_of more ≡ read → ChecksIn asks.nodes ballots asks.assertions read (Answered Done text) →
+      Held
   by_file bytes more ballots (Err refusal) held accepted held' is refused = absurd (cc refused)
   by_file bytes more ballots (Ok file) held accepted held' is (answer, found, told) =
       let yes = accepted_answer file answer text told in
-      let holds = (accepted_iff_holds asks.nodes ballots file Accepted (read_is_sound more file is) (subst (IsAnswer asks.nodes ballots file) yes found)).0 refl in (
+      let holds = (accepted_iff_holds asks.nodes ballots file Accepted (read_is_sound more file is) (subst (IsAnswer asks.nodes ballots file) yes found)).0
+      refl in (
         file,
         record {
           asks = asks;

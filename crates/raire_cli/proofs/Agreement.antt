@@ -1,19 +1,20 @@
 -- Two calls with the same words, over desks that hold the same, end in the same way.
 use Rattle.std.proofs.Common.{◌≡◌, ◌≢◌, inl, inr, ℕ, Bool, true, false, List, Option, None, Some, refl, sym, ◌∙◌, ap, subst}
 use Rattle.std.proofs.lemmas.Bool.{false≢true}
-use Rattle.desk.specs.Desk.{File, held_bytes}
+use Rattle.desk.specs.Desk.{File}
 use Rattle.cli_base.specs.Ends.{Took}
 use Rattle.cli_base.specs.Outcome.{Outcome}
-use Rattle.cli_base.specs.Script.{Script, Read, Ends, AsHeld, May, MayCome, Same, SameButBudget, OneIsSpent, reading_of}
+use Rattle.cli_base.specs.Script.{Script, Read, Ends, AsHeld, May, MayCome, Same, SameButBudget, reading_of}
 use Rattle.cli_base.proofs.Scripts.{determined, some_is}
 use Rattle.command_line.specs.Line.{command_of}
 use Rattle.command_line.specs.declared.command.Command.{Command}
-use Rattle.raire_cli.specs.Agreement.{Call, IsSettled, HoldTheSame, AreTheSame, MayBeSpent, SameFilesSameAnswer}
+use Rattle.raire_cli.specs.Agreement.{HoldTheSame, MayBeSpent, SameFilesSameAnswer}
 use Rattle.raire_cli.specs.Answers.{script_of, asked_by, is_open}
 use Rattle.raire_cli.proofs.EachCommand.{agrees_by, agrees_exactly}
 
 -- what a script may come to, over files that hold the same
-moved : (files others : List File) → HoldTheSame files others → (script : Script) (due : Outcome) → May (AsHeld others) script due → May (AsHeld files) script due
+moved : (files others : List File) → HoldTheSame files others → (script : Script) (due : Outcome) → May (AsHeld others) script due →
+    May (AsHeld files) script due
 moved files others same (Ends verdicts) due may = may
 moved files others same (Read name next) due (inl (reading, there, stop)) = inl (reading, there ∙ ap reading_of (sym (same name)), stop)
 moved files others same (Read name next) due (inr (bytes, there, rest)) =
@@ -32,22 +33,25 @@ unspent_same d e first second (inr (budgeted, other, inr four)) = absurd (second
 
 module _ (words : List (List ℕ)) (files others : List File) (same : HoldTheSame files others) (d e : Outcome) (first : MayBeSpent words → d.status ≢ 4)
     (second : MayBeSpent words → e.status ≢ 4) where
-  one_command : (command : Command) → command_of words ≡ Some command → May (AsHeld files) (script_of command) d → May (AsHeld files) (script_of command) e → d ≡ e
+  one_command : (command : Command) → command_of words ≡ Some command → May (AsHeld files) (script_of command) d → May (AsHeld files) (script_of command) e →
+      d ≡ e
   one_command command is may_d may_e = by (is_open command) refl where
     by : (b : Bool) → is_open command ≡ b → d ≡ e
     by false closed = determined Same (λ o. refl) files (script_of command) d e (agrees_exactly command closed) may_d may_e
     by true searched =
         let asks : MayBeSpent words = record { command = command; asked_for = is; is_open = searched } in
-        unspent_same d e (first asks) (second asks) (determined SameButBudget (λ o. inl refl) files (script_of command) d e (agrees_by (Some command)) may_d may_e)
+        unspent_same d e (first asks) (second asks) (determined SameButBudget (λ o. inl refl) files (script_of command) d e
+        (agrees_by (Some command)) may_d may_e)
 
-  pub one_end : (command : Option Command) → command_of words ≡ command → MayCome (AsHeld files) (asked_by command) d → MayCome (AsHeld others) (asked_by command) e → d ≡ e
+  pub one_end : (command : Option Command) → command_of words ≡ command → MayCome (AsHeld files) (asked_by command) d →
+      MayCome (AsHeld others) (asked_by command) e → d ≡ e
   one_end None is bad_d bad_e = bad_d ∙ sym bad_e
   one_end (Some command) is may_d may_e = one_command command is may_d (moved files others same (script_of command) e may_e)
 
 pub same_files_same_answer : SameFilesSameAnswer
 same_files_same_answer words files others first second same settled settled' =
-    let (out, err, may, took_out, took_err) = settled.answered.quiet settled.quiet settled.memory in
-    let (out', err', may', took_out', took_err') = settled'.answered.quiet settled'.quiet settled'.memory in
+    let (out, err, may, took_out, took_err) = settled.answer.quiet settled.quiet settled.memory in
+    let (out', err', may', took_out', took_err') = settled'.answer.quiet settled'.quiet settled'.memory in
     let d : Outcome = record { status = first.status; out = out; err = err } in
     let e : Outcome = record { status = second.status; out = out'; err = err' } in
     let is : d ≡ e = one_end words files others same d e settled.unspent settled'.unspent (command_of words) refl may may' in

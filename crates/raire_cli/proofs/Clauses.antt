@@ -4,9 +4,9 @@ use Rattle.std.specs.Prelude.{◌≢◌, is_some}
 use Rattle.desk.specs.Desk.{File}
 use Rattle.assertion_file.specs.Content.{Content}
 use Rattle.assertion_file.specs.Text.{assertion_file_text}
-use Rattle.cli_base.specs.Outcome.{Answered}
-use Rattle.cli_base.specs.Script.{AsHeld, ByDesk, IsDue, ComesTo, AgreeOn, Same}
-use Rattle.cli_base.specs.Ends.{Writing, Took}
+use Rattle.cli_base.specs.Outcome.{Outcome, Answered}
+use Rattle.cli_base.specs.Script.{Asked, AsHeld, ByDesk, IsDue, ComesTo, AgreeOn, Same}
+use Rattle.cli_base.specs.Ends.{Writing, Took, IsWritten}
 use Rattle.cli_base.specs.Statuses.{IsUndone, IsQuiet, Exactly, ExactlyInBudget, IsNothing, HasAnswer, Statuses}
 use Rattle.cli_base.specs.Story.{Story}
 use Rattle.cli_base.specs.declared.outcome.AnswerKind.{AnswerKind}
@@ -37,6 +37,11 @@ use Rattle.raire_cli.proofs.EachCommand.{agrees_by, agrees_exactly, counts_in_fu
 use Rattle.raire_cli.proofs.Complete.{not_spent, has_answer, tried}
 use Rattle.raire_cli.proofs.Headline.{confirms_asked, gives_reason}
 
+-- how a call went by what was due, and by what the sinks took of it
+pub story_of : {asked : Asked} {held : Option (List File)} {failed : Type 0} {status : ℕ} {out err : Writing} {due : Outcome}
+    → IsDue (ByDesk held failed) asked due → IsWritten due status out err → Story asked held failed status out err
+story_of {asked} {held} {failed} {status} {out} {err} {due} is_due written = record { due = due; is_due = is_due; written = written }
+
 if_some : {A : Type 0} (o : Option A) (P Q : A → Type 0) → ((x : A) → P x → Q x) → IfSome o P → IfSome o Q
 if_some None P Q f p = tt
 if_some (Some x) P Q f p = f x p
@@ -56,7 +61,8 @@ exactly_same n status P Q to from (only, wherever) = (λ e. to (only e), λ q. w
 asked_exact : (words : List (List ℕ)) (command : Command) → command_of words ≡ Some command → is_open command ≡ false → AgreeOn Same (asked words)
 asked_exact words command is closed = subst (λ c. AgreeOn Same (asked_by c)) (sym is) (agrees_exactly command closed)
 
-module _ (words : List (List ℕ)) {held : Option (List File)} {failed : Type 0} {status : ℕ} {out err : Writing} (story : Story (asked words) held failed status out err) where
+module _ (words : List (List ℕ)) {held : Option (List File)} {failed : Type 0} {status : ℕ} {out err : Writing}
+    (story : Story (asked words) held failed status out err) where
   pub headline_clause : IsConfirmed held words status out
   headline_clause = if_some held (λ files. status ≡ 0 → (text : List ℕ) × ComesTo (AsHeld files) (asked words) (Answered Done text) × Took out text)
       (λ files. AsksForSearch words → status ≡ 0 → (file : Content) × ConfirmsAsked words files file × Took out (assertion_file_text file))
@@ -93,7 +99,8 @@ module _ (words : List (List ℕ)) {held : Option (List File)} {failed : Type 0}
       (answered_with story Done)
 
   -- an audit that ends with an answer of this kind, and its session
-  audited-of : (files : List File) (kind : AnswerKind) → IsKind kind → AsksForAudit words → (text : List ℕ) × ComesTo (AsHeld files) (asked words) (Answered kind text) × Took out text →
+  audited-of : (files : List File) (kind : AnswerKind) → IsKind kind → AsksForAudit words →
+      (text : List ℕ) × ComesTo (AsHeld files) (asked words) (Answered kind text) × Took out text →
       (next : SessionContent) × (on : GoesOn words files next) × Took out (session_text next) × (kind ≡ kind_of next.session)
   audited-of files kind of asks (text, comes, took) =
       let (next, on, text-is, kind-is) = goes_on words files asks kind text of comes in
@@ -101,16 +108,28 @@ module _ (words : List (List ℕ)) {held : Option (List File)} {failed : Type 0}
 
   pub audited_clause : IsAudited held words status out
   audited_clause = by held (answered_with story Done) (answered_with story Unconfirmed) where
-    by : (h : Option (List File)) → IfSome h (λ files. status ≡ 0 → (text : List ℕ) × ComesTo (AsHeld files) (asked words) (Answered Done text) × Took out text) →
-        IfSome h (λ files. status ≡ 10 → (text : List ℕ) × ComesTo (AsHeld files) (asked words) (Answered Unconfirmed text) × Took out text) → IsAudited h words status out
+    by : (h : Option (List File)) → IfSome h (λ files. status ≡ 0 → (text : List ℕ) × ComesTo (AsHeld files) (asked words) (Answered Done text)
+        × Took out text) →
+        IfSome h (λ files. status ≡ 10 → (text : List ℕ) × ComesTo (AsHeld files) (asked words) (Answered Unconfirmed text) × Took out text) →
+        IsAudited h words status out
     by None done unconfirmed = tt
     by (Some files) done unconfirmed = λ asks status-is. elim status-is [
       | inl zero ↦
-          let (next, on, took, kind-is) = audited-of files Done (inl refl) asks (done zero) in
-          (next, on, took, (λ e. done_signed (is_signed_off next.session) kind-is, λ yes. zero), λ e. limited next on (done_signed (is_signed_off next.session) kind-is))
+          let (next, on, took, kind-is) = audited-of files Done (inl refl) asks (done zero) in (
+            next,
+            on,
+            took,
+            (λ e. done_signed (is_signed_off next.session) kind-is, λ yes. zero),
+            λ e. limited next on (done_signed (is_signed_off next.session) kind-is),
+          )
       | inr ten ↦
-          let (next, on, took, kind-is) = audited-of files Unconfirmed (inr refl) asks (unconfirmed ten) in
-          (next, on, took, (λ zero. absurd (omega (arith, zero, ten)), λ yes. absurd (unconfirmed_not (is_signed_off next.session) kind-is yes)), λ zero. absurd (omega (arith, zero, ten)))
+          let (next, on, took, kind-is) = audited-of files Unconfirmed (inr refl) asks (unconfirmed ten) in (
+            next,
+            on,
+            took,
+            (λ zero. absurd (omega (arith, zero, ten)), λ yes. absurd (unconfirmed_not (is_signed_off next.session) kind-is yes)),
+            λ zero. absurd (omega (arith, zero, ten)),
+          )
     ]
 
   pub causes : Statuses (asked words) held failed status out err
@@ -129,7 +148,8 @@ module _ (words : List (List ℕ)) {held : Option (List File)} {failed : Type 0}
 
   pub enough_clause : IsNeverSpent held words status
   enough_clause = if_some held (λ files. status ≡ 4 → HasAnswer (asked words) files Spent)
-      (λ files. (command : Command) (judging : Judging) → command_of words ≡ Some command → judging_of command ≡ Some judging → AreEnough files judging → status ≢ 4)
+      (λ files. (command : Command) (judging : Judging) → command_of words ≡ Some command → judging_of command ≡ Some judging → AreEnough files judging →
+      status ≢ 4)
       (λ files spent command judging line is enough four. never_spent words files command judging line is enough (spent four))
       causes.spent
 
@@ -145,7 +165,8 @@ module _ (words : List (List ℕ)) {held : Option (List File)} {failed : Type 0}
   complete_clause = by held causes.done causes.full_count causes.spent
     where
       by : (h : Option (List File)) → IfSome h (λ files. ExactlyInBudget 0 status (HasAnswer (asked words) files Done)) →
-          IfSome h (λ files. ExactlyInBudget 5 status (HasAnswer (asked words) files FullCount)) → IfSome h (λ files. status ≡ 4 → HasAnswer (asked words) files Spent) →
+          IfSome h (λ files. ExactlyInBudget 5 status (HasAnswer (asked words) files FullCount)) →
+          IfSome h (λ files. status ≡ 4 → HasAnswer (asked words) files Spent) →
           IsComplete h words failed status out err
       by None done full spent = tt
       by (Some files) done full spent = λ ok quiet. elim (has_answer words files ok) [

@@ -21,7 +21,8 @@ use Rattle.raire_cli.specs.Answers.{asked, asked_by}
 use Rattle.raire_cli.specs.Promises.{IsSearchable, IsTriable, terms_of}
 use Rattle.raire_cli.proofs.Headline.{terms, search_came}
 
-pub read_whole : (name : List ℕ) (files : List File) (bytes : List ℕ) → held_bytes name files ≡ Some bytes → length bytes ≤ limit → Bytes bytes ≡ reading_of (held_bytes name files)
+pub read_whole : (name : List ℕ) (files : List File) (bytes : List ℕ) → held_bytes name files ≡ Some bytes → length bytes ≤ limit →
+    Bytes bytes ≡ reading_of (held_bytes name files)
 read_whole name files bytes held short =
     sym (ap reading_of held ∙ ap (λ b. if b then Bytes bytes else TooLong) (le-leb (length bytes) limit short))
 

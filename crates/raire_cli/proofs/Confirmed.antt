@@ -22,16 +22,17 @@ use Rattle.contest_commands.specs.Contest.{candidate_count}
 use Rattle.contest_commands.specs.Search.{margin_of, certificate_of, IsCertificateOf}
 use Rattle.contest_commands.proofs.Contests.{winner-below}
 use Rattle.contest_commands.proofs.Searches.{each}
-use Rattle.raire_cli.specs.Confirmation.{Holds, Confirms, IsLeast}
+use Rattle.raire_cli.specs.Confirmation.{ClaimHolds, Confirms, IsLeast}
 
 module _ (n : ℕ) (records : List (List ℕ)) (winner : ℕ) where
-  listed : (claim : Claim) → Member claim (certificate_claims n records winner) → (a : Assertion) × Member a (certificate_assertions n records winner) × (claim_of records a ≡ claim)
+  listed : (claim : Claim) → Member claim (certificate_claims n records winner) → (a : Assertion) × Member a (certificate_assertions n records winner)
+      × (claim_of records a ≡ claim)
   listed claim m = from_map (claim_of records) claim (certificate_assertions n records winner) m
 
-  claim-holds : (claim : Claim) → Member claim (certificate_claims n records winner) → Holds n records claim
+  claim-holds : (claim : Claim) → Member claim (certificate_claims n records winner) → ClaimHolds n records claim
   claim-holds claim m =
       let (a, k, e) = listed claim m in
-      subst (Holds n records) e (record {
+      subst (ClaimHolds n records) e (record {
         proper = from_list_all (is_proper n) k (certificate_is_proper n winner records);
         holds = from_list_all (is_true records) k (certificate_is_true n winner records);
         margin = refl;
@@ -56,19 +57,26 @@ confirmed n records winner file below two positive c =
     let same : file.order ≡ found = some_is (sym c.order ∙ least) in
     let (a, k, e) = certificate_has_best n winner records below two positive in
     record {
-      hold = subst (All (Holds n records)) (sym c.claims) (each (Holds n records) (certificate_claims n records winner) (claim-holds n records winner));
+      hold = subst (All (ClaimHolds n records)) (sym c.claims)
+          (each (ClaimHolds n records) (certificate_claims n records winner) (claim-holds n records winner));
       cover = λ order alternative.
           let inside = member-from_contains order (alternative_orders n winner) ((alternative_orders_are n winner order).1 alternative) in
-          let any = from_list_all (λ order. list_any (λ a. refutes a order) (certificate_assertions n records winner)) inside (certificate_covers n winner records positive) in
-          let (a, m, r) = from_list_any (λ a. refutes a order) (certificate_assertions n records winner) any in
-          (claim_of records a, subst (λ claims. Contains claims (claim_of records a)) (sym c.claims) (contains-from_member (member-map (claim_of records) m)), r);
+          let any = from_list_all (λ order. list_any (λ a. refutes a order) (certificate_assertions n records winner)) inside
+          (certificate_covers n winner records positive) in
+          let (a, m, r) = from_list_any (λ a. refutes a order) (certificate_assertions n records winner) any in (
+            claim_of records a,
+            subst (λ claims. Contains claims (claim_of records a)) (sym c.claims) (contains-from_member (member-map (claim_of records) m)),
+            r,
+          );
       reached = (
         claim_of records a,
-        subst (λ claims. Contains claims (claim_of records a)) (sym c.claims) (contains-from_member (member-map (claim_of records) (member-from_contains a (certificate_assertions n records winner) k))),
+        subst (λ claims. Contains claims (claim_of records a)) (sym c.claims)
+            (contains-from_member (member-map (claim_of records) (member-from_contains a (certificate_assertions n records winner) k))),
         e ∙ sym c.margin,
       );
       smallest = subst (All (λ claim. file.margin ≤ claim.margin)) (sym c.claims)
-          (each (λ (claim : Claim). file.margin ≤ claim.margin) (certificate_claims n records winner) (λ claim m. let le = claim-least n records winner claim m in omega (arith, le, c.margin)));
+          (each (λ (claim : Claim). file.margin ≤ claim.margin) (certificate_claims n records winner)
+          (λ claim m. let le = claim-least n records winner claim m in omega (arith, le, c.margin)));
       order = record {
         alternative = subst (IsAlternative n winner) (sym same) ((alternative_orders_are n winner found).0 among);
         hardest = λ a proper holds r.
@@ -77,21 +85,24 @@ confirmed n records winner file below two positive c =
       };
     }
 
-pub certificate-positive : (ballots : BallotFile) (file : Content) → 1 < candidate_count ballots → (c : IsCertificateOf ballots file) → 1 ≤ margin_of ballots c.winner
-certificate-positive ballots file two c = best_is_positive (candidate_count ballots) c.winner ballots.rankings c.won.order two c.won.permutation c.won.tabulated c.won.elects
+pub certificate-positive : (ballots : BallotFile) (file : Content) → 1 < candidate_count ballots → (c : IsCertificateOf ballots file) →
+    1 ≤ margin_of ballots c.winner
+certificate-positive ballots file two c =
+    best_is_positive (candidate_count ballots) c.winner ballots.rankings c.won.order two c.won.permutation c.won.tabulated c.won.elects
 
 pub certificate-confirms : (ballots : BallotFile) (file : Content) → 1 < candidate_count ballots → (c : IsCertificateOf ballots file) →
     Confirms (candidate_count ballots) ballots.rankings c.winner file
 certificate-confirms ballots file two c =
     let n = candidate_count ballots in
     subst (Confirms n ballots.rankings c.winner) (sym c.is)
-    (confirmed n ballots.rankings c.winner (certificate_of ballots c.winner c.order) (winner-below ballots c.winner c.won) two (certificate-positive ballots file two c)
+    (confirmed n ballots.rankings c.winner (certificate_of ballots c.winner c.order) (winner-below ballots c.winner c.won) two
+    (certificate-positive ballots file two c)
     (record { margin = refl; order = c.least; claims = refl }))
 
 -- each order that elects another candidate is refuted by an assertion of the certificate
 pub confirms-least : (n : ℕ) (records : List (List ℕ)) (winner : ℕ) (file : Content) → Confirms n records winner file → IsLeast n records winner file.margin
 confirms-least n records winner file c order alternative =
     let (claim, m, r) = c.cover order alternative in
-    let holds : Holds n records claim = All-contains (Holds n records) file.claims claim c.hold m in
+    let holds : ClaimHolds n records claim = All-contains (ClaimHolds n records) file.claims claim c.hold m in
     let le : file.margin ≤ claim.margin = All-contains (λ (claim : Claim). file.margin ≤ claim.margin) file.claims claim c.smallest m in
     (claim.assertion, holds.proper, holds.holds, r, omega (arith, le, holds.margin))

@@ -41,7 +41,8 @@ agrees (Tabulate ballots contest) = weaker (tabulate.script ballots contest) (ta
 agrees (Check ballots assertions contest nodes) = weaker (check.script ballots assertions contest nodes) (checks.agrees ballots assertions contest nodes)
 agrees (Sample manifest seed draws) = weaker (sample.script manifest seed draws) (samples.agrees manifest seed draws)
 agrees (Plan manifest assertions limit gamma) =
-    let setting : Setting = record { limit = limit; gamma = gamma } in weaker (plan.script manifest assertions setting) (plans.agrees manifest assertions setting)
+    let setting : Setting = record { limit = limit; gamma = gamma } in
+    weaker (plan.script manifest assertions setting) (plans.agrees manifest assertions setting)
 agrees (Open ballots manifest assertions seed contest limit gamma nodes) =
     let terms : Terms = record { seed = seed; limit = limit; gamma = gamma; nodes = nodes } in
     weaker (opening.script ballots manifest assertions contest terms) (opens.agrees ballots manifest assertions contest terms)
@@ -67,7 +68,8 @@ agrees_exactly (Audit session ballots manifest assertions seen draws nodes) clos
 agrees_exactly (Report session) closed = reports.agrees session
 agrees_exactly (Trial number candidates ballots workers nodes) closed = absurd (cc closed)
 
-never_full : (kinds : AnswerKind → Type 0) → (kinds FullCount → ⊥) → (readings : Readings) (script : Script) (text : List ℕ) → AreOfKind kinds script → Concludes readings script (Answered FullCount text) → ⊥
+never_full : (kinds : AnswerKind → Type 0) → (kinds FullCount → ⊥) → (readings : Readings) (script : Script) (text : List ℕ) → AreOfKind kinds script →
+    Concludes readings script (Answered FullCount text) → ⊥
 never_full kinds other readings script text are concludes = other (of_kind kinds readings script (Answered FullCount text) are concludes)
 
 not_tabulated : tabulate.Kinds FullCount → ⊥
@@ -99,13 +101,16 @@ not_tried (inr (inl e)) = cc e
 not_tried (inr (inr e)) = cc e
 
 -- A full count is called for by a search alone.
-pub counts_in_full : (words : List (List ℕ)) (readings : Readings) (text : List ℕ) (command : Option Command) → command_of words ≡ command → ComesTo readings (asked_by command) (Answered FullCount text) → AsksForSearch words
+pub counts_in_full : (words : List (List ℕ)) (readings : Readings) (text : List ℕ) (command : Option Command) → command_of words ≡ command →
+    ComesTo readings (asked_by command) (Answered FullCount text) → AsksForSearch words
 counts_in_full words readings text None is comes = absurd comes
-counts_in_full words readings text (Some (Search ballots contest workers nodes floor)) is comes = record { name = ballots; contest = contest; workers = workers; nodes = nodes; floor = floor; asked = is }
+counts_in_full words readings text (Some (Search ballots contest workers nodes floor)) is comes =
+    record { name = ballots; contest = contest; workers = workers; nodes = nodes; floor = floor; asked = is }
 counts_in_full words readings text (Some (Tabulate ballots contest)) is comes =
     absurd (never_full tabulate.Kinds not_tabulated readings (tabulate.script ballots contest) text (tabulations.kinds ballots contest) comes)
 counts_in_full words readings text (Some (Check ballots assertions contest nodes)) is comes =
-    absurd (never_full check.Kinds not_checked readings (check.script ballots assertions contest nodes) text (checks.kinds ballots assertions contest nodes) comes)
+    absurd (never_full check.Kinds not_checked readings (check.script ballots assertions contest nodes) text
+    (checks.kinds ballots assertions contest nodes) comes)
 counts_in_full words readings text (Some (Sample manifest seed draws)) is comes =
     absurd (never_full sample.Kinds (λ e. cc e) readings (sample.script manifest seed draws) text (samples.kinds manifest seed draws) comes)
 counts_in_full words readings text (Some (Plan manifest assertions limit gamma)) is comes =
@@ -113,9 +118,11 @@ counts_in_full words readings text (Some (Plan manifest assertions limit gamma))
     absurd (never_full plan.Kinds (λ e. cc e) readings (plan.script manifest assertions setting) text (plans.kinds manifest assertions setting) comes)
 counts_in_full words readings text (Some (Open ballots manifest assertions seed contest limit gamma nodes)) is comes =
     let terms : Terms = record { seed = seed; limit = limit; gamma = gamma; nodes = nodes } in
-    absurd (never_full opening.Kinds not_opened readings (opening.script ballots manifest assertions contest terms) text (opens.kinds ballots manifest assertions contest terms) comes)
+    absurd (never_full opening.Kinds not_opened readings (opening.script ballots manifest assertions contest terms) text
+    (opens.kinds ballots manifest assertions contest terms) comes)
 counts_in_full words readings text (Some (Audit session ballots manifest assertions seen draws nodes)) is comes =
-    absurd (never_full audit.Kinds not_audited readings (audit.script session ballots manifest assertions seen draws nodes) text (audits.kinds session ballots manifest assertions seen draws nodes) comes)
+    absurd (never_full audit.Kinds not_audited readings (audit.script session ballots manifest assertions seen draws nodes) text
+    (audits.kinds session ballots manifest assertions seen draws nodes) comes)
 counts_in_full words readings text (Some (Report session)) is comes =
     absurd (never_full report.Kinds (λ e. cc e) readings (report.script session) text (reports.kinds session) comes)
 counts_in_full words readings text (Some (Trial number candidates ballots workers nodes)) is comes =

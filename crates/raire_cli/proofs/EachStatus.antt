@@ -1,11 +1,10 @@
 -- Words and files for each status.
-use Rattle.std.proofs.Common.{◌≡◌, ◌≢◌, ◌⊎◌, inl, inr, ℕ, suc, ◌≤◌, ◌<◌, nat_le, if◌then◌else◌, Bool, true, false, List, [], ◌∷◌, ◌++◌, length, replicate, Option, None, Some, Result, Ok, Err, codes, All, refl, sym, ap, subst, ◌∙◌, arith}
+use Rattle.std.proofs.Common.{◌≡◌, inl, inr, ℕ, suc, ◌<◌, if◌then◌else◌, List, [], ◌∷◌, length, replicate, None, Some, Ok, Err, codes, refl, sym, ap, subst, arith}
 use Rattle.std.proofs.lemmas.Bool.Decides.{leb_tells}
 use Rattle.std.proofs.lemmas.List.{length-replicate}
 use Rattle.csv.specs.Machine.{next_record}
 use Rattle.csv.specs.Reading.{records_from, strip_bom}
-use Rattle.desk.specs.Desk.{File, held_bytes}
-use Rattle.irv_base.specs.Candidates.{set_of}
+use Rattle.desk.specs.Desk.{File}
 use Rattle.std.proofs.lemmas.List.Elements.{All-nil}
 use Rattle.std.specs.Fmt.{digits}
 use Rattle.serde_json.proofs.OnLiterals.{serde_json_on_literals}
@@ -17,9 +16,9 @@ use Rattle.assertion_file.proofs.Printed.{printed_reads_back}
 use Rattle.ballot_reader.specs.Ballots.{BallotFile}
 use Rattle.ballot_reader.specs.Grammar.{ballots_of}
 use Rattle.ballot_reader.specs.declared.fault.BRule.TheVariants.{B1}
-use Rattle.cli_base.specs.Outcome.{Outcome, Verdict, Answered, outcome, bad_words, no_such_file, too_long}
-use Rattle.cli_base.specs.Script.{Reading, Bytes, Missing, TooLong, AsHeld, May, MayCome, limit, reading_of}
-use Rattle.cli_base.specs.declared.outcome.AnswerKind.TheVariants.{Done, Tie, Spent, FullCount, Differs}
+use Rattle.cli_base.specs.Outcome.{Verdict, Answered, outcome, bad_words, no_such_file, too_long}
+use Rattle.cli_base.specs.Script.{Bytes, Missing, TooLong, AsHeld, May, MayCome, limit, reading_of}
+use Rattle.cli_base.specs.declared.outcome.AnswerKind.TheVariants.{Done, Tie, Spent, FullCount}
 use Rattle.command_line.specs.Line.{command_of}
 use Rattle.command_line.specs.declared.limits.TheConstants.{DEFAULT_NODES}
 use Rattle.cover_checker.specs.Checks.{IsAnswer, checked_is}
@@ -27,17 +26,16 @@ use Rattle.cover_checker.specs.Findings.{Answer}
 use Rattle.cover_checker.specs.Outcomes.{IsOutcome, Won}
 use Rattle.cover_checker.specs.declared.checked.Checked.TheVariants.{Stands}
 use Rattle.cover_checker.specs.declared.checked.CheckFault.TheVariants.{Spent as SpentAt}
-use Rattle.command_line.specs.declared.command.Command.{Command}
-use Rattle.command_line.specs.declared.command.Command.TheVariants.{Search, Tabulate, Check, Report}
-use Rattle.contest_commands.specs.Contest.{HasTie, IsTie, IsWon, refused, tie_text}
+use Rattle.command_line.specs.declared.command.Command.TheVariants.{Tabulate, Check}
+use Rattle.contest_commands.specs.Contest.{HasTie, IsWon, refused, tie_text}
 use Rattle.contest_commands.specs.Check.{ChecksIn, check_after, differs, spent_at, stands, verdict_on}
 use Rattle.contest_commands.specs.Search.{FindsIn, HasFullCount, certificate_of, full_count_text, margin_of}
 use Rattle.contest_commands.specs.declared.search.Terms.{Terms}
 use Rattle.contest_commands.specs.Tabulate.{HasRounds, TabulatesIn}
 use Rattle.report.specs.Tabulations.{tabulation_text}
 use Rattle.report.specs.Texts.{order_text}
-use Rattle.raire_cli.specs.Agreement.{Call, IsSettled, MayBeSpent}
-use Rattle.raire_cli.specs.Answers.{asked, asked_by}
+use Rattle.raire_cli.specs.Agreement.{MayBeSpent}
+use Rattle.raire_cli.specs.Answers.{asked_by}
 use Rattle.raire_cli.specs.EachStatus.{EndsWith, IsOfSome, EachStatus}
 use Rattle.raire_cli.proofs.Agreement.{not_spent}
 use Rattle.raire_cli.proofs.Ended.{ends_with}
@@ -86,7 +84,8 @@ too_long_end = let (bytes, long) = longer limit in (tabulate_words, one_file byt
 
 -- ---- a tabulation
 
-tabulated_end : (bytes : List ℕ) (v : Verdict) → Bytes bytes ≡ reading_of (Some bytes) → TabulatesIn f (ballots_of bytes None) v → EndsWith (outcome v).status tabulate_words (one_file bytes)
+tabulated_end : (bytes : List ℕ) (v : Verdict) → Bytes bytes ≡ reading_of (Some bytes) → TabulatesIn f (ballots_of bytes None) v →
+    EndsWith (outcome v).status tabulate_words (one_file bytes)
 tabulated_end bytes v short tabulates =
     ends_with tabulate_words (one_file bytes) (outcome v) (inr (bytes, short, (v, tabulates, refl))) (λ asks. absurd (not_tabulating asks))
 
@@ -146,8 +145,12 @@ done_end : IsOfSome 0
 done_end =
     let text = tabulation_text one (1 ∷ 0 ∷ []) 0 in
     let rounds : HasRounds one text = record { winner = 0; won = won_of_one; shown = refl } in
-    let tabulates : TabulatesIn f (Ok one) (Answered Done text) = inl (text, rounds, refl) in
-    (tabulate_words, one_file one_bytes, tabulated_end one_bytes (Answered Done text) refl (subst (λ r. TabulatesIn f r (Answered Done text)) (sym one_read) tabulates))
+    let tabulates : TabulatesIn f (Ok one) (Answered Done text) = inl (text, rounds, refl) in (
+      tabulate_words,
+      one_file one_bytes,
+      tabulated_end one_bytes (Answered Done text) refl
+          (subst (λ r. TabulatesIn f r (Answered Done text)) (sym one_read) tabulates),
+    )
 
 -- ---- a full count
 
@@ -178,7 +181,8 @@ full_count_end =
     let finds : FindsIn terms f (Ok one) verdict = inr (inr (inr (full_count_text certificate 2, full_count, refl))) in (
       search_words,
       one_file one_bytes,
-      ends_with search_words (one_file one_bytes) (outcome verdict) (inr (one_bytes, refl, (verdict, subst (λ r. FindsIn terms f r verdict) (sym one_read) finds, refl)))
+      ends_with search_words (one_file one_bytes) (outcome verdict)
+          (inr (one_bytes, refl, (verdict, subst (λ r. FindsIn terms f r verdict) (sym one_read) finds, refl)))
           (λ asks. λ four. absurd (cc four)),
     )
 
@@ -230,7 +234,8 @@ empty_is_sound = record {
 }
 
 read_empty : assertion_file_of empty_bytes ≡ Ok empty
-read_empty = subst (λ bytes. assertion_file_of bytes ≡ Ok empty) empty_text (printed_reads_back empty empty_is_sound (record { contest = refl; candidates = refl }))
+read_empty =
+    subst (λ bytes. assertion_file_of bytes ≡ Ok empty) empty_text (printed_reads_back empty empty_is_sound (record { contest = refl; candidates = refl }))
 
 abbrev two_files : List File
 two_files = record { name = f; bytes = three_bytes } ∷ record { name = g; bytes = empty_bytes } ∷ []
@@ -238,7 +243,8 @@ two_files = record { name = f; bytes = three_bytes } ∷ record { name = g; byte
 won_of_three : IsOutcome 3 three.rankings (Won 0)
 won_of_three = record { order = 2 ∷ 1 ∷ 0 ∷ []; permutation = refl; tabulated = refl; elects = (2 ∷ 1 ∷ [], refl) }
 
-checked_end : (words : List (List ℕ)) (nodes : ℕ) (answer : Answer) (v : Verdict) → command_of words ≡ Some (Check f g None nodes) → checked_is nodes three.rankings empty (Won 0) ≡ answer →
+checked_end : (words : List (List ℕ)) (nodes : ℕ) (answer : Answer) (v : Verdict) → command_of words ≡ Some (Check f g None nodes) →
+    checked_is nodes three.rankings empty (Won 0) ≡ answer →
     verdict_on empty answer ≡ Some v → EndsWith (outcome v).status words two_files
 checked_end words nodes answer v is found told =
     ends_with words two_files (outcome v) (subst (λ command. MayCome (AsHeld two_files) (asked_by command) (outcome v)) (sym is) comes)
@@ -257,11 +263,20 @@ checked_end words nodes answer v is found told =
     comes = inr (three_bytes, refl, after)
 
 spent_end : IsOfSome 4
-spent_end = (check_words (codes "1"), two_files, checked_end (check_words (codes "1")) 1 (Err (SpentAt 1)) (Answered Spent (spent_at (id_of empty.candidates 1))) refl refl refl)
+spent_end = (
+  check_words (codes "1"),
+  two_files,
+  checked_end (check_words (codes "1")) 1 (Err (SpentAt 1))
+      (Answered Spent (spent_at (id_of empty.candidates 1))) refl refl refl,
+)
 
 differs_end : IsOfSome 6
-differs_end =
-    (check_words (codes "2"), two_files, checked_end (check_words (codes "2")) 2 (Ok (Stands (2 ∷ 0 ∷ 1 ∷ []))) (differs (stands (order_text empty.candidates (2 ∷ 0 ∷ 1 ∷ [])))) refl refl refl)
+differs_end = (
+  check_words (codes "2"),
+  two_files,
+  checked_end (check_words (codes "2")) 2 (Ok (Stands (2 ∷ 0 ∷ 1 ∷ [])))
+      (differs (stands (order_text empty.candidates (2 ∷ 0 ∷ 1 ∷ [])))) refl refl refl,
+)
 
 -- ---- all
 

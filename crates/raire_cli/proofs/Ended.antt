@@ -10,13 +10,14 @@ use Rattle.raire_cli.specs.EachStatus.{EndsWith}
 use Rattle.raire_cli.proofs.Agreement.{one_end}
 
 -- what is defined is all that a settled call can end with
-pub ends_with : (words : List (List ℕ)) (files : List File) (due : Outcome) → MayCome (AsHeld files) (asked words) due → (MayBeSpent words → due.status ≢ 4) → EndsWith due.status words files
+pub ends_with : (words : List (List ℕ)) (files : List File) (due : Outcome) → MayCome (AsHeld files) (asked words) due → (MayBeSpent words → due.status ≢ 4) →
+    EndsWith due.status words files
 ends_with words files due defined unspent = record {
   due = due;
   defined = defined;
   status_is = refl;
   alone = λ call settled.
-      let (out, err, may, took_out, took_err) = settled.answered.quiet settled.quiet settled.memory in
+      let (out, err, may, took_out, took_err) = settled.answer.quiet settled.quiet settled.memory in
       let ended : Outcome = record { status = call.status; out = out; err = err } in
       ap (λ (o : Outcome). o.status) (one_end words files files (λ name. refl) ended due settled.unspent unspent (command_of words) refl may defined);
 }

@@ -42,11 +42,12 @@ use Rattle.session_commands.proofs.Opens.{cards-only}
 use Rattle.raire_cli.specs.Answers.{asked, asked_by, script_of}
 use Rattle.raire_cli.specs.Enough.{AreEnough, Judging, judging_of}
 use Rattle.raire_cli.proofs.Headline.{held_whole}
-use Rattle.raire_cli.proofs.Said.{said, told_ok, unless_ok}
+use Rattle.raire_cli.proofs.Said.{value_of, told_ok, unless_ok}
 
 -- ---- a check
 
-spent_answer : (file : FileContent) (answer : Answer) (text : List ℕ) → verdict_on file answer ≡ Some (Answered Spent text) → (last : ℕ) × (answer ≡ Err (SpentAt last))
+spent_answer : (file : FileContent) (answer : Answer) (text : List ℕ) → verdict_on file answer ≡ Some (Answered Spent text) →
+    (last : ℕ) × (answer ≡ Err (SpentAt last))
 spent_answer file (Ok OtherContest) text is = absurd (cc is)
 spent_answer file (Ok (OtherWinner winner)) text is = absurd (cc is)
 spent_answer file (Ok (OtherMargin index found)) text is = absurd (cc is)
@@ -59,7 +60,8 @@ spent_answer file (Err (TieFound round tied votes)) text is = absurd (cc is)
 spent_answer file (Err (SpentAt last)) text is = (last, refl)
 spent_answer file (Err Memory) text is = absurd (cc is)
 
-checks-never : (nodes : ℕ) (ballots : BallotFile) (file : FileContent) (text : List ℕ) → 2 * factorial (candidate_count file - 1) ≤ nodes → Checks nodes ballots file (Answered Spent text) → ⊥
+checks-never : (nodes : ℕ) (ballots : BallotFile) (file : FileContent) (text : List ℕ) → 2 * factorial (candidate_count file - 1) ≤ nodes →
+    Checks nodes ballots file (Answered Spent text) → ⊥
 checks-never nodes ballots file text enough (answer, found, is) =
     let (last, e) = spent_answer file answer text is in
     answer_never_spent nodes ballots file last enough (subst (IsAnswer nodes ballots file) e found)
@@ -69,14 +71,17 @@ module _ (files : List File) (judging : Judging) (enough : AreEnough files judgi
   abbrev Never : Script → Type 0
   Never script = Concludes (AsHeld files) script (Answered Spent text) → ⊥
 
-  after_said : {A : Type 0} (judged : Result A Verdict) (next : A → Script) → OnlyRefuses judged → ((value : A) → judged ≡ Ok value → Never (next value)) → Never (go_on judged next)
-  after_said judged next only each comes = let (value, is, on) = said (AsHeld files) judged next Spent text only comes in each value is on
+  after_value : {A : Type 0} (judged : Result A Verdict) (next : A → Script) → OnlyRefuses judged → ((value : A) → judged ≡ Ok value → Never (next value)) →
+      Never (go_on judged next)
+  after_value judged next only each comes = let (value, is, on) = value_of (AsHeld files) judged next Spent text only comes in each value is on
 
   -- its assertion file is read
-  few : (bytes : List ℕ) (file : FileContent) → AsHeld files judging.assertions (Bytes bytes) → assertion_file_of bytes ≡ Ok file → 2 * factorial (candidate_count file - 1) ≤ judging.nodes
+  few : (bytes : List ℕ) (file : FileContent) → AsHeld files judging.assertions (Bytes bytes) → assertion_file_of bytes ≡ Ok file →
+      2 * factorial (candidate_count file - 1) ≤ judging.nodes
   few bytes file there is = enough bytes file (held_whole (held_bytes judging.assertions files) bytes there) is
 
-  file-never : (ballots : BallotFile) (bytes : List ℕ) → AsHeld files judging.assertions (Bytes bytes) → (read : Result FileContent FileRefusal) → assertion_file_of bytes ≡ read →
+  file-never : (ballots : BallotFile) (bytes : List ℕ) → AsHeld files judging.assertions (Bytes bytes) → (read : Result FileContent FileRefusal) →
+      assertion_file_of bytes ≡ read →
       ChecksIn judging.nodes ballots judging.assertions read (Answered Spent text) → ⊥
   file-never ballots bytes there (Err refusal) is refused = cc refused
   file-never ballots bytes there (Ok file) is checks = checks-never judging.nodes ballots file text (few bytes file there is) checks
@@ -90,25 +95,31 @@ module _ (files : List File) (judging : Judging) (enough : AreEnough files judgi
 
   -- ---- a session that is opened
 
-  opens-never : (terms : Terms) (ballots : BallotFile) (batches : Batches) (file : FileContent) (digests : Digests) → 2 * factorial (candidate_count file - 1) ≤ terms.nodes →
+  opens-never : (terms : Terms) (ballots : BallotFile) (batches : Batches) (file : FileContent) (digests : Digests) →
+      2 * factorial (candidate_count file - 1) ≤ terms.nodes →
       opening.Opens terms ballots batches file digests (Answered Spent text) → ⊥
   opens-never terms ballots batches file digests le opens = by (is_accepted terms.nodes ballots file) opens where
     by : (b : Bool) → MatchBool b (Answered Spent text ≡ opening.opened terms batches file digests) (Checks terms.nodes ballots file (Answered Spent text)) → ⊥
     by true is = cc is
     by false checks = checks-never terms.nodes ballots file text le checks
 
-  open-never : (ballots manifest : List ℕ) (contest : Option Id) (terms : Terms) → terms.nodes ≡ judging.nodes → Never (opening.script ballots manifest judging.assertions contest terms)
+  open-never : (ballots manifest : List ℕ) (contest : Option Id) (terms : Terms) → terms.nodes ≡ judging.nodes →
+      Never (opening.script ballots manifest judging.assertions contest terms)
   open-never ballots manifest contest terms same = λ (b, at_b, from_b).
-      after_said (told (refused ballots) (ballots_of b contest)) _ (told-only (refused ballots) (ballots_of b contest) (λ why. tt)) (λ file is_b (m, at_m, from_m).
-      after_said (cards_for ballots file manifest m) _ (cards-only ballots file manifest m) (λ batches is_m (a, at_a, from_a).
-      after_said (told (refused_file judging.assertions) (assertion_file_of a)) _ (told-only (refused_file judging.assertions) (assertion_file_of a) (λ why. tt)) (λ claims is_a opens.
+      after_value (told (refused ballots) (ballots_of b contest)) _ (told-only (refused ballots) (ballots_of b contest) (λ why. tt))
+      (λ file is_b (m, at_m, from_m).
+      after_value (cards_for ballots file manifest m) _ (cards-only ballots file manifest m) (λ batches is_m (a, at_a, from_a).
+      after_value (told (refused_file judging.assertions) (assertion_file_of a)) _
+      (told-only (refused_file judging.assertions) (assertion_file_of a) (λ why. tt)) (λ claims is_a opens.
       opens-never terms file batches claims _
-      (subst (λ nodes. 2 * factorial (candidate_count claims - 1) ≤ nodes) (sym same) (few a claims at_a (told_ok (refused_file judging.assertions) (assertion_file_of a) claims is_a))) opens)
+      (subst (λ nodes. 2 * factorial (candidate_count claims - 1) ≤ nodes) (sym same)
+      (few a claims at_a (told_ok (refused_file judging.assertions) (assertion_file_of a) claims is_a))) opens)
       from_a) from_m) from_b
 
   -- ---- a round of an audit
 
-  accepted-never : (nodes : ℕ) (ballots : BallotFile) (file : FileContent) (next : Script) → 2 * factorial (candidate_count file - 1) ≤ nodes → Never next → Never (if_accepted nodes ballots file next)
+  accepted-never : (nodes : ℕ) (ballots : BallotFile) (file : FileContent) (next : Script) → 2 * factorial (candidate_count file - 1) ≤ nodes → Never next →
+      Never (if_accepted nodes ballots file next)
   accepted-never nodes ballots file next le never = by (is_accepted nodes ballots file) where
     by : (b : Bool) → Never (on_if b next (Ends (Checks nodes ballots file)))
     by true = never
@@ -124,18 +135,20 @@ module _ (files : List File) (judging : Judging) (enough : AreEnough files judgi
   next-never task (Err (Refused name t)) only is = cc is
   next-never task (Err (Answered kind t)) only is = absurd only
 
-  facts-never : (task : audit.Asked) (session : Content) (ballots : BallotFile) (batches : Batches) (file : FileContent) → Never (audit.after_check task session ballots batches file)
+  facts-never : (task : audit.Asked) (session : Content) (ballots : BallotFile) (batches : Batches) (file : FileContent) →
+      Never (audit.after_check task session ballots batches file)
   facts-never task session ballots batches file =
-      after_said (audit.same_facts task session batches file) _ (same_facts-only task session batches file) (λ same is (v, at_v, from_v).
-      after_said (told (refused_seen task.seen) (seen_of batches file.candidates v)) _ (told-only (refused_seen task.seen) (seen_of batches file.candidates v) (λ why. tt)) (λ entries is_v ends.
+      after_value (audit.same_facts task session batches file) _ (same_facts-only task session batches file) (λ same is (v, at_v, from_v).
+      after_value (told (refused_seen task.seen) (seen_of batches file.candidates v)) _
+      (told-only (refused_seen task.seen) (seen_of batches file.candidates v) (λ why. tt)) (λ entries is_v ends.
       next-never task _ (next-only task same file (record { recorded = linked_of batches ballots; entries = entries })) ends) from_v)
 
   audit-never : (task : audit.Asked) → task.assertions ≡ judging.assertions → task.nodes ≡ judging.nodes → Never (audit.audit task)
   audit-never task name same = λ (s, at_s, from_s).
-      after_said (audit.session_to_go_on task s) _ (session-only task s) (λ session is_s (b, at_b, from_b).
-      after_said (audit.same_ballots task session b) _ (ballots-only task session b) (λ ballots is_b (m, at_m, from_m).
-      after_said (audit.same_manifest task session ballots m) _ (manifest-only task session ballots m) (λ batches is_m (a, at_a, from_a).
-      after_said (audit.same_assertions task session a) _ (assertions-only task session a) (λ file is_a.
+      after_value (audit.session_to_go_on task s) _ (session-only task s) (λ session is_s (b, at_b, from_b).
+      after_value (audit.same_ballots task session b) _ (ballots-only task session b) (λ ballots is_b (m, at_m, from_m).
+      after_value (audit.same_manifest task session ballots m) _ (manifest-only task session ballots m) (λ batches is_m (a, at_a, from_a).
+      after_value (audit.same_assertions task session a) _ (assertions-only task session a) (λ file is_a.
       accepted-never task.nodes ballots file _
       (subst (λ nodes. 2 * factorial (candidate_count file - 1) ≤ nodes) (sym same)
       (few a file (subst (λ n. AsHeld files n (Bytes a)) name at_a)
@@ -166,7 +179,8 @@ script-never files (Audit session ballots manifest assertions seen draws nodes) 
 script-never files (Report session) judging text is enough = absurd (cc is)
 script-never files (Trial number candidates ballots workers nodes) judging text is enough = absurd (cc is)
 
-pub never_spent : (words : List (List ℕ)) (files : List File) (command : Command) (judging : Judging) → command_of words ≡ Some command → judging_of command ≡ Some judging → AreEnough files judging →
+pub never_spent : (words : List (List ℕ)) (files : List File) (command : Command) (judging : Judging) → command_of words ≡ Some command →
+    judging_of command ≡ Some judging → AreEnough files judging →
     HasAnswer (asked words) files Spent → ⊥
 never_spent words files command judging line is enough (text, comes) =
     script-never files command judging text is enough (subst (λ c. ComesTo (AsHeld files) (asked_by c) (Answered Spent text)) line comes)

@@ -30,7 +30,8 @@ module _ (words : List (List ℕ)) (files : List File) (asks : AsksForSearch wor
   terms = record { nodes = asks.nodes; floor = asks.floor }
 
   -- what a search comes to is found in the ballots that it reads
-  pub search_came : (v : Verdict) → ComesTo (AsHeld files) (asked words) v → (bytes : List ℕ) × (held_bytes asks.name files ≡ Some bytes) × FindsIn terms asks.name (ballots_of bytes asks.contest) v
+  pub search_came : (v : Verdict) → ComesTo (AsHeld files) (asked words) v → (bytes : List ℕ) × (held_bytes asks.name files ≡ Some bytes)
+      × FindsIn terms asks.name (ballots_of bytes asks.contest) v
   search_came v comes =
       let (bytes, there, finds) = subst (λ command. ComesTo (AsHeld files) (asked_by command) v) asks.asked comes in
       (bytes, held_whole (held_bytes asks.name files) bytes there, finds)
@@ -72,7 +73,8 @@ module _ (words : List (List ℕ)) (files : List File) (asks : AsksForSearch wor
         below = has.floor;
         reason = confirms.order;
         least = confirms-least (candidate_count ballots) ballots.rankings c.winner has.file confirms;
-        shown = has.shown ∙ ap (λ names. full_count_lines (order_text names has.file.order) has.file.margin asks.floor) (ap (λ (f : Content). f.candidates) c.is);
+        shown = has.shown ∙ ap (λ names. full_count_lines (order_text names has.file.order) has.file.margin asks.floor)
+            (ap (λ (f : Content). f.candidates) c.is);
       }
 
   pub confirms_asked : (text : List ℕ) → ComesTo (AsHeld files) (asked words) (Answered Done text) → Confirmed text
@@ -80,7 +82,8 @@ module _ (words : List (List ℕ)) (files : List File) (asks : AsksForSearch wor
       let (bytes, held, finds) = search_came (Answered Done text) comes in
       by bytes (ballots_of bytes asks.contest) held refl finds
     where
-      by : (bytes : List ℕ) (read : Result BallotFile Refusal) → held_bytes asks.name files ≡ Some bytes → ballots_of bytes asks.contest ≡ read → FindsIn terms asks.name read (Answered Done text) → Confirmed text
+      by : (bytes : List ℕ) (read : Result BallotFile Refusal) → held_bytes asks.name files ≡ Some bytes → ballots_of bytes asks.contest ≡ read →
+          FindsIn terms asks.name read (Answered Done text) → Confirmed text
       by bytes (Err refusal) held is finds = absurd (cc finds)
       by bytes (Ok ballots) held is finds = confirmed bytes ballots text held is (done_is terms ballots text finds)
 
@@ -89,6 +92,7 @@ module _ (words : List (List ℕ)) (files : List File) (asks : AsksForSearch wor
       let (bytes, held, finds) = search_came (Answered FullCount text) comes in
       by bytes (ballots_of bytes asks.contest) held refl finds
     where
-      by : (bytes : List ℕ) (read : Result BallotFile Refusal) → held_bytes asks.name files ≡ Some bytes → ballots_of bytes asks.contest ≡ read → FindsIn terms asks.name read (Answered FullCount text) → GivesReason words files text
+      by : (bytes : List ℕ) (read : Result BallotFile Refusal) → held_bytes asks.name files ≡ Some bytes → ballots_of bytes asks.contest ≡ read →
+          FindsIn terms asks.name read (Answered FullCount text) → GivesReason words files text
       by bytes (Err refusal) held is finds = absurd (cc finds)
       by bytes (Ok ballots) held is finds = reasoned bytes ballots text held is (full_count_is terms ballots text finds)

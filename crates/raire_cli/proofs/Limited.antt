@@ -24,18 +24,19 @@ use Rattle.session_file.proofs.SoundFiles.{read_is_sound}
 use Rattle.raire_cli.specs.Audits.{GoesOn, Inputs, IsNext, WereWithin, cards, drawn}
 use Rattle.raire_cli.specs.Laws.{SignedOffIsCounted}
 
-module _ (inputs : Inputs) (bytes : List ℕ) (read : session_of bytes ≡ Some inputs.session) (facts : HasFacts inputs.session (length (cards_of inputs.batches)) inputs.file) where
+module _ (inputs : Inputs) (bytes : List ℕ) (read : session_of bytes ≡ Some inputs.session)
+    (facts : HasFacts inputs.session (length (cards_of inputs.basis.batches)) inputs.basis.file) where
   abbrev claims : List Claim
-  claims = inputs.file.claims
+  claims = inputs.basis.file.claims
 
   abbrev recorded : List Recorded
-  recorded = linked_of inputs.batches inputs.ballots
+  recorded = linked_of inputs.basis.batches inputs.basis.ballots
 
   sound : IsSound inputs.session
   sound = (read_is_sound bytes inputs.session read).0
 
   same_cards : inputs.session.session.cards ≡ length recorded
-  same_cards = facts.cards_are ∙ sym (length-map (cards_of inputs.batches) (recorded_of inputs.ballots))
+  same_cards = facts.cards_are ∙ sym (length-map (cards_of inputs.basis.batches) (recorded_of inputs.basis.ballots))
 
   pub some_card : 1 ≤ length recorded
   some_card =
@@ -62,15 +63,18 @@ module _ (inputs : Inputs) (bytes : List ℕ) (read : session_of bytes ≡ Some 
       subst (λ most. All (λ claim. (k : ℕ) × (k ≤ most)
       × IsTrue (is_within (cards inputs) claim.margin inputs.session.session.gamma inputs.session.session.limit
       (map (discrepancy_of claim.value recorded (all_seen inputs.entries (cards inputs))) (take k (drawn inputs draws))))) (audited claims)) drew
-      (signed_off_law inputs.session.session.limit inputs.session.session.gamma (audited claims) recorded (all_seen inputs.entries (length recorded)) (drawn inputs draws) next.session
+      (signed_off_law inputs.session.session.limit inputs.session.session.gamma (audited claims) recorded (all_seen inputs.entries (length recorded))
+      (drawn inputs draws) next.session
       some_card limits.some_gamma (omega (arith, limits.most_limit)) assorters within is_next.of_draws signed)
 
 pub signed_off_is_counted : SignedOffIsCounted
 signed_off_is_counted words files next on actual most signed few long entries =
     let inputs = on.inputs in
-    (advanced_is_counted inputs.session.session.limit inputs.session.session.gamma on.asks.draws most inputs.session.seed inputs.file.claims
-    (linked_of inputs.batches inputs.ballots) inputs.entries actual next.session (some_card inputs on.bytes.session on.say.session on.together.facts) few long entries
+    (advanced_is_counted inputs.session.session.limit inputs.session.session.gamma on.asks.draws most inputs.session.seed inputs.basis.file.claims
+    (linked_of inputs.basis.batches inputs.basis.ballots) inputs.entries actual next.session
+    (some_card inputs on.bytes.session on.say.session on.of_files.facts) few long entries
     on.is_next.of_draws signed).1
 
-pub limited : {words : List (List ℕ)} {files : List File} (next : Content) (on : GoesOn words files next) → IsTrue (is_signed_off next.session) → WereWithin on.inputs on.asks.draws
-limited next on signed = were_within on.inputs on.bytes.session on.say.session on.together.facts on.asks.draws next on.is_next signed
+pub limited : {words : List (List ℕ)} {files : List File} (next : Content) (on : GoesOn words files next) → IsTrue (is_signed_off next.session) →
+    WereWithin on.inputs on.asks.draws
+limited next on signed = were_within on.inputs on.bytes.session on.say.session on.of_files.facts on.asks.draws next on.is_next signed

@@ -19,7 +19,8 @@ few_for_nine (suc (suc (suc (suc (suc (suc (suc zero))))))) h = omega arith
 few_for_nine (suc (suc (suc (suc (suc (suc (suc (suc zero)))))))) h = omega arith
 few_for_nine (suc (suc (suc (suc (suc (suc (suc (suc (suc k))))))))) h = absurd (omega (arith, h))
 
-pub default_suffices : (ballots : BallotFile) (tabulated : List ℕ) (winner c : ℕ) → IsOther ballots winner c → candidate_count ballots ≤ 9 → nodes_for ballots tabulated winner c ≤ DEFAULT_NODES
+pub default_suffices : (ballots : BallotFile) (tabulated : List ℕ) (winner c : ℕ) → IsOther ballots winner c → candidate_count ballots ≤ 9 →
+    nodes_for ballots tabulated winner c ≤ DEFAULT_NODES
 default_suffices ballots tabulated winner c other nine =
     let few = nodes_are_few ballots tabulated winner c other in
     let enough = few_for_nine (candidate_count ballots - 1) (omega (arith, nine)) in

@@ -32,10 +32,11 @@ use Rattle.session_commands.proofs.Acceptance.{decided}
 use Rattle.session_commands.proofs.Going.{told-only}
 use Rattle.session_commands.proofs.Opens.{cards-only}
 use Rattle.raire_cli.specs.Answers.{asked, asked_by}
-use Rattle.raire_cli.specs.Openings.{AreHeld, AsksForOpening, FileBytes, Inputs, Opens, digests_of}
+use Rattle.raire_cli.specs.Basis.{AreHeld, Basis, FileBytes, digests_of}
+use Rattle.raire_cli.specs.Openings.{AsksForOpening, Opens, names_of}
 use Rattle.raire_cli.proofs.Audited.{not_checked}
 use Rattle.raire_cli.proofs.Headline.{held_whole}
-use Rattle.raire_cli.proofs.Said.{none_mapped, said, then_ok, told_ok, unless_ok}
+use Rattle.raire_cli.proofs.Said.{none_mapped, value_of, then_ok, told_ok, unless_ok}
 
 -- the batches that are gone on with are those of the manifest, and each ballot has a card
 said_cards : (name : List ℕ) (ballots : BallotFile) (manifest bytes : List ℕ) (batches : Batches) → cards_for name ballots manifest bytes ≡ Ok batches →
@@ -50,9 +51,11 @@ said_cards name ballots manifest bytes batches is =
 
 -- a check accepts the file, since `yes` alone is no session
 said_opened : (terms : Terms) (ballots : BallotFile) (batches : Batches) (file : FileContent) (digests : Digests) (text : List ℕ) →
-    EndsSo terms ballots batches file digests (Answered Done text) → (is_accepted terms.nodes ballots file ≡ true) × (Answered Done text ≡ opened terms batches file digests)
+    EndsSo terms ballots batches file digests (Answered Done text) → (is_accepted terms.nodes ballots file ≡ true)
+    × (Answered Done text ≡ opened terms batches file digests)
 said_opened terms ballots batches file digests text ends = by (is_accepted terms.nodes ballots file) refl ends where
-  by : (b : Bool) → is_accepted terms.nodes ballots file ≡ b → MatchBool b (Answered Done text ≡ opened terms batches file digests) (Checks terms.nodes ballots file (Answered Done text)) →
+  by : (b : Bool) → is_accepted terms.nodes ballots file ≡ b → MatchBool b (Answered Done text ≡ opened terms batches file digests)
+      (Checks terms.nodes ballots file (Answered Done text)) →
       (is_accepted terms.nodes ballots file ≡ true) × (Answered Done text ≡ opened terms batches file digests)
   by true accepted is = (accepted, is)
   by false out checks = absurd (not_checked terms.nodes ballots file Done text (inl refl) out checks)
@@ -72,21 +75,21 @@ module _ (words : List (List ℕ)) (files : List File) (asks : AsksForOpening wo
   whole name bytes there = held_whole (held_bytes name files) bytes there
 
   -- all files are read, and nothing was wrong with them
-  all_read : (bytes : FileBytes) → AreHeld asks files bytes → (inputs : Inputs) → ballots_of bytes.ballots asks.contest ≡ Ok inputs.ballots →
-      cards_for asks.ballots inputs.ballots asks.manifest bytes.manifest ≡ Ok inputs.batches → assertion_file_of bytes.assertions ≡ Ok inputs.file →
-      EndsSo terms inputs.ballots inputs.batches inputs.file (digests_of bytes) (Answered Done text) → IsOpen
-  all_read bytes held inputs ballots cards assertions ends =
-      let (manifest, placed) = said_cards asks.ballots inputs.ballots asks.manifest bytes.manifest inputs.batches cards in
-      let (accepted, is) = said_opened terms inputs.ballots inputs.batches inputs.file (digests_of bytes) text ends in
-      let found = (decided asks.nodes inputs.ballots inputs.file).0 accepted in
-      let holds : Holds inputs.ballots inputs.file =
-      (accepted_iff_holds asks.nodes inputs.ballots inputs.file Accepted (read_is_sound bytes.assertions inputs.file assertions) found).0 refl in (
-        begun inputs.file.contest (length (cards_of inputs.batches)) inputs.file asks.seed asks.limit asks.gamma (digests_of bytes),
+  all_read : (bytes : FileBytes) → AreHeld (names_of asks) files bytes → (basis : Basis) → ballots_of bytes.ballots asks.contest ≡ Ok basis.ballots →
+      cards_for asks.ballots basis.ballots asks.manifest bytes.manifest ≡ Ok basis.batches → assertion_file_of bytes.assertions ≡ Ok basis.file →
+      EndsSo terms basis.ballots basis.batches basis.file (digests_of bytes) (Answered Done text) → IsOpen
+  all_read bytes held basis ballots cards assertions ends =
+      let (manifest, placed) = said_cards asks.ballots basis.ballots asks.manifest bytes.manifest basis.batches cards in
+      let (accepted, is) = said_opened terms basis.ballots basis.batches basis.file (digests_of bytes) text ends in
+      let found = (decided asks.nodes basis.ballots basis.file).0 accepted in
+      let holds : Holds basis.ballots basis.file =
+      (accepted_iff_holds asks.nodes basis.ballots basis.file Accepted (read_is_sound bytes.assertions basis.file assertions) found).0 refl in (
+        begun basis.file.contest (length (cards_of basis.batches)) basis.file asks.seed asks.limit asks.gamma (digests_of bytes),
         record {
           asks = asks;
           bytes = bytes;
           held = held;
-          inputs = inputs;
+          basis = basis;
           say = record { ballots = ballots; manifest = manifest; assertions = assertions };
           together = record { placed = placed; holds = holds };
           is = refl;
@@ -96,25 +99,27 @@ module _ (words : List (List ℕ)) (files : List File) (asks : AsksForOpening wo
 
   from_manifest : (b : List ℕ) → held_bytes asks.ballots files ≡ Some b → (ballots : BallotFile) → ballots_of b asks.contest ≡ Ok ballots →
       (m : List ℕ) → held_bytes asks.manifest files ≡ Some m → (batches : Batches) → cards_for asks.ballots ballots asks.manifest m ≡ Ok batches →
-      Concludes readings (after_manifest asks.assertions terms ballots batches (record { ballots = sha256 b; manifest = sha256 m })) (Answered Done text) → IsOpen
+      Concludes readings (after_manifest asks.assertions terms ballots batches (record { ballots = sha256 b; manifest = sha256 m })) (Answered Done text) →
+      IsOpen
   from_manifest b held_b ballots is_b m held_m batches is_m (a, there, rest) =
-      let (file, is, ends) = said readings (told (refused_file asks.assertions) (assertion_file_of a))
+      let (file, is, ends) = value_of readings (told (refused_file asks.assertions) (assertion_file_of a))
       (λ file. Ends (EndsSo terms ballots batches file (all_digests (record { ballots = sha256 b; manifest = sha256 m }) a))) Done text
       (told-only (refused_file asks.assertions) (assertion_file_of a) (λ why. tt)) rest in
-      all_read (record { ballots = b; manifest = m; assertions = a }) (record { ballots = held_b; manifest = held_m; assertions = whole asks.assertions a there })
+      all_read (record { ballots = b; manifest = m; assertions = a })
+      (record { ballots = held_b; manifest = held_m; assertions = whole asks.assertions a there })
       (record { ballots = ballots; batches = batches; file = file }) is_b is_m (told_ok (refused_file asks.assertions) (assertion_file_of a) file is) ends
 
   from_ballots : (b : List ℕ) → held_bytes asks.ballots files ≡ Some b → (ballots : BallotFile) → ballots_of b asks.contest ≡ Ok ballots →
       Concludes readings (after_ballots asks.ballots asks.manifest asks.assertions terms ballots (sha256 b)) (Answered Done text) → IsOpen
   from_ballots b held_b ballots is_b (m, there, rest) =
-      let (batches, is, on) = said readings (cards_for asks.ballots ballots asks.manifest m)
+      let (batches, is, on) = value_of readings (cards_for asks.ballots ballots asks.manifest m)
       (λ batches. after_manifest asks.assertions terms ballots batches (record { ballots = sha256 b; manifest = sha256 m })) Done text
       (cards-only asks.ballots ballots asks.manifest m) rest in
       from_manifest b held_b ballots is_b m (whole asks.manifest m there) batches is on
 
   from_all : Concludes readings (script asks.ballots asks.manifest asks.assertions asks.contest terms) (Answered Done text) → IsOpen
   from_all (b, there, rest) =
-      let (ballots, is, on) = said readings (told (refused asks.ballots) (ballots_of b asks.contest))
+      let (ballots, is, on) = value_of readings (told (refused asks.ballots) (ballots_of b asks.contest))
       (λ ballots. after_ballots asks.ballots asks.manifest asks.assertions terms ballots (sha256 b)) Done text
       (told-only (refused asks.ballots) (ballots_of b asks.contest) (λ why. tt)) rest in
       from_ballots b (whole asks.ballots b there) ballots (told_ok (refused asks.ballots) (ballots_of b asks.contest) ballots is) on

@@ -1,5 +1,5 @@
 -- A later call accepts what a search printed.
-use Rattle.std.proofs.Common.{◌≡◌, inl, inr, ℕ, List, ◌++◌, Some, None, Result, Ok, Err, MatchBool, true, length, refl, sym, ap, subst, ◌∙◌, arith}
+use Rattle.std.proofs.Common.{◌≡◌, inl, inr, ℕ, List, ◌++◌, Some, None, Result, Ok, Err, MatchBool, true, refl, sym, ap, subst, ◌∙◌, arith}
 use Rattle.std.specs.Prelude.{option_map}
 use Rattle.std.specs.Io.KnownBytes.{Appends}
 use Rattle.std.proofs.lemmas.List.{append_cancel_left}
@@ -33,7 +33,7 @@ use Rattle.session_commands.specs.Open as opened
 use Rattle.session_commands.specs.Refusals.{no_card}
 use Rattle.session_commands.specs.declared.open.Terms.{Terms as OpeningTerms}
 use Rattle.session_commands.proofs.Acceptance.{decided}
-use Rattle.raire_cli.specs.Agreement.{Call, IsSettled}
+use Rattle.raire_cli.specs.Agreement.{Call}
 use Rattle.raire_cli.specs.Answers.{asked, asked_by}
 use Rattle.raire_cli.specs.Confirmation.{AsksFor, AsksForSearch}
 use Rattle.raire_cli.specs.PrintedFiles.{HasPrinted, PrintedIsAccepted, PrintedIsOpened}
@@ -47,7 +47,8 @@ use Rattle.raire_cli.proofs.Said.{going}
 -- a sink that tells what it takes took one text
 one_text : (sink : Writing) (before text other : List ℕ) → sink.before ≡ Some before → sink.after ≡ Some (before ++ text) → Took sink other → text ≡ other
 one_text sink before text other told_before told_after took =
-    append_cancel_left before text other (subst (λ s. Appends s (Some (before ++ text)) other) told_before (subst (λ s. Appends sink.before s other) told_after took))
+    append_cancel_left before text other (subst (λ s. Appends s (Some (before ++ text)) other) told_before
+    (subst (λ s. Appends sink.before s other) told_after took))
 
 module _ {words : List (List ℕ)} (files : List File) (search : AsksForSearch words) where
   -- the ballots that a search read, and the text of their certificate
@@ -58,7 +59,8 @@ module _ {words : List (List ℕ)} (files : List File) (search : AsksForSearch w
     pub read : ballots_of bytes search.contest ≡ Ok ballots
     pub has : HasCertificate (terms words files search) ballots text
 
-  found_in : (text bytes : List ℕ) (read : Result BallotFile Refusal) → Bytes bytes ≡ reading_of (held_bytes search.name files) → ballots_of bytes search.contest ≡ read →
+  found_in : (text bytes : List ℕ) (read : Result BallotFile Refusal) → Bytes bytes ≡ reading_of (held_bytes search.name files) →
+      ballots_of bytes search.contest ≡ read →
       FindsIn (terms words files search) search.name read (Answered Done text) → Found text
   found_in text bytes (Err refusal) there is finds = absurd (cc finds)
   found_in text bytes (Ok ballots) there is finds =
@@ -73,7 +75,7 @@ module _ {words : List (List ℕ)} (files : List File) (search : AsksForSearch w
       (subst (FindsIn (terms words files search) search.name (ballots_of bytes search.contest)) (answered ∙ ap (Answered Done) (sym shown)) finds)
 
   pub found : (call : Call) (text : List ℕ) → HasPrinted words files call text → Found text
-  found call text printed = elim printed.answered.otherwise [
+  found call text printed = elim printed.answer.otherwise [
     | inl undone ↦ absurd (let zero = printed.done in omega (arith, undone, zero))
     | inr (to_out, to_err, may, took, took_err) ↦
         let ended : Outcome = record { status = call.status; out = to_out; err = to_err } in
@@ -105,14 +107,17 @@ printed_is_accepted words others search check files more first second text print
 -- ---- a session
 
 -- the manifest has a card of each ballot
-cards-ok : (name : List ℕ) (ballots : BallotFile) (manifest bytes : List ℕ) (batches : Batches) → manifest_of bytes ≡ Ok batches → first_without_card batches ballots ≡ None →
+cards-ok : (name : List ℕ) (ballots : BallotFile) (manifest bytes : List ℕ) (batches : Batches) → manifest_of bytes ≡ Ok batches →
+    first_without_card batches ballots ≡ None →
     cards_for name ballots manifest bytes ≡ Ok batches
 cards-ok name ballots manifest bytes batches is placed =
-    ap (λ read. then_judged (told (refused_manifest manifest) read) (λ batches. unless (option_map (no_card name) (first_without_card batches ballots)) (Ok batches))) is
+    ap (λ read. then_judged (told (refused_manifest manifest) read)
+    (λ batches. unless (option_map (no_card name) (first_without_card batches ballots)) (Ok batches))) is
     ∙ ap (λ without. unless (option_map (no_card name) without) (Ok batches)) placed
 
 -- a file of which a check says `yes` is accepted
-yes-accepted : (nodes : ℕ) (ballots : BallotFile) (file : Content) (text : List ℕ) → Checks nodes ballots file (Answered Done text) → is_accepted nodes ballots file ≡ true
+yes-accepted : (nodes : ℕ) (ballots : BallotFile) (file : Content) (text : List ℕ) → Checks nodes ballots file (Answered Done text) →
+    is_accepted nodes ballots file ≡ true
 yes-accepted nodes ballots file text (answer, is, told) =
     (decided nodes ballots file).1 (subst (IsAnswer nodes ballots file) (accepted_answer file answer text told) is)
 
@@ -127,11 +132,19 @@ printed_is_opened words others search opening files more first second text print
     let session : Verdict = opened.opened own cards.batches file digests in
     let due = outcome session in
     let asks : AsksFor words files ballots found.has.is.winner =
-    record { search = search; bytes = found.bytes; held = held_whole (held_bytes search.name files) found.bytes found.there; accepted = found.read; won = found.has.is.won } in
+    record {
+      search = search;
+      bytes = found.bytes;
+      held = held_whole (held_bytes search.name files) found.bytes found.there;
+      accepted = found.read;
+      won = found.has.is.won;
+    } in
     let placed = cards.placed ballots found.has.is.winner asks in
     let opens : opened.Opens own ballots cards.batches file digests session =
-    subst (λ b. MatchBool b (session ≡ session) (Checks search.nodes ballots file session)) (sym (yes-accepted search.nodes ballots file (yes_text file) checks)) refl in
-    let from_assertions : May held (opened.after_manifest opening.assertions own ballots cards.batches (record { ballots = sha256 found.bytes; manifest = sha256 cards.bytes })) due = inr (
+    subst (λ b. MatchBool b (session ≡ session) (Checks search.nodes ballots file session))
+    (sym (yes-accepted search.nodes ballots file (yes_text file) checks)) refl in
+    let from_assertions : May held (opened.after_manifest opening.assertions own ballots cards.batches
+    (record { ballots = sha256 found.bytes; manifest = sha256 cards.bytes })) due = inr (
       text,
       read_whole opening.assertions more text holds.printed holds.is_short,
       going held (told (refused_file opening.assertions) (assertion_file_of text)) file (λ file. Ends (opened.Opens own ballots cards.batches file digests)) due
@@ -140,7 +153,8 @@ printed_is_opened words others search opening files more first second text print
     let from_manifest : May held (opened.after_ballots opening.ballots opening.manifest opening.assertions own ballots (sha256 found.bytes)) due = inr (
       cards.bytes,
       read_whole opening.manifest more cards.bytes cards.held cards.is_short,
-      going held (cards_for opening.ballots ballots opening.manifest cards.bytes) cards.batches (λ batches. opened.after_manifest opening.assertions own ballots batches (record { ballots = sha256 found.bytes; manifest = sha256 cards.bytes })) due
+      going held (cards_for opening.ballots ballots opening.manifest cards.bytes) cards.batches
+          (λ batches. opened.after_manifest opening.assertions own ballots batches (record { ballots = sha256 found.bytes; manifest = sha256 cards.bytes })) due
           (cards-ok opening.ballots ballots opening.manifest cards.bytes cards.batches cards.accepted placed) from_assertions,
     ) in
     let command = Open opening.ballots opening.manifest opening.assertions opening.seed search.contest opening.limit opening.gamma search.nodes in
@@ -148,7 +162,8 @@ printed_is_opened words others search opening files more first second text print
       found.bytes,
       found.there ∙ ap reading_of (sym holds.same_ballots),
       going held (told (refused opening.ballots) (ballots_of found.bytes search.contest)) ballots
-          (λ file. opened.after_ballots opening.ballots opening.manifest opening.assertions own file (sha256 found.bytes)) due (ap (told (refused opening.ballots)) found.read) from_manifest,
+          (λ file. opened.after_ballots opening.ballots opening.manifest opening.assertions own file (sha256 found.bytes)) due
+          (ap (told (refused opening.ballots)) found.read) from_manifest,
     ) in
     (ends_with others more due (subst (λ command. MayCome held (asked_by command) due) (sym opening.asked_for) comes)
     (λ asks. absurd (not_spent others command opening.asked_for refl asks))).alone second settled

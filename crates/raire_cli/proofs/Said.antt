@@ -25,14 +25,15 @@ use Rattle.session_commands.specs.Refusals.{other_digest, other_facts, differs_t
 use Rattle.session_commands.proofs.Going.{OnlyRefuses}
 
 -- an answer comes of what is said
-pub said : {A : Type 0} (readings : Readings) (judged : Result A Verdict) (next : A → Script) (kind : AnswerKind) (text : List ℕ) → OnlyRefuses judged →
+pub value_of : {A : Type 0} (readings : Readings) (judged : Result A Verdict) (next : A → Script) (kind : AnswerKind) (text : List ℕ) → OnlyRefuses judged →
     Concludes readings (go_on judged next) (Answered kind text) → (value : A) × (judged ≡ Ok value) × Concludes readings (next value) (Answered kind text)
-said readings (Ok value) next kind text only comes = (value, refl, comes)
-said readings (Err (Answered k t)) next kind text only comes = absurd only
-said readings (Err (Refused name t)) next kind text only comes = absurd (cc comes)
+value_of readings (Ok value) next kind text only comes = (value, refl, comes)
+value_of readings (Err (Answered k t)) next kind text only comes = absurd only
+value_of readings (Err (Refused name t)) next kind text only comes = absurd (cc comes)
 
 -- what is said is gone on with
-pub going : {A : Type 0} (readings : Readings) (judged : Result A Verdict) (value : A) (next : A → Script) (due : Outcome) → judged ≡ Ok value → May readings (next value) due →
+pub going : {A : Type 0} (readings : Readings) (judged : Result A Verdict) (value : A) (next : A → Script) (due : Outcome) → judged ≡ Ok value →
+    May readings (next value) due →
     May readings (go_on judged next) due
 going readings judged value next due is may = subst (λ j. May readings (go_on j next) due) (sym is) may
 
@@ -40,11 +41,13 @@ pub told_ok : {A Why : Type 0} (words : Why → Verdict) (read : Result A Why) (
 told_ok words (Ok v) value is = cc is
 told_ok words (Err why) value is = absurd (cc is)
 
-pub unless_ok : {A : Type 0} (wrong : Option Verdict) (judged : Result A Verdict) (value : A) → unless wrong judged ≡ Ok value → (wrong ≡ None) × (judged ≡ Ok value)
+pub unless_ok : {A : Type 0} (wrong : Option Verdict) (judged : Result A Verdict) (value : A) → unless wrong judged ≡ Ok value →
+    (wrong ≡ None) × (judged ≡ Ok value)
 unless_ok None judged value is = (refl, is)
 unless_ok (Some verdict) judged value is = absurd (cc is)
 
-pub then_ok : {A B : Type 0} (first : Result A Verdict) (next : A → Result B Verdict) (value : B) → then_judged first next ≡ Ok value → (a : A) × (first ≡ Ok a) × (next a ≡ Ok value)
+pub then_ok : {A B : Type 0} (first : Result A Verdict) (next : A → Result B Verdict) (value : B) → then_judged first next ≡ Ok value →
+    (a : A) × (first ≡ Ok a) × (next a ≡ Ok value)
 then_ok (Ok a) next value is = (a, refl, is)
 then_ok (Err verdict) next value is = absurd (cc is)
 
@@ -70,9 +73,11 @@ not_smaller session seen rounds draws none = elim (leb_tells draws (last_draws r
   | inr (test, lt) ↦ lt
 ]
 
-pub all_recorded : (session seen seed : List ℕ) (cards : ℕ) (entries : List Entry) (draws : ℕ) → refused_by session seen (without_record seed cards entries draws) ≡ None → without_record seed cards entries draws ≡ None
+pub all_recorded : (session seen seed : List ℕ) (cards : ℕ) (entries : List Entry) (draws : ℕ) →
+    refused_by session seen (without_record seed cards entries draws) ≡ None → without_record seed cards entries draws ≡ None
 all_recorded session seen seed cards entries draws none = by (find _ (range_with_len 1 draws)) none where
-  by : (k : Option ℕ) → refused_by session seen (option_map (λ k. NoRecord (drawn_card seed k cards) k) k) ≡ None → option_map (λ k. NoRecord (drawn_card seed k cards) k) k ≡ None
+  by : (k : Option ℕ) → refused_by session seen (option_map (λ k. NoRecord (drawn_card seed k cards) k) k) ≡ None →
+      option_map (λ k. NoRecord (drawn_card seed k cards) k) k ≡ None
   by None none = refl
   by (Some k) none = absurd (cc none)
 
@@ -88,11 +93,13 @@ changed-told : (session seen : List ℕ) (round claim : ℕ) (expected found : L
 changed-told session seen round claim [] found = λ none. refl
 changed-told session seen round claim (e ∷ expected) [] = λ none. refl
 changed-told session seen round claim (e ∷ expected) (f ∷ found) = by (same_counts e f) (changed-told session seen round (claim + 1) expected found) where
-  by : (b : Bool) → IsTold session seen (changed_in round (claim + 1) expected found) → IsTold session seen (if b then changed_in round (claim + 1) expected found else Some (Changed round claim e f))
+  by : (b : Bool) → IsTold session seen (changed_in round (claim + 1) expected found) →
+      IsTold session seen (if b then changed_in round (claim + 1) expected found else Some (Changed round claim e f))
   by true later = later
   by false later = λ none. absurd (cc none)
 
-pub unchanged : (session seen : List ℕ) (claims : List Claim) (drawn : List Drawn) (number : ℕ) (rounds : List Round) → IsTold session seen (changed_from claims drawn number rounds)
+pub unchanged : (session seen : List ℕ) (claims : List Claim) (drawn : List Drawn) (number : ℕ) (rounds : List Round) →
+    IsTold session seen (changed_from claims drawn number rounds)
 unchanged session seen claims drawn number [] = λ none. refl
 unchanged session seen claims drawn number (round ∷ rounds) =
     first-told session seen (changed_in number 1 round.counts (all_counts claims (take round.draws drawn))) (changed_from claims drawn (number + 1) rounds)

@@ -1,5 +1,5 @@
 -- A session of one card that goes on by a draw, and isn't signed off yet.
-use Rattle.std.proofs.Common.{◌≡◌, inl, inr, ℕ, ◌<◌, ◌≤◌, nat_le, Bool, true, List, [], ◌∷◌, get_or, None, Some, Result, Ok, codes, All, refl, sym, subst, arith}
+use Rattle.std.proofs.Common.{◌≡◌, inl, inr, ℕ, ◌<◌, ◌≤◌, nat_le, true, List, [], ◌∷◌, get_or, None, Some, Ok, codes, All, refl, sym, subst, arith}
 use Rattle.std.proofs.lemmas.Bool.Decides.{leb_tells}
 use Rattle.std.proofs.lemmas.List.Elements.{All-cons, All-nil}
 use Rattle.std.proofs.lemmas.List.Sums.{AllPass-from_list_all}
@@ -29,17 +29,17 @@ use Rattle.seen_file.specs.Seen.{Entry}
 use Rattle.km_risk.specs.Printed.{printed_risk}
 use Rattle.audit_rounds.specs.Content.{Content, IsSound}
 use Rattle.audit_rounds.specs.Sessions.{IsRound, Round}
-use Rattle.session_text.specs.Forms.{HasForms, IsDigest}
+use Rattle.session_text.specs.Forms.{HasForms}
 use Rattle.session_text.specs.Text.{session_text, session_value}
 use Rattle.session_file.specs.Reading.{session_of}
 use Rattle.session_file.proofs.ReadsBack.{printed_reads_back as printed_session_reads_back}
 use Rattle.cli_base.specs.Outcome.{Outcome, Verdict, outcome}
-use Rattle.cli_base.specs.Script.{Script, Ends, Readings, AsHeld, May}
+use Rattle.cli_base.specs.Script.{Ends, Readings, AsHeld, May}
 use Rattle.command_line.specs.declared.command.Command.TheVariants.{Audit}
 use Rattle.command_line.specs.declared.limits.TheConstants.{DEFAULT_NODES}
 use Rattle.session_commands.specs.Accepted.{is_accepted, on_if}
 use Rattle.session_commands.specs.Audit.{Asked, Compared, GoesOn, after_assertions, after_ballots, after_check, after_facts, after_manifest, after_session, audit, next_session, same_assertions, same_ballots, same_facts, same_manifest, session_to_go_on, verdict_of}
-use Rattle.session_commands.specs.Judged.{go_on, told}
+use Rattle.session_commands.specs.Judged.{told}
 use Rattle.session_commands.specs.Refusals.{refused_seen}
 use Rattle.contest_commands.specs.Check.{Checks}
 use Rattle.raire_cli.specs.Agreement.{MayBeSpent}
@@ -159,7 +159,8 @@ opened_text = refl
 are_bytes : (digest : List ℕ) → list_all (λ byte. nat_le byte 255) digest ≡ true → All (λ byte. byte < 256) digest
 are_bytes digest all k d below = elim (leb_tells (get_or digest k d) 255) [
   | inl (test, le) ↦ omega (arith, le)
-  | inr (test, lt) ↦ let pass : nat_le (get_or digest k d) 255 ≡ true = AllPass-from_list_all (λ byte. nat_le byte 255) digest all k d below in absurd (cc (test, pass))
+  | inr (test, lt) ↦
+      let pass : nat_le (get_or digest k d) 255 ≡ true = AllPass-from_list_all (λ byte. nat_le byte 255) digest all k d below in absurd (cc (test, pass))
 ]
 
 forms : HasForms session
@@ -205,7 +206,10 @@ audit_words = codes "audit" ∷ codes "s" ∷ codes "b" ∷ codes "m" ∷ codes 
 
 abbrev audit_files : List File
 audit_files =
-    record { name = codes "s"; bytes = session_bytes } ∷ record { name = codes "b"; bytes = ballots_bytes } ∷ record { name = codes "m"; bytes = manifest_bytes }
+    record { name = codes "s"; bytes = session_bytes } ∷ record { name = codes "b"; bytes = ballots_bytes } ∷ record {
+      name = codes "m";
+      bytes = manifest_bytes;
+    }
     ∷ record { name = codes "a"; bytes = assertions_bytes } ∷ record { name = codes "v"; bytes = seen_bytes } ∷ []
 
 no_search : MayBeSpent audit_words → ⊥
@@ -273,13 +277,25 @@ assertions_hold =
 
 cards_there : May held (after_manifest asks session ballots batches) due
 cards_there =
-    inr (assertions_bytes, refl, going held (same_assertions asks session assertions_bytes) file (after_assertions asks session ballots batches) due of_assertions assertions_hold)
+    inr (
+      assertions_bytes,
+      refl,
+      going held (same_assertions asks session assertions_bytes) file
+          (after_assertions asks session ballots batches) due of_assertions assertions_hold,
+    )
 
 ballots_there : May held (after_ballots asks session ballots) due
-ballots_there = inr (manifest_bytes, refl, going held (same_manifest asks session ballots manifest_bytes) batches (after_manifest asks session ballots) due of_manifest cards_there)
+ballots_there =
+    inr (
+      manifest_bytes,
+      refl,
+      going held (same_manifest asks session ballots manifest_bytes) batches
+          (after_manifest asks session ballots) due of_manifest cards_there,
+    )
 
 session_there : May held (after_session asks session) due
-session_there = inr (ballots_bytes, refl, going held (same_ballots asks session ballots_bytes) ballots (after_ballots asks session) due of_ballots ballots_there)
+session_there =
+    inr (ballots_bytes, refl, going held (same_ballots asks session ballots_bytes) ballots (after_ballots asks session) due of_ballots ballots_there)
 
 goes_on : May held (audit asks) due
 goes_on = inr (session_bytes, refl, going held (session_to_go_on asks session_bytes) session (after_session asks) due to_go_on session_there)

@@ -21,13 +21,15 @@ pub record AsksForCheck (words : List (List ℕ)) : Type 0 where
   pub asked : command_of words ≡ Some (Check ballots assertions contest nodes)
 
 -- its ballot file is held, and says this of the contest
-pub record HasBallots {words : List (List ℕ)} (asked : AsksForCheck words) (files : List File) (ballots : BallotFile) : Type 0 where
+pub record HasBallots {words : List (List ℕ)} (asked : AsksForCheck words) (files : List File)
+    (ballots : BallotFile) : Type 0 where
   pub bytes : List ℕ
   pub held : held_bytes asked.ballots files ≡ Some bytes
   pub accepted : ballots_of bytes asked.contest ≡ Ok ballots
 
 -- its assertion file is held, and says this
-pub record HasAssertions {words : List (List ℕ)} (asked : AsksForCheck words) (files : List File) (file : Content) : Type 0 where
+pub record HasAssertions {words : List (List ℕ)} (asked : AsksForCheck words) (files : List File)
+    (file : Content) : Type 0 where
   pub bytes : List ℕ
   pub held : held_bytes asked.assertions files ≡ Some bytes
   pub accepted : assertion_file_of bytes ≡ Ok file

@@ -28,7 +28,7 @@ pub record MayBeSpent (words : List (List ℕ)) : Type 0 where
 -- The call was of these words, over a desk that holds these files. Nothing failed in it, memory was found, and it is no search and no
 -- trial whose budget was spent.
 pub record IsSettled (words : List (List ℕ)) (files : List File) (call : Call) : Type 0 where
-  pub answered : IsAnswered (asked words) (Some files) (Failed call) call.status call.out call.err
+  pub answer : IsAnswered (asked words) (Some files) (Failed call) call.status call.out call.err
   pub quiet : IsQuiet (Failed call) call.out call.err
   pub memory : call.status ≢ 9
   pub unspent : MayBeSpent words → call.status ≢ 4
@@ -51,4 +51,6 @@ pub record AreTheSame (first second : Call) : Type 0 where
 
 abbrev pub SameFilesSameAnswer : Type 0
 SameFilesSameAnswer =
-    (words : List (List ℕ)) (files others : List File) (first second : Call) → HoldTheSame files others → IsSettled words files first → IsSettled words others second → AreTheSame first second
+    (words : List (List ℕ)) (files others : List File) (first second : Call) →
+    HoldTheSame files others → IsSettled words files first →
+    IsSettled words others second → AreTheSame first second

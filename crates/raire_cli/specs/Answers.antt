@@ -15,17 +15,26 @@ use Rattle.session_commands.specs.Audit as audit
 use Rattle.session_commands.specs.Report as report
 
 abbrev pub script_of : Command → Script
-script_of (Search ballots contest workers nodes floor) = search.script ballots contest (record { nodes = nodes; floor = floor })
+script_of (Search ballots contest workers nodes floor) =
+    search.script ballots contest (record { nodes = nodes; floor = floor })
 script_of (Tabulate ballots contest) = tabulate.script ballots contest
 script_of (Check ballots assertions contest nodes) = check.script ballots assertions contest nodes
 script_of (Sample manifest seed draws) = sample.script manifest seed draws
-script_of (Plan manifest assertions limit gamma) = plan.script manifest assertions (record { limit = limit; gamma = gamma })
+script_of (Plan manifest assertions limit gamma) =
+    plan.script manifest assertions (record { limit = limit; gamma = gamma })
 script_of (Open ballots manifest assertions seed contest limit gamma nodes) =
-    opening.script ballots manifest assertions contest (record { seed = seed; limit = limit; gamma = gamma; nodes = nodes })
-script_of (Audit session ballots manifest assertions seen draws nodes) = audit.script session ballots manifest assertions seen draws nodes
+    opening.script ballots manifest assertions contest
+    (record { seed = seed; limit = limit; gamma = gamma; nodes = nodes })
+script_of (Audit session ballots manifest assertions seen draws nodes) =
+    audit.script session ballots manifest assertions seen draws nodes
 script_of (Report session) = report.script session
 script_of (Trial number candidates ballots workers nodes) =
-    trial.script (record { number = number; candidates = candidates; ballots = ballots; nodes = nodes })
+    trial.script (record {
+      number = number;
+      candidates = candidates;
+      ballots = ballots;
+      nodes = nodes;
+    })
 
 abbrev pub asked_by : Option Command → Asked
 asked_by None = Nothing
@@ -41,8 +50,10 @@ files_of (Tabulate ballots contest) = ballots ∷ []
 files_of (Check ballots assertions contest nodes) = ballots ∷ assertions ∷ []
 files_of (Sample manifest seed draws) = manifest ∷ []
 files_of (Plan manifest assertions limit gamma) = manifest ∷ assertions ∷ []
-files_of (Open ballots manifest assertions seed contest limit gamma nodes) = ballots ∷ manifest ∷ assertions ∷ []
-files_of (Audit session ballots manifest assertions seen draws nodes) = session ∷ ballots ∷ manifest ∷ assertions ∷ seen ∷ []
+files_of (Open ballots manifest assertions seed contest limit gamma nodes) =
+    ballots ∷ manifest ∷ assertions ∷ []
+files_of (Audit session ballots manifest assertions seen draws nodes) =
+    session ∷ ballots ∷ manifest ∷ assertions ∷ seen ∷ []
 files_of (Report session) = session ∷ []
 files_of (Trial number candidates ballots workers nodes) = []
 

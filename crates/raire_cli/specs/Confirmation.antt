@@ -19,27 +19,31 @@ use Rattle.contest_commands.specs.Contest.{candidate_count, IsWon}
 use Rattle.contest_commands.specs.Search.{full_count_lines}
 
 -- an assertion among n candidates that is true of the records, by the margin that is claimed
-pub record Holds (n : ℕ) (records : List (List ℕ)) (claim : Claim) : Type 0 where
+pub record ClaimHolds (n : ℕ) (records : List (List ℕ)) (claim : Claim) : Type 0 where
   pub proper : IsTrue (is_proper n claim.assertion)
   pub holds : IsTrue (is_true records claim.assertion)
   pub margin : claim.margin ≡ true_margin records claim.assertion
 
 -- the order elects another candidate, and no true assertion of larger margin refutes it
-pub record IsHardest (n : ℕ) (records : List (List ℕ)) (winner : ℕ) (order : List ℕ) (margin : ℕ) : Type 0 where
+pub record IsHardest (n : ℕ) (records : List (List ℕ)) (winner : ℕ) (order : List ℕ)
+    (margin : ℕ) : Type 0 where
   pub alternative : IsAlternative n winner order
-  pub hardest : (a : Assertion) → IsTrue (is_proper n a) → IsTrue (is_true records a) → IsTrue (refutes a order) → true_margin records a ≤ margin
+  pub hardest : (a : Assertion) → IsTrue (is_proper n a) → IsTrue (is_true records a) →
+      IsTrue (refutes a order) → true_margin records a ≤ margin
 
 -- each order that elects another candidate is refuted by a true assertion of at least this margin
 abbrev pub IsLeast : ℕ → List (List ℕ) → ℕ → ℕ → Type 0
 IsLeast n records winner margin =
     (order : List ℕ) → IsAlternative n winner order →
-    (a : Assertion) × IsTrue (is_proper n a) × IsTrue (is_true records a) × IsTrue (refutes a order) × (margin ≤ true_margin records a)
+    (a : Assertion) × IsTrue (is_proper n a) × IsTrue (is_true records a) × IsTrue (refutes a order)
+    × (margin ≤ true_margin records a)
 
 pub record Confirms (n : ℕ) (records : List (List ℕ)) (winner : ℕ) (file : Content) : Type 0 where
   -- the assertions are all true of the records
-  pub hold : All (Holds n records) file.claims
+  pub hold : All (ClaimHolds n records) file.claims
   -- together they refute every elimination order that elects another candidate
-  pub cover : (order : List ℕ) → IsAlternative n winner order → (claim : Claim) × Contains file.claims claim × IsTrue (refutes claim.assertion order)
+  pub cover : (order : List ℕ) → IsAlternative n winner order →
+      (claim : Claim) × Contains file.claims claim × IsTrue (refutes claim.assertion order)
   -- the margin is the smallest of theirs
   pub reached : (claim : Claim) × Contains file.claims claim × (claim.margin ≡ file.margin)
   pub smallest : All (λ claim. file.margin ≤ claim.margin) file.claims
@@ -57,7 +61,8 @@ pub record AsksForSearch (words : List (List ℕ)) : Type 0 where
   pub asked : command_of words ≡ Some (Search name contest workers nodes floor)
 
 -- its file is held and accepted, and the contest has this winner
-pub record AsksFor (words : List (List ℕ)) (files : List File) (ballots : BallotFile) (winner : ℕ) : Type 0 where
+pub record AsksFor (words : List (List ℕ)) (files : List File) (ballots : BallotFile)
+    (winner : ℕ) : Type 0 where
   pub search : AsksForSearch words
   pub bytes : List ℕ
   pub held : held_bytes search.name files ≡ Some bytes
@@ -100,4 +105,6 @@ IsConfirmed held words status out = IfSome held (λ files. AsksForSearch words �
 
 -- Status 5: an order that elects another candidate is printed, which no true assertion refutes by a margin that reaches the floor.
 abbrev pub IsReasoned : Option (List File) → List (List ℕ) → ℕ → Writing → Type 0
-IsReasoned held words status out = IfSome held (λ files. status ≡ 5 → (text : List ℕ) × GivesReason words files text × Took out text)
+IsReasoned held words status out =
+    IfSome held (λ files. status ≡ 5 →
+    (text : List ℕ) × GivesReason words files text × Took out text)

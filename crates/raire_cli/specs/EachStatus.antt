@@ -1,8 +1,8 @@
 -- That each status comes of some words and files.
-use Rattle.std.specs.Prelude.{◌≡◌, ◌<◌, ℕ, List, [], ◌∷◌, length}
+use Rattle.std.specs.Prelude.{◌≡◌, ℕ, List}
 use Rattle.desk.specs.Desk.{File}
 use Rattle.cli_base.specs.Outcome.{Outcome}
-use Rattle.cli_base.specs.Script.{AsHeld, MayCome, limit}
+use Rattle.cli_base.specs.Script.{AsHeld, MayCome}
 use Rattle.raire_cli.specs.Agreement.{Call, IsSettled}
 use Rattle.raire_cli.specs.Answers.{asked}
 

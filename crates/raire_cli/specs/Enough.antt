@@ -17,18 +17,22 @@ pub record Judging : Type 0 where
 abbrev pub judging_of : Command → Option Judging
 judging_of (Search ballots contest workers nodes floor) = None
 judging_of (Tabulate ballots contest) = None
-judging_of (Check ballots assertions contest nodes) = Some (record { assertions = assertions; nodes = nodes })
+judging_of (Check ballots assertions contest nodes) =
+    Some (record { assertions = assertions; nodes = nodes })
 judging_of (Sample manifest seed draws) = None
 judging_of (Plan manifest assertions limit gamma) = None
-judging_of (Open ballots manifest assertions seed contest limit gamma nodes) = Some (record { assertions = assertions; nodes = nodes })
-judging_of (Audit session ballots manifest assertions seen draws nodes) = Some (record { assertions = assertions; nodes = nodes })
+judging_of (Open ballots manifest assertions seed contest limit gamma nodes) =
+    Some (record { assertions = assertions; nodes = nodes })
+judging_of (Audit session ballots manifest assertions seen draws nodes) =
+    Some (record { assertions = assertions; nodes = nodes })
 judging_of (Report session) = None
 judging_of (Trial number candidates ballots workers nodes) = None
 
--- as many as twice the factorial of the number of the candidates but one, of whatever contest the file is
+-- the nodes are at least 2 * (n - 1)!, where the assertion file has n candidates
 abbrev pub AreEnough : List File → Judging → Type 0
 AreEnough files judging =
-    (bytes : List ℕ) (file : Content) → held_bytes judging.assertions files ≡ Some bytes → assertion_file_of bytes ≡ Ok file →
+    (bytes : List ℕ) (file : Content) → held_bytes judging.assertions files ≡ Some bytes →
+    assertion_file_of bytes ≡ Ok file →
     2 * factorial (candidate_count file - 1) ≤ judging.nodes
 
 -- ---- what `run` promises
@@ -36,4 +40,5 @@ AreEnough files judging =
 -- With enough nodes a budget isn't spent.
 abbrev pub IsNeverSpent : Option (List File) → List (List ℕ) → ℕ → Type 0
 IsNeverSpent held words status = IfSome held (λ files. (command : Command) (judging : Judging) →
-    command_of words ≡ Some command → judging_of command ≡ Some judging → AreEnough files judging → status ≢ 4)
+    command_of words ≡ Some command → judging_of command ≡ Some judging → AreEnough files judging →
+    status ≢ 4)

@@ -20,42 +20,56 @@ use Rattle.raire_cli.specs.Audits.{GoesOn, cards, drawn}
 
 -- the words ask for a search with so many workers, all else being this
 abbrev pub AskForWorkers : List ℕ → Option Id → ℕ → ℕ → ℕ → List (List ℕ) → Type 0
-AskForWorkers name contest nodes floor workers words = command_of words ≡ Some (Search name contest workers nodes floor)
+AskForWorkers name contest nodes floor workers words =
+    command_of words ≡ Some (Search name contest workers nodes floor)
 
 -- Of two searches that differ in their workers alone, what the one may come to, the other may come to, whatever files there are, and
 -- where the desk or memory fails.
 abbrev pub WorkersAskTheSame : Type 0
 WorkersAskTheSame =
-    (name : List ℕ) (contest : Option Id) (nodes floor some more : ℕ) (words others : List (List ℕ)) →
-    AskForWorkers name contest nodes floor some words → AskForWorkers name contest nodes floor more others →
-    (held : Option (List File)) (due : Outcome) → IsDue (ByDesk held ⊤) (asked words) due → IsDue (ByDesk held ⊤) (asked others) due
+    (name : List ℕ) (contest : Option Id) (nodes floor some more : ℕ)
+    (words others : List (List ℕ)) →
+    AskForWorkers name contest nodes floor some words →
+    AskForWorkers name contest nodes floor more others →
+    (held : Option (List File)) (due : Outcome) → IsDue (ByDesk held ⊤) (asked words) due →
+    IsDue (ByDesk held ⊤) (asked others) due
 
 -- Over the same files they come to the same status and bytes, but for a budget that is spent.
 abbrev pub WorkersComeToTheSame : Type 0
 WorkersComeToTheSame =
-    (name : List ℕ) (contest : Option Id) (nodes floor some more : ℕ) (words others : List (List ℕ)) →
-    AskForWorkers name contest nodes floor some words → AskForWorkers name contest nodes floor more others →
-    (files : List File) (due other : Outcome) → MayCome (AsHeld files) (asked words) due → MayCome (AsHeld files) (asked others) other →
+    (name : List ℕ) (contest : Option Id) (nodes floor some more : ℕ)
+    (words others : List (List ℕ)) →
+    AskForWorkers name contest nodes floor some words →
+    AskForWorkers name contest nodes floor more others →
+    (files : List File) (due other : Outcome) → MayCome (AsHeld files) (asked words) due →
+    MayCome (AsHeld files) (asked others) other →
     SameButBudget due other
 
 -- So it is of two trials.
 abbrev pub TrialsComeToTheSame : Type 0
 TrialsComeToTheSame =
     (number candidates ballots nodes some more : ℕ) (words others : List (List ℕ)) →
-    command_of words ≡ Some (Trial number candidates ballots some nodes) → command_of others ≡ Some (Trial number candidates ballots more nodes) →
-    (files : List File) (due other : Outcome) → MayCome (AsHeld files) (asked words) due → MayCome (AsHeld files) (asked others) other →
+    command_of words ≡ Some (Trial number candidates ballots some nodes) →
+    command_of others ≡ Some (Trial number candidates ballots more nodes) →
+    (files : List File) (due other : Outcome) → MayCome (AsHeld files) (asked words) due →
+    MayCome (AsHeld files) (asked others) other →
     SameButBudget due other
 
 -- The default suffices for up to nine candidates.
 abbrev pub DefaultSuffices : Type 0
 DefaultSuffices =
-    (ballots : BallotFile) (tabulated : List ℕ) (winner c : ℕ) → IsOther ballots winner c → candidate_count ballots ≤ 9 → nodes_for ballots tabulated winner c ≤ DEFAULT_NODES
+    (ballots : BallotFile) (tabulated : List ℕ) (winner c : ℕ) → IsOther ballots winner c →
+    candidate_count ballots ≤ 9 →
+    nodes_for ballots tabulated winner c ≤ DEFAULT_NODES
 
 -- A session that an audit signs off is one that the risk limit counts, where the cards that were seen were read as they are; also
 -- among sequences of more draws.
 abbrev pub SignedOffIsCounted : Type 0
 SignedOffIsCounted =
-    (words : List (List ℕ)) (files : List File) (next : Content) (on : GoesOn words files next) (actual : List (List ℕ)) (most : ℕ) →
-    IsTrue (is_signed_off next.session) → on.asks.draws ≤ most → length actual ≡ cards on.inputs → AreTrueEntries actual on.inputs.entries →
-    MayBeSignedOff on.inputs.session.session.limit on.inputs.session.session.gamma on.inputs.file.claims
-    (linked_of on.inputs.batches on.inputs.ballots) actual (drawn on.inputs most)
+    (words : List (List ℕ)) (files : List File) (next : Content) (on : GoesOn words files next)
+    (actual : List (List ℕ)) (most : ℕ) →
+    IsTrue (is_signed_off next.session) → on.asks.draws ≤ most → length actual ≡ cards on.inputs →
+    AreTrueEntries actual on.inputs.entries →
+    MayBeSignedOff on.inputs.session.session.limit on.inputs.session.session.gamma
+    on.inputs.basis.file.claims
+    (linked_of on.inputs.basis.batches on.inputs.basis.ballots) actual (drawn on.inputs most)

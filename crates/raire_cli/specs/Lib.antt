@@ -1,6 +1,7 @@
 pub mod Answers
 pub mod Confirmation
 pub mod Acceptance
+pub mod Basis
 pub mod Audits
 pub mod Openings
 pub mod Enough

@@ -22,11 +22,13 @@ pub record IsSearchable (words : List (List ℕ)) (files : List File) : Type 0 w
   pub winner : ℕ
   pub asks : AsksFor words files ballots winner
   pub is_short : length asks.bytes ≤ limit
-  pub budget : (c : ℕ) → IsOther ballots winner c → nodes_for ballots asks.won.order winner c ≤ asks.search.nodes
+  pub budget : (c : ℕ) → IsOther ballots winner c →
+      nodes_for ballots asks.won.order winner c ≤ asks.search.nodes
 
 -- Such a search ends with its assertions or with reason for a full count, if memory was found and no count of faults rose.
 abbrev pub IsComplete : Option (List File) → List (List ℕ) → Type 0 → ℕ → Writing → Writing → Type 0
-IsComplete held words failed status out err = IfSome held (λ files. IsSearchable words files → IsQuiet failed out err →
+IsComplete held words failed status out err =
+    IfSome held (λ files. IsSearchable words files → IsQuiet failed out err →
     (status ≡ 0) ⊎ (status ≡ 5) ⊎ (status ≡ 9))
 
 -- the words ask for a trial
@@ -51,19 +53,23 @@ terms_of trial = record {
 -- didn't win.
 pub record IsTriable (words : List (List ℕ)) : Type 0 where
   pub trial : AsksForTrial words
-  pub budget : (winner c : ℕ) (won : IsWon (contest_of (terms_of trial)) winner) → IsOther (contest_of (terms_of trial)) winner c →
+  pub budget : (winner c : ℕ) (won : IsWon (contest_of (terms_of trial)) winner) →
+      IsOther (contest_of (terms_of trial)) winner c →
       nodes_for (contest_of (terms_of trial)) won.order winner c ≤ trial.nodes
 
 -- Such a trial ends with its lines or with a tie, if memory was found and no count of faults rose.
 abbrev pub IsTrialComplete : List (List ℕ) → Type 0 → ℕ → Writing → Writing → Type 0
-IsTrialComplete words failed status out err = IsTriable words → IsQuiet failed out err → (status ≡ 0) ⊎ (status ≡ 3) ⊎ (status ≡ 9)
+IsTrialComplete words failed status out err =
+    IsTriable words → IsQuiet failed out err → (status ≡ 0) ⊎ (status ≡ 3) ⊎ (status ≡ 9)
 
 -- Of each command but those that search, each answer comes exactly where that is what the files make it.
 abbrev pub IsExactUnlessOpen : Option (List File) → List (List ℕ) → ℕ → Type 0
 IsExactUnlessOpen held words status =
-    (command : Command) → command_of words ≡ Some command → is_open command ≡ false → IsExact (asked words) held status
+    (command : Command) → command_of words ≡ Some command → is_open command ≡ false →
+    IsExact (asked words) held status
 
 -- When each status comes, and what the sinks then took.
-pub record HasCause (held : Option (List File)) (words : List (List ℕ)) (failed : Type 0) (status : ℕ) (out err : Writing) : Type 0 where
+pub record HasCause (held : Option (List File)) (words : List (List ℕ)) (failed : Type 0)
+    (status : ℕ) (out err : Writing) : Type 0 where
   pub by_words : Exactly 1 status (is_line words ≡ false)
   pub by_files : Statuses (asked words) held failed status out err

@@ -7,7 +7,6 @@ ghost use Rattle.cli_base.specs.Due.{due};
 ghost use Rattle.cli_base.specs.Ends.{writing};
 ghost use Rattle.cli_base.specs.Script.{ByDesk, IsDue};
 ghost use Rattle.cli_base.specs.Statuses.{IsAnswered, IsForErr};
-ghost use Rattle.cli_base.specs.Story.{Story};
 ghost use Rattle.command_line.specs.Words.{texts};
 ghost use Rattle.raire_cli.specs.Acceptance.{IsUpheld};
 ghost use Rattle.raire_cli.specs.Answers.{asked, file_count};
@@ -49,14 +48,17 @@ pub fn run<R: AllocGlobal + Threads + Sync, D: Desk, O: Sink, E: Sink, G: Gate +
     gate: &G,
 ) -> u8
     // Assertions confirm the winner.
-    ensures headline { IsConfirmed (D.held desk.old) (texts words.now) result (writing O.Sink out.old out.new) }
+    ensures headline { IsConfirmed (D.held desk.old) (texts words.now) result
+        (writing O.Sink out.old out.new) }
 
     // An order gives reason for a full count.
-    ensures full_count { IsReasoned (D.held desk.old) (texts words.now) result (writing O.Sink out.old out.new) }
+    ensures full_count { IsReasoned (D.held desk.old) (texts words.now) result
+        (writing O.Sink out.old out.new) }
 
     // A search whose budget is large enough ends in one of these two ways.
-    ensures complete { IsComplete (D.held desk.old) (texts words.now) (Rose (D.faults desk.old) (D.faults desk.new))
-        result (writing O.Sink out.old out.new) (writing E.Sink err.old err.new) }
+    ensures complete { IsComplete (D.held desk.old) (texts words.now)
+        (Rose (D.faults desk.old) (D.faults desk.new)) result
+        (writing O.Sink out.old out.new) (writing E.Sink err.old err.new) }
 
     // A trial ends with its lines or with its first tie, whatever the desk holds, if its budget suffices.
     ensures complete_trial { IsTrialComplete (texts words.now)
@@ -67,21 +69,26 @@ pub fn run<R: AllocGlobal + Threads + Sync, D: Desk, O: Sink, E: Sink, G: Gate +
     ensures enough { IsNeverSpent (D.held desk.old) (texts words.now) result }
 
     // An assertion file that is accepted holds.
-    ensures accepted { IsUpheld (D.held desk.old) (texts words.now) result (writing O.Sink out.old out.new) }
+    ensures accepted { IsUpheld (D.held desk.old) (texts words.now) result
+        (writing O.Sink out.old out.new) }
 
     // A session that is opened is that of its words and files.
-    ensures opened { IsOpened (D.held desk.old) (texts words.now) result (writing O.Sink out.old out.new) }
+    ensures opened { IsOpened (D.held desk.old) (texts words.now) result
+        (writing O.Sink out.old out.new) }
 
     // A session goes on by the round that its files make, and is signed off exactly with status 0.
-    ensures audited { IsAudited (D.held desk.old) (texts words.now) result (writing O.Sink out.old out.new) }
+    ensures audited { IsAudited (D.held desk.old) (texts words.now) result
+        (writing O.Sink out.old out.new) }
 
     // The defined status and texts, of the files that are told, or of some that the desk may have given.
-    ensures answer { IsAnswered (asked (texts words.now)) (D.held desk.old) (Rose (D.faults desk.old) (D.faults desk.new))
-        result (writing O.Sink out.old out.new) (writing E.Sink err.old err.new) }
+    ensures answer { IsAnswered (asked (texts words.now)) (D.held desk.old)
+        (Rose (D.faults desk.old) (D.faults desk.new)) result
+        (writing O.Sink out.old out.new) (writing E.Sink err.old err.new) }
 
     // When each status comes, and what the sinks then took.
-    ensures status { HasCause (D.held desk.old) (texts words.now) (Rose (D.faults desk.old) (D.faults desk.new))
-        result (writing O.Sink out.old out.new) (writing E.Sink err.old err.new) }
+    ensures status { HasCause (D.held desk.old) (texts words.now)
+        (Rose (D.faults desk.old) (D.faults desk.new)) result
+        (writing O.Sink out.old out.new) (writing E.Sink err.old err.new) }
 
     // No budget leaves open what another command than a search or a trial comes to.
     ensures exact { IsExactUnlessOpen (D.held desk.old) (texts words.now) result }
@@ -95,27 +102,11 @@ pub fn run<R: AllocGlobal + Threads + Sync, D: Desk, O: Sink, E: Sink, G: Gate +
     ensures kept { IsForErr result → Keeps (O.taken out.old) (O.taken out.new) }
     ensures held { D.held desk.new ≡ D.held desk.old }
 {
-    perform(rt, words, desk, out, err, gate)
+    let outcome = answer(rt, words, desk, gate);
+    deliver(&outcome, out, err)
 }
 
-fn perform<R: AllocGlobal + Threads + Sync, D: Desk, O: Sink, E: Sink, G: Gate + Sync>(
-    rt: &R,
-    words: &[String],
-    desk: &mut D,
-    out: &mut O,
-    err: &mut E,
-    gate: &G,
-) -> u8
-    ensures story { Story (asked (texts words.now)) (D.held desk.old) (Rose (D.faults desk.old) (D.faults desk.new)) result
-        (writing O.Sink out.old out.new) (writing E.Sink err.old err.new) }
-    ensures served { IsAccountedFor (file_count (texts words.now))
-        (D.served desk.old) (D.served desk.new) result }
-    ensures held { D.held desk.new ≡ D.held desk.old }
-{
-    let said = answer(rt, words, desk, gate);
-    deliver(&said, out, err)
-}
-
+// What is due of the words.
 fn answer<R: AllocGlobal + Threads + Sync, D: Desk, G: Gate + Sync>(
     rt: &R,
     words: &[String],

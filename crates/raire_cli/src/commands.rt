@@ -25,7 +25,8 @@ pub(crate) fn answer_command<R: AllocGlobal + Threads + Sync, D: Desk, G: Gate +
     requires { IsChecked command.now }
     ensures held { D.held desk.new ≡ D.held desk.old }
     ensures later { D.faults desk.old ≤ D.faults desk.new }
-    ensures due { MayOrMemory (ByDesk (D.held desk.old) (Rose (D.faults desk.old) (D.faults desk.new)))
+    ensures due { MayOrMemory
+        (ByDesk (D.held desk.old) (Rose (D.faults desk.old) (D.faults desk.new)))
         (script_of command.now) (due result) }
     ensures served { IsAccountedFor (length (files_of command.now))
         (D.served desk.old) (D.served desk.new) (due result).status }
@@ -47,7 +48,7 @@ pub(crate) fn answer_command<R: AllocGlobal + Threads + Sync, D: Desk, G: Gate +
             search::answer(rt, desk, file, contest, terms, *workers, gate)
         }
         Command::Tabulate { ballots, contest } => {
-            tabulate::answer(alloc, desk, ballots.as_str(), contest.as_ref())
+            tabulate::answer(rt, desk, ballots.as_str(), contest.as_ref())
         }
         Command::Check {
             ballots,
@@ -55,7 +56,7 @@ pub(crate) fn answer_command<R: AllocGlobal + Threads + Sync, D: Desk, G: Gate +
             contest,
             nodes,
         } => check::answer(
-            alloc,
+            rt,
             desk,
             ballots.as_str(),
             assertions.as_str(),
@@ -96,7 +97,7 @@ pub(crate) fn answer_command<R: AllocGlobal + Threads + Sync, D: Desk, G: Gate +
                 nodes: *nodes,
             };
             open::answer(
-                alloc,
+                rt,
                 desk,
                 ballots.as_str(),
                 manifest.as_str(),
@@ -121,7 +122,7 @@ pub(crate) fn answer_command<R: AllocGlobal + Threads + Sync, D: Desk, G: Gate +
                 assertions: assertions.as_str(),
                 seen: seen.as_str(),
             };
-            audit::answer(alloc, desk, files, *draws, *nodes)
+            audit::answer(rt, desk, files, *draws, *nodes)
         }
         Command::Report { session } => tell::answer(alloc, desk, session.as_str()),
         Command::Trial {

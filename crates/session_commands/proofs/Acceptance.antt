@@ -75,14 +75,21 @@ all_none (None ∷ more) never h = all_none more never.1 h
 all_none (Some answer ∷ more) never h = absurd (never.0 (ap Some h))
 
 never_accept : (nodes : ℕ) (records : List (List ℕ)) (file : Content) (winner : ℕ) → AllNever (findings nodes records file winner)
-never_accept nodes records file winner =
-    (winner-never winner file, (margins-never records 1 file.claims, (covered-never _, (smallest-never file, (elected-never file, (harder-never records file, tt))))))
+never_accept nodes records file winner = (
+  winner-never winner file,
+  (
+    margins-never records 1 file.claims,
+    (covered-never _, (smallest-never file, (elected-never file, (harder-never records file, tt)))),
+  ),
+)
 
-same_winner : (nodes : ℕ) (records : List (List ℕ)) (file : Content) (winner : ℕ) → list_all is_none (findings nodes records file winner) ≡ true → file.winner ≡ winner
-same_winner nodes records file winner h = winner-none winner file (none_is (other_winner winner file) (and_parts (is_none (other_winner winner file)) _ h).0) where
-  none_is : (found : Option Answer) → is_none found ≡ true → found ≡ None
-  none_is None h = refl
-  none_is (Some answer) h = absurd cc
+same_winner : (nodes : ℕ) (records : List (List ℕ)) (file : Content) (winner : ℕ) → list_all is_none (findings nodes records file winner) ≡ true →
+    file.winner ≡ winner
+same_winner nodes records file winner h =
+    winner-none winner file (none_is (other_winner winner file) (and_parts (is_none (other_winner winner file)) _ h).0) where
+      none_is : (found : Option Answer) → is_none found ≡ true → found ≡ None
+      none_is None h = refl
+      none_is (Some answer) h = absurd cc
 
 -- ---- the answer
 
@@ -103,13 +110,15 @@ module _ (nodes : ℕ) (ballots : BallotFile) (file : Content) where
         answer_is = nothing_found (findings nodes ballots.rankings file file.winner) none;
       })
 
-  by_outcome : is_about ballots file ≡ true → (outcome : Outcome) → IsOutcome (length ballots.candidates) ballots.rankings outcome → checked_is nodes ballots.rankings file outcome ≡ Ok Accepted → is_accepted nodes ballots file ≡ true
+  by_outcome : is_about ballots file ≡ true → (outcome : Outcome) → IsOutcome (length ballots.candidates) ballots.rankings outcome →
+      checked_is nodes ballots.rankings file outcome ≡ Ok Accepted → is_accepted nodes ballots file ≡ true
   by_outcome about (Tied round tied tally) first e = absurd cc
   by_outcome about (Won winner) won e =
       let none = all_none (findings nodes ballots.rankings file winner) (never_accept nodes ballots.rankings file winner) e in
       let same : file.winner ≡ winner = same_winner nodes ballots.rankings file winner none in
       let own : is_won ballots file.winner ≡ true = subst (λ w. is_won ballots w ≡ true) (sym same) (won_from ballots winner won) in
-      let none' : list_all is_none (findings nodes ballots.rankings file file.winner) ≡ true = subst (λ w. list_all is_none (findings nodes ballots.rankings file w) ≡ true) (sym same) none in
+      let none' : list_all is_none (findings nodes ballots.rankings file file.winner)
+      ≡ true = subst (λ w. list_all is_none (findings nodes ballots.rankings file w) ≡ true) (sym same) none in
       and_from (is_about ballots file && is_won ballots file.winner) _ (and_from (is_about ballots file) (is_won ballots file.winner) about own) none'
 
   accepted : IsAnswer nodes ballots file (Ok Accepted) → is_accepted nodes ballots file ≡ true

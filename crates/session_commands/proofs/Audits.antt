@@ -20,7 +20,7 @@ use Rattle.cli_base.specs.Outcome.{Verdict, Refused, outcome}
 use Rattle.cli_base.specs.Script.{Script, Ends, Agree, AreOfKind, IsOfKind, Same}
 use Rattle.cli_base.specs.declared.outcome.AnswerKind.TheVariants.{Done, Unconfirmed}
 use Rattle.session_commands.specs.Accepted.{if_accepted, is_accepted, on_if}
-use Rattle.session_commands.specs.Audit.{Asked, Compared, Kinds, after_check, answered, audit, changed, next_session, same_assertions, same_ballots, same_facts, same_manifest, script, session_to_go_on, unseen, verdict_of}
+use Rattle.session_commands.specs.Audit.{Asked, Compared, Kinds, after_check, session_answer, audit, changed, next_session, same_assertions, same_ballots, same_facts, same_manifest, script, session_to_go_on, unseen, verdict_of}
 use Rattle.session_commands.specs.Inputs.{has_facts, without_facts}
 use Rattle.session_commands.specs.Judged.{told}
 use Rattle.session_commands.specs.Refusals.{differs_text, other_digest, other_facts, refused_by, refused_seen}
@@ -53,26 +53,35 @@ facts-only name session cards file = by (has_facts session cards file) where
 module _ (asked : Asked) where
   pub session-only : (bytes : List ℕ) → OnlyRefuses (session_to_go_on asked bytes)
   session-only bytes = then-only (session_in asked.session bytes) _ (session_in-only asked.session bytes) (λ session.
-      unless-only (refused_by asked.session asked.seen (smaller session.session.rounds asked.draws)) _ (fault-only asked.session asked.seen (smaller session.session.rounds asked.draws)) tt)
+      unless-only (refused_by asked.session asked.seen (smaller session.session.rounds asked.draws)) _
+      (fault-only asked.session asked.seen (smaller session.session.rounds asked.draws)) tt)
 
   pub ballots-only : (session : Content) (bytes : List ℕ) → OnlyRefuses (same_ballots asked session bytes)
-  ballots-only session bytes = unless-only (other_digest asked.ballots session.digests.ballots bytes) _ (digest-only asked.ballots session.digests.ballots bytes)
+  ballots-only session bytes =
+      unless-only (other_digest asked.ballots session.digests.ballots bytes) _ (digest-only asked.ballots session.digests.ballots bytes)
       (told-only (refused asked.ballots) (ballots_of bytes (Some session.contest)) (λ why. tt))
 
   pub manifest-only : (session : Content) (ballots : BallotFile) (bytes : List ℕ) → OnlyRefuses (same_manifest asked session ballots bytes)
-  manifest-only session ballots bytes = unless-only (other_digest asked.manifest session.digests.manifest bytes) _ (digest-only asked.manifest session.digests.manifest bytes)
+  manifest-only session ballots bytes =
+      unless-only (other_digest asked.manifest session.digests.manifest bytes) _ (digest-only asked.manifest session.digests.manifest bytes)
       (cards-only asked.ballots ballots asked.manifest bytes)
 
   pub assertions-only : (session : Content) (bytes : List ℕ) → OnlyRefuses (same_assertions asked session bytes)
-  assertions-only session bytes = unless-only (other_digest asked.assertions session.digests.assertions bytes) _ (digest-only asked.assertions session.digests.assertions bytes)
+  assertions-only session bytes =
+      unless-only (other_digest asked.assertions session.digests.assertions bytes) _ (digest-only asked.assertions session.digests.assertions bytes)
       (told-only (refused_file asked.assertions) (assertion_file_of bytes) (λ why. tt))
 
   pub same_facts-only : (session : Content) (batches : Batches) (file : FileContent) → OnlyRefuses (same_facts asked session batches file)
-  same_facts-only session batches file = unless-only (without_facts asked.session session (length (cards_of batches)) file) _ (facts-only asked.session session (length (cards_of batches)) file) tt
+  same_facts-only session batches file =
+      unless-only (without_facts asked.session session (length (cards_of batches)) file) _
+      (facts-only asked.session session (length (cards_of batches)) file) tt
 
   pub next-only : (session : Content) (file : FileContent) (compared : Compared) → OnlyRefuses (next_session asked session file compared)
-  next-only session file compared = unless-only (refused_by asked.session asked.seen (unseen session compared asked.draws)) _ (fault-only asked.session asked.seen (unseen session compared asked.draws))
-      (unless-only (refused_by asked.session asked.seen (changed session file compared asked.draws)) _ (fault-only asked.session asked.seen (changed session file compared asked.draws)) tt)
+  next-only session file compared =
+      unless-only (refused_by asked.session asked.seen (unseen session compared asked.draws)) _
+      (fault-only asked.session asked.seen (unseen session compared asked.draws))
+      (unless-only (refused_by asked.session asked.seen (changed session file compared asked.draws)) _
+      (fault-only asked.session asked.seen (changed session file compared asked.draws)) tt)
 
 -- ---- where a check has to accept
 
@@ -89,20 +98,21 @@ wider (Verdict.Answered kind text) (inr (inr (inl is))) = inr (inr (inl is))
 wider (Verdict.Answered kind text) (inr (inr (inr is))) = inr (inr (inr (inl is)))
 wider (Refused name text) of = tt
 
-accepted-kinds : (nodes : ℕ) (ballots : BallotFile) (file : FileContent) (next : Script) → AreOfKind Kinds next → AreOfKind Kinds (if_accepted nodes ballots file next)
+accepted-kinds : (nodes : ℕ) (ballots : BallotFile) (file : FileContent) (next : Script) → AreOfKind Kinds next →
+    AreOfKind Kinds (if_accepted nodes ballots file next)
 accepted-kinds nodes ballots file next of = by (is_accepted nodes ballots file) where
   by : (b : Bool) → AreOfKind Kinds (on_if b next (Ends (check.Checks nodes ballots file)))
   by true = of
   by false = λ v (answer, is, told). wider v (answer-kind file answer v told)
 
-answered-kind : (session : Content) → IsOfKind Kinds (answered session)
-answered-kind session = by (is_signed_off session.session) where
+session_answer-kind : (session : Content) → IsOfKind Kinds (session_answer session)
+session_answer-kind session = by (is_signed_off session.session) where
   by : (b : Bool) → Kinds (if b then Done else Unconfirmed)
   by true = inl refl
   by false = inr (inr (inr (inr refl)))
 
 verdict-kind : (asked : Asked) (judged : Result Content Verdict) → OnlyRefuses judged → IsOfKind Kinds (verdict_of asked judged)
-verdict-kind asked (Ok next) only = answered-kind next
+verdict-kind asked (Ok next) only = session_answer-kind next
 verdict-kind asked (Err (Refused name text)) only = tt
 verdict-kind asked (Err (Verdict.Answered kind text)) only = absurd only
 
@@ -124,11 +134,13 @@ audit-kinds asked = λ s. go_on-kinds Kinds (session_to_go_on asked s) _ (sessio
     λ a. go_on-kinds Kinds (same_assertions asked session a) _ (assertions-only asked session a) (λ file.
     accepted-kinds asked.nodes ballots file (after_check asked session ballots batches file) (
     go_on-kinds Kinds (same_facts asked session batches file) _ (same_facts-only asked session batches file) (λ same.
-    λ v. go_on-kinds Kinds (told (refused_seen asked.seen) (seen_of batches file.candidates v)) _ (told-only (refused_seen asked.seen) (seen_of batches file.candidates v) (λ why. tt)) (λ entries w is.
+    λ v. go_on-kinds Kinds (told (refused_seen asked.seen) (seen_of batches file.candidates v)) _
+    (told-only (refused_seen asked.seen) (seen_of batches file.candidates v) (λ why. tt)) (λ entries w is.
     subst (IsOfKind Kinds) (sym is) (verdict-kind asked _ (next-only asked same file _)))))))))
 
 pub agrees : (session ballots manifest assertions seen : List ℕ) (draws nodes : ℕ) → Agree Same (script session ballots manifest assertions seen draws nodes)
 agrees session ballots manifest assertions seen draws nodes = audit-agrees _
 
-pub kinds : (session ballots manifest assertions seen : List ℕ) (draws nodes : ℕ) → AreOfKind Kinds (script session ballots manifest assertions seen draws nodes)
+pub kinds : (session ballots manifest assertions seen : List ℕ) (draws nodes : ℕ) →
+    AreOfKind Kinds (script session ballots manifest assertions seen draws nodes)
 kinds session ballots manifest assertions seen draws nodes = audit-kinds _

@@ -10,7 +10,7 @@ use Rattle.cover_checker.specs.declared.checked.CheckFault.TheVariants.{Tie as T
 use Rattle.cover_checker.proofs.OneAnswer.{answer_is_one}
 use Rattle.cli_base.specs.Outcome.{Outcome, Verdict, Answered, outcome, status_of, out_of_memory}
 use Rattle.cli_base.specs.Due.{due, due_refusal, IsOneOrMemory}
-use Rattle.cli_base.specs.declared.outcome.Answer.{Answer as Said}
+use Rattle.cli_base.specs.declared.outcome.Answer.{Answer as Reply}
 use Rattle.cli_base.specs.declared.outcome.AnswerKind.{AnswerKind}
 use Rattle.cli_base.specs.declared.outcome.AnswerKind.TheVariants.{Done, Tie, Spent, Differs}
 use Rattle.cli_base.specs.declared.outcome.Refusal.{Refusal}
@@ -65,24 +65,24 @@ done_is (Err Memory) is = absurd (cc is)
 
 module _ (nodes : ℕ) (ballots : BallotFile) (file : Content) where
   -- the kind of what was said is that of the checker's answer
-  said_kind : (said : Said) (answer : Answer) (v : Verdict) → verdict_on file answer ≡ Some v → due (Ok said) ≡ outcome v → said.kind ≡ kind_on answer
-  said_kind said answer v told is =
+  reply_kind : (reply : Reply) (answer : Answer) (v : Verdict) → verdict_on file answer ≡ Some v → due (Ok reply) ≡ outcome v → reply.kind ≡ kind_on answer
+  reply_kind reply answer v told is =
       let (text, e) = told_kind file answer v told in
-      same_kind said.kind (kind_on answer) (ap status_in is ∙ ap (λ v. status_in (outcome v)) e)
+      same_kind reply.kind (kind_on answer) (ap status_in is ∙ ap (λ v. status_in (outcome v)) e)
 
-  pub yes : (said : Said) → IsOneOrMemory (Checks nodes ballots file) (due (Ok said)) → said.kind ≡ Done → is_accepted nodes ballots file ≡ true
-  yes said (inl (v, (answer, is, told), ends)) done =
-      (decided nodes ballots file).1 (subst (IsAnswer nodes ballots file) (done_is answer (sym (said_kind said answer v told ends) ∙ done)) is)
-  yes said (inr memory) done = absurd (of_no_kind 9 refl said.kind (ap status_in memory))
+  pub yes : (reply : Reply) → IsOneOrMemory (Checks nodes ballots file) (due (Ok reply)) → reply.kind ≡ Done → is_accepted nodes ballots file ≡ true
+  yes reply (inl (v, (answer, is, told), ends)) done =
+      (decided nodes ballots file).1 (subst (IsAnswer nodes ballots file) (done_is answer (sym (reply_kind reply answer v told ends) ∙ done)) is)
+  yes reply (inr memory) done = absurd (of_no_kind 9 refl reply.kind (ap status_in memory))
 
-  pub no : (said : Said) → IsOneOrMemory (Checks nodes ballots file) (due (Ok said)) → said.kind ≢ Done → is_accepted nodes ballots file ≡ false
-  no said (inl (v, (answer, is, told), ends)) other = elim (cases_Bool (is_accepted nodes ballots file)) [
+  pub no : (reply : Reply) → IsOneOrMemory (Checks nodes ballots file) (due (Ok reply)) → reply.kind ≢ Done → is_accepted nodes ballots file ≡ false
+  no reply (inl (v, (answer, is, told), ends)) other = elim (cases_Bool (is_accepted nodes ballots file)) [
     | inl t ↦
         let same : answer ≡ Ok Accepted = answer_is_one nodes ballots file answer (Ok Accepted) is ((decided nodes ballots file).0 t) in
-        absurd (other (said_kind said answer v told ends ∙ ap kind_on same))
+        absurd (other (reply_kind reply answer v told ends ∙ ap kind_on same))
     | inr f ↦ f
   ]
-  no said (inr memory) other = absurd (of_no_kind 9 refl said.kind (ap status_in memory))
+  no reply (inr memory) other = absurd (of_no_kind 9 refl reply.kind (ap status_in memory))
 
   -- a refusal isn't an answer
   never_refused : (refusal : Refusal) (kind : AnswerKind) → (due_refusal refusal).status ≡ status_of kind → (due_refusal refusal) ≡ out_of_memory
@@ -100,8 +100,10 @@ module _ (nodes : ℕ) (ballots : BallotFile) (file : Content) where
   memory_alone refusal (inr memory) = memory
 
   -- a script goes on where a check accepts the file, and ends with what a check says where it doesn't
-  pub accepted_on : (readings : Readings) (next : Script) (due : Outcome) → is_accepted nodes ballots file ≡ true → MayOrMemory readings next due → MayOrMemory readings (if_accepted nodes ballots file next) due
+  pub accepted_on : (readings : Readings) (next : Script) (due : Outcome) → is_accepted nodes ballots file ≡ true → MayOrMemory readings next due →
+      MayOrMemory readings (if_accepted nodes ballots file next) due
   accepted_on readings next due yes may = subst (λ b. MayOrMemory readings (on_if b next (Ends (Checks nodes ballots file))) due) (sym yes) may
 
-  pub checked_on : (readings : Readings) (next : Script) (due : Outcome) → is_accepted nodes ballots file ≡ false → IsOneOrMemory (Checks nodes ballots file) due → MayOrMemory readings (if_accepted nodes ballots file next) due
+  pub checked_on : (readings : Readings) (next : Script) (due : Outcome) → is_accepted nodes ballots file ≡ false →
+      IsOneOrMemory (Checks nodes ballots file) due → MayOrMemory readings (if_accepted nodes ballots file next) due
   checked_on readings next due no one = subst (λ b. MayOrMemory readings (on_if b next (Ends (Checks nodes ballots file))) due) (sym no) one

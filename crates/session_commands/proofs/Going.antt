@@ -5,29 +5,32 @@ use Rattle.desk.specs.Count.{Rose}
 use Rattle.desk.specs.Desk.{File}
 use Rattle.desk.specs.declared.served.Served.{Served}
 use Rattle.cli_base.specs.Outcome.{Outcome, Verdict, Answered, Refused, outcome}
-use Rattle.cli_base.specs.Accounts.{IsAccountedFor, IsBroken}
-use Rattle.cli_base.specs.Due.{due_refusal, IsOneOrMemory}
+use Rattle.cli_base.specs.Accounts.{IsAccountedFor}
+use Rattle.cli_base.specs.Due.{due_refusal}
 use Rattle.cli_base.specs.declared.outcome.AnswerKind.{AnswerKind}
 use Rattle.cli_base.specs.declared.outcome.Refusal.{Refusal as Stop}
 use Rattle.cli_base.specs.Script.{Bytes, Readings, Script, Read, ByDesk, May, MayOrMemory, Agree, AreOfKind, IsOfKind, Same}
-use Rattle.cli_base.proofs.Statuses.{differ, of_no_kind, status_in}
-use Rattle.cli_base.proofs.Steps.{gone_on}
+use Rattle.cli_base.proofs.Statuses.{status_in}
+use Rattle.cli_base.proofs.Steps.{accounted_as, gone_on}
 use Rattle.session_commands.specs.Judged.{told, unless, then_judged, go_on, IsStopped}
 
 -- ---- a file is read and judged
 
-module _ {A : Type 0} (held : Option (List File)) (a b : ℕ) (name bytes : List ℕ) (judged : List ℕ → Result A Verdict) (next : List ℕ → A → Script) (there : ByDesk held (Rose a b) name (Bytes bytes)) where
+module _ {A : Type 0} (held : Option (List File)) (a b : ℕ) (name bytes : List ℕ) (judged : List ℕ → Result A Verdict) (next : List ℕ → A → Script)
+    (there : ByDesk held (Rose a b) name (Bytes bytes)) where
   abbrev whole : Script
   whole = Read name (λ bytes. go_on (judged bytes) (next bytes))
 
   -- the rest reads on
-  pub read_on : (h : Option (List File)) (c : ℕ) (value : A) (due : Outcome) → h ≡ held → a ≤ b → b ≤ c → judged bytes ≡ Ok value → MayOrMemory (ByDesk h (Rose b c)) (next bytes value) due → MayOrMemory (ByDesk held (Rose a c)) whole due
+  pub read_on : (h : Option (List File)) (c : ℕ) (value : A) (due : Outcome) → h ≡ held → a ≤ b → b ≤ c → judged bytes ≡ Ok value →
+      MayOrMemory (ByDesk h (Rose b c)) (next bytes value) due → MayOrMemory (ByDesk held (Rose a c)) whole due
   read_on h c value due same before after is may =
       gone_on held h a b c name bytes (λ bytes. go_on (judged bytes) (next bytes)) due same before after there
       (subst (λ j. MayOrMemory (ByDesk h (Rose b c)) (go_on j (next bytes)) due) (sym is) may)
 
   -- the rest reads nothing more
-  pub read_last : (value : A) (due : Outcome) → judged bytes ≡ Ok value → MayOrMemory (ByDesk held (Rose a b)) (next bytes value) due → MayOrMemory (ByDesk held (Rose a b)) whole due
+  pub read_last : (value : A) (due : Outcome) → judged bytes ≡ Ok value → MayOrMemory (ByDesk held (Rose a b)) (next bytes value) due →
+      MayOrMemory (ByDesk held (Rose a b)) whole due
   read_last value due is (inl may) = inl (inr (bytes, there, subst (λ j. May (ByDesk held (Rose a b)) (go_on j (next bytes)) due) (sym is) may))
   read_last value due is (inr memory) = inr memory
 
@@ -36,38 +39,17 @@ module _ {A : Type 0} (held : Option (List File)) (a b : ℕ) (name bytes : List
       inl (inr (bytes, there, subst (λ j. May (ByDesk held (Rose a b)) (go_on j (next bytes)) (due_refusal refusal)) (sym is) (verdict, refl, due)))
   read_stopped refusal (inr memory) = inr memory
 
-pub judged_on : {A : Type 0} (readings : Readings) (judged : Result A Verdict) (next : A → Script) (value : A) (due : Outcome) → judged ≡ Ok value → MayOrMemory readings (next value) due → MayOrMemory readings (go_on judged next) due
+pub judged_on : {A : Type 0} (readings : Readings) (judged : Result A Verdict) (next : A → Script) (value : A) (due : Outcome) → judged ≡ Ok value →
+    MayOrMemory readings (next value) due → MayOrMemory readings (go_on judged next) due
 judged_on readings judged next value due is may = subst (λ j. MayOrMemory readings (go_on j next) due) (sym is) may
 
-pub judged_stopped : {A : Type 0} (readings : Readings) (judged : Result A Verdict) (next : A → Script) (refusal : Stop) → IsStopped judged refusal → MayOrMemory readings (go_on judged next) (due_refusal refusal)
-judged_stopped readings judged next refusal (inl (verdict, is, due)) = inl (subst (λ j. May readings (go_on j next) (due_refusal refusal)) (sym is) (verdict, refl, due))
+pub judged_stopped : {A : Type 0} (readings : Readings) (judged : Result A Verdict) (next : A → Script) (refusal : Stop) → IsStopped judged refusal →
+    MayOrMemory readings (go_on judged next) (due_refusal refusal)
+judged_stopped readings judged next refusal (inl (verdict, is, due)) =
+    inl (subst (λ j. May readings (go_on j next) (due_refusal refusal)) (sym is) (verdict, refl, due))
 judged_stopped readings judged next refusal (inr memory) = inr memory
 
 -- ---- what the desk served
-
-accounted_as : {n : ℕ} (a b : Served) (status : ℕ) → (status ≡ 12 → ⊥) → (status ≡ 11 → ⊥) → IsAccountedFor n a b 0 → IsAccountedFor n a b status
-accounted_as a b status no_miss no_length first = record {
-  begins = first.begins;
-  all_begun = λ is. first.all_begun refl;
-  missing = λ is. absurd (no_miss is);
-  found = λ no whole. first.found (λ e. omega (arith, e)) unbroken;
-  too_long = λ is. absurd (no_length is);
-  over = λ is. absurd (no_length is);
-  within = λ no whole. first.within (λ e. omega (arith, e)) unbroken;
-  short = λ no whole. first.short (λ e. omega (arith, e)) unbroken;
-}
-  where
-    unbroken : IsBroken 0 → ⊥
-    unbroken broken = omega (arith, broken)
-
--- a command that ends with a verdict reads nothing more
-pub ended_accounted : {n : ℕ} (a b : Served) (verdicts : Verdict → Type 0) (due : Outcome) → IsOneOrMemory verdicts due → IsAccountedFor n a b 0 → IsAccountedFor n a b due.status
-ended_accounted a b verdicts due (inl (Answered kind text, h, is)) first =
-    accounted_as a b due.status (λ e. of_no_kind 12 refl kind (sym (ap status_in is) ∙ e)) (λ e. of_no_kind 11 refl kind (sym (ap status_in is) ∙ e)) first
-ended_accounted a b verdicts due (inl (Refused name text, h, is)) first =
-    accounted_as a b due.status (λ e. differ 2 12 (sym (ap status_in is) ∙ e) refl) (λ e. differ 2 11 (sym (ap status_in is) ∙ e) refl) first
-ended_accounted a b verdicts due (inr memory) first =
-    accounted_as a b due.status (λ e. differ 9 12 (sym (ap status_in memory) ∙ e) refl) (λ e. differ 9 11 (sym (ap status_in memory) ∙ e) refl) first
 
 -- of a command that isn't done, more files might have been begun
 pub raised : (rest n : ℕ) (a b : Served) (status : ℕ) → (status ≡ 0 → ⊥) → IsAccountedFor n a b status → IsAccountedFor (rest + n) a b status
@@ -103,7 +85,8 @@ refusal-kind : (kinds : AnswerKind → Type 0) (w v : Verdict) → IsRefusal w �
 refusal-kind kinds (Answered kind text) v is e = absurd is
 refusal-kind kinds (Refused name text) v is e = subst (IsOfKind kinds) (sym e) tt
 
-pub go_on-kinds : {A : Type 0} (kinds : AnswerKind → Type 0) (judged : Result A Verdict) (next : A → Script) → OnlyRefuses judged → ((value : A) → AreOfKind kinds (next value)) → AreOfKind kinds (go_on judged next)
+pub go_on-kinds : {A : Type 0} (kinds : AnswerKind → Type 0) (judged : Result A Verdict) (next : A → Script) → OnlyRefuses judged →
+    ((value : A) → AreOfKind kinds (next value)) → AreOfKind kinds (go_on judged next)
 go_on-kinds kinds (Ok value) next only each = each value
 go_on-kinds kinds (Err verdict) next only each = λ v is. refusal-kind kinds verdict v only is
 
@@ -111,11 +94,13 @@ pub told-only : {A Why : Type 0} (words : Why → Verdict) (read : Result A Why)
 told-only words (Ok value) each = tt
 told-only words (Err why) each = each why
 
-pub unless-only : {A : Type 0} (wrong : Option Verdict) (judged : Result A Verdict) → IfSome wrong IsRefusal → OnlyRefuses judged → OnlyRefuses (unless wrong judged)
+pub unless-only : {A : Type 0} (wrong : Option Verdict) (judged : Result A Verdict) → IfSome wrong IsRefusal → OnlyRefuses judged →
+    OnlyRefuses (unless wrong judged)
 unless-only None judged refusal only = only
 unless-only (Some verdict) judged refusal only = refusal
 
-pub then-only : {A B : Type 0} (first : Result A Verdict) (next : A → Result B Verdict) → OnlyRefuses first → ((value : A) → OnlyRefuses (next value)) → OnlyRefuses (then_judged first next)
+pub then-only : {A B : Type 0} (first : Result A Verdict) (next : A → Result B Verdict) → OnlyRefuses first → ((value : A) → OnlyRefuses (next value)) →
+    OnlyRefuses (then_judged first next)
 then-only (Ok value) next only each = each value
 then-only (Err verdict) next only each = only
 
@@ -123,14 +108,16 @@ then-only (Err verdict) next only each = only
 
 early : (rest : ℕ) (a b : Served) (status : ℕ) → (status ≡ 2) ⊎ (status ≡ 9) → IsAccountedFor 1 a b 0 → IsAccountedFor (rest + 1) a b status
 early rest a b status stopped first =
-    raised rest 1 a b status (λ is. omega (arith, is, stopped)) (accounted_as a b status (λ e. omega (arith, e, stopped)) (λ e. omega (arith, e, stopped)) first)
+    raised rest 1 a b status (λ is. omega (arith, is, stopped))
+    (accounted_as a b status (λ e. omega (arith, e, stopped)) (λ e. omega (arith, e, stopped)) first)
 
 refusal-status : (verdict : Verdict) (status : ℕ) → IsRefusal verdict → status ≡ status_in (outcome verdict) → status ≡ 2
 refusal-status (Answered kind text) status is e = absurd is
 refusal-status (Refused name text) status is e = e
 
 -- it stops the command, and the rest of its files isn't begun
-pub stopped_accounted : {A : Type 0} (rest : ℕ) (a b : Served) (judged : Result A Verdict) (refusal : Stop) → OnlyRefuses judged → IsStopped judged refusal → IsAccountedFor 1 a b 0 →
+pub stopped_accounted : {A : Type 0} (rest : ℕ) (a b : Served) (judged : Result A Verdict) (refusal : Stop) → OnlyRefuses judged → IsStopped judged refusal →
+    IsAccountedFor 1 a b 0 →
     IsAccountedFor (rest + 1) a b (due_refusal refusal).status
 stopped_accounted rest a b judged refusal only (inl (verdict, is, due)) first =
     early rest a b _ (inl (refusal-status verdict _ (subst OnlyRefuses is only) (ap status_in due))) first

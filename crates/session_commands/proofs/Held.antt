@@ -25,23 +25,29 @@ distinct-ids : (ids : List Id) → all_differ ids ≡ true → Distinct ids
 distinct-ids [] h = none
 distinct-ids (id ∷ rest) h =
     let (out, differ) = and_parts (not (is_among rest id)) (all_differ rest) h in
-    more (λ m. both_ways (is_among rest id) (not-true (is_among rest id) out) (list_any-member (λ other. is_same other id) {x = id} m (same-refl id))) (distinct-ids rest differ)
+    more (λ m. both_ways (is_among rest id) (not-true (is_among rest id) out) (list_any-member (λ other. is_same other id) {x = id} m (same-refl id)))
+    (distinct-ids rest differ)
 
 map-none : {A B : Type 0} (f : A → B) (o : Option A) → option_map f o ≡ None → o ≡ None
 map-none f None h = refl
 map-none f (Some x) h = absurd cc
 
-each-carded : (batches : Batches) (file : BallotFile) → first_without_card batches file ≡ None → (id : Id) → Member id file.ids → Member id (map card_id (cards_of batches))
+each-carded : (batches : Batches) (file : BallotFile) → first_without_card batches file ≡ None → (id : Id) → Member id file.ids →
+    Member id (map card_id (cards_of batches))
 each-carded batches file placed id m =
-    let without : list_any (λ id. not (has_card batches id)) file.ids ≡ false = none_any (λ id. not (has_card batches id)) file.ids (map-none _ (position (λ id. not (has_card batches id)) file.ids) placed) in
+    let without : list_any (λ id. not (has_card batches id)) file.ids ≡ false = none_any (λ id. not (has_card batches id)) file.ids
+    (map-none _ (position (λ id. not (has_card batches id)) file.ids) placed) in
     elim (cases_Bool (has_card batches id)) [
       | inl t ↦
           let (card, k, same) = from_list_any (λ card. is_same (card_id card) id) (cards_of batches) t in
           subst (λ id. Member id (map card_id (cards_of batches))) (same-equal (card_id card) id same) (member-map card_id k)
-      | inr f ↦ absurd (both_ways (list_any (λ id. not (has_card batches id)) file.ids) without (list_any-member (λ id. not (has_card batches id)) {x = id} m (ap not f)))
+      | inr f ↦
+          absurd (both_ways (list_any (λ id. not (has_card batches id)) file.ids) without
+          (list_any-member (λ id. not (has_card batches id)) {x = id} m (ap not f)))
     ]
 
-pub few_ballots : (batches : Batches) (file : BallotFile) → all_differ file.ids ≡ true → length file.ids ≡ length file.rankings → first_without_card batches file ≡ None → length file.rankings ≤ length (cards_of batches)
+pub few_ballots : (batches : Batches) (file : BallotFile) → all_differ file.ids ≡ true → length file.ids ≡ length file.rankings →
+    first_without_card batches file ≡ None → length file.rankings ≤ length (cards_of batches)
 few_ballots batches file differ long placed =
     let few = distinct-le file.ids (map card_id (cards_of batches)) (distinct-ids file.ids differ) (each-carded batches file placed) in
     omega (arith, few, long, length-map (cards_of batches) card_id)
@@ -70,8 +76,10 @@ held nodes ballots file h =
 pub some_claim : (ballots : BallotFile) (file : Content) → Held ballots file → IsMargin file.records file.margin → 1 ≤ length file.claims
 some_claim ballots file is margin = by file.claims refl where
   by : (claims : List Claim) → file.claims ≡ claims → 1 ≤ length claims
-  by [] empty = let zero : 0 ≡ file.margin = ap (λ claims. least (map (λ claim. claim.margin) claims)) (sym empty) ∙ is.smallest in absurd (omega (arith, zero, margin.some))
+  by [] empty = let zero : 0 ≡ file.margin = ap (λ claims. least (map (λ claim. claim.margin) claims)) (sym empty) ∙ is.smallest in
+      absurd (omega (arith, zero, margin.some))
   by (claim ∷ claims) some = omega arith
 
-pub margins_fit : (cards : ℕ) (ballots : BallotFile) (file : Content) → Held ballots file → length ballots.rankings ≤ cards → All (IsSoundClaim (candidate_count file) file.records) file.claims → All (λ claim. claim.margin ≤ cards) file.claims
+pub margins_fit : (cards : ℕ) (ballots : BallotFile) (file : Content) → Held ballots file → length ballots.rankings ≤ cards →
+    All (IsSoundClaim (candidate_count file) file.records) file.claims → All (λ claim. claim.margin ≤ cards) file.claims
 margins_fit cards ballots file is few sound = λ i d within. let most = (sound i d within).margin.most in omega (arith, is.records, few, most)

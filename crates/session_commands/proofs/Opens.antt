@@ -61,4 +61,5 @@ pub kinds : (ballots manifest assertions : List ℕ) (contest : Option Id) (term
 kinds ballots manifest assertions contest terms =
     λ b. go_on-kinds Kinds (told (refused ballots) (ballots_of b contest)) _ (told-only (refused ballots) (ballots_of b contest) (λ why. tt)) (λ file.
     λ m. go_on-kinds Kinds (cards_for ballots file manifest m) _ (cards-only ballots file manifest m) (λ batches.
-    λ a. go_on-kinds Kinds (told (refused_file assertions) (assertion_file_of a)) _ (told-only (refused_file assertions) (assertion_file_of a) (λ why. tt)) (λ claims v is. opens-kind terms file batches claims _ v is)))
+    λ a. go_on-kinds Kinds (told (refused_file assertions) (assertion_file_of a)) _ (told-only (refused_file assertions) (assertion_file_of a) (λ why. tt))
+    (λ claims v is. opens-kind terms file batches claims _ v is)))

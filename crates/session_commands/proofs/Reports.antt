@@ -10,7 +10,7 @@ use Rattle.session_commands.proofs.Going.{OnlyRefuses, go_on-agrees, go_on-kinds
 
 pub session_in-only : (name bytes : List ℕ) → OnlyRefuses (session_in name bytes)
 session_in-only name bytes = by (session_of bytes) where
-  by : (said : Option Content) → OnlyRefuses (ok_or said (refused_session name))
+  by : (content : Option Content) → OnlyRefuses (ok_or content (refused_session name))
   by None = tt
   by (Some content) = tt
 

@@ -29,7 +29,8 @@ was_smaller : (rounds : List Round) (draws : ℕ) → draws ≤ last_draws round
 was_smaller rounds draws few = ap (λ b. if b then Some (Smaller (last_draws rounds)) else None) (le-leb draws (last_draws rounds) few)
 
 -- there were as many draws before
-pub had_as_many : (session seen : List ℕ) (rounds : List Round) (draws had : ℕ) (due : Outcome) → had ≡ last_draws rounds → draws ≤ had → IsOrMemory (outcome (Refused session (had_text had))) due →
+pub had_as_many : (session seen : List ℕ) (rounds : List Round) (draws had : ℕ) (due : Outcome) → had ≡ last_draws rounds → draws ≤ had →
+    IsOrMemory (outcome (Refused session (had_text had))) due →
     IsTold (refused_by session seen (smaller rounds draws)) due
 had_as_many session seen rounds draws had due is few told =
     let smaller_is = was_smaller rounds draws (subst (λ n. draws ≤ n) is few) in
@@ -44,30 +45,37 @@ module _ (asked : Asked) (session : Content) (file : FileContent) (compared : Co
   gone h =
       let (s, rest) = none_of (smaller session.session.rounds asked.draws) _ h in
       let (u, c) = none_of (unseen session compared asked.draws) (changed session file compared asked.draws) rest in
-      ap (λ u. unless (refused_by asked.session asked.seen u) (unless (refused_by asked.session asked.seen (changed session file compared asked.draws)) (Ok (advanced session file compared asked.draws)))) u
+      ap (λ u. unless (refused_by asked.session asked.seen u)
+      (unless (refused_by asked.session asked.seen (changed session file compared asked.draws)) (Ok (advanced session file compared asked.draws)))) u
       ∙ ap (λ c. unless (refused_by asked.session asked.seen c) (Ok (advanced session file compared asked.draws))) c
 
-  by_fault : (u c : Option AdvanceFault) (fault : AdvanceFault) (next : Content) (stop : Stop) → first_of u c ≡ Some fault → IsTold (refused_round asked.session asked.seen fault) (due_refusal stop) →
+  by_fault : (u c : Option AdvanceFault) (fault : AdvanceFault) (next : Content) (stop : Stop) → first_of u c ≡ Some fault →
+      IsTold (refused_round asked.session asked.seen fault) (due_refusal stop) →
       IsStopped (unless (refused_by asked.session asked.seen u) (unless (refused_by asked.session asked.seen c) (Ok next))) stop
   by_fault None c fault next stop e told =
-      subst (λ c. IsStopped (unless (refused_by asked.session asked.seen c) (Ok next)) stop) (sym e) (unless_stopped (refused_round asked.session asked.seen fault) (Ok next) stop told)
+      subst (λ c. IsStopped (unless (refused_by asked.session asked.seen c) (Ok next)) stop) (sym e)
+      (unless_stopped (refused_round asked.session asked.seen fault) (Ok next) stop told)
   by_fault (Some g) c fault next stop e told =
       let same : fault ≡ g = cc in
-      unless_stopped (refused_round asked.session asked.seen g) _ stop (subst (λ f. IsTold (refused_round asked.session asked.seen f) (due_refusal stop)) same told)
+      unless_stopped (refused_round asked.session asked.seen g) _ stop
+      (subst (λ f. IsTold (refused_round asked.session asked.seen f) (due_refusal stop)) same told)
 
-  refused : (fault : AdvanceFault) (stop : Stop) → MayGoOn asked session → first ≡ Some fault → IsTold (refused_round asked.session asked.seen fault) (due_refusal stop) → IsStopped (next_session asked session file compared) stop
+  refused : (fault : AdvanceFault) (stop : Stop) → MayGoOn asked session → first ≡ Some fault →
+      IsTold (refused_round asked.session asked.seen fault) (due_refusal stop) → IsStopped (next_session asked session file compared) stop
   refused fault stop may e told =
       let fewer = not_smaller session.session.rounds asked.draws may.fewer in
       by_fault (unseen session compared asked.draws) (changed session file compared asked.draws) fault (advanced session file compared asked.draws) stop
       (sym (ap (λ s. first_of s (first_of (unseen session compared asked.draws) (changed session file compared asked.draws))) fewer) ∙ e) told
 
-  pub stopped : (fault : AdvanceFault) (stop : Stop) → MayGoOn asked session → Refuses first fault → IsTold (refused_round asked.session asked.seen fault) (due_refusal stop) → IsStopped (next_session asked session file compared) stop
+  pub stopped : (fault : AdvanceFault) (stop : Stop) → MayGoOn asked session → Refuses first fault →
+      IsTold (refused_round asked.session asked.seen fault) (due_refusal stop) → IsStopped (next_session asked session file compared) stop
   stopped Memory stop may refuses told = inr told
   stopped (Smaller had) stop may refuses told = refused (Smaller had) stop may refuses told
   stopped (NoRecord card k) stop may refuses told = refused (NoRecord card k) stop may refuses told
   stopped (Changed round claim expected found) stop may refuses told = refused (Changed round claim expected found) stop may refuses told
 
   -- a round that stops is told
-  pub verdict_stopped : (judged : Result Content Verdict) (stop : Stop) → IsStopped judged stop → IsOneOrMemory (λ verdict. verdict ≡ verdict_of asked judged) (due_refusal stop)
+  pub verdict_stopped : (judged : Result Content Verdict) (stop : Stop) → IsStopped judged stop →
+      IsOneOrMemory (λ verdict. verdict ≡ verdict_of asked judged) (due_refusal stop)
   verdict_stopped judged stop (inl (verdict, is, due)) = inl (verdict, sym (ap (verdict_of asked) is), due)
   verdict_stopped judged stop (inr memory) = inr memory

@@ -15,7 +15,8 @@ use Rattle.cli_base.specs.Script.{Script, Ends}
 -- the contest has no tie, and this winner
 abbrev pub is_won : BallotFile → ℕ → Bool
 is_won ballots winner =
-    list_any (λ order. is_order (candidate_count ballots) order && is_tabulated ballots.rankings order)
+    list_any (λ order. is_order (candidate_count ballots) order
+    && is_tabulated ballots.rankings order)
     (orders_ending (candidate_count ballots) (candidate_count ballots - 1) (winner ∷ []))
 
 -- the file is about the contest, names its winner, and nothing is found in it
@@ -28,6 +29,7 @@ abbrev pub on_if : Bool → Script → Script → Script
 on_if true next other = next
 on_if false next other = other
 
--- goes on where a check accepts the file, and ends as the check does where it doesn't
+-- a script goes on where a check accepts the file, and ends as the check does where it doesn't
 abbrev pub if_accepted : ℕ → BallotFile → Content → Script → Script
-if_accepted nodes ballots file next = on_if (is_accepted nodes ballots file) next (Ends (Checks nodes ballots file))
+if_accepted nodes ballots file next =
+    on_if (is_accepted nodes ballots file) next (Ends (Checks nodes ballots file))

@@ -59,13 +59,15 @@ pub record Compared : Type 0 where
 
 -- the first draw whose card has no entry
 abbrev pub unseen : Content → Compared → ℕ → Option AdvanceFault
-unseen session compared draws = without_record session.seed (length compared.recorded) compared.entries draws
+unseen session compared draws =
+    without_record session.seed (length compared.recorded) compared.entries draws
 
 -- the first earlier round whose counts come out otherwise
 abbrev pub changed : Content → FileContent → Compared → ℕ → Option AdvanceFault
 changed session file compared draws =
     let cards : ℕ = length compared.recorded in
-    changed_from file.claims (map (drawn_at compared.recorded (all_seen compared.entries cards)) (drawn_cards session.seed cards draws)) 1
+    changed_from file.claims (map (drawn_at compared.recorded (all_seen compared.entries cards))
+    (drawn_cards session.seed cards draws)) 1
     session.session.rounds
 
 -- the session with the round up to so many draws
@@ -73,15 +75,16 @@ abbrev pub advanced : Content → FileContent → Compared → ℕ → Content
 advanced session file compared draws =
     let cards : ℕ = length compared.recorded in
     with_round session
-    (round_to session.session.gamma (audited file.claims) compared.recorded (all_seen compared.entries cards) (drawn_cards session.seed cards draws)
+    (round_to session.session.gamma (audited file.claims) compared.recorded
+    (all_seen compared.entries cards) (drawn_cards session.seed cards draws)
     draws)
 
 abbrev pub kind_of : Session → AnswerKind
 kind_of session = if is_signed_off session then Done else Unconfirmed
 
 -- the new session, and whether it is signed off
-abbrev pub answered : Content → Verdict
-answered session = Answered (kind_of session.session) (session_text session)
+abbrev pub session_answer : Content → Verdict
+session_answer session = Answered (kind_of session.session) (session_text session)
 
 module _ (asked : Asked) where
   -- a session that may go on: its last round had fewer draws than are asked for
@@ -93,7 +96,8 @@ module _ (asked : Asked) where
 
   abbrev pub session_to_go_on : List ℕ → Result Content Verdict
   session_to_go_on bytes = then_judged (session_in asked.session bytes) (λ session.
-      unless (refused_by asked.session asked.seen (smaller session.session.rounds asked.draws)) (Ok session))
+      unless (refused_by asked.session asked.seen (smaller session.session.rounds asked.draws))
+      (Ok session))
 
   abbrev pub same_ballots : Content → List ℕ → Result BallotFile Verdict
   same_ballots session bytes =
@@ -111,7 +115,8 @@ module _ (asked : Asked) where
       (told (refused_file asked.assertions) (assertion_file_of bytes))
 
   abbrev pub same_facts : Content → Batches → FileContent → Result Content Verdict
-  same_facts session batches file = unless (without_facts asked.session session (length (cards_of batches)) file) (Ok session)
+  same_facts session batches file =
+      unless (without_facts asked.session session (length (cards_of batches)) file) (Ok session)
 
   -- each drawn card has to be seen, and then the counts of earlier rounds come out the same
   abbrev pub next_session : Content → FileContent → Compared → Result Content Verdict
@@ -121,7 +126,7 @@ module _ (asked : Asked) where
       (Ok (advanced session file compared asked.draws)))
 
   abbrev pub verdict_of : Result Content Verdict → Verdict
-  verdict_of (Ok next) = answered next
+  verdict_of (Ok next) = session_answer next
   verdict_of (Err verdict) = verdict
 
   abbrev pub GoesOn : Content → FileContent → Compared → Verdict → Type 0
@@ -133,14 +138,17 @@ module _ (asked : Asked) where
   abbrev pub after_facts : Content → BallotFile → Batches → FileContent → Script
   after_facts session ballots batches file = Read asked.seen (λ bytes.
       go_on (told (refused_seen asked.seen) (seen_of batches file.candidates bytes)) (λ entries.
-      Ends (GoesOn session file (record { recorded = linked_of batches ballots; entries = entries }))))
+      Ends (GoesOn session file
+      (record { recorded = linked_of batches ballots; entries = entries }))))
 
   -- the session has to be one of the inputs
   abbrev pub after_check : Content → BallotFile → Batches → FileContent → Script
-  after_check session ballots batches file = go_on (same_facts session batches file) (λ same. after_facts same ballots batches file)
+  after_check session ballots batches file =
+      go_on (same_facts session batches file) (λ same. after_facts same ballots batches file)
 
   abbrev pub after_assertions : Content → BallotFile → Batches → FileContent → Script
-  after_assertions session ballots batches file = if_accepted asked.nodes ballots file (after_check session ballots batches file)
+  after_assertions session ballots batches file =
+      if_accepted asked.nodes ballots file (after_check session ballots batches file)
 
   abbrev pub after_manifest : Content → BallotFile → Batches → Script
   after_manifest session ballots batches = Read asked.assertions (λ bytes.

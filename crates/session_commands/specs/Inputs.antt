@@ -22,7 +22,8 @@ without_card name ballots batches = option_map (no_card name) (first_without_car
 -- the batches in the bytes of a manifest, where each of these ballots has a card
 abbrev pub cards_for : List ℕ → BallotFile → List ℕ → List ℕ → Result Batches Verdict
 cards_for name ballots manifest bytes =
-    then_judged (told (refused_manifest manifest) (manifest_of bytes)) (λ batches. unless (without_card name ballots batches) (Ok batches))
+    then_judged (told (refused_manifest manifest) (manifest_of bytes))
+    (λ batches. unless (without_card name ballots batches) (Ok batches))
 
 -- ---- a session is one of the inputs
 
@@ -33,4 +34,5 @@ has_facts session cards file =
     && pointwise ◌==◌ session.session.margins (map (λ claim. claim.margin) file.claims)
 
 abbrev pub without_facts : List ℕ → Content → ℕ → FileContent → Option Verdict
-without_facts name session cards file = if has_facts session cards file then None else Some (other_facts name)
+without_facts name session cards file =
+    if has_facts session cards file then None else Some (other_facts name)

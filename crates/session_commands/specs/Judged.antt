@@ -16,7 +16,8 @@ unless None judged = judged
 unless (Some verdict) judged = Err verdict
 
 -- what is judged next, if nothing was wrong so far
-abbrev pub then_judged : {A B : Type 0} → Result A Verdict → (A → Result B Verdict) → Result B Verdict
+abbrev pub then_judged : {A B : Type 0} → Result A Verdict → (A → Result B Verdict) →
+    Result B Verdict
 then_judged (Ok value) next = next value
 then_judged (Err verdict) next = Err verdict
 
@@ -27,7 +28,7 @@ go_on (Err verdict) next = ends verdict
 
 -- ---- what the code does of it
 
--- it is told so, or memory is wanting
+-- this verdict is told, or memory is wanting
 abbrev pub IsTold : Option Verdict → Outcome → Type 0
 IsTold None due = due ≡ out_of_memory
 IsTold (Some verdict) due = IsOrMemory (outcome verdict) due
@@ -35,9 +36,10 @@ IsTold (Some verdict) due = IsOrMemory (outcome verdict) due
 -- what is wrong stops the call, or memory is wanting
 abbrev pub IsStopped : {A : Type 0} → Result A Verdict → Stop → Type 0
 IsStopped judged refusal =
-    ((verdict : Verdict) × (judged ≡ Err verdict) × (due_refusal refusal ≡ outcome verdict)) ⊎ (due_refusal refusal ≡ out_of_memory)
+    ((verdict : Verdict) × (judged ≡ Err verdict) × (due_refusal refusal ≡ outcome verdict))
+    ⊎ (due_refusal refusal ≡ out_of_memory)
 
--- it is found so
+-- a call finds the value, or stops with this verdict or for want of memory
 abbrev pub IsJudged : {A : Type 0} → Result A Verdict → Result A Stop → Type 0
 IsJudged judged (Ok value) = judged ≡ Ok value
 IsJudged judged (Err refusal) = IsStopped judged refusal

@@ -9,4 +9,5 @@ use Rattle.session_commands.specs.Accepted.{is_accepted}
 -- the test of acceptance is that of the checker
 abbrev pub AcceptanceIsDecided : Type 0
 AcceptanceIsDecided =
-    (nodes : ℕ) (ballots : BallotFile) (file : Content) → (IsTrue (is_accepted nodes ballots file) ↔ IsAnswer nodes ballots file (Ok Accepted))
+    (nodes : ℕ) (ballots : BallotFile) (file : Content) →
+    (IsTrue (is_accepted nodes ballots file) ↔ IsAnswer nodes ballots file (Ok Accepted))

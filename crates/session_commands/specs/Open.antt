@@ -31,19 +31,26 @@ pub record IsWithinLimits (terms : Terms) : Type 0 where
   pub some_gamma : 1 ≤ terms.gamma
   pub most_gamma : terms.gamma ≤ GREATEST_GAMMA
 
--- with the digest of the assertion file, which is read last
+-- the digests of all three files: the assertion file's joins them, since it is read last
 abbrev pub all_digests : Earlier → List ℕ → Digests
-all_digests earlier assertions = record { ballots = earlier.ballots; manifest = earlier.manifest; assertions = sha256 assertions }
+all_digests earlier assertions =
+    record {
+      ballots = earlier.ballots;
+      manifest = earlier.manifest;
+      assertions = sha256 assertions;
+    }
 
 -- a session of the file's contest and claims, without rounds
 abbrev pub opened : Terms → Batches → FileContent → Digests → Verdict
 opened terms batches file digests =
-    Answered Done (session_text (begun file.contest (length (cards_of batches)) file terms.seed terms.limit terms.gamma digests))
+    Answered Done (session_text (begun file.contest (length (cards_of batches)) file terms.seed
+    terms.limit terms.gamma digests))
 
--- where a check accepts the file; else it ends as the check does
+-- the session is opened where a check accepts the file; else the call ends as the check does
 abbrev pub Opens : Terms → BallotFile → Batches → FileContent → Digests → Verdict → Type 0
 Opens terms ballots batches file digests verdict =
-    MatchBool (is_accepted terms.nodes ballots file) (verdict ≡ opened terms batches file digests) (Checks terms.nodes ballots file verdict)
+    MatchBool (is_accepted terms.nodes ballots file) (verdict ≡ opened terms batches file digests)
+    (Checks terms.nodes ballots file verdict)
 
 -- once the ballots have their cards, the assertions are read
 abbrev pub after_manifest : List ℕ → Terms → BallotFile → Batches → Earlier → Script
@@ -54,7 +61,8 @@ after_manifest assertions terms ballots batches earlier = Read assertions (λ by
 abbrev pub after_ballots : List ℕ → List ℕ → List ℕ → Terms → BallotFile → List ℕ → Script
 after_ballots ballots manifest assertions terms file digest = Read manifest (λ bytes.
     go_on (cards_for ballots file manifest bytes) (λ batches.
-    after_manifest assertions terms file batches (record { ballots = digest; manifest = sha256 bytes })))
+    after_manifest assertions terms file batches
+    (record { ballots = digest; manifest = sha256 bytes })))
 
 abbrev pub script : List ℕ → List ℕ → List ℕ → Option Id → Terms → Script
 script ballots manifest assertions contest terms = Read ballots (λ bytes.

@@ -24,10 +24,11 @@ digests_text expected found = codes "S2 expected " ++ expected ++ codes " found 
 abbrev pub differs_text : List ℕ → List ℕ → List ℕ
 differs_text expected found = digests_text (encode_lower expected) (encode_lower found)
 
--- where the digest of its bytes isn't the one that the session has
+-- a file is refused where the digest of its bytes isn't the one that the session has
 abbrev pub other_digest : List ℕ → List ℕ → List ℕ → Option Verdict
 other_digest name expected bytes =
-    if is_same expected (sha256 bytes) then None else Some (Refused name (differs_text expected (sha256 bytes)))
+    if is_same expected (sha256 bytes) then None
+    else Some (Refused name (differs_text expected (sha256 bytes)))
 
 -- the cards, the contest or the margins are others
 abbrev pub other_facts : List ℕ → Verdict
@@ -57,24 +58,27 @@ had_text had = codes "S4 had " ++ decimal had
 abbrev pub no_record_text : ℕ → ℕ → List ℕ
 no_record_text card k = codes "V4 card " ++ decimal card ++ codes " draw " ++ decimal k
 
--- for d from 0 to 4
+-- the counts of the discrepancies 0 to 4
 abbrev pub counts_text : Counts → List ℕ
 counts_text counts =
-    decimal counts.n0 ++ codes " " ++ decimal counts.n1 ++ codes " " ++ decimal counts.n2 ++ codes " "
-    ++ decimal counts.n3 ++ codes " " ++ decimal counts.n4
+    decimal counts.n0 ++ codes " " ++ decimal counts.n1 ++ codes " " ++ decimal counts.n2
+    ++ codes " " ++ decimal counts.n3 ++ codes " " ++ decimal counts.n4
 
 abbrev pub counted_text : ℕ → ℕ → List ℕ → List ℕ → List ℕ
 counted_text round claim expected found =
-    codes "S3 round " ++ decimal round ++ codes " claim " ++ decimal claim ++ codes " expected " ++ expected ++ codes " found " ++ found
+    codes "S3 round " ++ decimal round ++ codes " claim " ++ decimal claim ++ codes " expected "
+    ++ expected ++ codes " found " ++ found
 
 abbrev pub changed_text : ℕ → ℕ → Counts → Counts → List ℕ
-changed_text round claim expected found = counted_text round claim (counts_text expected) (counts_text found)
+changed_text round claim expected found =
+    counted_text round claim (counts_text expected) (counts_text found)
 
 -- the seen file lacks a card; all else is wrong with the session file
 abbrev pub refused_round : List ℕ → List ℕ → AdvanceFault → Option Verdict
 refused_round session seen (Smaller had) = Some (Refused session (had_text had))
 refused_round session seen (NoRecord card k) = Some (Refused seen (no_record_text card k))
-refused_round session seen (Changed round claim expected found) = Some (Refused session (changed_text round claim expected found))
+refused_round session seen (Changed round claim expected found) =
+    Some (Refused session (changed_text round claim expected found))
 refused_round session seen Memory = None
 
 abbrev pub refused_by : List ℕ → List ℕ → Option AdvanceFault → Option Verdict

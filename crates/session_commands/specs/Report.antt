@@ -18,7 +18,8 @@ abbrev pub reported : Content → Verdict
 reported session = Answered Done (session_table session)
 
 abbrev pub script : List ℕ → Script
-script session = Read session (λ bytes. go_on (session_in session bytes) (λ content. ends (reported content)))
+script session =
+    Read session (λ bytes. go_on (session_in session bytes) (λ content. ends (reported content)))
 
 -- the kind of its answer
 abbrev pub Kinds : AnswerKind → Type 0

@@ -9,11 +9,11 @@ use assertion_file::AssertionFile;
 use ballot_reader::Ballots;
 use cli_base::{Answer, AnswerKind, Refusal};
 use contest_commands::check::check;
-use std::alloc::Global;
+use std::thread::Threads;
 
 /// What a check of the file answers, unless it accepts the file.
-pub(crate) fn unless_accepted(
-    alloc: Global,
+pub(crate) fn unless_accepted<R: AllocGlobal + Threads + Sync>(
+    rt: &R,
     ballots: &Ballots,
     file: &AssertionFile,
     nodes: u32,
@@ -26,7 +26,7 @@ pub(crate) fn unless_accepted(
         (due (Ok answer)).status ≢ 0)) }
     ensures memory { IfErr result (λ refusal. due_refusal refusal ≡ out_of_memory) }
 {
-    let answer = check(alloc, ballots, file, nodes)?;
+    let answer = check(rt, ballots, file, nodes)?;
     match answer.kind {
         AnswerKind::Done => Ok(None),
         _ => Ok(Some(answer)),

@@ -12,7 +12,7 @@ ghost use Rattle.session_commands.specs.Audit.{GoesOn, MayGoOn, after_ballots, a
 
 use crate::accepted::unless_accepted;
 use crate::inputs::{Cards, same_facts};
-use crate::round::{answered, next_session};
+use crate::round::{next_session, session_answer};
 use crate::same::{same_assertions, same_ballots, same_manifest};
 use crate::seen::seen_in;
 use crate::sessions::session_to_go_on;
@@ -24,6 +24,7 @@ use cli_base::{Answer, Refusal, read_file};
 use desk::Desk;
 use seen_file::SeenCards;
 use std::alloc::Global;
+use std::thread::Threads;
 
 /// The files of an audit, by their names.
 #[derive(Clone, Copy)]
@@ -41,8 +42,8 @@ pub struct Files<'a> {
 }
 
 /// The session with one round more, up to so many draws in all, where a check of the assertions within so many nodes accepts them.
-pub fn answer<D: Desk>(
-    alloc: Global,
+pub fn answer<R: AllocGlobal + Threads + Sync, D: Desk>(
+    rt: &R,
     desk: &mut D,
     files: Files<'_>,
     draws: u32,
@@ -58,6 +59,7 @@ pub fn answer<D: Desk>(
         files.entry.assertions.now files.entry.seen.now draws nodes) (due result) }
     ensures served { IsAccountedFor 5 (D.served desk.old) (D.served desk.new) (due result).status }
 {
+    let alloc = rt.alloc();
     let task = Task {
         files,
         draws,
@@ -65,12 +67,12 @@ pub fn answer<D: Desk>(
     };
     let bytes = read_file(alloc, desk, files.session)?;
     let session = session_to_go_on(alloc, &task, &bytes)?;
-    after_session(alloc, desk, &task, session)
+    after_session(rt, desk, &task, session)
 }
 
 // The ballots of the session's contest are read.
-fn after_session<D: Desk>(
-    alloc: Global,
+fn after_session<R: AllocGlobal + Threads + Sync, D: Desk>(
+    rt: &R,
     desk: &mut D,
     task: &Task<'_>,
     session: Session,
@@ -83,14 +85,15 @@ fn after_session<D: Desk>(
         (after_session (asked_by task.now) session) (due result) }
     ensures served { IsAccountedFor 4 (D.served desk.old) (D.served desk.new) (due result).status }
 {
+    let alloc = rt.alloc();
     let bytes = read_file(alloc, desk, task.files.ballots)?;
     let ballots = same_ballots(alloc, task, &session, &bytes)?;
-    after_ballots(alloc, desk, task, session, &ballots)
+    after_ballots(rt, desk, task, session, &ballots)
 }
 
 // The manifest is read, in which each ballot has a card.
-fn after_ballots<D: Desk>(
-    alloc: Global,
+fn after_ballots<R: AllocGlobal + Threads + Sync, D: Desk>(
+    rt: &R,
     desk: &mut D,
     task: &Task<'_>,
     session: Session,
@@ -104,14 +107,15 @@ fn after_ballots<D: Desk>(
         (after_ballots (asked_by task.now) session ballots.now) (due result) }
     ensures served { IsAccountedFor 3 (D.served desk.old) (D.served desk.new) (due result).status }
 {
+    let alloc = rt.alloc();
     let bytes = read_file(alloc, desk, task.files.manifest)?;
     let cards = same_manifest(alloc, task, &session, ballots, &bytes)?;
-    after_manifest(alloc, desk, task, session, ballots, &cards)
+    after_manifest(rt, desk, task, session, ballots, &cards)
 }
 
 // The assertions are read. A check has to accept them, and the session to be one of these cards and assertions.
-fn after_manifest<D: Desk>(
-    alloc: Global,
+fn after_manifest<R: AllocGlobal + Threads + Sync, D: Desk>(
+    rt: &R,
     desk: &mut D,
     task: &Task<'_>,
     session: Session,
@@ -127,9 +131,10 @@ fn after_manifest<D: Desk>(
         (after_manifest (asked_by task.now) session ballots.now cards.now.manifest) (due result) }
     ensures served { IsAccountedFor 2 (D.served desk.old) (D.served desk.new) (due result).status }
 {
+    let alloc = rt.alloc();
     let bytes = read_file(alloc, desk, task.files.assertions)?;
     let file = same_assertions(alloc, task, &session, &bytes)?;
-    if let Some(answer) = unless_accepted(alloc, ballots, &file, task.nodes)? {
+    if let Some(answer) = unless_accepted(rt, ballots, &file, task.nodes)? {
         return Ok(answer);
     }
     same_facts(
@@ -187,5 +192,5 @@ fn go_on(
         (record { recorded = recorded; entries = seen.now })) (due result) }
 {
     let session = next_session(alloc, task, session, &cards.linked, file, seen)?;
-    answered(alloc, &session)
+    session_answer(alloc, &session)
 }

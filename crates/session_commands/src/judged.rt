@@ -8,8 +8,8 @@ use std::alloc::{AllocError, Global};
 
 /// A refusal of a file for the reason that this text tells.
 pub(crate) fn refuse_for(alloc: Global, file: &str, text: Result<String, AllocError>) -> Refusal
-    ensures { (said : List ℕ) → IfOk text (λ text. string_bytes text ≡ said)
-        → IsOrMemory (outcome (Refused file.now said)) (due_refusal result) }
+    ensures { (message : List ℕ) → IfOk text (λ text. string_bytes text ≡ message)
+        → IsOrMemory (outcome (Refused file.now message)) (due_refusal result) }
 {
     match text {
         Ok(text) => refuse(alloc, RefusalKind::Input, file, text.as_str()),

@@ -14,6 +14,4 @@ mod seen;
 mod sessions;
 mod task;
 pub mod tell;
-#[cfg(test)]
-mod tests;
 mod texts;

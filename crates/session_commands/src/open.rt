@@ -20,7 +20,7 @@ use irv_base::Name;
 use manifest::Manifest;
 use sampler::Seed;
 use session_text::print_session;
-use std::alloc::Global;
+use std::thread::Threads;
 
 /// What an audit is opened with.
 #[derive(Clone, Copy)]
@@ -29,7 +29,7 @@ pub struct Terms {
     pub seed: Seed,
     /// The risk limit, in millionths.
     pub limit: u32,
-    /// The factor of the Kaplan-Markov risk, in thousandths.
+    /// Gamma, in thousandths: the greater it is, the less a card costs that is seen otherwise.
     pub gamma: u32,
     /// How many suffixes a check of the assertions may count for one candidate.
     pub nodes: u32,
@@ -54,8 +54,8 @@ fn all_digests(earlier: &Earlier, assertions: &[u8]) -> Digests
 }
 
 /// The session of an audit of the contest, before its first round.
-pub fn answer<D: Desk>(
-    alloc: Global,
+pub fn answer<R: AllocGlobal + Threads + Sync, D: Desk>(
+    rt: &R,
     desk: &mut D,
     ballots: &str,
     manifest: &str,
@@ -72,17 +72,18 @@ pub fn answer<D: Desk>(
         (due result) }
     ensures served { IsAccountedFor 3 (D.served desk.old) (D.served desk.new) (due result).status }
 {
+    let alloc = rt.alloc();
     let bytes = read_file(alloc, desk, ballots)?;
     let file = ballots_in(alloc, ballots, &bytes, contest)?;
     let digest = digest_of(&bytes);
     after_ballots(
-        alloc, desk, ballots, manifest, assertions, terms, &file, digest,
+        rt, desk, ballots, manifest, assertions, terms, &file, digest,
     )
 }
 
 // Once the ballots are read, of a file with this name and digest.
-fn after_ballots<D: Desk>(
-    alloc: Global,
+fn after_ballots<R: AllocGlobal + Threads + Sync, D: Desk>(
+    rt: &R,
     desk: &mut D,
     ballots: &str,
     manifest: &str,
@@ -100,26 +101,19 @@ fn after_ballots<D: Desk>(
         (due result) }
     ensures served { IsAccountedFor 2 (D.served desk.old) (D.served desk.new) (due result).status }
 {
+    let alloc = rt.alloc();
     let bytes = read_file(alloc, desk, manifest)?;
     let cards = cards_for(alloc, ballots, file, manifest, &bytes)?;
     let earlier = Earlier {
         ballots: digest,
         manifest: digest_of(&bytes),
     };
-    after_manifest(
-        alloc,
-        desk,
-        assertions,
-        terms,
-        file,
-        &cards.manifest,
-        &earlier,
-    )
+    after_manifest(rt, desk, assertions, terms, file, &cards.manifest, &earlier)
 }
 
 // Once the ballots have their cards.
-fn after_manifest<D: Desk>(
-    alloc: Global,
+fn after_manifest<R: AllocGlobal + Threads + Sync, D: Desk>(
+    rt: &R,
     desk: &mut D,
     assertions: &str,
     terms: &Terms,
@@ -137,15 +131,16 @@ fn after_manifest<D: Desk>(
         (due result) }
     ensures served { IsAccountedFor 1 (D.served desk.old) (D.served desk.new) (due result).status }
 {
+    let alloc = rt.alloc();
     let bytes = read_file(alloc, desk, assertions)?;
     let file = assertions_in(alloc, assertions, &bytes)?;
     let digests = all_digests(earlier, &bytes);
-    open(alloc, terms, ballots, manifest, &file, digests)
+    open(rt, terms, ballots, manifest, &file, digests)
 }
 
 // The session of these inputs, where a check accepts the file.
-fn open(
-    alloc: Global,
+fn open<R: AllocGlobal + Threads + Sync>(
+    rt: &R,
     terms: &Terms,
     ballots: &Ballots,
     manifest: &Manifest,
@@ -157,9 +152,11 @@ fn open(
     ensures { IsOneOrMemory (Opens terms.now ballots.now manifest.now file.now digests)
         (due result) }
 {
-    if let Some(answer) = unless_accepted(alloc, ballots, file, terms.nodes)? {
+    let alloc = rt.alloc();
+    if let Some(answer) = unless_accepted(rt, ballots, file, terms.nodes)? {
         return Ok(answer);
     }
+    // Asked for what their contracts tell of the ballots, of the file's margin and of its claims: a session may begin with them.
     let _ids = ballots.ids();
     let _margin = file.margin();
     let _claims = file.claims();

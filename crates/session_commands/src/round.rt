@@ -1,7 +1,7 @@
 // The next round of a session.
 ghost use Rattle.std.specs.Prelude.{◌≡◌, map, length};
 ghost use Rattle.cli_base.specs.Due.{due, due_refusal, IsOneOrMemory};
-ghost use Rattle.session_commands.specs.Audit.{MayGoOn, answered, asked_by, next_session};
+ghost use Rattle.session_commands.specs.Audit.{MayGoOn, session_answer, asked_by, next_session};
 ghost use Rattle.session_commands.specs.Judged.{IsJudged, IsTold};
 ghost use Rattle.session_commands.specs.Refusals.{refused_round};
 
@@ -66,8 +66,8 @@ pub(crate) fn next_session(
 }
 
 /// The answer that gives a session, and tells whether it is signed off.
-pub(crate) fn answered(alloc: Global, session: &Session) -> Result<Answer, Refusal>
-    ensures { IsOneOrMemory (λ verdict. verdict ≡ answered session.now) (due result) }
+pub(crate) fn session_answer(alloc: Global, session: &Session) -> Result<Answer, Refusal>
+    ensures { IsOneOrMemory (λ verdict. verdict ≡ session_answer session.now) (due result) }
 {
     let kind = if signed_off(session) {
         AnswerKind::Done

@@ -8,14 +8,16 @@ use Rattle.audit_commands.specs.Plan.{plan_after, plan_of}
 use Rattle.audit_commands.proofs.plan.answer.Goals as goal
 
 -- the manifest is read, and then the assertions
-pub returns-in-Ok-clause-due : goal.returns-in-Ok-clause-due
-returns-in-Ok-clause-due g c =
-    gone_on _ _ _ _ _ c.args.manifest.now c.in_ok-bytes.bytes.items _ (due c.plan_of.result) c.in_ok-bytes.ensures.held c.in_ok-bytes.ensures.later c.plan_of.ensures.later c.in_ok-bytes.ensures.read
+pub returns-clause-due : goal.returns-clause-due
+returns-clause-due g c =
+    gone_on _ _ _ _ _ c.args.manifest.now c.in_ok-bytes.bytes.items _
+    (due c.plan_of.result) c.in_ok-bytes.ensures.held c.in_ok-bytes.ensures.later c.plan_of.ensures.later c.in_ok-bytes.ensures.read
     (subst (λ read. MayOrMemory (ByDesk (g.D.Desk.held c.read_file.new.desk) (Rose (g.D.Desk.faults c.read_file.new.desk) (g.D.Desk.faults c.plan_of.new.desk)))
     (plan_after c.args.setting c.args.manifest.now c.args.assertions.now read) (due c.plan_of.result))
-    (sym c.in-Ok.ensures ∙ ap manifest_of c.deref.ensures.value)
-    (subst (λ cards. MayOrMemory (ByDesk (g.D.Desk.held c.read_file.new.desk) (Rose (g.D.Desk.faults c.read_file.new.desk) (g.D.Desk.faults c.plan_of.new.desk)))
+    (sym c.in_ok-batches.ensures ∙ ap manifest_of c.deref.ensures.value)
+    (subst (λ cards. MayOrMemory (ByDesk (g.D.Desk.held c.read_file.new.desk)
+    (Rose (g.D.Desk.faults c.read_file.new.desk) (g.D.Desk.faults c.plan_of.new.desk)))
     (plan_of c.args.setting cards c.args.assertions.now) (due c.plan_of.result)) c.cards.ensures.all c.plan_of.ensures.due))
 
-pub returns-in-Ok-clause-served : goal.returns-in-Ok-clause-served
-returns-in-Ok-clause-served g c = accounted_on _ _ _ _ c.in_ok-bytes.ensures.served c.plan_of.ensures.served
+pub returns-clause-served : goal.returns-clause-served
+returns-clause-served g c = accounted_on _ _ _ _ c.in_ok-bytes.ensures.served c.plan_of.ensures.served

@@ -9,5 +9,6 @@ use Rattle.command_line.proofs.line.file_count.Goals as goal
 pub returns : goal.returns
 returns c =
     count_from_yields_List c.filter.result c.count.result c.count.ensures.ran
-    (YieldsList-from_filter _ is_file (YieldsList-from_first piece (λ pieces. pieces) c.args.pieces (cc)) c.filter.ensures.closure (λ x b q k. search (rules, tests)))
+    (YieldsList-from_filter _ is_file (YieldsList-from_first piece (λ pieces. pieces) c.args.pieces (cc)) c.filter.ensures.closure
+    (λ x b q k. search (rules, tests)))
     ∙ length-kept file_in c.args.pieces

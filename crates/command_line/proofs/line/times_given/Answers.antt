@@ -9,5 +9,6 @@ use Rattle.command_line.proofs.line.times_given.Goals as goal
 pub returns : goal.returns
 returns c =
     count_from_yields_List c.filter.result c.count.result c.count.ensures.ran
-    (YieldsList-from_filter _ (gives c.args.option) (YieldsList-from_first piece (λ pieces. pieces) c.args.pieces (cc)) c.filter.ensures.closure (λ x b q k. search (rules, tests)))
+    (YieldsList-from_filter _ (gives c.args.option) (YieldsList-from_first piece (λ pieces. pieces) c.args.pieces (cc)) c.filter.ensures.closure
+    (λ x b q k. search (rules, tests)))
     ∙ length-kept (value_in c.args.option) c.args.pieces

@@ -11,7 +11,8 @@ pub returns : goal.returns
 returns c =
     let words = texts c.args.words.now in
     let form = form_of c.args.command in
-    let count : length c.form-form.result.files.now ≡ length form.files = sym (length-map c.form-form.result.files.now (λ name. name.now)) ∙ ap length c.form-form.ensures.files in
+    let count : length c.form-form.result.files.now ≡ length form.files = sym (length-map c.form-form.result.files.now (λ name. name.now))
+    ∙ ap length c.form-form.ensures.files in
     assembled c.push.new.self.items c.push_options.new.line.items c.push-2.new.self.items c.push_files.new.line.items
     c.in_ok-from_str.field-0 c.in_ok-from_str-2.field-0 form.word (codes "--")
     (options_given form.options (pieces form.options words)) (files_given (length form.files) (pieces form.options words))

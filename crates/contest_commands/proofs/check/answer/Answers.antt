@@ -8,12 +8,14 @@ use Rattle.cli_base.proofs.Steps.{gone_on, accounted_on}
 use Rattle.contest_commands.proofs.check.answer.Goals as goal
 
 -- the ballots are read, and then the assertions
-pub returns-in-Ok-clause-due : goal.returns-in-Ok-clause-due
-returns-in-Ok-clause-due g c =
-    gone_on _ _ _ _ _ c.args.file.now c.in_ok-bytes.bytes.items _ (due c.check_of.result) c.in_ok-bytes.ensures.held c.in_ok-bytes.ensures.later c.check_of.ensures.later c.in_ok-bytes.ensures.read
-    (subst (λ read. MayOrMemory (ByDesk (g.D.Desk.held c.read_file.new.desk) (Rose (g.D.Desk.faults c.read_file.new.desk) (g.D.Desk.faults c.check_of.new.desk)))
+pub returns-clause-due : goal.returns-clause-due
+returns-clause-due g c =
+    gone_on _ _ _ _ _ c.args.file.now c.in_ok-bytes.bytes.items _
+    (due c.check_of.result) c.in_ok-bytes.ensures.held c.in_ok-bytes.ensures.later c.check_of.ensures.later c.in_ok-bytes.ensures.read
+    (subst (λ read. MayOrMemory (ByDesk (g.D.Desk.held c.read_file.new.desk)
+    (Rose (g.D.Desk.faults c.read_file.new.desk) (g.D.Desk.faults c.check_of.new.desk)))
     (check_after c.args.nodes c.args.file.now c.args.assertions.now read) (due c.check_of.result))
-    (sym c.in-Ok.ensures ∙ ap (λ bytes. ballots_of bytes (option_copied c.args.contest)) c.deref.ensures.value) c.check_of.ensures.due)
+    (sym c.in_ok-ballots.ensures ∙ ap (λ bytes. ballots_of bytes (option_copied c.args.contest)) c.deref.ensures.value) c.check_of.ensures.due)
 
-pub returns-in-Ok-clause-served : goal.returns-in-Ok-clause-served
-returns-in-Ok-clause-served g c = accounted_on _ _ _ _ c.in_ok-bytes.ensures.served c.check_of.ensures.served
+pub returns-clause-served : goal.returns-clause-served
+returns-clause-served g c = accounted_on _ _ _ _ c.in_ok-bytes.ensures.served c.check_of.ensures.served

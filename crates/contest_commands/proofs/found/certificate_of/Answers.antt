@@ -8,11 +8,13 @@ certify-requires-clause-best g c κs within = λ records h. (c.requires.best rec
 
 pub file_of-requires : goal.file_of-requires
 file_of-requires g c =
-    is_printable c.args.contest.now c.args.counted.now.bag c.args.tabulated.now c.requires.counted c.args.end c.args.nodes c.in-Ok.certificate c.requires.best c.in-Ok.ensures.certificate
+    is_printable c.args.contest.now c.args.counted.now.bag c.args.tabulated.now c.requires.counted c.args.end c.args.nodes c.in-Ok.certificate c.requires.best
+    c.in-Ok.ensures.certificate
 
 pub returns-in-Ok : goal.returns-in-Ok
 returns-in-Ok g c =
-    is_found c.args.contest.now c.args.counted.now.bag c.args.tabulated.now c.requires.counted c.args.end c.args.nodes c.in-Ok.certificate _ c.requires.best c.in-Ok.ensures.certificate c.in_ok-file-in-Ok.ensures
+    is_found c.args.contest.now c.args.counted.now.bag c.args.tabulated.now c.requires.counted c.args.end c.args.nodes c.in-Ok.certificate _ c.requires.best
+    c.in-Ok.ensures.certificate c.in_ok-file-in-Ok.ensures
 
 pub returns-in-Spent : goal.returns-in-Spent
 returns-in-Spent g c =

@@ -7,7 +7,8 @@ pub returns-in-Spent : goal.returns-in-Spent
 returns-in-Spent g c =
     let t = c.args.tabulated.now in
     let bag = c.args.counted.now.bag in
-    race_is_spent c.args.contest.now bag t c.requires.counted c.args.nodes _ _ _ (λ records h. subst (IsSpent bag.n records t c.args.nodes) c.in-Spent.is (c.in-Err.ensures.spent records h))
+    race_is_spent c.args.contest.now bag t c.requires.counted c.args.nodes _ _ _
+    (λ records h. subst (IsSpent bag.n records t c.args.nodes) c.in-Spent.is (c.in-Err.ensures.spent records h))
 
 pub race-requires-clause-order : goal.race-requires-clause-order
 race-requires-clause-order g c κs within = (c.requires.counted.tabulated c.args.contest.now.rankings c.requires.counted.records).order

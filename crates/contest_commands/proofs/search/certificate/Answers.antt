@@ -7,10 +7,38 @@ pub returns-then-margin-terms : goal.returns-then-margin-terms
 returns-then-margin-terms c =
     let below = c.if-margin-terms.true in
     let same = c.margin.ensures.same in
-    inl (Answered FullCount _, inr (inr (inr (_, record { file = c.args.file.now; is = c.requires.is; budget = c.requires.budget; floor = omega (arith, below, same); shown = c.in_ok-full_count.ensures }, refl))), refl)
+    inl (
+      Answered FullCount _,
+      inr (inr (inr (
+        _,
+        record {
+          file = c.args.file.now;
+          is = c.requires.is;
+          budget = c.requires.budget;
+          floor = omega (arith, below, same);
+          shown = c.in_ok-full_count.ensures;
+        },
+        refl,
+      ))),
+      refl,
+    )
 
 pub returns : goal.returns
 returns c =
     let reached = c.if-margin-terms.false in
     let same = c.margin.ensures.same in
-    inl (Answered Done _, inl (_, record { file = c.args.file.now; is = c.requires.is; budget = c.requires.budget; floor = omega (arith, reached, same); shown = c.in_ok-print_file.ensures.text }, refl), refl)
+    inl (
+      Answered Done _,
+      inl (
+        _,
+        record {
+          file = c.args.file.now;
+          is = c.requires.is;
+          budget = c.requires.budget;
+          floor = omega (arith, reached, same);
+          shown = c.in_ok-print_file.ensures.text;
+        },
+        refl,
+      ),
+      refl,
+    )

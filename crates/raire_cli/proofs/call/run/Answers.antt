@@ -1,41 +1,41 @@
--- Each clause follows from the story of the call.
+-- Each clause follows from the story of the call: what was due, and what the sinks took of it.
 use Rattle.cli_base.proofs.Clauses.{answered_clause, kept_clause}
 use Rattle.command_line.specs.Words.{texts}
-use Rattle.raire_cli.proofs.Clauses.{headline_clause, full_count_clause, complete_clause, complete_trial_clause, enough_clause, accepted_clause, opened_clause, audited_clause, status_clause, exact_promise}
+use Rattle.raire_cli.proofs.Clauses.{story_of, headline_clause, full_count_clause, complete_clause, complete_trial_clause, enough_clause, accepted_clause, opened_clause, audited_clause, status_clause, exact_promise}
 use Rattle.raire_cli.proofs.call.run.Goals as goal
 
 pub returns-clause-headline : goal.returns-clause-headline
-returns-clause-headline g c = headline_clause (texts c.args.words.now) c.perform.ensures.story
+returns-clause-headline g c = headline_clause (texts c.args.words.now) (story_of c.answer-outcome.ensures.due c.deliver.ensures)
 
 pub returns-clause-full_count : goal.returns-clause-full_count
-returns-clause-full_count g c = full_count_clause (texts c.args.words.now) c.perform.ensures.story
+returns-clause-full_count g c = full_count_clause (texts c.args.words.now) (story_of c.answer-outcome.ensures.due c.deliver.ensures)
 
 pub returns-clause-complete : goal.returns-clause-complete
-returns-clause-complete g c = complete_clause (texts c.args.words.now) c.perform.ensures.story
+returns-clause-complete g c = complete_clause (texts c.args.words.now) (story_of c.answer-outcome.ensures.due c.deliver.ensures)
 
 pub returns-clause-complete_trial : goal.returns-clause-complete_trial
-returns-clause-complete_trial g c = complete_trial_clause (texts c.args.words.now) c.perform.ensures.story
+returns-clause-complete_trial g c = complete_trial_clause (texts c.args.words.now) (story_of c.answer-outcome.ensures.due c.deliver.ensures)
 
 pub returns-clause-enough : goal.returns-clause-enough
-returns-clause-enough g c = enough_clause (texts c.args.words.now) c.perform.ensures.story
+returns-clause-enough g c = enough_clause (texts c.args.words.now) (story_of c.answer-outcome.ensures.due c.deliver.ensures)
 
 pub returns-clause-accepted : goal.returns-clause-accepted
-returns-clause-accepted g c = accepted_clause (texts c.args.words.now) c.perform.ensures.story
+returns-clause-accepted g c = accepted_clause (texts c.args.words.now) (story_of c.answer-outcome.ensures.due c.deliver.ensures)
 
 pub returns-clause-opened : goal.returns-clause-opened
-returns-clause-opened g c = opened_clause (texts c.args.words.now) c.perform.ensures.story
+returns-clause-opened g c = opened_clause (texts c.args.words.now) (story_of c.answer-outcome.ensures.due c.deliver.ensures)
 
 pub returns-clause-audited : goal.returns-clause-audited
-returns-clause-audited g c = audited_clause (texts c.args.words.now) c.perform.ensures.story
+returns-clause-audited g c = audited_clause (texts c.args.words.now) (story_of c.answer-outcome.ensures.due c.deliver.ensures)
 
 pub returns-clause-answer : goal.returns-clause-answer
-returns-clause-answer g c = answered_clause c.perform.ensures.story
+returns-clause-answer g c = answered_clause (story_of c.answer-outcome.ensures.due c.deliver.ensures)
 
 pub returns-clause-status : goal.returns-clause-status
-returns-clause-status g c = status_clause (texts c.args.words.now) c.perform.ensures.story
+returns-clause-status g c = status_clause (texts c.args.words.now) (story_of c.answer-outcome.ensures.due c.deliver.ensures)
 
 pub returns-clause-exact : goal.returns-clause-exact
-returns-clause-exact g c = exact_promise (texts c.args.words.now) c.perform.ensures.story
+returns-clause-exact g c = exact_promise (texts c.args.words.now) (story_of c.answer-outcome.ensures.due c.deliver.ensures)
 
 pub returns-clause-kept : goal.returns-clause-kept
-returns-clause-kept g c = kept_clause c.perform.ensures.story
+returns-clause-kept g c = kept_clause (story_of c.answer-outcome.ensures.due c.deliver.ensures)

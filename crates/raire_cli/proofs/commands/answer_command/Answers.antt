@@ -9,4 +9,5 @@ pub returns-in-Trial-clause-due : goal.returns-in-Trial-clause-due
 returns-in-Trial-clause-due g c =
     let desk = c.args.desk.now in
     let faults = g.D.Desk.faults desk in
-    subst (λ command. MayOrMemory (ByDesk (g.D.Desk.held desk) (Rose faults faults)) (script_of command) (due c.answer-in-Trial.result)) (sym c.in-Trial.is) c.answer-in-Trial.ensures
+    subst (λ command. MayOrMemory (ByDesk (g.D.Desk.held desk) (Rose faults faults)) (script_of command) (due c.answer-in-Trial.result))
+    (sym c.in-Trial.is) c.answer-in-Trial.ensures

@@ -12,8 +12,10 @@ pub returns-clause-due : goal.returns-clause-due
 returns-clause-due g c =
     let asked = asked_by c.args.task.now in
     let judged = same_manifest asked c.args.session c.args.ballots.now in
-    read_on _ _ _ _ c.in_ok-bytes.bytes.items judged (λ bytes. after_manifest asked c.args.session c.args.ballots.now) c.in_ok-bytes.ensures.read _ _ c.in_ok-cards.cards.manifest (due c.after_manifest.result)
-    c.in_ok-bytes.ensures.held c.in_ok-bytes.ensures.later c.after_manifest.ensures.later (ap judged (sym c.deref.ensures.value) ∙ c.in_ok-cards.ensures.read) c.after_manifest.ensures.due
+    read_on _ _ _ _ c.in_ok-bytes.bytes.items judged (λ bytes. after_manifest asked c.args.session c.args.ballots.now) c.in_ok-bytes.ensures.read _ _
+    c.in_ok-cards.cards.manifest (due c.after_manifest.result)
+    c.in_ok-bytes.ensures.held c.in_ok-bytes.ensures.later c.after_manifest.ensures.later
+    (ap judged (sym c.deref.ensures.value) ∙ c.in_ok-cards.ensures.read) c.after_manifest.ensures.due
 
 pub returns-clause-served : goal.returns-clause-served
 returns-clause-served g c = accounted_on _ _ _ _ c.in_ok-bytes.ensures.served c.after_manifest.ensures.served
@@ -24,7 +26,8 @@ returns-in_err-cards-clause-due g c =
     let judged = same_manifest (asked_by c.args.task.now) c.args.session c.args.ballots.now in
     let p = err_from_is_err_and c.from_residual-in_err-cards.result c.from_residual-in_err-cards.ensures.1 in
     rw (p.1, p.2)
-    (read_stopped _ _ _ _ c.in_ok-bytes.bytes.items judged (λ bytes. after_manifest asked c.args.session c.args.ballots.now) c.in_ok-bytes.ensures.read c.in_err-cards.field-0.0
+    (read_stopped _ _ _ _ c.in_ok-bytes.bytes.items judged (λ bytes. after_manifest asked c.args.session c.args.ballots.now) c.in_ok-bytes.ensures.read
+    c.in_err-cards.field-0.0
     (subst (λ bytes. IsStopped (judged bytes) c.in_err-cards.field-0.0) c.deref.ensures.value c.in_err-cards.ensures.refused))
 
 pub returns-in_err-cards-clause-served : goal.returns-in_err-cards-clause-served
@@ -32,4 +35,5 @@ returns-in_err-cards-clause-served g c =
     let asked = asked_by c.args.task.now in
     let judged = same_manifest asked c.args.session c.args.ballots.now in
     let p = err_from_is_err_and c.from_residual-in_err-cards.result c.from_residual-in_err-cards.ensures.1 in
-    rw (p.1, p.2) (stopped_accounted 2 _ _ (judged c.deref.result.now) c.in_err-cards.field-0.0 (manifest-only asked c.args.session c.args.ballots.now c.deref.result.now) c.in_err-cards.ensures.refused c.in_ok-bytes.ensures.served)
+    rw (p.1, p.2) (stopped_accounted 2 _ _ (judged c.deref.result.now) c.in_err-cards.field-0.0
+    (manifest-only asked c.args.session c.args.ballots.now c.deref.result.now) c.in_err-cards.ensures.refused c.in_ok-bytes.ensures.served)

@@ -4,10 +4,11 @@ use Rattle.manifest.specs.Linked.{linked_of}
 use Rattle.seen_file.specs.Reading.{seen_of}
 use Rattle.cli_base.specs.Due.{due}
 use Rattle.cli_base.specs.Script.{Ends}
+use Rattle.cli_base.proofs.Steps.{ended_accounted}
 use Rattle.session_commands.specs.Audit.{GoesOn, asked_by}
 use Rattle.session_commands.specs.Judged.{IsStopped, told}
 use Rattle.session_commands.specs.Refusals.{refused_seen}
-use Rattle.session_commands.proofs.Going.{ended_accounted, read_last, read_stopped, stopped_accounted, told-only}
+use Rattle.session_commands.proofs.Going.{read_last, read_stopped, stopped_accounted, told-only}
 use Rattle.session_commands.proofs.audit.after_facts.Goals as goal
 
 pub returns-clause-due : goal.returns-clause-due
@@ -16,7 +17,8 @@ returns-clause-due g c =
     let batches = c.args.cards.now.manifest in
     let file = c.args.file.now in
     read_last _ _ _ _ c.in_ok-bytes.bytes.items (λ bytes. words (seen_of batches file.candidates bytes))
-    (λ bytes entries. Ends (GoesOn (asked_by c.args.task.now) c.args.session file (record { recorded = linked_of batches c.args.ballots.now; entries = entries })))
+    (λ bytes entries. Ends (GoesOn (asked_by c.args.task.now) c.args.session file
+    (record { recorded = linked_of batches c.args.ballots.now; entries = entries })))
     c.in_ok-bytes.ensures.read c.in_ok-seen.seen (due c.go_on.result)
     (ap (λ bytes. words (seen_of batches file.candidates bytes)) (sym c.deref.ensures.value)
     ∙ ap (λ candidates. words (seen_of batches candidates c.deref.result.now)) (sym c.candidates.ensures.same) ∙ c.in_ok-seen.ensures)
@@ -25,7 +27,8 @@ returns-clause-due g c =
 pub returns-clause-served : goal.returns-clause-served
 returns-clause-served g c =
     ended_accounted _ _
-    (GoesOn (asked_by c.args.task.now) c.args.session c.args.file.now (record { recorded = linked_of c.args.cards.now.manifest c.args.ballots.now; entries = c.in_ok-seen.seen }))
+    (GoesOn (asked_by c.args.task.now) c.args.session c.args.file.now
+    (record { recorded = linked_of c.args.cards.now.manifest c.args.ballots.now; entries = c.in_ok-seen.seen }))
     (due c.go_on.result) c.go_on.ensures c.in_ok-bytes.ensures.served
 
 pub returns-in_err-seen-clause-due : goal.returns-in_err-seen-clause-due
@@ -37,7 +40,8 @@ returns-in_err-seen-clause-due g c =
     let p = err_from_is_err_and c.from_residual-in_err-seen.result c.from_residual-in_err-seen.ensures.1 in
     rw (p.1, p.2)
     (read_stopped _ _ _ _ c.in_ok-bytes.bytes.items (λ bytes. words (seen_of batches file.candidates bytes))
-    (λ bytes entries. Ends (GoesOn (asked_by c.args.task.now) c.args.session file (record { recorded = linked_of batches c.args.ballots.now; entries = entries })))
+    (λ bytes entries. Ends (GoesOn (asked_by c.args.task.now) c.args.session file
+    (record { recorded = linked_of batches c.args.ballots.now; entries = entries })))
     c.in_ok-bytes.ensures.read refusal
     (subst (λ bytes. IsStopped (words (seen_of batches file.candidates bytes)) refusal) c.deref.ensures.value
     (subst (λ candidates. IsStopped (words (seen_of batches candidates c.deref.result.now)) refusal) c.candidates.ensures.same c.in_err-seen.ensures)))
@@ -47,4 +51,5 @@ returns-in_err-seen-clause-served g c =
     let words = refused_seen c.args.task.now.files.seen.now in
     let read = seen_of c.args.cards.now.manifest c.candidates.result.now c.deref.result.now in
     let p = err_from_is_err_and c.from_residual-in_err-seen.result c.from_residual-in_err-seen.ensures.1 in
-    rw (p.1, p.2) (stopped_accounted 0 _ _ (told words read) c.in_err-seen.field-0.0 (told-only words read (λ why. tt)) c.in_err-seen.ensures c.in_ok-bytes.ensures.served)
+    rw (p.1, p.2) (stopped_accounted 0 _ _ (told words read) c.in_err-seen.field-0.0
+    (told-only words read (λ why. tt)) c.in_err-seen.ensures c.in_ok-bytes.ensures.served)

@@ -2,7 +2,7 @@ use Rattle.std.proofs.Common.{◌≡◌, ◌≢◌, refl, inr, Ok, None, IfSome,
 use Rattle.std.proofs.lemmas.Result.{err_from_is_err_and}
 use Rattle.manifest.specs.Cards.{cards_of}
 use Rattle.cli_base.specs.Due.{due, due_refusal, IsOneOrMemory}
-use Rattle.cli_base.proofs.Steps.{accounted_on}
+use Rattle.cli_base.proofs.Steps.{accounted_on, ended_accounted}
 use Rattle.contest_commands.specs.Check.{Checks}
 use Rattle.session_commands.specs.Audit.{asked_by, same_assertions, same_facts, after_assertions, after_check, after_facts}
 use Rattle.session_commands.specs.Inputs.{without_facts}
@@ -10,7 +10,7 @@ use Rattle.session_commands.specs.Judged.{unless, IsStopped, IsTold}
 use Rattle.cli_base.proofs.Statuses.{differ, status_in}
 use Rattle.session_commands.proofs.Audits.{assertions-only, facts-only}
 use Rattle.session_commands.proofs.Checked.{accepted_on, checked_on}
-use Rattle.session_commands.proofs.Going.{ended_accounted, judged_on, judged_stopped, read_last, read_on, read_stopped, raised, stopped_accounted, unless-only}
+use Rattle.session_commands.proofs.Going.{judged_on, judged_stopped, read_last, read_on, read_stopped, raised, stopped_accounted, unless-only}
 use Rattle.session_commands.proofs.Judging.{unless_passed, unless_stopped}
 use Rattle.session_commands.proofs.audit.after_manifest.Goals as goal
 
@@ -23,7 +23,8 @@ returns-in_err-file-clause-due g c =
     let judged = same_assertions asked session in
     let p = err_from_is_err_and c.from_residual-in_err-file.result c.from_residual-in_err-file.ensures.1 in
     rw (p.1, p.2)
-    (read_stopped _ _ _ _ c.in_ok-bytes.bytes.items judged (λ bytes. after_assertions asked session ballots batches) c.in_ok-bytes.ensures.read c.in_err-file.field-0.0
+    (read_stopped _ _ _ _ c.in_ok-bytes.bytes.items judged (λ bytes. after_assertions asked session ballots batches) c.in_ok-bytes.ensures.read
+    c.in_err-file.field-0.0
     (subst (λ bytes. IsStopped (judged bytes) c.in_err-file.field-0.0) c.deref.ensures.value c.in_err-file.ensures))
 
 pub returns-in_err-file-clause-served : goal.returns-in_err-file-clause-served
@@ -31,14 +32,16 @@ returns-in_err-file-clause-served g c =
     let asked = asked_by c.args.task.now in
     let p = err_from_is_err_and c.from_residual-in_err-file.result c.from_residual-in_err-file.ensures.1 in
     rw (p.1, p.2)
-    (stopped_accounted 1 _ _ (same_assertions asked c.args.session c.deref.result.now) c.in_err-file.field-0.0 (assertions-only asked c.args.session c.deref.result.now) c.in_err-file.ensures c.in_ok-bytes.ensures.served)
+    (stopped_accounted 1 _ _ (same_assertions asked c.args.session c.deref.result.now) c.in_err-file.field-0.0
+    (assertions-only asked c.args.session c.deref.result.now) c.in_err-file.ensures c.in_ok-bytes.ensures.served)
 
 pub returns-in_err-answer-clause-served : goal.returns-in_err-answer-clause-served
 returns-in_err-answer-clause-served g c =
     let p = err_from_is_err_and c.from_residual-in_err-answer.result c.from_residual-in_err-answer.ensures.1 in
     rw (p.1, p.2)
     (raised 1 1 _ _ _ (λ e. differ 9 0 (sym (ap status_in c.in_err-answer.ensures.memory) ∙ e) refl)
-    (ended_accounted _ _ (Checks c.args.task.now.nodes c.args.ballots.now c.in_ok-file.file) (due_refusal c.in_err-answer.field-0.0) (inr c.in_err-answer.ensures.memory) c.in_ok-bytes.ensures.served))
+    (ended_accounted _ _ (Checks c.args.task.now.nodes c.args.ballots.now c.in_ok-file.file) (due_refusal c.in_err-answer.field-0.0)
+    (inr c.in_err-answer.ensures.memory) c.in_ok-bytes.ensures.served))
 
 pub returns-in-Some-clause-due : goal.returns-in-Some-clause-due
 returns-in-Some-clause-due g c =
@@ -50,8 +53,10 @@ returns-in-Some-clause-due g c =
     let file = c.in_ok-file.file in
     let is = ap judged (sym c.deref.ensures.value) ∙ c.in_ok-file.ensures in
     let no = c.in_ok-answer.ensures.accepted ∙ ap is_none c.in-Some.is in
-    let other = subst (λ found. IfSome found (λ answer. IsOneOrMemory (Checks asked.nodes ballots file) (due (Ok answer)))) c.in-Some.is c.in_ok-answer.ensures.other in
-    read_last _ _ _ _ c.in_ok-bytes.bytes.items judged (λ bytes. after_assertions asked session ballots batches) c.in_ok-bytes.ensures.read file (due (Ok c.in-Some.answer)) is
+    let other = subst (λ found. IfSome found (λ answer. IsOneOrMemory (Checks asked.nodes ballots file) (due (Ok answer)))) c.in-Some.is
+    c.in_ok-answer.ensures.other in
+    read_last _ _ _ _ c.in_ok-bytes.bytes.items judged (λ bytes. after_assertions asked session ballots batches) c.in_ok-bytes.ensures.read file
+    (due (Ok c.in-Some.answer)) is
     (checked_on asked.nodes ballots file _ (after_check asked session ballots batches file) (due (Ok c.in-Some.answer)) no other)
 
 pub returns-in-Some-clause-served : goal.returns-in-Some-clause-served
@@ -77,9 +82,11 @@ returns-in_err-same_facts-clause-due g c =
     let yes = c.in_ok-answer.ensures.accepted ∙ ap is_none c.in_default.is in
     let p = err_from_is_err_and c.from_residual-in_err-same_facts.result c.from_residual-in_err-same_facts.ensures.1 in
     rw (p.1, p.2)
-    (read_last _ _ _ _ c.in_ok-bytes.bytes.items judged (λ bytes. after_assertions asked session ballots batches) c.in_ok-bytes.ensures.read file (due_refusal refusal) is
+    (read_last _ _ _ _ c.in_ok-bytes.bytes.items judged (λ bytes. after_assertions asked session ballots batches) c.in_ok-bytes.ensures.read file
+    (due_refusal refusal) is
     (accepted_on asked.nodes ballots file _ (after_check asked session ballots batches file) (due_refusal refusal) yes
-    (judged_stopped _ (same_facts asked session batches file) (λ same. after_facts asked same ballots batches file) refusal (unless_stopped wrong (Ok session) refusal told))))
+    (judged_stopped _ (same_facts asked session batches file) (λ same. after_facts asked same ballots batches file) refusal
+    (unless_stopped wrong (Ok session) refusal told))))
 
 pub returns-in_err-same_facts-clause-served : goal.returns-in_err-same_facts-clause-served
 returns-in_err-same_facts-clause-served g c =
@@ -87,7 +94,8 @@ returns-in_err-same_facts-clause-served g c =
     let wrong = without_facts c.args.task.now.files.session.now c.args.session c.cards.result c.in_ok-file.file in
     let p = err_from_is_err_and c.from_residual-in_err-same_facts.result c.from_residual-in_err-same_facts.ensures.1 in
     rw (p.1, p.2)
-    (stopped_accounted 1 _ _ (unless wrong (Ok c.args.session)) refusal (unless-only wrong (Ok c.args.session) (facts-only c.args.task.now.files.session.now c.args.session c.cards.result c.in_ok-file.file) tt)
+    (stopped_accounted 1 _ _ (unless wrong (Ok c.args.session)) refusal
+    (unless-only wrong (Ok c.args.session) (facts-only c.args.task.now.files.session.now c.args.session c.cards.result c.in_ok-file.file) tt)
     (unless_stopped wrong (Ok c.args.session) refusal c.in_err-same_facts.ensures.refused) c.in_ok-bytes.ensures.served)
 
 pub returns-clause-due : goal.returns-clause-due
@@ -102,10 +110,12 @@ returns-clause-due g c =
     let wrong = without_facts asked.session session (length (cards_of batches)) file in
     let right : wrong ≡ None = ap (λ cards. without_facts asked.session session cards file) (sym c.cards.ensures.all) ∙ c.in_ok-same_facts.ensures.same in
     let yes = c.in_ok-answer.ensures.accepted ∙ ap is_none c.in_default.is in
-    read_on _ _ _ _ c.in_ok-bytes.bytes.items judged (λ bytes. after_assertions asked session ballots batches) c.in_ok-bytes.ensures.read _ _ file (due c.after_facts.result)
+    read_on _ _ _ _ c.in_ok-bytes.bytes.items judged (λ bytes. after_assertions asked session ballots batches) c.in_ok-bytes.ensures.read _ _ file
+    (due c.after_facts.result)
     c.in_ok-bytes.ensures.held c.in_ok-bytes.ensures.later c.after_facts.ensures.later is
     (accepted_on asked.nodes ballots file _ (after_check asked session ballots batches file) (due c.after_facts.result) yes
-    (judged_on _ (same_facts asked session batches file) (λ same. after_facts asked same ballots batches file) session (due c.after_facts.result) (unless_passed wrong (Ok session) right) c.after_facts.ensures.due))
+    (judged_on _ (same_facts asked session batches file) (λ same. after_facts asked same ballots batches file) session (due c.after_facts.result)
+    (unless_passed wrong (Ok session) right) c.after_facts.ensures.due))
 
 pub returns-clause-served : goal.returns-clause-served
 returns-clause-served g c = accounted_on _ _ _ _ c.in_ok-bytes.ensures.served c.after_facts.ensures.served

@@ -12,8 +12,10 @@ pub returns-clause-due : goal.returns-clause-due
 returns-clause-due g c =
     let asked = asked_by c.args.task.now in
     let judged = same_ballots asked c.args.session in
-    read_on _ _ _ _ c.in_ok-bytes.bytes.items judged (λ bytes. after_ballots asked c.args.session) c.in_ok-bytes.ensures.read _ _ c.in_ok-ballots.ballots (due c.after_ballots.result)
-    c.in_ok-bytes.ensures.held c.in_ok-bytes.ensures.later c.after_ballots.ensures.later (ap judged (sym c.deref.ensures.value) ∙ c.in_ok-ballots.ensures) c.after_ballots.ensures.due
+    read_on _ _ _ _ c.in_ok-bytes.bytes.items judged (λ bytes. after_ballots asked c.args.session) c.in_ok-bytes.ensures.read _ _ c.in_ok-ballots.ballots
+    (due c.after_ballots.result)
+    c.in_ok-bytes.ensures.held c.in_ok-bytes.ensures.later c.after_ballots.ensures.later
+    (ap judged (sym c.deref.ensures.value) ∙ c.in_ok-ballots.ensures) c.after_ballots.ensures.due
 
 pub returns-clause-served : goal.returns-clause-served
 returns-clause-served g c = accounted_on _ _ _ _ c.in_ok-bytes.ensures.served c.after_ballots.ensures.served
@@ -32,4 +34,5 @@ returns-in_err-ballots-clause-served g c =
     let asked = asked_by c.args.task.now in
     let judged = same_ballots asked c.args.session in
     let p = err_from_is_err_and c.from_residual-in_err-ballots.result c.from_residual-in_err-ballots.ensures.1 in
-    rw (p.1, p.2) (stopped_accounted 3 _ _ (judged c.deref.result.now) c.in_err-ballots.field-0.0 (ballots-only asked c.args.session c.deref.result.now) c.in_err-ballots.ensures c.in_ok-bytes.ensures.served)
+    rw (p.1, p.2) (stopped_accounted 3 _ _ (judged c.deref.result.now) c.in_err-ballots.field-0.0
+    (ballots-only asked c.args.session c.deref.result.now) c.in_err-ballots.ensures c.in_ok-bytes.ensures.served)

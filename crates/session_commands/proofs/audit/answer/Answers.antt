@@ -11,8 +11,10 @@ pub returns-clause-due : goal.returns-clause-due
 returns-clause-due g c =
     let asked = asked_by (record { files = c.args.files; draws = c.args.draws; nodes = c.args.nodes }) in
     let judged = session_to_go_on asked in
-    read_on _ _ _ _ c.in_ok-bytes.bytes.items judged (λ bytes. after_session asked) c.in_ok-bytes.ensures.read _ _ c.in_ok-session.session (due c.after_session.result)
-    c.in_ok-bytes.ensures.held c.in_ok-bytes.ensures.later c.after_session.ensures.later (ap judged (sym c.deref.ensures.value) ∙ c.in_ok-session.ensures.read) c.after_session.ensures.due
+    read_on _ _ _ _ c.in_ok-bytes.bytes.items judged (λ bytes. after_session asked) c.in_ok-bytes.ensures.read _ _ c.in_ok-session.session
+    (due c.after_session.result)
+    c.in_ok-bytes.ensures.held c.in_ok-bytes.ensures.later c.after_session.ensures.later
+    (ap judged (sym c.deref.ensures.value) ∙ c.in_ok-session.ensures.read) c.after_session.ensures.due
 
 pub returns-in_err-session-clause-due : goal.returns-in_err-session-clause-due
 returns-in_err-session-clause-due g c =
@@ -28,4 +30,5 @@ returns-in_err-session-clause-served g c =
     let asked = asked_by (record { files = c.args.files; draws = c.args.draws; nodes = c.args.nodes }) in
     let judged = session_to_go_on asked in
     let p = err_from_is_err_and c.from_residual-in_err-session.result c.from_residual-in_err-session.ensures.1 in
-    rw (p.1, p.2) (stopped_accounted 4 _ _ (judged c.deref.result.now) c.in_err-session.field-0.0 (session-only asked c.deref.result.now) c.in_err-session.ensures.read c.in_ok-bytes.ensures.served)
+    rw (p.1, p.2) (stopped_accounted 4 _ _ (judged c.deref.result.now) c.in_err-session.field-0.0
+    (session-only asked c.deref.result.now) c.in_err-session.ensures.read c.in_ok-bytes.ensures.served)

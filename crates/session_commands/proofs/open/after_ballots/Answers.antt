@@ -13,10 +13,15 @@ pub returns-clause-due : goal.returns-clause-due
 returns-clause-due g c =
     let cards = cards_for c.args.ballots.now c.args.file.now c.args.manifest.now in
     read_on _ _ _ c.args.manifest.now c.in_ok-bytes.bytes.items cards
-    (λ bytes batches. after_manifest c.args.assertions.now c.args.terms.now c.args.file.now batches (record { ballots = c.args.digest; manifest = sha256 bytes }))
-    c.in_ok-bytes.ensures.read _ _ c.in_ok-cards.cards.manifest (due c.after_manifest.result) c.in_ok-bytes.ensures.held c.in_ok-bytes.ensures.later c.after_manifest.ensures.later
+    (λ bytes batches. after_manifest c.args.assertions.now c.args.terms.now c.args.file.now batches
+    (record { ballots = c.args.digest; manifest = sha256 bytes }))
+    c.in_ok-bytes.ensures.read _ _ c.in_ok-cards.cards.manifest
+    (due c.after_manifest.result) c.in_ok-bytes.ensures.held c.in_ok-bytes.ensures.later c.after_manifest.ensures.later
     (ap cards (sym c.deref.ensures.value) ∙ c.in_ok-cards.ensures.read)
-    (subst (λ digest. MayOrMemory (ByDesk (g.D.Desk.held c.read_file.new.desk) (Rose (g.D.Desk.faults c.read_file.new.desk) (g.D.Desk.faults c.after_manifest.new.desk))) (after_manifest c.args.assertions.now c.args.terms.now c.args.file.now c.in_ok-cards.cards.manifest (record { ballots = c.args.digest; manifest = digest })) (due c.after_manifest.result))
+    (subst (λ digest. MayOrMemory (ByDesk (g.D.Desk.held c.read_file.new.desk)
+    (Rose (g.D.Desk.faults c.read_file.new.desk) (g.D.Desk.faults c.after_manifest.new.desk)))
+    (after_manifest c.args.assertions.now c.args.terms.now c.args.file.now c.in_ok-cards.cards.manifest (record { ballots = c.args.digest; manifest = digest }))
+    (due c.after_manifest.result))
     (c.digest_of.ensures ∙ ap sha256 c.deref-2.ensures.value) c.after_manifest.ensures.due)
 
 pub returns-clause-served : goal.returns-clause-served

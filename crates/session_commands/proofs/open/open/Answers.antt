@@ -11,7 +11,7 @@ use Rattle.session_commands.proofs.Held.{few_ballots, held, margins_fit}
 use Rattle.session_commands.proofs.open.open.Goals as goal
 
 pub begin_session-requires-clause-margins : goal.begin_session-requires-clause-margins
-begin_session-requires-clause-margins c =
+begin_session-requires-clause-margins g c =
     let ballots = c.args.ballots.now in
     let file = c.args.file.now in
     margins_fit c.cards.result ballots file (held c.args.terms.now.nodes ballots file (c.in_ok-answer.ensures.accepted ∙ ap is_none c.in_default.is))
@@ -19,7 +19,7 @@ begin_session-requires-clause-margins c =
     (subst (All (IsSoundClaim (length file.candidates) file.records)) c.claims-claims.ensures.same c.claims-claims.ensures.sound)
 
 pub returns : goal.returns
-returns c =
+returns g c =
     let terms = c.args.terms.now in
     let batches = c.args.manifest.now in
     let file = c.args.file.now in
@@ -27,5 +27,6 @@ returns c =
     let yes = c.in_ok-answer.ensures.accepted ∙ ap is_none c.in_default.is in
     let opens : Opens terms c.args.ballots.now batches file c.args.digests verdict =
     subst (λ b. MatchBool b (verdict ≡ verdict) (Checks terms.nodes c.args.ballots.now file verdict)) (sym yes) refl in
-    let session = c.in_ok-session.ensures ∙ ap₂ (λ contest cards. begun contest cards file terms.seed terms.limit terms.gamma c.args.digests) c.contest.ensures c.cards.ensures.all in
+    let session = c.in_ok-session.ensures ∙ ap₂ (λ contest cards. begun contest cards file terms.seed terms.limit terms.gamma c.args.digests) c.contest.ensures
+    c.cards.ensures.all in
     inl (verdict, opens, ap (λ text. outcome (Answered Done text)) (c.in_ok-print_session.ensures.text ∙ ap session_text session))

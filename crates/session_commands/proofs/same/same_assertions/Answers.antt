@@ -21,5 +21,7 @@ returns-in_err-same_digest c =
     let name = c.args.task.now.files.assertions.now in
     let p = err_from_is_err_and c.from_residual.result c.from_residual.ensures.1 in
     rw (p.1, p.2)
-    (unless_stopped (other_digest name c.args.session.now.digests.assertions c.args.bytes.now) (told (refused name) (assertion_file_of c.args.bytes.now)) c.in_err-same_digest.field-0.0
-    (subst (λ digests. IsTold (other_digest name digests.assertions c.args.bytes.now) (due_refusal c.in_err-same_digest.field-0.0)) c.digests.ensures c.in_err-same_digest.ensures.refused))
+    (unless_stopped (other_digest name c.args.session.now.digests.assertions c.args.bytes.now)
+    (told (refused name) (assertion_file_of c.args.bytes.now)) c.in_err-same_digest.field-0.0
+    (subst (λ digests. IsTold (other_digest name digests.assertions c.args.bytes.now) (due_refusal c.in_err-same_digest.field-0.0)) c.digests.ensures
+    c.in_err-same_digest.ensures.refused))

@@ -14,12 +14,15 @@ returns c =
     let read = ballots_of c.args.bytes.now (Some c.args.session.now.contest) in
     unless_judged (other_digest name c.args.session.now.digests.ballots c.args.bytes.now) (told (refused name) read) c.ballots_in.result
     (ap (λ digests. other_digest name digests.ballots c.args.bytes.now) (sym c.digests.ensures) ∙ c.in_ok-same_digest.ensures.same)
-    (judged_as (refused name) read c.ballots_in.result (subst (λ id. IsReadAs (refused name) (ballots_of c.args.bytes.now (Some id)) c.ballots_in.result) c.contest.ensures c.ballots_in.ensures))
+    (judged_as (refused name) read c.ballots_in.result
+    (subst (λ id. IsReadAs (refused name) (ballots_of c.args.bytes.now (Some id)) c.ballots_in.result) c.contest.ensures c.ballots_in.ensures))
 
 pub returns-in_err-same_digest : goal.returns-in_err-same_digest
 returns-in_err-same_digest c =
     let name = c.args.task.now.files.ballots.now in
     let p = err_from_is_err_and c.from_residual.result c.from_residual.ensures.1 in
     rw (p.1, p.2)
-    (unless_stopped (other_digest name c.args.session.now.digests.ballots c.args.bytes.now) (told (refused name) (ballots_of c.args.bytes.now (Some c.args.session.now.contest))) c.in_err-same_digest.field-0.0
-    (subst (λ digests. IsTold (other_digest name digests.ballots c.args.bytes.now) (due_refusal c.in_err-same_digest.field-0.0)) c.digests.ensures c.in_err-same_digest.ensures.refused))
+    (unless_stopped (other_digest name c.args.session.now.digests.ballots c.args.bytes.now)
+    (told (refused name) (ballots_of c.args.bytes.now (Some c.args.session.now.contest))) c.in_err-same_digest.field-0.0
+    (subst (λ digests. IsTold (other_digest name digests.ballots c.args.bytes.now) (due_refusal c.in_err-same_digest.field-0.0)) c.digests.ensures
+    c.in_err-same_digest.ensures.refused))

@@ -13,5 +13,7 @@ returns-in_err-same_digest-clause-refused c =
     let name = files.manifest.now in
     let p = err_from_is_err_and c.from_residual.result c.from_residual.ensures.1 in
     rw (p.1, p.2)
-    (unless_stopped (other_digest name c.args.session.now.digests.manifest c.args.bytes.now) (cards_for files.ballots.now c.args.ballots.now name c.args.bytes.now) c.in_err-same_digest.field-0.0
-    (subst (λ digests. IsTold (other_digest name digests.manifest c.args.bytes.now) (due_refusal c.in_err-same_digest.field-0.0)) c.digests.ensures c.in_err-same_digest.ensures.refused))
+    (unless_stopped (other_digest name c.args.session.now.digests.manifest c.args.bytes.now)
+    (cards_for files.ballots.now c.args.ballots.now name c.args.bytes.now) c.in_err-same_digest.field-0.0
+    (subst (λ digests. IsTold (other_digest name digests.manifest c.args.bytes.now) (due_refusal c.in_err-same_digest.field-0.0)) c.digests.ensures
+    c.in_err-same_digest.ensures.refused))

@@ -13,5 +13,6 @@ returns-then-task-had-clause-read c =
     let session = c.in_ok-session.session in
     next_stopped (session_in asked.session c.args.bytes.now) _ session c.refuse_for.result c.in_ok-session.ensures
     (unless_stopped _ (Ok session) c.refuse_for.result
-    (had_as_many asked.session asked.seen session.session.rounds asked.draws c.last_draws-had.result (due_refusal c.refuse_for.result) c.last_draws-had.ensures c.if-task-had.true
+    (had_as_many asked.session asked.seen session.session.rounds asked.draws c.last_draws-had.result
+    (due_refusal c.refuse_for.result) c.last_draws-had.ensures c.if-task-had.true
     (c.refuse_for.ensures (had_text c.last_draws-had.result) c.had_text.ensures)))

@@ -8,5 +8,6 @@ use Rattle.session_commands.proofs.tell.answer.Goals as goal
 pub returns-clause-due : goal.returns-clause-due
 returns-clause-due g c =
     let name = c.args.session.now in
-    read_last _ _ _ name c.in_ok-bytes.bytes.items (session_in name) (λ bytes content. ends (reported content)) c.in_ok-bytes.ensures.read _ (due c.report.result)
+    read_last _ _ _ name c.in_ok-bytes.bytes.items (session_in name) (λ bytes content. ends (reported content)) c.in_ok-bytes.ensures.read _
+    (due c.report.result)
     (ap (session_in name) (sym c.deref.ensures.value) ∙ c.in_ok-session.ensures) c.report.ensures

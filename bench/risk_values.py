@@ -1,7 +1,7 @@
 #!/usr/bin/env python3
 """Values of the printed risk and of clean draws, worked out with exact fractions.
 
-Prints the two tables of crates/km_risk/src/tests.rt: run it, and put its output in place of the tables there.
+Prints the two tables of crates/audit_tests/src/km_risk_tests.rt: run it, and put its output in place of the tables there.
 The factors are those of SHANGRLA (section 3.2), taken as fractions, and not the whole numbers that the program
 multiplies. Each risk is also held against its exact product from both sides, where that isn't too long to work out.
 """

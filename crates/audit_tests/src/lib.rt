@@ -1,0 +1,22 @@
+//! Tests of the crates of an audit, from the risk and the draws up to the commands: small audits and tables of values from outside,
+//! asked by public calls. Each module of tests is named after the crate that it tests.
+#![tactic(auto)]
+
+#[cfg(test)]
+mod assorters_tests;
+#[cfg(test)]
+mod audit_commands_tests;
+#[cfg(test)]
+mod audit_report_tests;
+#[cfg(test)]
+mod audit_session_tests;
+#[cfg(test)]
+mod km_risk_tests;
+#[cfg(test)]
+mod one_card;
+#[cfg(test)]
+mod reading;
+#[cfg(test)]
+mod sampler_tests;
+#[cfg(test)]
+mod session_commands_tests;

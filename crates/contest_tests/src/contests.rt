@@ -1,0 +1,79 @@
+// Contests that were counted by hand, and their candidates.
+ghost use Rattle.std.specs.Prelude.{◌≡◌, ◌≢◌, ◌<◌, ◌∷◌, [], All};
+ghost use Rattle.assertions.specs.Contests as contests;
+
+use irv_base::{Candidate, Ranking};
+
+pub const ZERO: Candidate = Candidate(0);
+
+pub const ONE: Candidate = Candidate(1);
+
+pub const TWO: Candidate = Candidate(2);
+
+pub const THREE: Candidate = Candidate(3);
+
+pub const FOUR: Candidate = Candidate(4);
+
+/// The ranking of one candidate alone.
+pub fn only(c: Candidate) -> Ranking
+    ensures { result ≡ c ∷ [] }
+{
+    Ranking::of(&[c])
+}
+
+/// The ranking of two candidates.
+pub fn both(first: Candidate, second: Candidate) -> Ranking
+    requires { first ≢ second }
+    ensures { result ≡ first ∷ second ∷ [] }
+{
+    Ranking::of(&[first, second])
+}
+
+/// A ballot 0 and two ballots 1.
+pub fn one_against_two() -> [Ranking; 3]
+    ensures { All (λ ranking. All (λ c. c < 2) ranking) result }
+{
+    [only(ZERO), only(ONE), only(ONE)]
+}
+
+/// Three ballots 0 and two 1.
+pub fn three_against_two() -> [Ranking; 5]
+    ensures same { result ≡ contests.two_candidates }
+    ensures below { All (λ ranking. All (λ c. c < 2) ranking) result }
+{
+    [only(ZERO), only(ZERO), only(ZERO), only(ONE), only(ONE)]
+}
+
+/// Five ballots 0, four 1,2 and three 2,1.
+pub fn ballots_of_three() -> [Ranking; 12]
+    ensures same { result ≡ contests.three_candidates }
+    ensures below { All (λ ranking. All (λ c. c < 3) ranking) result }
+{
+    let alone = only(ZERO);
+    let forth = both(ONE, TWO);
+    let back = both(TWO, ONE);
+    [
+        alone, alone, alone, alone, alone, forth, forth, forth, forth, back, back, back,
+    ]
+}
+
+/// Four ballots 1, three 2, and one each of 3,2, of 3 and of 0,1.
+pub fn county_ballots() -> [Ranking; 10]
+    ensures same { result ≡ contests.county }
+    ensures below { All (λ ranking. All (λ c. c < 4) ranking) result }
+{
+    let one = only(ONE);
+    let two = only(TWO);
+    [
+        one,
+        one,
+        one,
+        one,
+        two,
+        two,
+        two,
+        both(THREE, TWO),
+        only(THREE),
+        both(ZERO, ONE),
+    ]
+}

@@ -1,0 +1,191 @@
+// The checker of files, on a contest of three candidates: its certificate is accepted, and each change of it is found. Ids are one above
+// the numbers of the candidates.
+
+use crate::contests::{ONE, TWO, ZERO};
+use assertion_file::read_file;
+use assertions::Assertion;
+use ballot_reader::read_ballots;
+use cover_checker::{CheckFault, Checked, check};
+use irv_base::{CandSet, Candidate};
+use set_tallies::{Ahead, Bag, Tallies};
+use std::process::Abort;
+use std::thread::Threads;
+
+const BALLOTS: &str =
+    "1\nContest,1,3,1,2,3\n1,t_1,1\n1,t_2,1\n1,t_3,1\n1,t_4,1\n1,t_5,1\n1,t_6,2,3\n1,t_7,2,3\n1,t_8,2,3\n1,t_9,2,3\n1,t_10,3,2\n1,t_11,3,2\n1,t_12,3,2\n";
+
+const CERTIFICATE: &str =
+    "{\"assertions\":[{\"kind\":\"NEB\",\"loser\":\"3\",\"margin\":1,\"winner\":\"2\"},{\"kind\":\"NEN\",\"loser\":\"1\",\"margin\":2,\"rest\":[\"1\",\"2\"],\"winner\":\"2\"},{\"kind\":\"NEN\",\"loser\":\"1\",\"margin\":2,\"rest\":[\"1\",\"3\"],\"winner\":\"3\"}],\"candidates\":[\"1\",\"2\",\"3\"],\"contest\":\"1\",\"margin\":1,\"order\":[\"2\",\"1\",\"3\"],\"records\":12,\"version\":1,\"winner\":\"2\"}\n";
+
+const NEB: &str = "{\"kind\":\"NEB\",\"loser\":\"3\",\"margin\":1,\"winner\":\"2\"},";
+
+fn checked<R: Abort + AllocGlobal + Threads + Sync>(
+    rt: &R,
+    ballots: &str,
+    file: &str,
+    nodes: u32,
+) -> Result<Checked, CheckFault> {
+    let alloc = rt.alloc();
+    let ballots = read_ballots(alloc, ballots.as_bytes(), None).expect(rt, "ballots");
+    let n = ballots.candidates().len() as u32;
+    let bag = Bag::of(rt, n, ballots.rankings(), 1).expect(rt, "bag");
+    let ahead = Ahead::fill(alloc, &bag).expect(rt, "ahead");
+    let mut tallies = Tallies::new(alloc, &bag, &ahead).expect(rt, "tallies");
+    let file = read_file(alloc, file.as_bytes()).expect(rt, "file");
+    check(alloc, &ballots, &mut tallies, &file, nodes)
+}
+
+// The answer to the certificate with one text in place of another.
+fn changed<R: Abort + AllocGlobal + Threads + Sync>(
+    rt: &R,
+    from: &str,
+    to: &str,
+) -> Result<Checked, CheckFault> {
+    let file = CERTIFICATE.replace(rt.alloc(), from, to).expect(rt, "text");
+    checked(rt, BALLOTS, file.as_str(), 100)
+}
+
+fn is_tie(answer: &Result<Checked, CheckFault>, at: u32, who: CandSet, votes: u32) -> bool {
+    match answer {
+        Err(CheckFault::Tie { round, tied, tally }) => {
+            *round == at && *tied == who && *tally == votes
+        }
+        _ => false,
+    }
+}
+
+fn stands(answer: &Result<Checked, CheckFault>, candidates: &[Candidate]) -> bool {
+    match answer {
+        Ok(Checked::Stands(order)) => order.candidates() == candidates,
+        _ => false,
+    }
+}
+
+fn is_refuted(answer: &Result<Checked, CheckFault>, by: &Assertion, by_margin: u32) -> bool {
+    match answer {
+        Ok(Checked::Harder { assertion, margin }) => assertion == by && *margin == by_margin,
+        _ => false,
+    }
+}
+
+#[test]
+fn certificate_is_accepted(rt: HostRuntime) {
+    assert!(rt; matches!(checked(&rt, BALLOTS, CERTIFICATE, 1), Ok(Checked::Accepted)));
+}
+
+#[test]
+fn no_budget(rt: HostRuntime) {
+    assert!(rt;
+        matches!(
+            checked(&rt, BALLOTS, CERTIFICATE, 0),
+            Err(CheckFault::Spent { last: ZERO })
+        )
+    );
+}
+
+#[test]
+fn other_contests(rt: HostRuntime) {
+    let changes = [
+        ("\"contest\":\"1\"", "\"contest\":\"2\""),
+        ("\"3\"", "\"4\""),
+        ("\"records\":12", "\"records\":11"),
+    ];
+    for (from, to) in changes {
+        assert!(rt; matches!(changed(&rt, from, to), Ok(Checked::OtherContest)));
+    }
+}
+
+#[test]
+fn tie_comes_after_the_contest(rt: HostRuntime) {
+    let ballots = "1\nContest,1,3,1,2,3\n1,t_1,1\n1,t_2,1\n1,t_3,1\n";
+    assert!(rt;
+        matches!(
+            checked(&rt, ballots, CERTIFICATE, 100),
+            Ok(Checked::OtherContest)
+        )
+    );
+    let file = CERTIFICATE
+        .replace(rt.alloc(), "\"records\":12", "\"records\":3")
+        .expect(&rt, "text");
+    let answer = checked(&rt, ballots, file.as_str(), 100);
+    assert!(rt; is_tie(&answer, 1, CandSet::empty().with(ONE).with(TWO), 0));
+}
+
+#[test]
+fn other_winner(rt: HostRuntime) {
+    let found = changed(
+        &rt,
+        "\"version\":1,\"winner\":\"2\"",
+        "\"version\":1,\"winner\":\"1\"",
+    );
+    assert!(rt; matches!(found, Ok(Checked::OtherWinner(ONE))));
+}
+
+#[test]
+fn order_stands_without_the_neb(rt: HostRuntime) {
+    assert!(rt; stands(&changed(&rt, NEB, ""), &[ONE, ZERO, TWO]));
+}
+
+#[test]
+fn other_margin_of_the_neb(rt: HostRuntime) {
+    let found = changed(
+        &rt,
+        "\"loser\":\"3\",\"margin\":1",
+        "\"loser\":\"3\",\"margin\":2",
+    );
+    assert!(rt; matches!(found, Ok(Checked::OtherMargin { index: 1, found: 1 })));
+}
+
+// With the ids 2 and 3 left, 3 has three votes against four.
+#[test]
+fn margin_below_zero(rt: HostRuntime) {
+    let found = changed(
+        &rt,
+        "\"loser\":\"1\",\"margin\":2,\"rest\":[\"1\",\"3\"],\"winner\":\"3\"",
+        "\"loser\":\"2\",\"margin\":1,\"rest\":[\"2\",\"3\"],\"winner\":\"3\"",
+    );
+    assert!(rt;
+        matches!(
+            found,
+            Ok(Checked::OtherMargin {
+                index: 3,
+                found: -1
+            })
+        )
+    );
+}
+
+#[test]
+fn other_smallest_margin(rt: HostRuntime) {
+    let found = changed(
+        &rt,
+        "\"contest\":\"1\",\"margin\":1",
+        "\"contest\":\"1\",\"margin\":2",
+    );
+    assert!(rt; matches!(found, Ok(Checked::NotLeast { found: 1 })));
+}
+
+#[test]
+fn order_elects_the_winner(rt: HostRuntime) {
+    let found = changed(
+        &rt,
+        "\"order\":[\"2\",\"1\",\"3\"]",
+        "\"order\":[\"3\",\"1\",\"2\"]",
+    );
+    assert!(rt; matches!(found, Ok(Checked::NotAlternative)));
+}
+
+#[test]
+fn order_is_refuted(rt: HostRuntime) {
+    let answer = changed(
+        &rt,
+        "\"order\":[\"2\",\"1\",\"3\"]",
+        "\"order\":[\"3\",\"2\",\"1\"]",
+    );
+    let nen = Assertion::Nen {
+        w: ONE,
+        l: ZERO,
+        rest: CandSet::empty().with(ZERO).with(ONE),
+    };
+    assert!(rt; is_refuted(&answer, &nen, 2));
+}

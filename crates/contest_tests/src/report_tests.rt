@@ -1,0 +1,73 @@
+// The texts of small contests, byte for byte. Where ids are numbers, they are one above those of the candidates.
+ghost use Rattle.std.specs.Prelude.{length, IfOk};
+ghost use Rattle.irv_tabulator.specs.Results.{IsTabulation};
+
+use crate::contests::{ONE, TWO, ZERO};
+use assertions::Assertion;
+use ballot_reader::{Ballots, read_ballots};
+use irv_base::{CandSet, Name, Order};
+use irv_tabulator::{TabFault, Tabulated, tabulate};
+use report::{assertion_text, order_text, set_text, tabulation};
+use set_tallies::{Ahead, Bag, Tallies};
+use std::thread::Threads;
+
+fn tabulated<R: AllocGlobal + Threads + Sync>(
+    rt: &R,
+    ballots: &Ballots,
+) -> Result<Tabulated, TabFault>
+    ensures { IfOk result (IsTabulation (length (ballots.now).candidates) (ballots.now).rankings) }
+{
+    let n = ballots.candidates().len() as u32;
+    let alloc = rt.alloc();
+    let bag = Bag::of(rt, n, ballots.rankings(), 1)?;
+    let ahead = Ahead::fill(alloc, &bag)?;
+    let mut tallies = Tallies::new(alloc, &bag, &ahead)?;
+    tabulate(alloc, &mut tallies)
+}
+
+#[test]
+fn two_candidates(rt: HostRuntime) {
+    let file = b"1\nContest,7,2,A,B\n7,b_1,A\n7,b_2,B,A\n7,b_3,B\n7,b_4\n".as_slice();
+    let ballots = read_ballots(rt.alloc(), file, None).expect(&rt, "ballots");
+    match tabulated(&rt, &ballots) {
+        Ok(t) => {
+            let text = tabulation(rt.alloc(), &ballots, &t).expect(&rt, "text");
+            assert!(rt;
+                text.as_str()
+                    == "contest 7\nrecords 4\nround 1: A=1 B=2 exhausted=1\neliminated A\nwinner B\n"
+            );
+        }
+        Err(_) => assert!(rt; false),
+    }
+}
+
+#[test]
+fn order_and_set_of_three(rt: HostRuntime) {
+    let one = Name::read(b"1".as_slice()).expect(&rt, "name");
+    let two = Name::read(b"2".as_slice()).expect(&rt, "name");
+    let three = Name::read(b"3".as_slice()).expect(&rt, "name");
+    let names = [one, two, three];
+    let order = Order::read(3, [1, 0, 2].as_slice()).expect(&rt, "order");
+    let text = order_text(rt.alloc(), names.as_slice(), &order).expect(&rt, "order");
+    assert!(rt; text.as_str() == "2,1,3");
+    let set = CandSet::empty().with(ZERO).with(TWO);
+    let text = set_text(rt.alloc(), names.as_slice(), set).expect(&rt, "set");
+    assert!(rt; text.as_str() == "1,3");
+}
+
+#[test]
+fn assertions_of_two(rt: HostRuntime) {
+    let one = Name::read(b"A".as_slice()).expect(&rt, "name");
+    let two = Name::read(b"B".as_slice()).expect(&rt, "name");
+    let names = [one, two];
+    let neb = Assertion::Neb { w: ZERO, l: ONE };
+    let text = assertion_text(rt.alloc(), names.as_slice(), &neb).expect(&rt, "NEB");
+    assert!(rt; text.as_str() == "NEB A B");
+    let nen = Assertion::Nen {
+        w: ONE,
+        l: ZERO,
+        rest: CandSet::empty().with(ZERO).with(ONE),
+    };
+    let text = assertion_text(rt.alloc(), names.as_slice(), &nen).expect(&rt, "NEN");
+    assert!(rt; text.as_str() == "NEN B A {A,B}");
+}

@@ -1,0 +1,164 @@
+// Counts of ballots: contests whose rows of tallies were counted by hand, and rows of all sets against a plain count.
+ghost use Rattle.std.specs.Prelude.{◌≡◌, ◌<◌, ◌≤◌, ◌^◌, All, IfOk, length};
+ghost use Rattle.irv_base.specs.declared.limits.TheConstants.{FEWEST_CANDIDATES, ROOM, MOST_RECORDS, MOST_WORKERS};
+
+use crate::contests::{FOUR, ONE, THREE, TWO, ZERO, both, one_against_two, only};
+use irv_base::{CandSet, Candidate, MOST_WORKERS, Memory, Ranking};
+use set_tallies::{Counted, Tallies};
+use std::alloc::Global;
+use std::process::Abort;
+use std::thread::Threads;
+
+// So few candidates have sums whatever the number of ballots.
+const FEW: u32 = 5;
+
+// So many candidates have no sums at first where there are ten ballots. They are made before the rows of all sets were counted.
+const MANY: u32 = 13;
+
+// Ten ballots so often are one share for one worker, two even ones for two, and for more of them two full ones and part of a third.
+const TIMES: u32 = 1001;
+
+#[test]
+fn counts_first_choices(rt: HostRuntime) {
+    let rankings = one_against_two();
+    let counted = Counted::of(&rt, 2, rankings.as_slice(), 1).expect(&rt, "counted");
+    let mut tallies = counted.tallies().expect(&rt, "tallies");
+    assert!(rt; tallies.records() == 3);
+    assert!(rt; tallies.ahead().first(ONE) == 2);
+    assert!(rt; tallies.ahead().ahead(ZERO, ONE) == 1);
+    let row = tallies.tally(CandSet::empty().with(ONE)).expect(&rt, "row");
+    assert!(rt; row.as_slice() == [0, 2].as_slice());
+}
+
+// On how many ballots the candidate 18 is the first of the set.
+fn votes_of_18(tallies: &mut Tallies, set: CandSet) -> Option<u32>
+    requires { set < 2 ^ tallies.old.bag.n }
+    ensures { tallies.new ≡ tallies.old }
+{
+    let row = tallies.tally(set).ok()?;
+    row.get(18).copied()
+}
+
+// The rows of {1} and {1, 18} fall on the same place.
+#[test]
+fn counts_again_after_another_row_at_its_place(rt: HostRuntime) {
+    let rankings = [only(ONE), only(Candidate(18)), only(Candidate(18))];
+    let counted = Counted::of(&rt, 19, rankings.as_slice(), 1).expect(&rt, "counted");
+    let mut tallies = counted.tallies().expect(&rt, "tallies");
+    let one = CandSet::empty().with(ONE);
+    let two = one.with(Candidate(18));
+    assert!(rt; votes_of_18(&mut tallies, one) == Some(0));
+    assert!(rt; votes_of_18(&mut tallies, one) == Some(0));
+    assert!(rt; votes_of_18(&mut tallies, two) == Some(2));
+    assert!(rt; votes_of_18(&mut tallies, two) == Some(2));
+    assert!(rt; votes_of_18(&mut tallies, one) == Some(0));
+}
+
+// Ten ballots for five candidates.
+fn ballots() -> [Ranking; 10]
+    ensures ten { length result ≡ 10 }
+    ensures few { All (λ ranking. All (λ c. c < FEW) ranking) result }
+    ensures many { All (λ ranking. All (λ c. c < MANY) ranking) result }
+{
+    [
+        Ranking::of(&[ZERO, ONE, TWO]),
+        Ranking::of(&[ONE, TWO, ZERO]),
+        Ranking::of(&[TWO, ZERO, ONE]),
+        both(THREE, FOUR),
+        both(FOUR, THREE),
+        both(ZERO, THREE),
+        Ranking::of(&[ONE, FOUR, TWO]),
+        both(TWO, ONE),
+        both(TWO, ONE),
+        Ranking::of(&[THREE, ZERO, FOUR]),
+    ]
+}
+
+fn set_numbered(number: u32) -> CandSet {
+    let mut set = CandSet::empty();
+    for c in 0..MANY as u8 {
+        if (number >> c) & 1 == 1 {
+            set = set.with(Candidate(c));
+        }
+    }
+    set
+}
+
+fn votes_of(tallies: &mut Tallies, set: CandSet) -> Option<Vec<u32>>
+    ensures { tallies.new ≡ tallies.old }
+{
+    if u64::from(set.number()) >= 1u64 << tallies.candidates() {
+        return None;
+    }
+    tallies.tally(set).ok()
+}
+
+// The row of each set has for each candidate the number of those ballots that have it first of the set, each ballot `times` over.
+fn check_rows(rt: &impl Abort, tallies: &mut Tallies, times: usize) {
+    for number in 1..1u32 << tallies.candidates().min(MANY) {
+        let set = set_numbered(number);
+        let row = votes_of(tallies, set).expect(rt, "row");
+        for (c, votes) in row.iter().enumerate() {
+            let first = ballots()
+                .iter()
+                .filter(|r| r.first_in(set).is_some_and(|d| d.index() == c))
+                .count();
+            assert_eq!(rt;
+                *votes as usize,
+                first.saturating_mul(times),
+                "candidate {c} of {number}"
+            );
+        }
+    }
+}
+
+// Counts the ballots with these rankings, each of which is there `times` over, and looks at the rows.
+fn check_count<R: Abort + AllocGlobal + Threads + Sync>(
+    rt: &R,
+    n: u32,
+    rankings: &[Ranking],
+    workers: u32,
+    times: usize,
+)
+    requires fewest { FEWEST_CANDIDATES ≤ n }
+    requires room { n ≤ ROOM }
+    requires most { length rankings.now ≤ MOST_RECORDS }
+    requires below { All (λ ranking. All (λ c. c < n) ranking) rankings.now }
+    requires workers { (1 ≤ workers) × (workers ≤ MOST_WORKERS) }
+{
+    let counted = Counted::of(rt, n, rankings, workers).expect(rt, "counted");
+    let mut tallies = counted.tallies().expect(rt, "tallies");
+    check_rows(rt, &mut tallies, times);
+}
+
+#[test]
+fn sums_say_what_the_ballots_say(rt: HostRuntime) {
+    check_count(&rt, FEW, ballots().as_slice(), 1, 1);
+}
+
+// When nearly all rows were counted, the sums are made for the last ones.
+#[test]
+fn late_sums_say_what_the_ballots_say(rt: HostRuntime) {
+    check_count(&rt, MANY, ballots().as_slice(), 1, 1);
+}
+
+// The ballots again and again.
+fn many_ballots(alloc: Global) -> Result<Vec<Ranking>, Memory>
+    ensures most { IfOk result (λ rankings. length rankings.items ≤ MOST_RECORDS) }
+    ensures few { IfOk result (λ rankings.
+        All (λ ranking. All (λ c. c < FEW) ranking) rankings.items) }
+{
+    let mut rankings = Vec::new(alloc);
+    for _time in 0..TIMES {
+        rankings.extend_from_slice(&ballots())?;
+    }
+    Ok(rankings)
+}
+
+#[test]
+fn any_number_of_workers_counts_all_ballots(rt: HostRuntime) {
+    let rankings = many_ballots(rt.alloc()).expect(&rt, "rankings");
+    for workers in 1..=MOST_WORKERS {
+        check_count(&rt, FEW, &rankings, workers, TIMES as usize);
+    }
+}

@@ -1,0 +1,45 @@
+// Scored suffixes: each call that allocates once, on a contest of three ballots that was counted by hand.
+ghost use Rattle.std.specs.Prelude.{◌≡◌, ◌<◌, map, IfOk};
+ghost use Rattle.suffix_tree.specs.Suffixes.{children};
+ghost use Rattle.suffix_tree.specs.Scores.{IsScoredOver};
+
+use crate::contests::{ZERO, one_against_two};
+use irv_base::{Memory, Steps};
+use set_tallies::{Counted, Tallies};
+use std::alloc::Global;
+use std::marker::Brand;
+use std::sync::ledger::{Blank, Ledger};
+use suffix_tree::{Scored, Tail, expand, score};
+
+fn longer<L: Ledger>(
+    alloc: Global,
+    blank: Blank,
+    s: &Scored,
+    tallies: &mut Tallies,
+) -> Result<Vec<Scored>, Memory>
+    requires name { blank.name ≡ L.name }
+    requires parts { blank.parts ≡ L.parts }
+    requires some { 0 < blank.parts }
+    requires contest { s.now.tail.n ≡ tallies.old.bag.n }
+    requires scored { IsScoredOver tallies.old.bag s.now }
+    ensures { IfOk result (λ longer. map (λ child. child.tail) longer.items ≡ children s.now.tail) }
+{
+    let mut steps = Steps::<L>::new(blank);
+    expand(alloc, s, tallies, &mut steps)
+}
+
+#[test]
+fn scores_two_candidates(rt: HostRuntime) {
+    let rankings = one_against_two();
+    let counted = Counted::of(&rt, 2, rankings.as_slice(), 1).expect(&rt, "counted");
+    let mut tallies = counted.tallies().expect(&rt, "tallies");
+    let alone = score(&Tail::last(2, ZERO), &mut tallies).expect(&rt, "score");
+    assert!(rt; alone.low == 1);
+    let more = longer::<Brand>(rt.alloc(), Blank::new(1), &alone, &mut tallies).expect(
+        &rt, "children",
+    );
+    assert!(rt; more.len() == 1);
+    let child = &more[0];
+    assert!(rt; child.low == 1);
+    assert!(rt; child.tail.whole().is_some());
+}

@@ -1,0 +1,12 @@
+// What tests of several crates do with texts.
+use std::alloc::{AllocError, Global};
+
+/// The text with another one in place of each `old`.
+pub(crate) fn altered(
+    alloc: Global,
+    text: &str,
+    old: &str,
+    new: &str,
+) -> Result<String, AllocError> {
+    text.replace(alloc, old, new)
+}

@@ -160,6 +160,11 @@ def words(shows, tried):
     for line in ([*both, "--nodes", "0005"], ["--contest", "7", *both], ["--contest=7", "--", *both], ["assertions.json", "--", "-b.raire"]):
         status, page, err = shows.run(*line)
         tried.see(f"{line} are shown", status == 0 and "The assertions hold" in page, (status, err))
+    for line in (both, ["--help"]):
+        for output in ("> /dev/full", ">&-", "| true"):
+            told = f'set -o pipefail; (sleep 0.1; exec "$0" "$@") {output}' if output == "| true" else f'exec "$0" "$@" {output}'
+            ran = subprocess.run(["bash", "-c", told, SHOW, *line], capture_output=True, text=True, env=shows.given)
+            tried.see(f"{line} {output} is told", (ran.returncode, ran.stderr) == (8, "show: the page could not be written\n"), ran)
 
 
 # ---- which program, and what it judged
@@ -238,6 +243,26 @@ def sessions(shows, tried):
     write("seen.csv", "")
     status, page, err = shows.run("open.json", *files, "seen.csv")
     tried.see("a drawn card that wasn't seen is told", status == 2 and page == "" and err.endswith("V4 card 1 draw 1\n"), (status, err))
+
+
+def promises(shows, tried):
+    """What follows from the assertions is said where a check has accepted them, or where no order stands and nothing was checked."""
+    row1, mayor, assembly = (os.path.join(TOP, "examples", f"{name}.raire") for name in ("row1", "mayor", "assembly"))
+    found = [subprocess.run([shows.path, "search", name], capture_output=True, text=True, env=shows.given).stdout for name in (row1, mayor, assembly)]
+    write("whole.json", found[0])
+    write("winner.json", found[0].replace('"winner":"2"}\n', '"winner":"3"}\n'))
+    write("part.json", re.sub(r'"assertions":\[({[^}]*}).*?],"candidates"', r'"assertions":[\1],"candidates"', found[0]))
+    write("mayor.json", found[1])
+    write("large.json", found[2])
+    for files, follows, said in [
+        (["whole.json"], True, "refute every order that elects another candidate than 2"), (["whole.json", row1], True, "The assertions hold"),
+        (["winner.json", row1], False, "no: winner is 2"), (["winner.json"], False, "standing"), (["part.json"], False, "standing"),
+        (["part.json", row1], False, "isn’t accepted"), (["mayor.json", mayor, "--nodes", "2"], False, "The check was spent"),
+        (["large.json"], False, "A check by the program goes through all of them"), (["large.json", assembly], True, "The program’s check goes through all of them"),
+    ]:
+        status, page, err = shows.run(*files)
+        text = text_of(page) if status == 0 else err
+        tried.see(f"what follows from {files}", status == 0 and ("of the ballots on paper, then" in text) == follows and said in text, text[:300])
 
 
 def belonging(shows, tried):
@@ -435,7 +460,7 @@ def main():
     tried, draws, here = Tried(), Draws(23), os.getcwd()
     with tempfile.TemporaryDirectory() as tools:
         shows = Shows(program, tools)
-        cases = (refusals, words, programs, sessions, belonging, seen_alone, kinds)
+        cases = (refusals, words, programs, sessions, promises, belonging, seen_alone, kinds)
         makers = [lambda case=case: case(shows, tried) for case in cases] + [lambda: numbers(shows, tried, draws)] * count
         makers.append(lambda: looks(shows, tried, os.getcwd(), keep))
         for maker in makers:

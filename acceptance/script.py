@@ -2,7 +2,7 @@
 """Tries the script ./raire: its help, what it says of bad words, and how it builds, with a stand-in for `rt`.
 
 acceptance/script.py PROGRAM copies the script with crates.txt and docs/help to a folder of its own. There a stand-in
-notes when it proves a crate, so that nothing is proved. The commands and links of README and docs/ are tried too. The
+notes what it is asked for, so that nothing is proved. The commands and links of README and docs/ are tried too. The
 last line says how many came out as they should.
 """
 import os
@@ -14,15 +14,23 @@ import tempfile
 
 TOP = os.path.dirname(os.path.dirname(os.path.abspath(__file__)))
 
-# Notes each crate's begin and end, and makes a program that refuses one word.
+# Notes what it is asked for, tells crates as `rt all` does, refuses one of them, and makes a program that refuses one word.
 STAND_IN = """#!/usr/bin/env bash
 crate=$(basename "$PWD")
 [ "$1" != version ] || { echo "a kit"; exit 0; }
-echo "begin $crate" >>"$NOTES"
-sleep 0.1
-echo "end $crate" >>"$NOTES"
-if [ "$crate" = "$REFUSES" ]; then echo "the goal of $crate"; exit 1; fi
-if [ "$crate" = raire ]; then
+echo "$crate $*" >>"$NOTES"
+if [ "$1" = all ]; then
+    for below in $CRATES; do
+        echo "== $below"
+        if [ "$below" = "$REFUSES" ]; then
+            printf '%s\\n' "the goal of $below" "== summary" "$below: failed (1)" "raire: not run, since $below failed"
+            exit 1
+        fi
+        echo "$below is proved"
+    done
+    echo "== summary"
+elif [ "$1" = run ]; then
+    if [ "$crate" = "$REFUSES_TO_RUN" ]; then echo "no processor for $crate"; exit 1; fi
     mkdir -p out
     printf '#!/usr/bin/env bash\\necho "$@"\\n[ "$1" != bad ] || exit 1\\n' >out/raire
     chmod +x out/raire
@@ -62,36 +70,18 @@ class Copy:
             file.write(STAND_IN)
         os.chmod(stand_in, 0o755)
 
-    def run(self, *words, refuses=""):
+    def run(self, *words, refuses="", refuses_to_run=""):
         path = os.path.join(self.folder, "bin") + ":" + os.environ["PATH"]
-        given = {**os.environ, "PATH": path, "NOTES": self.notes, "REFUSES": refuses}
+        given = {**os.environ, "PATH": path, "NOTES": self.notes, "REFUSES": refuses, "REFUSES_TO_RUN": refuses_to_run}
+        given["CRATES"] = " ".join(sorted(needed(crates(), "raire")))
         ran = subprocess.run([os.path.join(self.folder, "raire"), *words], capture_output=True, text=True, env=given)
         return ran.returncode, ran.stdout, ran.stderr
 
     def noted(self):
         with open(self.notes) as file:
-            lines = [line.split() for line in file]
+            lines = file.read().splitlines()
         os.remove(self.notes)
         return lines
-
-
-def most_at_once(noted):
-    running, most = 0, 0
-    for word, _ in noted:
-        running += 1 if word == "begin" else -1
-        most = max(most, running)
-    return most
-
-
-def is_in_order(noted, deps):
-    """Each crate began once all that it stands on had ended."""
-    ended = set()
-    for word, crate in noted:
-        if word == "end":
-            ended.add(crate)
-        elif not set(deps[crate]) <= ended:
-            return False
-    return True
 
 
 def helps(copy):
@@ -105,26 +95,32 @@ def helps(copy):
             yield f"help {words}", copy.run(*words) == wanted
     told = "raire: no command is called ../formats; ./raire help tells them\n"
     yield "help of no command", copy.run("help", "../formats") == (1, "", told)
+    told = "raire: no command is called ; ./raire help tells them\n"
+    yield "help of a word without letters", copy.run("help", "") == (1, "", told)
+    for word in ("--help", "-h", "--version", "--build"):
+        yield f"words behind {word}", copy.run(word, "search") == (1, "", f"raire: no words belong behind {word}\n")
+    told = "raire: help takes the name of one command, as in ./raire help check\n"
+    yield "help of two words", copy.run("help", "check", "search") == (1, "", told)
     status, out, err = copy.run("--version")
     yield "version", status == 0 and out.startswith("raire ") and out.endswith("; a kit\n") and err == ""
     yield "help builds nothing", not os.path.exists(copy.notes)
 
 
 def builds(copy):
-    deps = crates()
-    wanted = needed(deps, "raire")
+    wanted = needed(crates(), "raire")
     status, out, err = copy.run("tabulate", "a file", refuses="irv_base")
-    noted = copy.noted()
-    yield "a refused crate ends the build", status == 70 and out == "" and "the goal of irv_base" in err
-    yield "a refused program isn't run", copy.run("tabulate", refuses="raire")[0] == 70 and bool(copy.noted())
-    yield "nothing is built on a refused crate", all("irv_base" not in needed(deps, c) or c == "irv_base" for _, c in noted)
+    yield "a refused crate ends the build", status == 70 and out == "" and "the goal of irv_base\nraire: not run" in err
+    yield "of other crates nothing is told", "is proved" not in err
+    yield "nothing is built on a refused crate", len(copy.noted()) == 1
+    status, out, err = copy.run("tabulate", refuses_to_run="raire")
+    yield "a refused program isn't run", status == 70 and out == "" and "no processor for raire" in err and bool(copy.noted())
     status, out, err = copy.run("tabulate", "a file")
     noted = copy.noted()
     yield "the program runs once it is built", (status, out) == (0, "tabulate a file\n")
-    yield "each crate is proved once", sorted(c for word, c in noted if word == "begin") == sorted(wanted)
-    yield "those below come first", is_in_order(noted, deps)
-    yield "side by side, as far as there are processors", min(2, os.cpu_count()) <= most_at_once(noted) <= os.cpu_count()
-    yield "progress is told", err.count(f" of {len(wanted)}: ") == len(wanted)
+    yield "crates are proved before the program is made", [line.split()[:3] for line in noted] == [["raire", "all", "check"], ["raire", "run", "--"]]
+    at_once = int(noted[0].split()[-1])
+    yield "side by side, as far as there are processors", min(2, os.cpu_count()) <= at_once <= os.cpu_count()
+    yield "progress is told", all(f" of {len(wanted)}: {crate}\n" in err for crate in wanted)
     yield "nothing is built again", copy.run("--build") == (0, "", "") and not os.path.exists(copy.notes)
     status, out, err = copy.run("bad")
     yield "bad words are followed by a pointer", (status, out) == (1, "bad\n") and err.startswith("raire: ./raire help")

@@ -16,6 +16,7 @@ from program import TOP, Program
 
 HELP = os.path.join(TOP, "docs", "help", "show.txt")
 OPTIONS = ("--contest", "--nodes")
+UNWRITTEN = Refusal(8, "show: the page could not be written\n")
 MOST_LISTED = 100
 UNCOUNTED = ("no: contest differs", "no: winner is", "no: assertion", "tie")
 
@@ -58,6 +59,8 @@ def see_values(options):
 
 def see_output(paths):
     """No page is written over a file that it is made of, or into a terminal."""
+    if sys.stdout is None:
+        raise UNWRITTEN
     if sys.stdout.isatty():
         raise told("the page goes to standard output: ./show FILES.. > page.html")
     for path in paths:
@@ -361,20 +364,32 @@ def title(page):
     return f"Contest {name}" if name else " and ".join(f"a {file.what}" for file in page.files.values()).capitalize()
 
 
-def main(words):
+def put(text):
+    """Writes all of a text to standard output, which may be closed or full."""
+    try:
+        sys.stdout.buffer.write(text.encode())
+        sys.stdout.flush()
+    except (AttributeError, OSError):
+        if sys.stdout is not None:
+            os.dup2(os.open(os.devnull, os.O_WRONLY), sys.stdout.fileno())  # what is left goes nowhere when Python ends
+        raise UNWRITTEN from None
+
+
+def page_of(words):
     if words[:1] in (["--help"], ["-h"], ["help"]):
         with open(HELP) as file:
-            sys.stdout.write(file.read())
-        return 0
+            return file.read()
+    paths, options = words_of(words)
+    see_output(paths)
+    page = Page(files.given(paths), options, Program())
+    page.read()
+    return filled(page)
+
+
+def main(words):
     try:
-        paths, options = words_of(words)
-        see_output(paths)
-        page = Page(files.given(paths), options, Program())
-        page.read()
-        text = filled(page)
+        put(page_of(words))
     except Refusal as refusal:
         sys.stderr.write(refusal.text)
         return refusal.status
-    sys.stdout.buffer.write(text.encode())
-    sys.stdout.flush()
     return 0

@@ -9,7 +9,7 @@ use Rattle.std.proofs.lemmas.List.Folds.{list_any-append}
 use Rattle.irv_base.specs.Names.{Id, is_same, is_among, all_differ}
 use Rattle.irv_base.proofs.Positions.{first_place, later_place}
 
-same-comm : (a b : Id) → is_same a b ≡ is_same b a
+pub same-comm : (a b : Id) → is_same a b ≡ is_same b a
 same-comm a b = nat_list_eq_equiv.symm a b
 
 pub or-false : (a b : Bool) → (a || b) ≡ false → (a ≡ false) × (b ≡ false)

@@ -9,8 +9,9 @@ use Rattle.std.proofs.lemmas.List.Elements.{All-head, All-tail}
 use Rattle.std.proofs.Math.Seq.{drop-append_seam}
 use Rattle.std.proofs.lemmas.Option.{get_or_from_slice_get, slice_get_read}
 use Rattle.irv_base.specs.Names.{Id, is_among, is_same}
-use Rattle.indexmap.specs.IndexMap.{IndexMap}
-use Rattle.ballot_reader.specs.Ids.{AreEnds, AreNoted, ids_between, is_noted}
+use Rattle.ballot_reader.specs.Ids.{AreEnds, ids_between}
+use Rattle.ballot_reader.specs.Noted.{AreNoted, is_noted}
+use Rattle.ballot_reader.specs.declared.noted.Notes.{Notes}
 
 -- ---- one id more
 
@@ -91,17 +92,17 @@ among-later (a ∷ ids) (suc i) x id less h n =
     let e : suc i + 1 ≡ suc (i + 1) = omega arith in
     among-later ids i x id (omega (arith, less)) h n ∙ ap (λ k. is_among (drop k (a ∷ ids)) id) (sym e)
 
--- ---- ids on pages
+-- ---- ids that are noted
 
 -- an id that isn't noted is new
-pub unnoted-new : {S : Type 0} (ids : List Id) (pages : IndexMap ℕ ℕ S) (id : Id) → AreNoted ids pages → is_noted pages id ≡ false → is_among ids id ≡ false
-unnoted-new [] pages id h new = refl
-unnoted-new (a ∷ ids) pages id h new = elim (cases_Bool (is_same a id)) [
+pub unnoted-new : (ids : List Id) (notes : Notes) (id : Id) → AreNoted ids notes → is_noted notes id ≡ false → is_among ids id ≡ false
+unnoted-new [] notes id h new = refl
+unnoted-new (a ∷ ids) notes id h new = elim (cases_Bool (is_same a id)) [
   | inl t ↦
       let e : a ≡ id = (bytes_decides a id).0 t in
-      let there = All-head (λ x. IsTrue (is_noted pages x)) a ids h in
-      absurd (both_ways (is_noted pages id) new (ap (is_noted pages) (sym e) ∙ there))
-  | inr f ↦ ap (λ b. b || is_among ids id) f ∙ unnoted-new ids pages id (All-tail (λ x. IsTrue (is_noted pages x)) a ids h) new
+      let there = All-head (λ x. IsTrue (is_noted notes x)) a ids h in
+      absurd (both_ways (is_noted notes id) new (ap (is_noted notes) (sym e) ∙ there))
+  | inr f ↦ ap (λ b. b || is_among ids id) f ∙ unnoted-new ids notes id (All-tail (λ x. IsTrue (is_noted notes x)) a ids h) new
 ]
 
 pub among-end : (ids : List Id) (i : ℕ) (id : Id) → length ids ≤ i → is_among (drop i ids) id ≡ false

@@ -10,3 +10,4 @@ pub mod Behind
 pub mod Ended
 pub mod Rereads
 pub mod IdBytes
+pub mod SortedIds

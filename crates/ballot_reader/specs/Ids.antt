@@ -1,10 +1,12 @@
--- Ids that are kept one behind the other in a list of bytes, and the pages on which those that were met are noted.
-use Rattle.std.specs.Prelude.{◌≡◌, ◌≤◌, ◌-◌, ◌/◌, ◌%◌, ℕ, Bool, false, List, [], ◌∷◌, length, take, drop, slice_index_or, Option, None, Some, All, IsTrue, nat_eq, bit_xor}
+-- Ids that are kept one behind the other in a list of bytes, and the pages on which those that were met are marked.
+use Rattle.std.specs.Prelude.{◌≡◌, ◌≤◌, ◌-◌, ◌/◌, ◌%◌, ℕ, Bool, false, List, [], ◌∷◌, length, take, drop, slice_index_or, Option, None, Some, if◌then◌else◌, ◌==◌, bit_xor}
 use Rattle.std.specs.Hash.FoldHasher.{initial, write, finish}
-use Rattle.indexmap.specs.IndexMap.{IndexMap, get}
+use Rattle.std.specs.BTreeMap.{get}
+use Rattle.std.specs.Ordering.{nat_cmp}
 use Rattle.irv_base.specs.Candidates.{has}
 use Rattle.irv_base.specs.Names.{Id}
 use Rattle.irv_base.specs.declared.limits.TheConstants.{ROOM}
+use Rattle.ballot_reader.specs.declared.pages.Pages.{Pages}
 
 -- the first id begins at byte a, each other where the one before it ends
 abbrev pub ids_between : ℕ → List ℕ → List ℕ → List Id
@@ -35,8 +37,10 @@ abbrev pub is_on : Option ℕ → ℕ → Bool
 is_on None c = false
 is_on (Some places) c = has places c
 
-abbrev pub is_noted : {S : Type 0} → IndexMap ℕ ℕ S → Id → Bool
-is_noted pages id = is_on (get nat_eq pages (page id)) (place id)
+-- whether a page has this place
+abbrev pub is_marked_on : Pages → ℕ → ℕ → Bool
+is_marked_on pages page c =
+    if page == pages.open then has pages.places c else is_on (get nat_cmp pages.closed page) c
 
-abbrev pub AreNoted : {S : Type 0} → List Id → IndexMap ℕ ℕ S → Type 0
-AreNoted ids pages = All (λ id. IsTrue (is_noted pages id)) ids
+abbrev pub is_paged : Pages → Id → Bool
+is_paged pages id = is_marked_on pages (page id) (place id)

@@ -3,4 +3,5 @@ pub mod Grammar
 pub mod Faults
 pub mod Ids
 pub mod Kept
+pub mod Noted
 pub mod Laws

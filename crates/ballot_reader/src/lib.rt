@@ -12,8 +12,10 @@ mod kept;
 pub mod laws;
 mod limits;
 mod noted;
+mod pages;
 mod preferences;
 mod read;
+mod sorted;
 
 pub use ballots::Ballots;
 pub use fault::{BRule, BallotFault};

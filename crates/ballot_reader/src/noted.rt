@@ -1,103 +1,86 @@
 // The ids that have been met, each once.
 ghost use Rattle.std.specs.Prelude.{◌≡◌, ◌++◌, ◌∷◌, [], IfOk, OnOk, IsTrue, if◌then◌else◌, not};
 ghost use Rattle.irv_base.specs.Names.{Id, is_among};
-ghost use Rattle.ballot_reader.specs.Ids.{AreNoted, digest, is_noted, last_byte, page, place};
+ghost use Rattle.ballot_reader.specs.Noted.{AreNoted, is_noted};
 
 use crate::ids::Ids;
-use indexmap::IndexMap;
-use irv_base::{CandSet, Candidate, Memory, ROOM};
+use crate::pages::Pages;
+use crate::sorted::Sorted;
+use irv_base::Memory;
 use std::alloc::Global;
-use std::hash::{FoldHasher, Hasher};
 use std::marker::Model;
 
-// The places of last bytes on each page, as a set of numbers below `ROOM`.
-type Pages = IndexMap<u64, CandSet>;
+/// How it is told that an id is new.
+#[derive(Drop)]
+pub enum Notes {
+    /// On pages, as long as each id has a place of its own.
+    Paged(Pages),
+    /// In order, from the first id on whose place another has. Which ids share a place can be foreseen, so a file may have many.
+    Sorted(Sorted),
+}
 
-/// Ids, each once. An id that isn't noted on its page is new, and is compared with none.
+/// Ids, each once. An id that isn't noted is new, and is compared with few or none.
 ///
 /// To a contract it is the list of the ids.
 #[derive(Drop)]
 pub struct Noted {
     ids: Ids,
-    pages: Pages,
+    notes: Notes,
+    alloc: Global,
 }
 
 impl Model for Noted {
     ghost use Rattle.std.specs.Prelude.{List};
     ghost use Rattle.irv_base.specs.Names.{Id};
-    ghost use Rattle.ballot_reader.specs.Ids.{AreNoted};
+    ghost use Rattle.ballot_reader.specs.Noted.{AreNoted};
 
     ghost Value = { List Id };
 
     ghost view = { λ noted. noted.ids };
 
-    ghost invariant = { λ noted. AreNoted noted.ids noted.pages };
+    ghost invariant = { λ noted. AreNoted noted.ids noted.notes };
 }
 
-/// A number that stands for an id, though not for it alone.
-pub fn digest(id: &[u8]) -> u64
-    ensures { result ≡ digest id.now }
-{
-    let mut hasher = FoldHasher::default();
-    hasher.write(id);
-    hasher.finish()
-}
-
-fn last_byte(id: &[u8]) -> u8
-    ensures { result ≡ last_byte id.now }
-{
-    if id.is_empty() {
-        return 0;
+impl Notes {
+    // Notes an id, and tells whether it wasn't noted.
+    fn mark(&mut self, alloc: Global, id: &[u8]) -> Result<bool, Memory>
+        ensures fresh { IfOk result (λ fresh. fresh ≡ not (is_noted self.old id.now)) }
+        ensures own { OnOk result (IsTrue (is_noted self.new id.now)) }
+        ensures kept { (other : Id) → IsTrue (is_noted self.old other)
+            → IsTrue (is_noted self.new other) }
+    {
+        match self {
+            Notes::Paged(pages) => pages.mark(id),
+            Notes::Sorted(sorted) => sorted.put(alloc, id),
+        }
     }
-    id[id.len() - 1]
 }
 
-// The page of an id.
-fn page(id: &[u8]) -> u64
-    ensures { result ≡ page id.now }
+// All these ids and one more, in order.
+fn sorted_with(alloc: Global, ids: &Ids, id: &[u8]) -> Result<Notes, Memory>
+    ensures kept { IfOk result (AreNoted ids.now) }
+    ensures own { IfOk result (AreNoted (id.now ∷ [])) }
 {
-    let all_but_last = &id[..id.len().saturating_sub(1)];
-    digest(all_but_last) ^ u64::from(last_byte(id) / ROOM)
+    let mut sorted = Sorted::of(alloc, ids)?;
+    sorted.put(alloc, id)?;
+    Ok(Notes::Sorted(sorted))
 }
 
-// The place of an id on its page.
-fn place(id: &[u8]) -> Candidate
-    ensures { result ≡ place id.now }
-{
-    Candidate(last_byte(id) % ROOM)
-}
-
-// Notes an id on its page, and tells whether it wasn't there.
-fn mark(pages: &mut Pages, id: &[u8]) -> Result<bool, Memory>
-    ensures fresh { IfOk result (λ fresh. fresh ≡ not (is_noted pages.old id.now)) }
-    ensures own { OnOk result (IsTrue (is_noted pages.new id.now)) }
-    ensures kept { (other : Id) → IsTrue (is_noted pages.old other)
-        → IsTrue (is_noted pages.new other) }
-{
-    let page = page(id);
-    let place = place(id);
-    let places = match pages.get(&page) {
-        Some(places) => *places,
-        None => CandSet::empty(),
-    };
-    if places.has(place) {
-        return Ok(false);
-    }
-    pages.insert(page, places.with(place))?;
-    Ok(true)
-}
-
-// Whether the id is none of these, which are noted on the pages. It is noted too.
-fn is_new(ids: &Ids, pages: &mut Pages, id: &[u8]) -> Result<bool, Memory>
-    requires { AreNoted ids.now pages.old }
+// Whether the id is none of these, which are noted. It is noted too.
+fn is_new(alloc: Global, ids: &Ids, notes: &mut Notes, id: &[u8]) -> Result<bool, Memory>
+    requires { AreNoted ids.now notes.old }
     ensures new { IfOk result (λ new. new ≡ not (is_among ids.now id.now)) }
-    ensures kept { AreNoted ids.now pages.new }
-    ensures own { OnOk result (AreNoted (id.now ∷ []) pages.new) }
+    ensures kept { AreNoted ids.now notes.new }
+    ensures own { OnOk result (AreNoted (id.now ∷ []) notes.new) }
 {
-    if mark(pages, id)? {
+    if notes.mark(alloc, id)? {
         return Ok(true);
     }
-    Ok(!ids.has(id))
+    if ids.has(id) {
+        return Ok(false);
+    }
+    *notes = sorted_with(alloc, ids, id)?;
+    Ok(true)
 }
 
 impl Noted {
@@ -107,17 +90,20 @@ impl Noted {
     {
         Ok(Noted {
             ids: Ids::nothing(alloc, room)?,
-            pages: IndexMap::new(alloc),
+            notes: Notes::Paged(Pages::new(alloc)),
+            alloc,
         })
     }
 
     /// Notes the id unless it stood before, and tells whether it is new.
+    ///
+    /// An id that stood before is looked for among all. It refuses its file, so that happens once.
     pub fn note(&mut self, id: &[u8]) -> Result<bool, Memory>
         ensures new { IfOk result (λ new. new ≡ not (is_among self.old id.now)) }
         ensures noted { IfOk result (λ new.
             self.new ≡ (if new then self.old ++ id.now ∷ [] else self.old)) }
     {
-        if !is_new(&self.ids, &mut self.pages, id)? {
+        if !is_new(self.alloc, &self.ids, &mut self.notes, id)? {
             return Ok(false);
         }
         self.ids.push(id)?;

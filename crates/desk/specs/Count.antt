@@ -1,5 +1,5 @@
 -- Counts that stand still at the last u64.
-use Rattle.std.specs.Prelude.{ℕ, ◌+◌, ◌-◌, ◌^◌, ◌≤◌, min, Result, OnErr}
+use Rattle.std.specs.Prelude.{◌≡◌, ℕ, ◌+◌, ◌-◌, ◌^◌, ◌≤◌, min, Result, OnOk, OnErr}
 
 -- n more
 abbrev pub grown : ℕ → ℕ → ℕ
@@ -12,7 +12,8 @@ one_more count = grown count 1
 abbrev pub Rose : ℕ → ℕ → Type 0
 Rose before now = one_more before ≤ now
 
--- the count of faults doesn't fall, and a call fails only where it rose
+-- the count of faults doesn't fall; a call fails only where it rose, and where a call succeeds, it is as it was
 pub record HasCause {T E : Type 0} (before now : ℕ) (result : Result T E) : Type 0 where
   pub later : before ≤ now
   pub failed : OnErr result (Rose before now)
+  pub unfailed : OnOk result (now ≡ before)

@@ -81,10 +81,12 @@ pub fn read_all<D: Desk>(
     ensures over { (D.served desk.new).too_long ≡
         too_long_after (D.served desk.new).bytes (D.served desk.old).too_long }
 
-    // A fault comes only where the count of faults rose.
+    // A fault comes only where the count of faults rose, and where that rose, nothing else comes.
     ensures later { D.faults desk.old ≤ D.faults desk.new }
     ensures cause { IsErrOf result DeskFault.ReadFault →
         Rose (D.faults desk.old) (D.faults desk.new) }
+    ensures told { D.faults desk.old < D.faults desk.new →
+        IsErrOf result DeskFault.ReadFault }
 
     ensures held { D.held desk.new ≡ D.held desk.old }
     ensures ended { (IsErrOf result DeskFault.Missing ⊎ IsErrOf result DeskFault.ReadFault) →
@@ -114,6 +116,8 @@ fn read_begun<D: Desk>(alloc: Global, desk: &mut D, limit: u64) -> Result<Vec<u8
     ensures later { D.faults desk.old ≤ D.faults desk.new }
     ensures cause { IsErrOf result DeskFault.ReadFault →
         Rose (D.faults desk.old) (D.faults desk.new) }
+    ensures told { D.faults desk.old < D.faults desk.new →
+        IsErrOf result DeskFault.ReadFault }
     ensures held { D.held desk.new ≡ D.held desk.old }
     ensures ended { IsErrOf result DeskFault.ReadFault → D.begun desk.new ≡ false }
 {

@@ -8,7 +8,7 @@ abbrev pub invariant-loop-bytes : goal.invariant-loop-bytes
 invariant-loop-bytes g l = record {
   begun : g.D.Desk.begun l.desk ≡ true;
   held : g.D.Desk.held l.desk ≡ g.D.Desk.held l.initial.desk;
-  later : g.D.Desk.faults l.initial.desk ≤ g.D.Desk.faults l.desk;
+  unfailed : g.D.Desk.faults l.desk ≡ g.D.Desk.faults l.initial.desk;
   short : vec_len l.bytes ≤ l.limit;
   given : Consumes (g.D.Desk.left l.initial.desk) (g.D.Desk.left l.desk) l.bytes.items;
   begins : (g.D.Desk.served l.desk).begins ≡ (g.D.Desk.served l.initial.desk).begins;

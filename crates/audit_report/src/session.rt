@@ -8,7 +8,7 @@ ghost use Rattle.audit_report.specs.Session.{claim_in, claim_line, counts_text, 
 
 use audit_rounds::{DoneRound, Session, signed_off};
 use irv_base::Memory;
-use km_risk::{Counts, MILLIONTH, ONE};
+use km_risk::{Counts, ONE, is_confirmed};
 use std::alloc::{AllocError, Global};
 
 // The units of a risk, as a number with 18 digits after its point.
@@ -112,10 +112,9 @@ fn confirm(confirmed: &mut [bool], limit: u32, round: &DoneRound)
     ensures marked { (j : ℕ) → j < length confirmed.old →
         get_or confirmed.new j false ≡ (get_or confirmed.old j false || meets limit j round.now) }
 {
-    let allowed = u64::from(limit) * MILLIONTH;
     let risks = round.risks();
     for j in 0..risks.len() {
-        if risks[j] <= allowed {
+        if is_confirmed(risks[j], limit) {
             confirmed[j] = true;
         }
     }

@@ -3,3 +3,6 @@ pub mod SignedOff
 pub mod Replayed
 pub mod PartlySeen
 pub mod Added
+pub mod Different
+pub mod Found
+pub mod RiskOfValues

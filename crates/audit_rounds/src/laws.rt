@@ -1,5 +1,6 @@
 //! The laws of sessions: each holds of every value that it names, and has no code.
 ghost use Rattle.audit_rounds.specs.Laws.{SessionLaw, SignedOffLaw, EveryDrawLaw, PartlySeenLaw};
+ghost use Rattle.audit_rounds.specs.RiskOfValues.{ValuesRiskLimit, CountedValuesRiskLimit};
 
 /// A session is that of some draws exactly where it keeps what a session keeps, and its counts are those of the draws.
 pub fn session()
@@ -19,4 +20,14 @@ pub fn every_draw()
 /// Where only some cards were looked at, each other one counts as missing, and that is a reading of all cards.
 pub fn partly_seen()
     ensures { PartlySeenLaw }
+{}
+
+/// The risk limit of any claims, whatever they are about: where one isn't true, few sequences are signed off.
+pub fn values_risk_limit()
+    ensures { ValuesRiskLimit }
+{}
+
+/// The same as a count of the listed sequences, at readings that don't depend on the draws.
+pub fn counted_values_risk_limit()
+    ensures { CountedValuesRiskLimit }
 {}

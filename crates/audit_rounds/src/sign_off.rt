@@ -6,7 +6,6 @@ ghost use Rattle.audit_rounds.specs.Sessions.{is_at_most, is_signed_off, meets};
 
 use crate::round::DoneRound;
 use crate::session::Session;
-use km_risk::MILLIONTH;
 
 // The risk of the claim with this place, from 0, at the end of the round.
 fn risk_at(round: &DoneRound, claim: usize) -> Option<u64>
@@ -20,7 +19,7 @@ fn is_at_most(limit: u32, risk: Option<u64>) -> bool
     ensures { result ≡ is_at_most limit risk }
 {
     match risk {
-        Some(risk) => risk <= u64::from(limit) * MILLIONTH,
+        Some(risk) => km_risk::is_confirmed(risk, limit),
         None => false,
     }
 }

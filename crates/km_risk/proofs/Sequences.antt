@@ -10,9 +10,10 @@ use Rattle.std.proofs.lemmas.List.Elements.{All-nil, All-cons, All-head, All-tai
 use Rattle.std.proofs.lemmas.List.Sums.{sum_by-cons, sum_by-append}
 use Rattle.std.proofs.lemmas.List.Folds.{fold-map, flat_map-map}
 use Rattle.std.proofs.lemmas.List.Concat.{flat_map-cons, length-flat_map}
-use Rattle.km_risk.specs.Exact.{is_within}
-use Rattle.km_risk.specs.Reach.{sequences, prefixes, reach}
-use Rattle.km_risk.specs.Laws.{SequencesLaw, ReachLaw}
+use Rattle.km_risk.specs.Factor.{numerator, denominator}
+use Rattle.km_risk.specs.Product.{is_within, reach}
+use Rattle.km_risk.specs.Reach.{sequences, prefixes}
+use Rattle.km_risk.specs.Laws.{SequencesLaw, ProductReachLaw, ReachLaw}
 
 sum_by-flat_map : {X : Type 0} (f : X → ℕ) (g : ℕ → List X) (ds : List ℕ) → sum_by f (flat_map g ds) ≡ sum_by (λ d. sum_by f (g d)) ds
 sum_by-flat_map f g [] = refl
@@ -83,20 +84,24 @@ split true q s ds all r whole later =
     whole ∙ sym (rw (sum_by-constant {X = List ℕ} 1 s, sum_by-constant (length s * 1) ds) (omega arith))
 split false q s ds all r whole later = ap (λ f. sum_by f ds) (fun_ext later)
 
-module _ (cards margin gamma limit : ℕ) (ds : List ℕ) (count : length ds ≡ cards) where
+module _ (over limit : ℕ) (under : ℕ → ℕ) (values : List ℕ) where
   reach-passes : (n : ℕ) (h : List ℕ) →
-      reach cards margin gamma limit ds h n ≡ count_by (passes (is_within cards margin gamma limit) h) (sequences ds n)
-  reach-passes zero h = sym (zero-add (cond (is_within cards margin gamma limit h) 1 0))
+      reach over under limit values h n ≡ count_by (passes (is_within over under limit) h) (sequences values n)
+  reach-passes zero h = sym (zero-add (cond (is_within over under limit h) 1 0))
   reach-passes (suc n) h =
-      split (is_within cards margin gamma limit h) (λ d. passes (is_within cards margin gamma limit) (h ++ d ∷ [])) (sequences ds n) ds (cards ^ suc n)
-      (λ d. reach cards margin gamma limit ds (h ++ d ∷ []) n)
-      (rw (length-sequences ds n, count, pow-succ' cards n) refl) (λ d. reach-passes n (h ++ d ∷ []))
-      ∙ sym (by_first (passes (is_within cards margin gamma limit) h) (sequences ds n) ds)
+      split (is_within over under limit h) (λ d. passes (is_within over under limit) (h ++ d ∷ [])) (sequences values n) values (length values ^ suc n)
+      (λ d. reach over under limit values (h ++ d ∷ []) n)
+      (rw (length-sequences values n, pow-succ' (length values) n) refl) (λ d. reach-passes n (h ++ d ∷ []))
+      ∙ sym (by_first (passes (is_within over under limit) h) (sequences values n) values)
+
+pub product_reach_law : ProductReachLaw
+product_reach_law over limit under values n =
+    reach-passes over limit under values n []
+    ∙ ap (λ p. count_by p (sequences values n)) (fun_ext (λ s. passes-from_none (is_within over under limit) s))
 
 pub reach_law : ReachLaw
 reach_law cards margin gamma limit ds count n =
-    reach-passes cards margin gamma limit ds count n []
-    ∙ ap (λ p. count_by p (sequences ds n)) (fun_ext (λ s. passes-from_none (is_within cards margin gamma limit) s))
+    product_reach_law (numerator cards margin gamma) limit (denominator cards margin gamma) ds n
 
 All-flat_map : {X Y : Type 0} (P : Y → Type 0) (f : X → List Y) (xs : List X) → All (λ x. All P (f x)) xs → All P (flat_map f xs)
 All-flat_map P f [] h = All-nil P

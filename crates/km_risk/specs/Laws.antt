@@ -1,9 +1,10 @@
 -- Laws of the risk.
-use Rattle.std.specs.Prelude.{◌≡◌, ◌≢◌, ◌↔◌, ℕ, ◌+◌, ◌*◌, ◌^◌, ◌<◌, ◌≤◌, IsTrue, List, [], map, length, All, AllPairs, Contains, sum, count_by, MatchOption, IfSome, IsSomeAnd}
+use Rattle.std.specs.Prelude.{◌≡◌, ◌≢◌, ◌↔◌, ℕ, ◌+◌, ◌*◌, ◌^◌, ◌<◌, ◌≤◌, IsTrue, List, [], map, length, All, AllPairs, Contains, sum, sum_by, count_by, MatchOption, IfSome, IsSomeAnd}
 use Rattle.std.specs.List.{range_with_len}
 use Rattle.km_risk.specs.declared.limits.TheConstants.{MILLIONTH, ONE}
 use Rattle.km_risk.specs.declared.draws.Counts.{Counts}
 use Rattle.km_risk.specs.Factor.{threshold, numerator, denominator}
+use Rattle.km_risk.specs.Product.{is_within as is_product_within, reach as product_reach}
 use Rattle.km_risk.specs.Exact.{millionths_in_one, exact_numerator, exact_denominator, is_within}
 use Rattle.km_risk.specs.Counts.{draws_in, in_order, counts_of, clean}
 use Rattle.km_risk.specs.Printed.{printed_risk, is_printed_within}
@@ -87,6 +88,31 @@ ListedLaw =
     AllPairs ◌≢◌ (sequences (range_with_len 1 cards) n)
     × ((draws : List ℕ) →
     Contains (sequences (range_with_len 1 cards) n) draws ↔ IsSequence cards n draws)
+
+-- whatever the factors of values are, reach counts the sequences of values of which some prefix has a product within the limit
+abbrev pub ProductReachLaw : Type 0
+ProductReachLaw =
+    (over limit : ℕ) (under : ℕ → ℕ) (values : List ℕ) (n : ℕ) →
+    product_reach over under limit values [] n
+    ≡ count_by (some_prefix (is_product_within over under limit)) (sequences values n)
+
+-- where the mean of what stands below the factors of the cards is at most what stands above them, these are at most limit
+-- millionths of all sequences
+abbrev pub ProductCountingLaw : Type 0
+ProductCountingLaw =
+    (over limit : ℕ) (under : ℕ → ℕ) (values : List ℕ) →
+    0 < over → sum_by under values ≤ length values * over →
+    (n : ℕ) →
+    product_reach over under limit values [] n * millionths_in_one ≤ limit * length values ^ n
+
+-- where under never falls, values that are larger card by card stay within the limit
+abbrev pub LargerValuesLaw : Type 0
+LargerValuesLaw =
+    (over limit : ℕ) (under smaller larger : ℕ → ℕ) →
+    ((a b : ℕ) → a ≤ b → under a ≤ under b) → ((card : ℕ) → smaller card ≤ larger card) →
+    (drawn : List ℕ) →
+    IsTrue (is_product_within over under limit (map smaller drawn)) →
+    IsTrue (is_product_within over under limit (map larger drawn))
 
 -- reach counts the sequences of draws of which some prefix has an exact risk within the limit
 abbrev pub ReachLaw : Type 0

@@ -1,4 +1,5 @@
 pub mod Factor
+pub mod Product
 pub mod Exact
 pub mod Counts
 pub mod Printed

@@ -1,7 +1,8 @@
 -- How many sequences of draws get to a risk within the limit.
-use Rattle.std.specs.Prelude.{◌≡◌, ℕ, zero, suc, ◌^◌, ◌≤◌, Bool, if◌then◌else◌, List, [], ◌∷◌, ◌++◌, map, length, sum_by, All}
+use Rattle.std.specs.Prelude.{◌≡◌, ℕ, zero, suc, ◌≤◌, Bool, List, [], ◌∷◌, map, length, All}
 use Rattle.std.specs.List.{flat_map, list_any}
-use Rattle.km_risk.specs.Exact.{is_within}
+use Rattle.km_risk.specs.Factor.{numerator, denominator}
+use Rattle.km_risk.specs.Product.{reach as product_reach}
 
 -- each sequence of n draws from the cards, with replacement
 abbrev pub sequences : {X : Type 0} → List X → ℕ → List (List X)
@@ -27,7 +28,4 @@ module _ (cards margin gamma limit : ℕ) where
   -- of the sequences that begin with what was drawn and go on with n draws more, how many have an exact risk of at most
   -- limit millionths, now or after some of these draws; the list has the discrepancy of each card
   abbrev pub reach : List ℕ → List ℕ → ℕ → ℕ
-  reach discrepancies drawn zero = if is_within cards margin gamma limit drawn then 1 else 0
-  reach discrepancies drawn (suc n) =
-      if is_within cards margin gamma limit drawn then cards ^ suc n
-      else sum_by (λ d. reach discrepancies (drawn ++ d ∷ []) n) discrepancies
+  reach = product_reach (numerator cards margin gamma) (denominator cards margin gamma) limit

@@ -5,7 +5,8 @@ ghost use Rattle.irv_base.specs.declared.limits.TheConstants.{GREATEST_LIMIT};
 ghost use Rattle.km_risk.specs.Clean.{clean_draws};
 
 use crate::bounds::{climb, no_draws, one_draw};
-use crate::limits::{MILLIONTH, ONE};
+use crate::draws::is_confirmed;
+use crate::limits::ONE;
 use crate::setting::Setting;
 use irv_base::MOST_DRAWS;
 
@@ -14,10 +15,9 @@ fn first_within(setting: Setting, limit: u32) -> Option<u32>
     requires { limit ≤ GREATEST_LIMIT }
     ensures { result ≡ clean_draws setting.cards setting.margin setting.gamma limit }
 {
-    let allowed = u64::from(limit) * MILLIONTH;
     let mut now = ONE;
     for n in 0..=setting.cards.min(MOST_DRAWS) {
-        if now <= allowed {
+        if is_confirmed(now, limit) {
             return Some(n);
         }
         now = setting.after_draw(now, 2);

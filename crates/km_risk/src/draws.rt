@@ -1,12 +1,13 @@
 // The risk of numbers of draws.
-ghost use Rattle.std.specs.Prelude.{◌≡◌, ◌≤◌};
+ghost use Rattle.std.specs.Prelude.{◌≡◌, ◌≤◌, ◌*◌, nat_le};
 ghost use Rattle.km_risk.specs.Factor.{IsSetting};
-ghost use Rattle.irv_base.specs.declared.limits.TheConstants.{MOST_DRAWS};
+ghost use Rattle.irv_base.specs.declared.limits.TheConstants.{GREATEST_LIMIT, MOST_DRAWS};
+ghost use Rattle.km_risk.specs.declared.limits.TheConstants.{MILLIONTH};
 ghost use Rattle.km_risk.specs.Counts.{draws_in, in_order};
 ghost use Rattle.km_risk.specs.Printed.{printed_risk};
 ghost use Rattle.km_risk.specs.Bounds.{IsNotBelow, IsNotFarAbove};
 
-use crate::limits::ONE;
+use crate::limits::{MILLIONTH, ONE};
 use crate::setting::Setting;
 
 /// How many draws have each discrepancy d, from 0 to 4. Without a discrepancy d is 2.
@@ -46,4 +47,12 @@ pub fn risk(counts: &Counts, cards: u32, margin: u32, gamma: u32) -> u64
     let after2 = setting.after_draws(after3, counts.n2, 2);
     let after1 = setting.after_draws(after2, counts.n1, 1);
     setting.after_draws(after1, counts.n0, 0)
+}
+
+/// Whether a risk is at most `limit` millionths.
+pub fn is_confirmed(risk: u64, limit: u32) -> bool
+    requires { limit ≤ GREATEST_LIMIT }
+    ensures { result ≡ nat_le risk (limit * MILLIONTH) }
+{
+    risk <= u64::from(limit) * MILLIONTH
 }

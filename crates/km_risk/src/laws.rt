@@ -1,5 +1,5 @@
 //! Laws of the risk, one for each function: its contract is the law, and its body is empty.
-ghost use Rattle.km_risk.specs.Laws.{UnitsLaw, FactorLaw, OrderLaw, AllCountedLaw, LargerDiscrepanciesLaw, AtMostOneLaw, NotBelowLaw, NotFarAboveLaw, ConfirmedLaw, SequencesLaw, ListedLaw, ReachLaw, CountingLaw, RiskLimitLaw, LeastLaw, MoreDrawsLaw, LargerMarginLaw, SameDrawsLaw};
+ghost use Rattle.km_risk.specs.Laws.{UnitsLaw, FactorLaw, OrderLaw, AllCountedLaw, LargerValuesLaw, LargerDiscrepanciesLaw, AtMostOneLaw, NotBelowLaw, NotFarAboveLaw, ConfirmedLaw, SequencesLaw, ListedLaw, ProductReachLaw, ReachLaw, ProductCountingLaw, CountingLaw, RiskLimitLaw, LeastLaw, MoreDrawsLaw, LargerMarginLaw, SameDrawsLaw};
 
 /// The units of a risk.
 pub fn units()
@@ -19,6 +19,11 @@ pub fn any_order()
 /// The counts of draws count each draw once.
 pub fn all_counted()
     ensures { AllCountedLaw }
+{}
+
+/// Where a larger value never has a larger factor, the product of the same draws is no larger at larger values of the cards.
+pub fn larger_values()
+    ensures { LargerValuesLaw }
 {}
 
 /// At larger discrepancies of the cards, the exact risk of the same draws is no larger.
@@ -54,6 +59,17 @@ pub fn all_sequences()
 /// The listed sequences of draws are all sequences of cards, each once.
 pub fn listed()
     ensures { ListedLaw }
+{}
+
+/// What the counting law of any factor bounds is a number of sequences of values.
+pub fn reaching_of_any_factor()
+    ensures { ProductReachLaw }
+{}
+
+/// Where factors have a mean of at most one, at most `limit` millionths of all sequences of draws ever have a product within the
+/// limit.
+pub fn counting_of_any_factor()
+    ensures { ProductCountingLaw }
 {}
 
 /// What the counting law bounds is a number of sequences of draws.

@@ -13,5 +13,5 @@ mod limits;
 mod setting;
 
 pub use clean::clean_draws;
-pub use draws::{Counts, risk};
+pub use draws::{Counts, is_confirmed, risk};
 pub use limits::{MILLIONTH, ONE};

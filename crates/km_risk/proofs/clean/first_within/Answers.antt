@@ -1,4 +1,5 @@
 use Rattle.std.proofs.Common.{rules, ◌∙◌, ap, sym, arith, ◌*◌}
+use Rattle.std.proofs.lemmas.Bool.{leb-false}
 use Rattle.km_risk.specs.declared.limits.TheConstants.{MILLIONTH}
 use Rattle.km_risk.specs.Counts.{clean}
 use Rattle.km_risk.specs.Printed.{printed_risk, step}
@@ -20,5 +21,10 @@ loop-n-preserved c = record {
   rest =
       c.loop-n.invariant.rest
       ∙ find_behind (λ k. printed_risk c.args.setting.cards c.args.setting.margin c.args.setting.gamma (clean k)) (c.args.limit * MILLIONTH) c.loop-n.n
-      _ (omega arith) (omega (arith, c.loop-n.invariant.value));
+      _ (omega arith)
+      (omega (
+        arith,
+        c.loop-n.invariant.value,
+        leb-false c.loop-n.now (c.args.limit * MILLIONTH) (sym c.is_confirmed.ensures ∙ c.if-is_confirmed.false),
+      ));
 }

@@ -1,0 +1,25 @@
+-- Draws that have a value each, and of each value a factor over / under value: the product of the factors, as a fraction, and how
+-- many sequences of draws get to a product within a limit.
+use Rattle.std.specs.Prelude.{ℕ, zero, suc, ◌*◌, ◌^◌, Bool, nat_le, if◌then◌else◌, List, [], ◌∷◌, ◌++◌, map, length, fold, sum_by}
+
+-- a risk limit is a number of these, of which a risk of one has so many
+abbrev pub millionths_in_one : ℕ
+millionths_in_one = 1000000
+
+-- the product of the numbers, and 1 for none
+abbrev pub product : List ℕ → ℕ
+product xs = fold (λ all x. all * x) 1 xs
+
+module _ (over : ℕ) (under : ℕ → ℕ) where
+  -- the product of the factors of these values is at most limit millionths
+  abbrev pub is_within : ℕ → List ℕ → Bool
+  is_within limit values =
+      nat_le (over ^ length values * millionths_in_one) (limit * product (map under values))
+
+  -- of the sequences that begin with what was drawn and go on with n draws more, how many have a product of at most limit
+  -- millionths, now or after some of these draws; values has the value of each card
+  abbrev pub reach : ℕ → List ℕ → List ℕ → ℕ → ℕ
+  reach limit values drawn zero = if is_within limit drawn then 1 else 0
+  reach limit values drawn (suc n) =
+      if is_within limit drawn then length values ^ suc n
+      else sum_by (λ value. reach limit values (drawn ++ value ∷ []) n) values

@@ -18,7 +18,7 @@ pub mod FixedOrders
 pub mod Firsts
 pub mod Refuters
 pub mod Ords
-pub mod Positive
+pub mod Decided
 pub mod Enumerated
 pub mod Ones
 pub mod Sums

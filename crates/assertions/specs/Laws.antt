@@ -6,7 +6,7 @@ use Rattle.std.specs.declared.cmp.Ordering.TheVariants.{Less, Equal}
 use Rattle.irv_base.specs.Candidates.{candidates, is_in, is_distinct, set_of}
 use Rattle.irv_base.specs.Records.{tally}
 use Rattle.irv_base.specs.Orders.{is_order, EndsIn, Elects}
-use Rattle.irv_base.specs.Tabulation.{is_tabulated, is_possible}
+use Rattle.irv_base.specs.Tabulation.{is_tabulated, is_possible, AllElect, IsDecided}
 use Rattle.assertions.specs.declared.assertion.Assertion.{Assertion}
 use Rattle.assertions.specs.declared.assertion.Assertion.TheVariants.{Neb, Nen}
 use Rattle.assertions.specs.contracts.assertion.AssertionOrd.TheImpl.{ghosts}
@@ -14,7 +14,7 @@ use Rattle.assertions.specs.FixedOrder.{is_before}
 use Rattle.assertions.specs.Assertions.{votes_for, votes_against, margin, is_true, true_margin, is_proper, assertions}
 use Rattle.assertions.specs.Suffixes.{is_suffix, IsAlternative, orders_ending, suffixes_ending, alternative_orders, parts_ending, comes_before, factorial}
 use Rattle.assertions.specs.Refutation.{refutes, covers}
-use Rattle.assertions.specs.Hardness.{low, refuter, IsRefuter, best_margin, start_order}
+use Rattle.assertions.specs.Hardness.{low, refuter, IsRefuter, best_margin, first_bound, start_order}
 use Rattle.assertions.specs.Scores.{score_of, no_score, all_offered, added_refuters, added}
 use Rattle.assertions.specs.Certificate.{certificate_order, cover_count, order_count, certificate_assertions, certificate_claims, IsEnd, IsCertificate}
 use Rattle.assertions.specs.Assorter.{assorter_value}
@@ -210,7 +210,22 @@ ScoreOfMore =
 abbrev pub ScoreOfNone : Type 0
 ScoreOfNone = (n : ℕ) (records : List (List ℕ)) → score_of n records [] ≡ no_score
 
--- an order is possible exactly where nothing true refutes it
+-- a true NEN stands against each order that isn't possible
+abbrev pub NenAgainstImpossible : Type 0
+NenAgainstImpossible =
+    (n : ℕ) (records : List (List ℕ)) (order : List ℕ) → IsTrue (is_order n order) →
+    IsFalse (is_possible records order) →
+    (w l rest : ℕ) × IsTrue (is_proper n (Nen w l rest)) × IsTrue (is_true records (Nen w l rest))
+    × IsTrue (refutes (Nen w l rest) order)
+
+-- nothing true contradicts a possible order
+abbrev pub NothingAgainstPossible : Type 0
+NothingAgainstPossible =
+    (n : ℕ) (records : List (List ℕ)) (order : List ℕ) (a : Assertion) →
+    IsTrue (is_order n order) → IsTrue (is_possible records order) → IsTrue (is_proper n a) →
+    IsTrue (is_true records a) → IsTrue (refutes a order) → ⊥
+
+-- so an order is possible exactly where nothing true refutes it
 abbrev pub PossibleIffUnrefuted : Type 0
 PossibleIffUnrefuted =
     (n : ℕ) (records : List (List ℕ)) (order : List ℕ) → IsTrue (is_order n order) →
@@ -223,12 +238,47 @@ BestIsLeast =
     (n winner : ℕ) (hardness : List ℕ → ℕ) (order : List ℕ) →
     Contains (alternative_orders n winner) order → best_margin n winner hardness ≤ hardness order
 
--- without a tie the best margin is at least 1
-abbrev pub BestIsPositive : Type 0
-BestIsPositive =
+-- a contest is decided for a candidate exactly where each other order has something true against it
+abbrev pub DecidedIsPositive : Type 0
+DecidedIsPositive =
+    (n winner : ℕ) (records : List (List ℕ)) → winner < n → 1 < n →
+    (AllElect n records winner ↔ (1 ≤ best_margin n winner (low n records)))
+
+-- by the winner of the tabulated order
+abbrev pub DecidedExactly : Type 0
+DecidedExactly =
     (n winner : ℕ) (records : List (List ℕ)) (order : List ℕ) → 1 < n → IsTrue (is_order n order) →
     IsTrue (is_tabulated records order) → Elects order winner →
-    1 ≤ best_margin n winner (low n records)
+    (IsDecided n records ↔ (1 ≤ best_margin n winner (low n records)))
+
+-- the first bound of the search is 0 exactly where the last two candidates tie
+abbrev pub FirstBoundIsZero : Type 0
+FirstBoundIsZero =
+    (n a b : ℕ) (records : List (List ℕ)) (before : List ℕ) →
+    IsTrue (is_order n (before ++ a ∷ b ∷ [])) →
+    IsTrue (is_tabulated records (before ++ a ∷ b ∷ [])) →
+    ((first_bound n records (before ++ a ∷ b ∷ []) ≡ 0)
+    ↔ (tally records (set_of (a ∷ b ∷ [])) a ≡ tally records (set_of (a ∷ b ∷ [])) b))
+
+-- true assertions that refute each order which elects another candidate
+pub record IsProof (n winner : ℕ) (records : List (List ℕ)) (claims : List Assertion)
+    : Type 0 where
+  pub proper : IsTrue (list_all (is_proper n) claims)
+  pub hold : IsTrue (list_all (is_true records) claims)
+  pub cover : IsTrue (covers n winner claims)
+
+-- there are such exactly where the contest is decided for the candidate
+abbrev pub ProofIffDecided : Type 0
+ProofIffDecided =
+    (n winner : ℕ) (records : List (List ℕ)) → winner < n → 1 < n →
+    (((claims : List Assertion) × IsProof n winner records claims) ↔ AllElect n records winner)
+
+-- a candidate who isn't eliminated before any other has won, however the others tie
+abbrev pub FirstOverAll : Type 0
+FirstOverAll =
+    (n winner : ℕ) (records : List (List ℕ)) → winner < n → 1 < n →
+    ((l : ℕ) → l < n → l ≢ winner → IsTrue (is_true records (Neb winner l))) →
+    AllElect n records winner
 
 -- the search starts with an alternative order
 abbrev pub StartIsAlternative : Type 0

@@ -1,5 +1,5 @@
 //! The laws of the definitions: each holds of every value that it names, and has no code.
-ghost use Rattle.assertions.specs.Laws.{NebFor, NebAgainst, AssorterIs, AssorterSums, TrueMargin, AssertionsAreProper, AssertionsRise, FixedOrderIsTotal, FixedOrderIsOrd, RefutesWhere, RefutesLonger, CoverIsSound, OrdersEnding, AlternativeOrders, AlternativeOrdersRise, SuffixesEnding, PartsEnding, PartsRise, PartsAreFew, CountsAreFew, CoverCountIs, SuffixGrows, LowIsGreatest, LowGrows, LowOfMore, LowOfNone, RefuterIsFirst, RefuterOrNone, ScoreOfMore, ScoreOfNone, PossibleIffUnrefuted, BestIsLeast, BestIsPositive, StartIsAlternative, FrontierBounds, NoneBeatsBest, CertificateIsProper, CertificateIsTrue, CertificateCovers, CertificateReachesBest, CertificateHasBest, CertificateOrder, CertificateOrderIsFirst, CertificateRefutes, EndsAreShortest, EndsAreOne, CertificateIs, CertificateIsOne, RecordsInAnyOrder, TwoCandidates};
+ghost use Rattle.assertions.specs.Laws.{NebFor, NebAgainst, AssorterIs, AssorterSums, TrueMargin, AssertionsAreProper, AssertionsRise, FixedOrderIsTotal, FixedOrderIsOrd, RefutesWhere, RefutesLonger, CoverIsSound, OrdersEnding, AlternativeOrders, AlternativeOrdersRise, SuffixesEnding, PartsEnding, PartsRise, PartsAreFew, CountsAreFew, CoverCountIs, SuffixGrows, LowIsGreatest, LowGrows, LowOfMore, LowOfNone, RefuterIsFirst, RefuterOrNone, ScoreOfMore, ScoreOfNone, PossibleIffUnrefuted, NenAgainstImpossible, NothingAgainstPossible, BestIsLeast, DecidedIsPositive, DecidedExactly, FirstBoundIsZero, ProofIffDecided, FirstOverAll, StartIsAlternative, FrontierBounds, NoneBeatsBest, CertificateIsProper, CertificateIsTrue, CertificateCovers, CertificateReachesBest, CertificateHasBest, CertificateOrder, CertificateOrderIsFirst, CertificateRefutes, EndsAreShortest, EndsAreOne, CertificateIs, CertificateIsOne, RecordsInAnyOrder, TwoCandidates};
 
 /// A NEB has for its winner the votes that it has with all candidates left.
 pub fn neb_for()
@@ -165,9 +165,39 @@ pub fn best_is_least()
     ensures { BestIsLeast }
 {}
 
-/// Without a tie the best margin is at least 1.
-pub fn best_is_positive()
-    ensures { BestIsPositive }
+/// A true NEN stands against each order that isn't possible.
+pub fn nen_against_impossible()
+    ensures { NenAgainstImpossible }
+{}
+
+/// Nothing true contradicts a possible order.
+pub fn nothing_against_possible()
+    ensures { NothingAgainstPossible }
+{}
+
+/// All possible orders elect a candidate exactly where the least hardness of the others is at least 1.
+pub fn decided_is_positive()
+    ensures { DecidedIsPositive }
+{}
+
+/// A contest is decided exactly where the best margin is at least 1.
+pub fn decided_exactly()
+    ensures { DecidedExactly }
+{}
+
+/// The bound that a search starts from is 0 exactly where the last two candidates tie.
+pub fn first_bound_is_zero()
+    ensures { FirstBoundIsZero }
+{}
+
+/// True claims that cover exist exactly where all possible orders elect the candidate.
+pub fn proof_iff_decided()
+    ensures { ProofIffDecided }
+{}
+
+/// A candidate who isn't eliminated before any other has won, whatever ties there are among the others.
+pub fn first_over_all()
+    ensures { FirstOverAll }
 {}
 
 /// The order that the search starts from elects another candidate than the winner.

@@ -1,5 +1,5 @@
 -- What `advance` answers is among what is counted.
-use Rattle.std.proofs.Common.{◌≡◌, ℕ, ◌≤◌, List, [], ◌∷◌, map, length, take, All, refl, sym, ap, subst, ◌∙◌, arith}
+use Rattle.std.proofs.Common.{◌≡◌, ℕ, ◌≤◌, List, [], ◌∷◌, map, length, take, All, Option, refl, sym, ap, subst, ◌∙◌, arith}
 use Rattle.std.specs.List.{range_with_len}
 use Rattle.std.proofs.lemmas.List.Elements.{All-map, All-head, All-tail, All-weaker}
 use Rattle.std.proofs.lemmas.List.FromFn.{length-map-range_with_len, take-map-range_with_len}
@@ -13,11 +13,12 @@ use Rattle.assorters.specs.Cards.{discrepancy_of}
 use Rattle.audit_rounds.specs.Content.{IsSound}
 use Rattle.audit_rounds.specs.Readings.{AreReadings}
 use Rattle.audit_rounds.specs.Sessions.{Round, Session}
-use Rattle.audit_rounds.specs.Draws.{Audited, IsSessionOf, round_to, session_to}
+use Rattle.audit_rounds.specs.Draws.{Audited, IsSessionOf, seen_of_all, round_to, session_to}
 use Rattle.audit_rounds.proofs.PartlySeen.{partly_seen_law}
-use Rattle.audit_session.specs.Going.{all_seen, audited, drawn_cards}
+use Rattle.audit_session.specs.Going.{audited, drawn_cards}
 use Rattle.audit_session.proofs.Advanced.{of-draws}
 use Rattle.seen_file.specs.Seen.{seen_in}
+use Rattle.audit_laws.proofs.DrawnAlone.{seen_of_drawn, drawn-readings, of-drawn}
 use Rattle.audit_laws.specs.Laws.{AdvancedIsCounted, NextIsCounted, next_session}
 
 -- the cards of draws are cards
@@ -73,18 +74,21 @@ module _ (limit gamma : ℕ) (claims : List Audited) (recorded : List Recorded) 
 pub advanced_is_counted : AdvancedIsCounted
 advanced_is_counted limit gamma draws most seed claims recorded entries actual session some few long true' of' signed =
     let cards : ℕ = length recorded in
-    let seen : List Seen = all_seen entries cards in
     let ds : List ℕ = drawn_cards seed cards draws in
     let es : List ℕ = drawn_cards seed cards most in
-    let many : length ds ≡ draws = length-map-range_with_len (λ k. drawn_card seed k cards) 1 draws in
+    let looked_at : ℕ → Option Seen = seen_of_drawn ds (seen_in entries) in
+    let seen : List Seen = seen_of_all looked_at cards in
+    let first : IsSequence cards draws ds = drawn-sequence seed cards draws some in
     let more : length es ≡ most = length-map-range_with_len (λ k. drawn_card seed k cards) 1 most in (
       drawn-sequence seed cards most some,
       record {
         seen = seen;
-        readings = subst (λ n. AreReadings actual (all_seen entries n)) long (partly_seen_law (seen_in entries) actual true').0;
+        readings = subst (λ n. AreReadings actual (seen_of_all looked_at n)) long
+            (partly_seen_law looked_at actual (λ card from to. drawn-readings ds (seen_in entries) actual true' card)).0;
         session = session;
-        drawn = of-more limit gamma (audited claims) recorded seen ds es session (omega arith)
-            (λ end within. first-drawn seed cards draws most end few (omega arith)) of';
+        drawn = of-more limit gamma (audited claims) recorded seen ds es session (omega (arith, first.long))
+            (λ end within. first-drawn seed cards draws most end few (omega (arith, first.long)))
+            (of-drawn recorded (seen_in entries) ds first.some first.within limit gamma (audited claims) session of');
         signed_off = signed;
       },
     )

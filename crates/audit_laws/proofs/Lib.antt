@@ -1,7 +1,6 @@
-pub mod Different
-pub mod Found
 pub mod FalseClaims
 pub mod Published
+pub mod DrawnAlone
 pub mod Advanced
 pub mod CleanDraws
 pub mod TwoCards

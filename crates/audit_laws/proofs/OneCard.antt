@@ -3,7 +3,7 @@ use Rattle.std.proofs.Common.{◌≡◌, ◌-◌, ◌≤◌, ℕ, not, Option, N
 use Rattle.std.specs.Prelude.{find, is_some, option_map}
 use Rattle.std.specs.List.{range_with_len}
 use Rattle.std.proofs.Math.Path.{fun_ext}
-use Rattle.std.proofs.lemmas.List.Elements.{All-nil, All-cons}
+use Rattle.std.proofs.lemmas.List.Elements.{All-nil, All-cons, All-map}
 use Rattle.irv_base.specs.Names.{Id}
 use Rattle.km_risk.specs.Printed.{printed_risk}
 use Rattle.sampler.specs.Draws.{drawn_card}
@@ -20,10 +20,15 @@ use Rattle.seen_file.specs.Seen.{seen_in}
 use Rattle.audit_laws.specs.Laws.{AreTrueEntries, GoesOn, next_session}
 use Rattle.audit_laws.specs.Examples.{lead_of_one, one_record, one_actual, one_entry, one_begun}
 
-pub seen : AreTrueEntries one_actual one_entry
-seen card some within =
+read : (card : ℕ) → 1 ≤ card → card ≤ 1 → IfSome (seen_in one_entry card) (IsReading (get_or one_actual (card - 1) []))
+read card some within =
     let one : 1 ≡ card = omega (arith, some, within) in
     subst (λ c. IfSome (seen_in one_entry c) (IsReading (get_or one_actual (c - 1) []))) one refl
+
+pub seen : (seed : List ℕ) → AreTrueEntries one_actual one_entry (drawn_cards seed 1 5)
+seen seed =
+    All-map (λ card. IfSome (seen_in one_entry card) (IsReading (get_or one_actual (card - 1) []))) (λ k. drawn_card seed k 1) (range_with_len 1 5)
+    (λ i k below. read (drawn_card seed (get_or (range_with_len 1 5) i k) 1) (omega arith) (omega arith))
 
 -- there is one card to draw
 only-card : (seed : List ℕ) (k : ℕ) → drawn_card seed k 1 ≡ 1

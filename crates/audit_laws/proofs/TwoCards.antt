@@ -7,7 +7,7 @@ use Rattle.irv_base.specs.Candidates.{is_distinct}
 use Rattle.assertions.specs.declared.assertion.Assertion.TheVariants.{Neb}
 use Rattle.ballot_reader.specs.Ballots.{IsSound as AreSound}
 use Rattle.assertion_file.specs.Content.{IsSound, IsSoundClaim}
-use Rattle.cover_checker.specs.Outcomes.{Won, IsWinner}
+use Rattle.cover_checker.specs.Outcomes.{IsWinner}
 use Rattle.cover_checker.specs.Checks.{IsAnswer}
 use Rattle.cover_checker.specs.declared.checked.Checked.TheVariants.{Accepted}
 use Rattle.manifest.specs.Cards.{AreBatches}
@@ -24,7 +24,7 @@ won : IsWinner 2 two_ballots.rankings 0
 won = record { order = 1 ∷ 0 ∷ []; permutation = refl; tabulated = refl; elects = (1 ∷ [], refl) }
 
 accepted : IsAnswer 10 two_ballots two_file (Ok Accepted)
-accepted = record { outcome = Won 0; tabulated = won; answer_is = refl }
+accepted = record { winner = 0; tabulated = won; answer_is = refl }
 
 batches : AreBatches two_batches.ids two_batches.counts
 batches = record { a_count_each = refl; named = refl; differ = refl; counted = refl; most = omega arith }

@@ -1,5 +1,5 @@
 -- What the risk limit stands on, and to which calls it speaks.
-use Rattle.std.specs.Prelude.{◌≡◌, ◌≢◌, ℕ, ◌-◌, ◌*◌, ◌^◌, ◌≤◌, List, [], map, length, slice_index_or, count_by, None, IfSome, IsTrue}
+use Rattle.std.specs.Prelude.{◌≡◌, ◌≢◌, ℕ, ◌-◌, ◌*◌, ◌^◌, ◌≤◌, List, [], map, length, slice_index_or, All, count_by, None, IfSome, IsTrue}
 use Rattle.std.specs.List.{range_with_len}
 use Rattle.irv_base.specs.Orders.{is_order}
 use Rattle.irv_base.specs.Tabulation.{is_possible}
@@ -77,7 +77,7 @@ HeldRiskLimit =
 
 -- ---- the wrong winner
 
--- in the plain case instant runoff over the actual rankings has no tie, and another winner
+-- in the plain case the tabulated order of the actual rankings elects another candidate
 abbrev pub OtherWinnerIsWrong : Type 0
 OtherWinnerIsWrong =
     (n winner other cards : ℕ) (actual : List (List ℕ)) → length actual ≡ cards →
@@ -94,11 +94,11 @@ EachElectsAnother =
 
 -- ---- the calls
 
--- each card that has a record of what is seen is missing, or found with its actual ranking
-abbrev pub AreTrueEntries : List (List ℕ) → List Entry → Type 0
-AreTrueEntries actual entries =
-    (card : ℕ) → 1 ≤ card → card ≤ length actual →
-    IfSome (seen_in entries card) (IsReading (slice_index_or actual (card - 1) []))
+-- each drawn card that has a record of what is seen is missing, or found with its actual ranking; of the others nothing is asked
+abbrev pub AreTrueEntries : List (List ℕ) → List Entry → List ℕ → Type 0
+AreTrueEntries actual entries drawn =
+    All (λ card. IfSome (seen_in entries card) (IsReading (slice_index_or actual (card - 1) [])))
+    drawn
 
 -- a session that `advance` made of some draws, as its contract has it, and that is signed off, is counted; also among sequences of
 -- more draws, however many the seed then gives
@@ -108,7 +108,7 @@ AdvancedIsCounted =
     (entries : List Entry)
     (actual : List (List ℕ)) (session : Session) →
     1 ≤ length recorded → draws ≤ most → length actual ≡ length recorded →
-    AreTrueEntries actual entries →
+    AreTrueEntries actual entries (drawn_cards seed (length recorded) draws) →
     IsSessionOf limit gamma (audited claims) recorded (all_seen entries (length recorded))
     (drawn_cards seed (length recorded) draws) session →
     IsTrue (is_signed_off session) →
@@ -140,7 +140,7 @@ NextIsCounted =
     (content : Content) (draws most : ℕ) (claims : List Claim) (recorded : List Recorded)
     (entries : List Entry) (actual : List (List ℕ)) →
     GoesOn content claims recorded entries draws → draws ≤ most → length actual ≡ length recorded →
-    AreTrueEntries actual entries →
+    AreTrueEntries actual entries (drawn_cards content.seed (length recorded) draws) →
     IsTrue (is_signed_off (next_session content claims recorded entries draws)) →
     IsSequence (length recorded) most (drawn_cards content.seed (length recorded) most)
     × MayBeSignedOff content.session.limit content.session.gamma claims recorded actual

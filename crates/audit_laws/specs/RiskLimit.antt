@@ -5,6 +5,12 @@
 -- audit may be signed off. Suppose that the cards don't elect the winner of the file, or that a tie among them could be broken so
 -- that they don't. Then of all sequences of n cards those are few on which the audit can be signed off, at whichever draw.
 --
+-- Files, limit and gamma are given first, and the sequences are counted after: so in an audit they are fixed and published before
+-- the seed is known. Two choices of gamma together sign off more sequences than either: of two cards that are recorded for one
+-- candidate and in truth a tie, at a limit of 250,600 millionths and seven draws, 32 and 12, and one or the other 34 of 128, where
+-- the limit allows 32. There is one seed: an audit that is begun anew with another one is the same audit's second try. Where the
+-- rounds end may be left open.
+--
 -- It is a count, and speaks of no chance: that one sequence is drawn as easily as another is up to the seed.
 use Rattle.std.specs.Prelude.{◌≢◌, ◌≡◌, ℕ, ◌*◌, ◌^◌, ◌<◌, ◌≤◌, List, length, All, AllPairs, None, Ok, IsTrue}
 use Rattle.irv_base.specs.Orders.{is_order, Elects}

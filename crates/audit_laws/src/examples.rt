@@ -11,7 +11,7 @@ ghost use Rattle.manifest.specs.Linked.{linked_of};
 ghost use Rattle.audit_rounds.specs.Draws.{is_signed_off_on};
 ghost use Rattle.audit_rounds.specs.Sessions.{is_signed_off};
 ghost use Rattle.audit_rounds.specs.declared.digests.Digests.{Digests};
-ghost use Rattle.audit_session.specs.Going.{audited};
+ghost use Rattle.audit_session.specs.Going.{audited, drawn_cards};
 ghost use Rattle.audit_laws.specs.CleanDraws.{AreEnough, IsRival};
 ghost use Rattle.audit_laws.specs.Laws.{AreTrueEntries, GoesOn, next_session};
 ghost use Rattle.audit_laws.specs.RiskLimit.{ArePublished, AreSignedOff, AreTerms, MayElectAnother};
@@ -33,7 +33,8 @@ pub fn wrong_winner()
 
 /// One card, which is drawn again and again whatever the seed: the session goes on with five draws, and is signed off.
 pub fn one_card()
-    ensures seen { AreTrueEntries examples.one_actual examples.one_entry }
+    ensures seen { (seed : List ℕ) →
+        AreTrueEntries examples.one_actual examples.one_entry (drawn_cards seed 1 5) }
     ensures goes_on { (contest seed : List ℕ) (digests : Digests) →
         GoesOn (examples.one_begun contest seed digests) examples.lead_of_one
         examples.one_record examples.one_entry 5 }

@@ -1,10 +1,10 @@
 -- From the ends of all workers to the best margin.
-use Rattle.std.proofs.Common.{◌≡◌, ◌≢◌, ◌⊎◌, inl, inr, ℕ, ◌+◌, ◌<◌, ◌≤◌, ◌==◌, nat_lt, true, cond, List, [], ◌∷◌, ◌++◌, map, length, All, Contains, Option, None, Some, take, get_or, slice_get, refl, sym, ap, subst, arith, le_antisymm, append_assoc, length-append, ◌∙◌}
+use Rattle.std.proofs.Common.{◌≡◌, ◌≢◌, ◌⊎◌, inl, inr, ℕ, ◌+◌, ◌<◌, ◌≤◌, ◌==◌, nat_lt, Bool, true, false, cond, count_by, List, [], ◌∷◌, ◌++◌, map, length, All, Contains, Option, None, Some, take, get_or, slice_get, refl, sym, ap, subst, arith, le_antisymm, append_assoc, length-append, ◌∙◌}
 use Rattle.std.proofs.lemmas.List.{length-map}
 use Rattle.std.specs.Option.{MatchOption}
 use Rattle.std.specs.List.{range_with_len}
 use Rattle.std.proofs.lemmas.Bool.{lt-ltb, eqb-true}
-use Rattle.std.proofs.lemmas.Bool.{cases_Bool}
+use Rattle.std.proofs.lemmas.Bool.{cases_Bool, and_parts, eqb-false, ltb-true}
 use Rattle.std.proofs.lemmas.Option.{slice_get_read}
 use Rattle.std.proofs.lemmas.List.Elements.{All-contains, All-weaker, All-head, All-tail, All-map, All-same}
 use Rattle.std.proofs.lemmas.List.Sums.{sum_by-cons}
@@ -24,13 +24,13 @@ use Rattle.shared_witness.specs.Moment.{EachOnce, times, taken_pieces, least_pos
 use Rattle.shared_witness.specs.Race.{SharedRace, views_of}
 use Rattle.shared_witness.proofs.Lists.{least-first}
 use Rattle.suffix_tree.specs.Suffixes.{Suffix}
-use Rattle.bound_search.specs.Race.{AreReportsOf, IsBest, IsBestOver, IsPieceEnd, ArePiecesOver, IsSpentOver, pieces, piece_of, parts_below, work, work_for}
+use Rattle.bound_search.specs.Race.{AreReportsOf, IsBest, IsBestOver, IsPieceEnd, ArePiecesOver, IsSpentOver, pieces, piece_of, is_part_below, parts_below, suffixes_of, work, work_for}
 use Rattle.bound_search.specs.Reached.{IsReached, IsFoundIn, IsClosedAt, IsCostly}
 use Rattle.std.proofs.Math.Seq.{take-append_seam}
 use Rattle.bound_search.proofs.Turns.{if_ok}
 use Rattle.bound_search.specs.Reached.{IsWorkerEnd}
 use Rattle.bound_search.specs.Team.{HasFewEnds, WorkerRan, TeamRan, IsClosedUnder, IsEntryOfOne, IsJoined}
-use Rattle.bound_search.specs.Raced.{IsStart, IsClosedEntry, IsRaced}
+use Rattle.bound_search.specs.Raced.{IsStart, IsClosedEntry, IsRaced, spent_above}
 use Rattle.bound_search.specs.declared.run.Raced.{Raced}
 use Rattle.bound_search.specs.declared.start.Start.{Start}
 use Rattle.shared_witness.specs.View.{highest}
@@ -173,6 +173,28 @@ pub few_of_all : (bag : Kept) (nodes : ℕ) (tails : List Suffix) (race : Shared
     TeamRan bag nodes tails race team → All HasFewEnds team
 few_of_all bag nodes tails race team few ran i d low = few_ends bag nodes tails race i (get_or team i d) few (ran i d low)
 
+-- ---- nothing is below 0
+
+nothing-below_0 : (n : ℕ) (records : List (List ℕ)) (xs : List (List ℕ)) → count_by (is_part_below n records 0) xs ≡ 0
+nothing-below_0 n records [] = refl
+nothing-below_0 n records (s ∷ xs) =
+    let more = sum_by-cons (λ s. cond (is_part_below n records 0 s) 1 0) s xs in
+    let here' : ◌≡◌ {A = ℕ} (cond (is_part_below n records 0 s) 1 0) 0 = ap (λ b. cond b 1 0) (none_is s) in
+    omega (arith, more, here', nothing-below_0 n records xs)
+  where
+    none_is : (s : List ℕ) → is_part_below n records 0 s ≡ false
+    none_is s = elim (cases_Bool (is_part_below n records 0 s)) [
+      | inr f ↦ f
+      | inl t ↦ let lt : low n records s < 0 = ltb-true (low n records s) 0 (and_parts (nat_lt (length s) n) (nat_lt (low n records s) 0) t).1 in
+          absurd (omega (arith, lt))
+    ]
+
+closed-at_0 : (bag : Kept) (p : PieceEnd) → IsClosedEntry bag 0 p
+closed-at_0 bag p = record {
+  above = λ records of order o e. omega arith;
+  least = λ records of. let zero = nothing-below_0 bag.n records (suffixes_of bag.n p.tail.list) in omega (arith, zero);
+}
+
 -- ---- what the seats and the bound at the end make of the joined ends
 
 module _ (bag : Kept) (nodes workers bound : ℕ) (tails : List Suffix) (race : SharedRace) (start : Best) (j : Joined) (r : Raced)
@@ -181,7 +203,7 @@ module _ (bag : Kept) (nodes workers bound : ℕ) (tails : List Suffix) (race : 
     (count : length j.seats.items ≡ workers)
     (bound_is : bound ≡ least_posted race.terms.first (views_of j.seats.items)) (seen : All (λ s. bound ≤ s.view.seen) j.seats.items)
     (once : EachOnce race.terms.pieces (taken_pieces (views_of j.seats.items)))
-    (r_is : r ≡ record { ends = j.ends; reports = j.reports; best = j.best; spent = j.spent }) where
+    (r_is : r ≡ record { ends = j.ends; reports = j.reports; best = j.best; spent = spent_above j.best.margin j.spent }) where
   margin_is : j.best.margin ≡ bound
   margin_is = joined.least fits ∙ ap (λ f. least_posted f (views_of j.seats.items)) (sym first) ∙ sym bound_is
 
@@ -191,6 +213,20 @@ module _ (bag : Kept) (nodes workers bound : ℕ) (tails : List Suffix) (race : 
       All-weaker (IsClosedUnder bag j.seats.items) (IsClosedEntry bag j.best.margin)
       (λ p h. subst (λ b. IsClosedEntry bag b p) (sym margin_is) (h bound seen)) j.ends.items all
   closed_of (Some piece) costly = subst (λ f. IsCostly bag f nodes tails piece) first costly
+
+  -- at 0 a piece that was left open says nothing less
+  above_0 : (b : Bool) → (j.best.margin == 0) ≡ b →
+      MatchOption (cond b None j.spent) (All (IsClosedEntry bag j.best.margin) j.ends.items) (λ p. (1 ≤ j.best.margin) × IsCostly bag start.margin nodes tails p)
+  above_0 true zero = λ k d low.
+      subst (λ m. IsClosedEntry bag m (get_or j.ends.items k d)) (sym (eqb-true j.best.margin 0 zero)) (closed-at_0 bag (get_or j.ends.items k d))
+  above_0 false some =
+      with_some (let apart = eqb-false j.best.margin 0 some in omega (arith, apart)) j.spent (closed_of j.spent joined.spent)
+    where
+      with_some : 1 ≤ j.best.margin → (o : Option ℕ) →
+          MatchOption o (All (IsClosedEntry bag j.best.margin) j.ends.items) (IsCostly bag start.margin nodes tails) →
+          MatchOption o (All (IsClosedEntry bag j.best.margin) j.ends.items) (λ p. (1 ≤ j.best.margin) × IsCostly bag start.margin nodes tails p)
+      with_some le None all = all
+      with_some le (Some piece) costly = (le, costly)
 
   pub is_raced : IsRaced bag nodes tails workers start r
   is_raced = subst (IsRaced bag nodes tails workers start) (sym r_is) (record {
@@ -202,22 +238,28 @@ module _ (bag : Kept) (nodes workers bound : ℕ) (tails : List Suffix) (race : 
     paced = joined.paced;
     best = joined.best;
     upper = let low = least-first start.margin (views_of j.seats.items) in omega (arith, joined.least fits, low);
-    spent = closed_of j.spent joined.spent;
+    spent = above_0 (j.best.margin == 0) refl;
   })
 
 -- ---- the budget of a piece was spent, or no piece's was
 
+-- above a bound of 0
+pub spent_where : (bag : Kept) (nodes : ℕ) (tails : List Suffix) (workers : ℕ) (start : Best) (r : Raced) → IsRaced bag nodes tails workers start r →
+    (piece : ℕ) → r.spent ≡ Some piece →
+    (1 ≤ r.best.margin) × IsCostly bag start.margin nodes tails piece
+spent_where bag nodes tails workers start r raced piece spent =
+    subst (λ o. MatchOption o (All (IsClosedEntry bag r.best.margin) r.ends.items) (λ p. (1 ≤ r.best.margin) × IsCostly bag start.margin nodes tails p)) spent raced.spent
+
 pub costly_where : (bag : Kept) (nodes : ℕ) (tails : List Suffix) (workers : ℕ) (start : Best) (r : Raced) → IsRaced bag nodes tails workers start r →
     (piece : ℕ) → r.spent ≡ Some piece →
     IsCostly bag start.margin nodes tails piece
-costly_where bag nodes tails workers start r raced piece spent =
-    subst (λ o. MatchOption o (All (IsClosedEntry bag r.best.margin) r.ends.items) (IsCostly bag start.margin nodes tails)) spent raced.spent
+costly_where bag nodes tails workers start r raced piece spent = (spent_where bag nodes tails workers start r raced piece spent).1
 
 pub closed_where : (bag : Kept) (nodes : ℕ) (tails : List Suffix) (workers : ℕ) (start : Best) (r : Raced) → IsRaced bag nodes tails workers start r →
     r.spent ≡ None →
     All (IsClosedEntry bag r.best.margin) r.ends.items
 closed_where bag nodes tails workers start r raced none =
-    subst (λ o. MatchOption o (All (IsClosedEntry bag r.best.margin) r.ends.items) (IsCostly bag start.margin nodes tails)) none raced.spent
+    subst (λ o. MatchOption o (All (IsClosedEntry bag r.best.margin) r.ends.items) (λ p. (1 ≤ r.best.margin) × IsCostly bag start.margin nodes tails p)) none raced.spent
 
 -- ---- all that the race says
 
@@ -298,11 +340,11 @@ module _ (bag : Kept) (nodes winner workers : ℕ) (tails : List Suffix) (start 
 -- ---- a piece that is spent
 
 pub spent_race : (bag : Kept) (nodes winner number first : ℕ) (tab : Tabulated) (tail : Suffix) (best : Best) (fault : RaceFault) → tab.winner ≡ winner →
-    IsReached bag winner best →
+    IsReached bag winner best → 1 ≤ best.margin →
     ((records : List (List ℕ)) → IsOf bag records → (first ≡ first_bound bag.n records tab.order) × (best.margin ≤ first)) →
     slice_get (tails_are bag.n winner) number ≡ Some tail → IsCostly bag first nodes (tails_are bag.n winner) number →
     ((last : ℕ) (other : ℕ) → tail.list ≡ other ∷ last ∷ [] → fault ≡ Spent last best.margin best.order) → IsSpentOver bag tab nodes fault
-spent_race bag nodes winner number first tab tail best fault won reached upper at (tail', at', over) says =
+spent_race bag nodes winner number first tab tail best fault won reached some upper at (tail', at', over) says =
     let piece = (tail_facts bag.n winner number tail at).1 in
     let same : tail' ≡ tail = some_one (slice_get (tails_are bag.n winner) number) tail' tail at' at in
     subst (IsSpentOver bag tab nodes) (sym (says piece.last piece.other piece.is)) (λ records of.
@@ -318,4 +360,5 @@ spent_race bag nodes winner number first tab tail best fault won reached upper a
       alternative = subst (λ v. IsAlternative bag.n v best.order) (sym won) reached.alternative;
       hardness = reached.hardness records of;
       reached = omega (arith, u.0, u.1);
+      some = some;
     })

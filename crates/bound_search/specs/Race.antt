@@ -101,7 +101,8 @@ abbrev pub work_for : ℕ → List (List ℕ) → List ℕ → ℕ → ℕ
 work_for n records order c =
     greatest (map (work n records (first_bound n records order)) (pieces_electing n c))
 
--- an alternative winner with more work than the budget, and an alternative order that is no harder than the start order
+-- an alternative winner with more work than the budget, and an alternative order that is no harder than the start order, and not of
+-- hardness 0
 pub record IsTooMuch (n : ℕ) (records : List (List ℕ)) (tab : Tabulated) (nodes last upper : ℕ)
     (order : List ℕ) : Type 0 where
   pub candidate : last < n
@@ -110,6 +111,7 @@ pub record IsTooMuch (n : ℕ) (records : List (List ℕ)) (tab : Tabulated) (no
   pub alternative : IsAlternative n tab.winner order
   pub hardness : low n records order ≡ upper
   pub reached : upper ≤ first_bound n records tab.order
+  pub some : 1 ≤ upper
 
 abbrev pub IsSpent : ℕ → List (List ℕ) → Tabulated → ℕ → RaceFault → Type 0
 IsSpent n records tab nodes (Spent last upper order) =

@@ -1,5 +1,5 @@
 -- What a race starts from, and what a race over given pieces came to.
-use Rattle.std.specs.Prelude.{◌≡◌, ◌⊎◌, ℕ, ◌<◌, ◌≤◌, List, All, length, map}
+use Rattle.std.specs.Prelude.{◌≡◌, ◌⊎◌, ℕ, ◌<◌, ◌≤◌, ◌==◌, if◌then◌else◌, List, All, Option, None, length, map}
 use Rattle.std.specs.Option.{MatchOption}
 use Rattle.assertions.specs.Hardness.{first_bound}
 use Rattle.irv_tabulator.specs.declared.tabulated.Tabulated.{Tabulated}
@@ -26,6 +26,10 @@ pub record IsStart (bag : Kept) (tab : Tabulated) (start : Start) : Type 0 where
 abbrev pub IsClosedEntry : Kept → ℕ → PieceEnd → Type 0
 IsClosedEntry bag bound p = IsClosedAt bag bound p.tail.list p.expanded
 
+-- a spent piece leaves the best margin open only where no order of hardness 0 is known
+abbrev pub spent_above : ℕ → Option ℕ → Option ℕ
+spent_above margin spent = if margin == 0 then None else spent
+
 pub record IsRaced (bag : Kept) (nodes : ℕ) (tails : List Suffix) (workers : ℕ) (start : Best)
     (r : Raced) : Type 0 where
   pub took : EachOnce (length tails) (map (λ p. p.piece) r.ends.items)
@@ -37,4 +41,4 @@ pub record IsRaced (bag : Kept) (nodes : ℕ) (tails : List Suffix) (workers : �
   pub upper : r.best.margin ≤ start.margin
   pub spent :
       MatchOption r.spent (All (IsClosedEntry bag r.best.margin) r.ends.items)
-      (IsCostly bag start.margin nodes tails)
+      (λ piece. (1 ≤ r.best.margin) × IsCostly bag start.margin nodes tails piece)

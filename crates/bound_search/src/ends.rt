@@ -73,7 +73,7 @@ pub struct RaceEnd {
 #[derive(Clone, Copy)]
 pub enum RaceFault {
     /// A piece whose orders elect `last` has more work than the budget. `order` is an alternative order
-    /// of hardness `upper`, the least that was found.
+    /// of hardness `upper`, the least that was found, which is above 0.
     Spent {
         last: Candidate,
         upper: u32,

@@ -1,6 +1,6 @@
 // A race over given pieces, run to its end.
 ghost use Rattle.std.specs.Prelude.{◌≡◌, ◌≤◌, All, IfOk, length};
-ghost use Rattle.bound_search.specs.Raced.{IsRaced};
+ghost use Rattle.bound_search.specs.Raced.{IsRaced, spent_above};
 ghost use Rattle.irv_base.specs.declared.limits.TheConstants.{MOST_WORKERS};
 ghost use Rattle.bound_search.specs.declared.limits.TheConstants.{MOST_PIECES};
 
@@ -23,8 +23,15 @@ pub(crate) struct Raced {
     pub reports: Vec<Report>,
     /// The least hard of the orders that were found, or the start order.
     pub best: Best,
-    /// The number of a piece whose work is above the budget.
+    /// The number of a piece whose work is above the budget. With an order of hardness 0 there is none.
     pub spent: Option<u32>,
+}
+
+// The spent piece, unless an order of hardness 0 was found: then the best margin is 0, whatever was spent.
+fn spent_above(margin: u32, spent: Option<u32>) -> Option<u32>
+    ensures { result ≡ spent_above margin spent }
+{
+    if margin == 0 { None } else { spent }
 }
 
 /// Runs a race over these pieces, from the order `first` on.
@@ -64,6 +71,7 @@ pub(crate) fn run_race<R: AllocGlobal + Threads + Sync, G: Gate + Sync>(
         spent,
     } = join(alloc, team, first)?;
     race.finish(seats);
+    let spent = spent_above(best.margin, spent);
     Ok(Raced {
         ends,
         reports,

@@ -33,7 +33,8 @@ fn spent_on(tail: &Tail, best: Best) -> RaceFault
 ///
 /// `tab` is the tabulation of the records. The workers take the pieces, two candidates that an order ends in, in their order.
 /// Each has tallies of its own, and all search under one bound. Each piece has the whole budget of `nodes` suffixes. Where
-/// that of some piece is spent, the answer is its last candidate and the least order found. The other error is want of memory.
+/// that of some piece is spent, the answer is its last candidate and the least order found, but where that is of hardness 0: then the
+/// best margin is 0, whatever was spent. The other error is want of memory.
 pub fn race<R: AllocGlobal + Threads + Sync, G: Gate + Sync>(
     rt: &R,
     counted: &Counted,

@@ -46,7 +46,7 @@ fn listed(alloc: Global, claims: &BTreeMap<Assertion, u32>) -> Result<Vec<Claim>
 }
 
 /// The canonical certificate of the contest with these records, whose tabulated order is that of `tab` and whose best
-/// margin, in votes, is `best`. The records alone determine it, whichever search found the best margin, and at any number
+/// margin, in votes, is `best`, which is above 0: ways of breaking ties don't change the winner. The records alone determine it, whichever search found the best margin, and at any number
 /// of workers.
 ///
 /// For each alternative winner two counts are taken, of suffixes that end in that candidate and aren't whole orders:
@@ -68,6 +68,7 @@ pub fn certify<R: AllocGlobal + Threads + Sync>(
         → IsTabulation counted.now.bag.n records tab.now }
     requires best { (records : List (List ℕ)) → IsOf counted.now.bag records
         → best ≡ best_margin counted.now.bag.n tab.now.winner (low counted.now.bag.n records) }
+    requires positive { 1 ≤ best }
     requires workers { (1 ≤ workers) × (workers ≤ MOST_WORKERS) }
     ensures certificate { (records : List (List ℕ)) → IsOf counted.now.bag records
         → IfOk result (IsCertified counted.now.bag.n records tab.now.winner best nodes) }

@@ -4,7 +4,7 @@ use Rattle.std.specs.Io.KnownBytes.{Appends, Keeps}
 use Rattle.desk.specs.Desk.{File, held_bytes}
 use Rattle.cli_base.specs.Outcome.{Outcome, Verdict, Answered, Refused, outcome, status_of, out_of_memory, too_long, no_such_file}
 use Rattle.cli_base.specs.Script.{Asked, Nothing, Runs, Reading, Bytes, Missing, TooLong, Fault, Readings, AsHeld, AsTold, ByDesk, MayCome, IsDue, ComesToRead, ComesTo, AgreeOn, Same, SameButBudget, reading_of, stop_of, IsBudgeted, OneIsSpent, limit}
-use Rattle.cli_base.specs.Ends.{Writing, Took, IsWhole, IsWritten}
+use Rattle.cli_base.specs.Ends.{Writing, Took, HasNewFaults, IsWhole, IsWritten}
 use Rattle.cli_base.specs.Statuses.{IsUndone, IsQuiet, Exactly, ExactlyInBudget, TookTexts, IsDefined, IsAnswered, IsNothing, HasFile, IsRefused, HasAnswer, IsReadFault, IsWriteFault, IsForErr, IsStatus, IsExact, Statuses}
 use Rattle.cli_base.specs.Story.{Story}
 use Rattle.cli_base.specs.declared.outcome.AnswerKind.{AnswerKind}
@@ -270,6 +270,15 @@ module _ {asked : Asked} {held : Option (List File)} {failed : Type 0} {status :
     | inr cut ↦ record { cause = cut.cause; due = story.due; is_due = story.is_due; to_out = cut.to_out; to_err = cut.to_err }
   ]
 
+  write_told_clause : HasNewFaults out ⊎ HasNewFaults err → status ≡ 8
+  write_told_clause faults = elim story.written [
+    | inl whole ↦ elim faults [
+      | inl to_out ↦ absurd (omega (arith, to_out, whole.unfailed_out))
+      | inr to_err ↦ absurd (omega (arith, to_err, whole.unfailed_err))
+    ]
+    | inr cut ↦ cut.ends
+  ]
+
   memory_clause : status ≡ 9 → TookTexts out_of_memory out err
   memory_clause e = elim story.written [
     | inl whole ↦ subst (λ d. TookTexts d out err) (nine (ByDesk held failed) asked story.due story.is_due (sym whole.ends ∙ e)) (whole.to_out, whole.to_err)
@@ -393,19 +402,20 @@ module _ {asked : Asked} {held : Option (List File)} {failed : Type 0} {status :
       known = known_clause;
       done = in_budget Done (λ e. differ 0 4 e refl);
       bad_words = bad_words_clause;
-      refused = exactly 2 (IsRefused asked) (free 2 refl refl refl) (unbudgeted 2 refl refl refl) (λ files. refused_from (AsHeld files) asked)
+      refused = exactly 2 (IsRefused asked) (free 2 refl refl refl) (unbudgeted 2 refl refl refl refl) (λ files. refused_from (AsHeld files) asked)
           (λ files (name, text, comes). verdict_to (AsHeld files) asked (Refused name text) comes);
-      tie = answer_exactly Tie (unbudgeted 3 refl refl refl);
+      tie = in_budget Tie (λ e. differ 3 4 e refl);
       spent = where_told (λ files. status ≡ 4 → HasAnswer asked files Spent)
           (λ files is_due. only_there files is_due 4 (HasAnswer asked files Spent) (kind_free Spent) (answer_from (AsHeld files) asked Spent));
       full_count = in_budget FullCount (λ e. differ 5 4 e refl);
-      differs = answer_exactly Differs (unbudgeted 6 refl refl refl);
+      differs = answer_exactly Differs (unbudgeted 6 refl refl refl refl);
       read_fault = read_fault_clause;
       write_fault = write_fault_clause;
+      write_told = write_told_clause;
       memory = memory_clause;
-      unconfirmed = answer_exactly Unconfirmed (unbudgeted 10 refl refl refl);
-      too_long = exactly 11 (λ files. HasFile asked files TooLong) (free 11 refl refl refl) (unbudgeted 11 refl refl refl) (λ files. too_long_from files asked)
+      unconfirmed = answer_exactly Unconfirmed (unbudgeted 10 refl refl refl refl);
+      too_long = exactly 11 (λ files. HasFile asked files TooLong) (free 11 refl refl refl) (unbudgeted 11 refl refl refl refl) (λ files. too_long_from files asked)
           (λ files (name, comes, there). stop_to (AsHeld files) asked name TooLong (too_long name) comes there refl);
-      missing = exactly 12 (λ files. HasFile asked files Missing) (free 12 refl refl refl) (unbudgeted 12 refl refl refl) (λ files. missing_from files asked)
+      missing = exactly 12 (λ files. HasFile asked files Missing) (free 12 refl refl refl) (unbudgeted 12 refl refl refl refl) (λ files. missing_from files asked)
           (λ files (name, comes, there). stop_to (AsHeld files) asked name Missing (no_such_file name) comes there refl);
     }

@@ -23,10 +23,11 @@ free n a b c (inl e) = differ n 7 e a
 free n a b c (inr (inl e)) = differ n 8 e b
 free n a b c (inr (inr e)) = differ n 9 e c
 
-pub unbudgeted : (n : ℕ) → nat_eq n 0 ≡ false → nat_eq n 4 ≡ false → nat_eq n 5 ≡ false → IsBudgeted n → ⊥
-unbudgeted n a b c (inl e) = differ n 0 e a
-unbudgeted n a b c (inr (inl e)) = differ n 4 e b
-unbudgeted n a b c (inr (inr e)) = differ n 5 e c
+pub unbudgeted : (n : ℕ) → nat_eq n 0 ≡ false → nat_eq n 3 ≡ false → nat_eq n 4 ≡ false → nat_eq n 5 ≡ false → IsBudgeted n → ⊥
+unbudgeted n a b c d (inl e) = differ n 0 e a
+unbudgeted n a b c d (inr (inl e)) = differ n 3 e b
+unbudgeted n a b c d (inr (inr (inl e))) = differ n 4 e c
+unbudgeted n a b c d (inr (inr (inr e))) = differ n 5 e d
 
 -- ---- the kinds of answer
 

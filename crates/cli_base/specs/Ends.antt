@@ -1,5 +1,5 @@
 -- What the sinks of a call took of an outcome.
-use Rattle.std.specs.Prelude.{◌≡◌, ◌≤◌, ◌⊎◌, ℕ, List, Option, length, take}
+use Rattle.std.specs.Prelude.{◌≡◌, ◌<◌, ◌≤◌, ◌⊎◌, ℕ, List, Option, length, take}
 use Rattle.std.specs.Io.KnownBytes.{Appends}
 use Rattle.desk.specs.Count.{Rose}
 use Rattle.desk.specs.declared.sink.Sink.{Ghosts}
@@ -32,16 +32,27 @@ TookPrefix sink text = (n : ℕ) × (n ≤ length text) × Took sink (take n tex
 abbrev pub Failed : Writing → Type 0
 Failed sink = Rose sink.faults_before sink.faults_after
 
--- the sink took the text, or a write failed and it took a prefix
+-- its count of faults is as it was
+abbrev pub IsUnfailed : Writing → Type 0
+IsUnfailed sink = sink.faults_after ≡ sink.faults_before
+
+-- its count of faults is greater than it was
+abbrev pub HasNewFaults : Writing → Type 0
+HasNewFaults sink = sink.faults_before < sink.faults_after
+
+-- the sink took the text and no write failed, or a write failed and it took a prefix
 abbrev pub IsSaid : List ℕ → ℕ → ℕ → Writing → Type 0
 IsSaid text status answer sink =
-    ((answer ≡ status) × Took sink text) ⊎ ((answer ≡ 8) × Failed sink × TookPrefix sink text)
+    ((answer ≡ status) × Took sink text × IsUnfailed sink)
+    ⊎ ((answer ≡ 8) × Failed sink × TookPrefix sink text)
 
--- each sink took its text, and the status is the outcome's
+-- each sink took its text, no write failed, and the status is the outcome's
 pub record IsWhole (due : Outcome) (status : ℕ) (out err : Writing) : Type 0 where
   pub ends : status ≡ due.status
   pub to_out : Took out due.out
   pub to_err : Took err due.err
+  pub unfailed_out : IsUnfailed out
+  pub unfailed_err : IsUnfailed err
 
 -- a write failed, and each sink took a prefix of its text
 pub record IsCut (due : Outcome) (status : ℕ) (out err : Writing) : Type 0 where

@@ -122,9 +122,9 @@ AgreeOn R (Runs script) = Agree R script
 abbrev pub Same : Outcome → Outcome → Type 0
 Same due other = due ≡ other
 
--- an answer, a full count, or a budget that was spent before it could be had
+-- an answer, a tie, a full count, or a budget that was spent before it could be had
 abbrev pub IsBudgeted : ℕ → Type 0
-IsBudgeted status = (status ≡ 0) ⊎ (status ≡ 4) ⊎ (status ≡ 5)
+IsBudgeted status = (status ≡ 0) ⊎ (status ≡ 3) ⊎ (status ≡ 4) ⊎ (status ≡ 5)
 
 -- a budget made the one end otherwise than the other
 abbrev pub OneIsSpent : Outcome → Outcome → Type 0

@@ -3,7 +3,7 @@ use Rattle.std.specs.Prelude.{◌≡◌, ◌≢◌, ◌⊎◌, ℕ, List, Option
 use Rattle.desk.specs.Desk.{File}
 use Rattle.cli_base.specs.Outcome.{Outcome, status_of, Answered, Refused, read_fault, out_of_memory}
 use Rattle.cli_base.specs.Script.{Asked, Nothing, Runs, Readings, Reading, TooLong, Missing, ByDesk, AsHeld, AsTold, MayCome, IsDue, ComesToRead, ComesTo}
-use Rattle.cli_base.specs.Ends.{Writing, Took, TookPrefix, Failed}
+use Rattle.cli_base.specs.Ends.{Writing, Took, TookPrefix, Failed, HasNewFaults}
 use Rattle.cli_base.specs.declared.outcome.AnswerKind.{AnswerKind}
 use Rattle.cli_base.specs.declared.outcome.AnswerKind.TheVariants.{Done, Tie, Spent, FullCount, Differs, Unconfirmed}
 
@@ -98,12 +98,14 @@ pub record Statuses (asked : Asked) (held : Option (List File)) (failed : Type 0
   pub done : IfSome held (λ files. ExactlyInBudget 0 status (HasAnswer asked files Done))
   pub bad_words : Exactly 1 status (IsNothing asked)
   pub refused : IfSome held (λ files. Exactly 2 status (IsRefused asked files))
-  pub tie : IfSome held (λ files. Exactly 3 status (HasAnswer asked files Tie))
+  pub tie : IfSome held (λ files. ExactlyInBudget 3 status (HasAnswer asked files Tie))
   pub spent : IfSome held (λ files. status ≡ 4 → HasAnswer asked files Spent)
   pub full_count : IfSome held (λ files. ExactlyInBudget 5 status (HasAnswer asked files FullCount))
   pub differs : IfSome held (λ files. Exactly 6 status (HasAnswer asked files Differs))
   pub read_fault : status ≡ 7 → IsReadFault asked held failed out err
   pub write_fault : status ≡ 8 → IsWriteFault (ByDesk held failed) asked out err
+  -- no write that failed is passed over
+  pub write_told : HasNewFaults out ⊎ HasNewFaults err → status ≡ 8
   -- it may come at any time
   pub memory : status ≡ 9 → TookTexts out_of_memory out err
   pub unconfirmed : IfSome held (λ files. Exactly 10 status (HasAnswer asked files Unconfirmed))

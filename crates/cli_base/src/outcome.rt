@@ -11,7 +11,7 @@ use std::alloc::{AllocError, AllocFailed};
 pub enum AnswerKind {
     /// What was asked for.
     Done,
-    /// The tabulation has a tie.
+    /// Ways of breaking the ties of the contest elect different candidates.
     Tie,
     /// The budget of nodes is spent.
     Spent,

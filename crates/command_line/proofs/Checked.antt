@@ -101,7 +101,7 @@ meaning_checked name pieces right = by name (parts name pieces right) where
 
   by : (name : CommandName) → IsRight name pieces → IsChecked (meaning name pieces)
   by command.Search line = (file_named 0 pieces line.fit (omega (arith, line.count)), workers-are line.fit, nodes-are line.fit, floor-is line.fit)
-  by command.Tabulate line = file_named 0 pieces line.fit (omega (arith, line.count))
+  by command.Tabulate line = (file_named 0 pieces line.fit (omega (arith, line.count)), nodes-are line.fit)
   by command.Check line =
       (file_named 0 pieces line.fit (omega (arith, line.count)), file_named 1 pieces line.fit (omega (arith, line.count)), nodes-are line.fit)
   by command.Sample line =

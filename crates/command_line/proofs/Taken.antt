@@ -16,7 +16,7 @@ pub record IsTaken (command : CommandName) (pieces : List Piece) : Type 0 where
 pub is_taken : (command : CommandName) (pieces : List Piece) → IsTaken command pieces
 unfolding clap_on_literals
 is_taken Search pieces = record { simple = refl; taken = refl; shown = record { options = (refl, (refl, (refl, (refl, tt)))); files = (refl, tt) } }
-is_taken Tabulate pieces = record { simple = refl; taken = refl; shown = record { options = (refl, tt); files = (refl, tt) } }
+is_taken Tabulate pieces = record { simple = refl; taken = refl; shown = record { options = (refl, (refl, tt)); files = (refl, tt) } }
 is_taken Check pieces = record { simple = refl; taken = refl; shown = record { options = (refl, (refl, tt)); files = (refl, (refl, tt)) } }
 is_taken Sample pieces = record { simple = refl; taken = refl; shown = record { options = (refl, (refl, tt)); files = (refl, tt) } }
 is_taken Plan pieces = record { simple = refl; taken = refl; shown = record { options = (refl, (refl, tt)); files = (refl, (refl, tt)) } }

@@ -33,7 +33,7 @@ abbrev pub IsChecked : Command → Type 0
 IsChecked (Search ballots contest workers nodes floor) =
     IsNamed ballots × IsUpTo MOST_WORKERS workers × IsUpTo MOST_NODES nodes
     × IsUpTo MOST_FLOOR floor
-IsChecked (Tabulate ballots contest) = IsNamed ballots
+IsChecked (Tabulate ballots contest nodes) = IsNamed ballots × IsUpTo MOST_NODES nodes
 IsChecked (Check ballots assertions contest nodes) =
     IsNamed ballots × IsNamed assertions × IsUpTo MOST_NODES nodes
 IsChecked (Sample manifest seed draws) =
@@ -106,8 +106,8 @@ pub record Examples : Type 0 where
   pub more_number : is_taken Number (codes "4294967296") ≡ false
   pub fewest_candidates : is_taken Candidates (codes "2") ≡ true
   pub one_candidate : is_taken Candidates (codes "1") ≡ false
-  pub most_candidates : is_taken Candidates (codes "20") ≡ true
-  pub more_candidates : is_taken Candidates (codes "21") ≡ false
+  pub most_candidates : is_taken Candidates (codes "32") ≡ true
+  pub more_candidates : is_taken Candidates (codes "33") ≡ false
   pub one_ballot : is_taken Ballots (codes "1") ≡ true
   pub no_ballots : is_taken Ballots (codes "0") ≡ false
   pub most_ballots : is_taken Ballots (codes "1000000") ≡ true
@@ -165,16 +165,17 @@ pub record Trials : Type 0 where
   pub two_numbers : is_line (trial_line (codes "--number=7" ∷ codes "--number=7" ∷ [])) ≡ false
   pub with_file : is_line (trial_line (codes "--number=7" ∷ codes "a.raire" ∷ [])) ≡ false
   pub all : is_line (trial_line
-      (codes "--nodes=9" ∷ codes "--workers=8" ∷ codes "--ballots=1" ∷ codes "--candidates=20"
+      (codes "--nodes=9" ∷ codes "--workers=8" ∷ codes "--ballots=1" ∷ codes "--candidates=32"
       ∷ codes "--number=0" ∷ [])) ≡ true
 
 -- a line of each command, with all its options, and with those alone that it needs
 pub record Meanings : Type 0 where
   pub tabulate :
-      command_of (codes "tabulate" ∷ codes "b" ∷ codes "--contest=c" ∷ [])
-      ≡ Some (Tabulate (codes "b") (Some (codes "c")))
+      command_of (codes "tabulate" ∷ codes "b" ∷ codes "--contest=c" ∷ codes "--nodes=2" ∷ [])
+      ≡ Some (Tabulate (codes "b") (Some (codes "c")) 2)
   pub tabulate_left_out :
-      command_of (codes "tabulate" ∷ codes "b" ∷ []) ≡ Some (Tabulate (codes "b") None)
+      command_of (codes "tabulate" ∷ codes "b" ∷ [])
+      ≡ Some (Tabulate (codes "b") None DEFAULT_NODES)
   pub search :
       command_of (codes "search" ∷ codes "b" ∷ codes "--contest=c" ∷ codes "--workers=2"
       ∷ codes "--nodes=3" ∷ codes "--floor=4" ∷ [])
@@ -244,7 +245,7 @@ pub record NoLines : Type 0 where
   pub longer_word : is_line (codes "searches" ∷ codes "b" ∷ []) ≡ false
   pub part_of_an_option : is_line (codes "search" ∷ codes "b" ∷ codes "--node=3" ∷ []) ≡ false
   pub option_of_another_command :
-      is_line (codes "tabulate" ∷ codes "b" ∷ codes "--nodes=3" ∷ []) ≡ false
+      is_line (codes "tabulate" ∷ codes "b" ∷ codes "--floor=3" ∷ []) ≡ false
   pub hyphen_alone : is_line (codes "report" ∷ codes "-" ∷ []) ≡ false
   pub file_without_name : is_line (codes "report" ∷ codes "" ∷ []) ≡ false
   pub hyphen_as_value :

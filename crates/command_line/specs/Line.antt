@@ -68,7 +68,7 @@ abbrev pub meaning : CommandName → List Piece → Command
 meaning name.Search pieces =
     Search (file 0 pieces) (contest pieces) (number_of Workers pieces) (number_of Nodes pieces)
     (number_of Floor pieces)
-meaning name.Tabulate pieces = Tabulate (file 0 pieces) (contest pieces)
+meaning name.Tabulate pieces = Tabulate (file 0 pieces) (contest pieces) (number_of Nodes pieces)
 meaning name.Check pieces =
     Check (file 0 pieces) (file 1 pieces) (contest pieces) (number_of Nodes pieces)
 meaning name.Sample pieces = Sample (file 0 pieces) (seed pieces) (number_of Draws pieces)

@@ -22,7 +22,11 @@ form_of Search = record {
   options = option.Contest ∷ option.Workers ∷ option.Nodes ∷ option.Floor ∷ [];
 }
 form_of Tabulate =
-    record { word = codes "tabulate"; files = codes "ballots" ∷ []; options = option.Contest ∷ [] }
+    record {
+      word = codes "tabulate";
+      files = codes "ballots" ∷ [];
+      options = option.Contest ∷ option.Nodes ∷ [];
+    }
 form_of Check =
     record {
       word = codes "check";

@@ -28,10 +28,11 @@ pub enum Command {
         nodes: u32,
         floor: u32,
     },
-    /// The rounds of a contest.
+    /// The rounds of a contest, or its first tie where that leaves open who has won.
     Tabulate {
         ballots: FileName,
         contest: Option<Name>,
+        nodes: u32,
     },
     /// Whether an assertion file holds of the ballots of a contest.
     Check {
@@ -106,6 +107,7 @@ fn tabulate(alloc: Global, matches: &ArgMatches<'_>) -> Result<Command, AllocErr
     Ok(Command::Tabulate {
         ballots: file(alloc, BALLOTS, matches)?,
         contest: contest(matches),
+        nodes: number(OptionName::Nodes, matches),
     })
 }
 

@@ -166,7 +166,11 @@ impl CommandName {
     {
         match self {
             CommandName::Search => Form::of("search", &[BALLOTS], &SEARCH_OPTIONS),
-            CommandName::Tabulate => Form::of("tabulate", &[BALLOTS], &[OptionName::Contest]),
+            CommandName::Tabulate => Form::of(
+                "tabulate",
+                &[BALLOTS],
+                &[OptionName::Contest, OptionName::Nodes],
+            ),
             CommandName::Check => Form::of(
                 "check",
                 &[BALLOTS, ASSERTIONS],

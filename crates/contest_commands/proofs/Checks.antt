@@ -18,14 +18,14 @@ use Rattle.ballot_reader.specs.Grammar.{Refusal, ballots_of}
 use Rattle.assertion_file.specs.Content.{Content}
 use Rattle.assertion_file.specs.Reading.{Refusal as FileRefusal, assertion_file_of}
 use Rattle.cover_checker.specs.Covers.{stands, standing_order, first_over, verdict_on as cover_verdict, or_spent, covered_is}
-use Rattle.cover_checker.specs.Outcomes.{Outcome as Contested, Won, Tied, IsOutcome, IsWinner}
+use Rattle.cover_checker.specs.Outcomes.{IsWinner}
 use Rattle.cover_checker.specs.Findings.{Answer, is_about, has_other_margin, other_margin_from, unless_covered, refuted_by, elects, smallest_margin}
 use Rattle.cover_checker.specs.Checks.{findings, first_found, checked_is, Judges, IsAnswer}
 use Rattle.cover_checker.proofs.OneAnswer.{answer_is_one}
 use Rattle.cover_checker.proofs.Same.{from_about}
 use Rattle.cover_checker.specs.declared.checked.Checked.{Checked}
 use Rattle.cover_checker.specs.declared.checked.Checked.TheVariants.{OtherContest, OtherWinner, OtherMargin, Stands, NotLeast, NotAlternative, Harder, Accepted}
-use Rattle.cover_checker.specs.declared.checked.CheckFault.TheVariants.{Tie, Spent, Memory}
+use Rattle.cover_checker.specs.declared.checked.CheckFault.TheVariants.{Spent, Memory}
 use Rattle.cli_base.specs.Outcome.{Verdict, outcome}
 use Rattle.cli_base.specs.Script.{Agree, AreOfKind, IsOfKind, Same}
 use Rattle.contest_commands.specs.Contest.{IsWon}
@@ -40,7 +40,6 @@ use Rattle.contest_commands.proofs.Contests.{winner-below}
 -- the answer names candidates, orders and assertions of n candidates
 abbrev Names : ℕ → Answer → Type 0
 Names n (Ok found) = IsAmong n found
-Names n (Err (Tie round tied votes)) = ⊤
 Names n (Err (Spent last)) = last < n
 Names n (Err Memory) = ⊤
 
@@ -94,11 +93,10 @@ names-harder n hardness false found proper = tt
 won_as : (ballots : BallotFile) (winner : ℕ) → IsWinner (length ballots.candidates) ballots.rankings winner → IsWon ballots winner
 won_as ballots winner is = record { order = is.order; permutation = is.permutation; tabulated = is.tabulated; elects = is.elects }
 
-names-judged : (nodes : ℕ) (ballots : BallotFile) (file : Content) → is_about ballots file ≡ true → (contested : Contested) →
-    IsOutcome (length ballots.candidates) ballots.rankings contested
-    → Names (length file.candidates) (checked_is nodes ballots.rankings file contested)
-names-judged nodes ballots file about (Tied round tied votes) is = tt
-names-judged nodes ballots file about (Won winner) is =
+names-judged : (nodes : ℕ) (ballots : BallotFile) (file : Content) → is_about ballots file ≡ true → (winner : ℕ) →
+    IsWinner (length ballots.candidates) ballots.rankings winner
+    → Names (length file.candidates) (checked_is nodes ballots.rankings file winner)
+names-judged nodes ballots file about winner is =
     let n = length file.candidates in
     let below : winner < n = subst (λ m. winner < m) (sym (ap length (from_about ballots file about).candidates))
     (winner-below ballots winner (won_as ballots winner is)) in
@@ -123,7 +121,7 @@ pub names : (nodes : ℕ) (ballots : BallotFile) (file : Content) (answer : Answ
 names nodes ballots file answer is = by (is_about ballots file) refl is where
   by : (b : Bool) → is_about ballots file ≡ b → MatchBool b (Judges nodes ballots file answer) (answer ≡ Ok OtherContest) →
       Names (length file.candidates) answer
-  by true about judges = subst (Names (length file.candidates)) judges.answer_is (names-judged nodes ballots file about judges.outcome judges.tabulated)
+  by true about judges = subst (Names (length file.candidates)) judges.answer_is (names-judged nodes ballots file about judges.winner judges.tabulated)
   by false about other = subst (Names (length file.candidates)) (sym other) tt
 
 -- ---- one end
@@ -147,19 +145,18 @@ agrees name assertions contest nodes = λ bytes. after-one nodes name assertions
 -- ---- the kinds of its answers
 
 found-kind : (file : Content) (found : Checked) → IsOfKind Kinds (found_verdict file found)
-found-kind file OtherContest = inr (inr (inr refl))
-found-kind file (OtherWinner winner) = inr (inr (inr refl))
-found-kind file (OtherMargin index found) = inr (inr (inr refl))
-found-kind file (Stands order) = inr (inr (inr refl))
-found-kind file (NotLeast found) = inr (inr (inr refl))
-found-kind file NotAlternative = inr (inr (inr refl))
-found-kind file (Harder assertion margin) = inr (inr (inr refl))
+found-kind file OtherContest = inr (inr refl)
+found-kind file (OtherWinner winner) = inr (inr refl)
+found-kind file (OtherMargin index found) = inr (inr refl)
+found-kind file (Stands order) = inr (inr refl)
+found-kind file (NotLeast found) = inr (inr refl)
+found-kind file NotAlternative = inr (inr refl)
+found-kind file (Harder assertion margin) = inr (inr refl)
 found-kind file Accepted = inl refl
 
 pub answer-kind : (file : Content) (answer : Answer) (v : Verdict) → verdict_on file answer ≡ Some v → IsOfKind Kinds v
 answer-kind file (Ok found) v told = subst (IsOfKind Kinds) (some_is told) (found-kind file found)
-answer-kind file (Err (Tie round tied votes)) v told = subst (IsOfKind Kinds) (some_is told) (inr (inl refl))
-answer-kind file (Err (Spent last)) v told = subst (IsOfKind Kinds) (some_is told) (inr (inr (inl refl)))
+answer-kind file (Err (Spent last)) v told = subst (IsOfKind Kinds) (some_is told) (inr (inl refl))
 answer-kind file (Err Memory) v told = absurd (cc told)
 
 checked_in-kind : (nodes : ℕ) (ballots : BallotFile) (name : List ℕ) (read : Result Content FileRefusal) (v : Verdict) → ChecksIn nodes ballots name read v →

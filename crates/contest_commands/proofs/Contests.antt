@@ -1,13 +1,14 @@
--- A contest has one winner, or one first tie.
+-- A contest has one winner, and at most one first tie.
 use Rattle.std.proofs.Common.{◌≡◌, ℕ, ◌<◌, List, [], ◌∷◌, ◌++◌, reverse, sym, ap, subst, ◌∙◌}
 use Rattle.std.proofs.lemmas.List.{reverse-append}
 use Rattle.irv_base.specs.Names.{Id}
 use Rattle.irv_base.specs.Orders.{Elects}
 use Rattle.irv_base.proofs.Members.{Member, here, member-append_right}
 use Rattle.irv_base.proofs.Orders.{order_facts}
-use Rattle.irv_base.proofs.Ties.{tabulated_is_one, first_tie_is_one, tabulated_or_tie}
+use Rattle.irv_base.proofs.Tabulated.{tabulated_is_one}
+use Rattle.irv_base.proofs.Ties.{first_tie_is_one}
 use Rattle.ballot_reader.specs.Ballots.{BallotFile}
-use Rattle.contest_commands.specs.Contest.{candidate_count, tie_text, IsWon, IsTie, HasTie}
+use Rattle.contest_commands.specs.Contest.{candidate_count, tie_text, IsElected, IsWon, IsTie, HasTie}
 
 -- ---- the winner
 
@@ -46,6 +47,6 @@ tie-one ballots text other a b =
     a.shown ∙ ap (λ x. tie_text ballots.candidates x a.tied a.votes) r ∙ ap (λ x. tie_text ballots.candidates b.round x a.votes) t
     ∙ ap (λ x. tie_text ballots.candidates b.round b.tied x) v ∙ sym b.shown
 
-pub never_both : (ballots : BallotFile) (winner : ℕ) (text : List ℕ) → IsWon ballots winner → HasTie ballots text → ⊥
-never_both ballots winner text won t =
-    tabulated_or_tie (candidate_count ballots) ballots.rankings won.order t.round t.tied t.votes won.permutation won.tabulated t.is.counted t.is.first
+-- where a tie leaves open who has won, nobody is elected whichever way it is broken
+pub never_both : (ballots : BallotFile) (winner : ℕ) (text : List ℕ) → IsElected ballots winner → HasTie ballots text → ⊥
+never_both ballots winner text elected t = t.is.undecided (winner, elected)

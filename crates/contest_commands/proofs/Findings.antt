@@ -1,7 +1,10 @@
 -- What a search finds, from what its parts answer.
-use Rattle.std.proofs.Common.{◌≡◌, inl, inr, ℕ, ◌<◌, ◌≤◌, true, List, length, All, Some, refl, sym, ap, subst, arith, ltb-true, ◌∙◌}
+use Rattle.std.proofs.Common.{◌≡◌, ◌↔◌, inl, inr, ℕ, ◌<◌, ◌≤◌, true, List, length, All, Some, refl, sym, ap, subst, arith, ltb-true, ◌∙◌}
 use Rattle.std.proofs.lemmas.List.Sums.{count_by-le-length}
-use Rattle.irv_base.specs.Orders.{is_order}
+use Rattle.irv_base.specs.Orders.{is_order, Elects}
+use Rattle.irv_base.specs.Tabulation.{IsDecided, HasNoTie}
+use Rattle.irv_base.proofs.Decided.{no_tie_is_decided}
+use Rattle.irv_base.proofs.Ties.{tie_and_none}
 use Rattle.irv_base.specs.Records.{is_first, is_some_of, top}
 use Rattle.irv_base.proofs.Members.{Member, from_list_all, from_map, member-from_contains}
 use Rattle.assertions.specs.declared.assertion.Assertion.{Assertion}
@@ -15,18 +18,20 @@ use Rattle.assertions.proofs.Alternatives.{best-le, order_is}
 use Rattle.assertions.proofs.Certificates.{certificate_is_proper, certificate_is_true, certificate_has_best}
 use Rattle.assertions.proofs.Endings.{alternative_orders_are}
 use Rattle.assertions.proofs.Listings.{start_is_alternative}
-use Rattle.assertions.proofs.Positive.{best_is_positive}
+use Rattle.assertions.proofs.Decided.{decided_exactly, positive-decided}
 use Rattle.ballot_reader.specs.Ballots.{BallotFile}
 use Rattle.assertion_file.specs.Content.{Content, IsMargin, IsSoundClaim}
 use Rattle.set_tallies.specs.Bags.{Kept, IsOf}
-use Rattle.irv_tabulator.specs.Results.{IsTabulation}
+use Rattle.irv_tabulator.specs.Results.{IsTabulation, IsTieOf}
+use Rattle.irv_tabulator.specs.declared.tabulated.FirstTie.{FirstTie}
 use Rattle.irv_tabulator.specs.declared.tabulated.Tabulated.{Tabulated}
 use Rattle.bound_search.specs.Race.{work_for, IsBest, IsTooMuch}
 use Rattle.bound_search.specs.declared.ends.RaceEnd.{RaceEnd}
 use Rattle.certifier.specs.Certified.{IsWithin, IsOver, IsCertified, IsSpent as IsOverBudget}
 use Rattle.certifier.specs.declared.certificate.Certificate.{Certificate}
-use Rattle.contest_commands.specs.Contest.{candidate_count, IsWon}
+use Rattle.contest_commands.specs.Contest.{candidate_count, IsElected, IsTie, IsUndecided, IsWon}
 use Rattle.contest_commands.specs.Search.{low_of, margin_of, order_of, order_count_of, certificate_nodes, certificate_of, IsSpent}
+use Rattle.contest_commands.specs.Tabulate.{IsStopped}
 use Rattle.contest_commands.specs.Found.{IsFoundIn, IsCounted, IsBestOf, IsPrintable, content_of}
 use Rattle.cli_base.proofs.Scripts.{some_is}
 use Rattle.contest_commands.proofs.Contests.{winner-below}
@@ -58,15 +63,15 @@ race-spent ballots t nodes last upper order is much =
       alternative = much.alternative;
       hardness = sym much.hardness;
       within = much.reached;
+      some = much.some;
     }
 
 -- the start order is one of those that elect another candidate
-best-first : (n winner : ℕ) (records : List (List ℕ)) (t : Tabulated) → 1 < n → IsTabulation n records t → t.winner ≡ winner →
-    best_margin n winner (low n records) ≤ first_bound n records t.order
-best-first n winner records t two is w =
-    subst (λ v. best_margin n v (low n records) ≤ first_bound n records t.order) w
-    (best-le n t.winner (low n records) (start_order t.order) (member-from_contains (start_order t.order) (alternative_orders n t.winner)
-    ((alternative_orders_are n t.winner (start_order t.order)).1 (start_is_alternative n t.winner t.order two is.order is.winner))))
+pub best-first : (n winner : ℕ) (records : List (List ℕ)) (order : List ℕ) → 1 < n → is_order n order ≡ true → Elects order winner →
+    best_margin n winner (low n records) ≤ first_bound n records order
+best-first n winner records order two o ends =
+    best-le n winner (low n records) (start_order order) (member-from_contains (start_order order) (alternative_orders n winner)
+    ((alternative_orders_are n winner (start_order order)).1 (start_is_alternative n winner order two o ends)))
 
 over-above : (ballots : BallotFile) (winner nodes last : ℕ) (order : List ℕ) → order_of ballots winner ≡ Some order →
     IsOver (candidate_count ballots) (low_of ballots) (margin_of ballots winner) order nodes last → nodes < certificate_nodes ballots winner last
@@ -86,16 +91,16 @@ within-budget ballots winner nodes order c is (cover, count) =
     omega (arith, cover, count, same)
 
 pub certificate-spent : (ballots : BallotFile) (t : Tabulated) (end : RaceEnd) (nodes last : ℕ) → 1 < candidate_count ballots →
-    IsTabulation (candidate_count ballots) ballots.rankings t →
+    IsTabulation (candidate_count ballots) ballots.rankings t → 1 ≤ end.margin →
     IsBest (candidate_count ballots) ballots.rankings t.winner end → IsOverBudget (candidate_count ballots) ballots.rankings t.winner end.margin nodes last →
     IsSpent nodes ballots last end.order end.margin
-certificate-spent ballots t end nodes last two is best spent =
+certificate-spent ballots t end nodes last two is some best spent =
     let n = candidate_count ballots in
     let margin : end.margin ≡ margin_of ballots t.winner = best.best in
     let order : order_of ballots t.winner ≡ Some spent.order = subst
     (λ m. certificate_order n t.winner (low_of ballots) m ≡ Some spent.order) margin spent.order_is in
     let over = over-above ballots t.winner nodes last spent.order order (subst (λ m. IsOver n (low_of ballots) m spent.order nodes last) margin spent.over) in
-    let first : margin_of ballots t.winner ≤ first_bound n ballots.rankings t.order = best-first n t.winner ballots.rankings t two is refl in
+    let first : margin_of ballots t.winner ≤ first_bound n ballots.rankings t.order = best-first n t.winner ballots.rankings t.order two is.order is.winner in
     record {
       winner = t.winner;
       won = won_by ballots t is;
@@ -110,6 +115,7 @@ certificate-spent ballots t end nodes last two is best spent =
       alternative = best.alternative;
       hardness = sym best.hardness;
       within = omega (arith, first, margin);
+      some = some;
     }
 
 -- ---- a certificate
@@ -143,15 +149,15 @@ best-margin n winner records below two positive =
     record { some = positive; most = omega (arith, le, e) }
 
 pub printable : (ballots : BallotFile) (t : Tabulated) (end : RaceEnd) (nodes : ℕ) (x : Certificate) → 1 < candidate_count ballots →
-    IsTabulation (candidate_count ballots) ballots.rankings t →
+    IsTabulation (candidate_count ballots) ballots.rankings t → 1 ≤ end.margin →
     IsBest (candidate_count ballots) ballots.rankings t.winner end → IsCertified (candidate_count ballots) ballots.rankings t.winner end.margin nodes x →
     IsPrintable ballots t.winner x
-printable ballots t end nodes x two is best c =
+printable ballots t end nodes x two is some best c =
     let n = candidate_count ballots in
     let records = ballots.rankings in
     let won = won_by ballots t is in
     let below = winner-below ballots t.winner won in
-    let positive = best_is_positive n t.winner records t.order two is.order is.tabulated is.winner in
+    let positive : 1 ≤ margin_of ballots t.winner = let same = best.best in omega (arith, some, same) in
     let margin : IsMargin (length records) (margin_of ballots t.winner) = best-margin n t.winner records below two positive in
     let same : margin_of ballots t.winner ≡ x.margin = sym (c.margin ∙ best.best) in
     let (order, least, among, hard) = order_is n t.winner (low n records) below two in
@@ -167,17 +173,19 @@ printable ballots t end nodes x two is best c =
           (each (IsSoundClaim n (length records)) (certificate_claims n records t.winner) (claim-sound n t.winner records));
     }
 
-pub certified : (ballots : BallotFile) (t : Tabulated) (end : RaceEnd) (nodes : ℕ) (x : Certificate) (file : Content) →
-    IsTabulation (candidate_count ballots) ballots.rankings t →
+pub certified : (ballots : BallotFile) (t : Tabulated) (end : RaceEnd) (nodes : ℕ) (x : Certificate) (file : Content) → 1 < candidate_count ballots →
+    IsTabulation (candidate_count ballots) ballots.rankings t → 1 ≤ end.margin →
     IsBest (candidate_count ballots) ballots.rankings t.winner end → IsCertified (candidate_count ballots) ballots.rankings t.winner end.margin nodes x →
     file ≡ content_of ballots t.winner x → IsFoundIn nodes ballots file
-certified ballots t end nodes x file is best c shown =
+certified ballots t end nodes x file two is some best c shown =
     let n = candidate_count ballots in
     let least : order_of ballots t.winner ≡ Some x.order = subst (λ m. certificate_order n t.winner (low_of ballots) m ≡ Some x.order) best.best c.order in
     record {
       is = record {
         winner = t.winner;
         won = won_by ballots t is;
+        decided = positive-decided n t.winner ballots.rankings (winner-below ballots t.winner (won_by ballots t is)) two
+            (let same = best.best in omega (arith, some, same));
         order = x.order;
         least = least;
         is = shown ∙ content_same ballots t.winner x (c.margin ∙ best.best) c.claims;
@@ -207,29 +215,81 @@ module _ (ballots : BallotFile) (bag : Kept) (t : Tabulated) (counted : IsCounte
       P (candidate_count ballots) ballots.rankings
   of_ballots P h = subst (λ n. P n ballots.rankings) counted.candidates (h ballots.rankings counted.records)
 
+  pub tabulated_there : IsTabulation (candidate_count ballots) ballots.rankings t
+  tabulated_there = tabulation_of ballots bag t counted
+
+  decided_there : IsDecided (candidate_count ballots) ballots.rankings ↔ (1 ≤ margin_of ballots t.winner)
+  decided_there = let is = tabulated_there in
+      decided_exactly (candidate_count ballots) t.winner ballots.rankings t.order counted.two is.order is.tabulated is.winner
+
+  -- a margin of 0 tells that the contest isn't decided, and another that it is
+  pub undecided_at_0 : (end : RaceEnd) → IsBestOf bag t end → end.margin ≡ 0 → IsUndecided ballots
+  undecided_at_0 end best zero d =
+      let some = decided_there.0 d in
+      let same = (best_of ballots bag t end counted best).best in
+      omega (arith, some, same, zero)
+
+  pub elected_above_0 : (end : RaceEnd) → IsBestOf bag t end → 1 ≤ end.margin → IsElected ballots t.winner
+  elected_above_0 end best some =
+      positive-decided (candidate_count ballots) t.winner ballots.rankings (winner-below ballots t.winner (won_by ballots t tabulated_there)) counted.two
+      (let same = (best_of ballots bag t end counted best).best in omega (arith, some, same))
+
   pub race_is_spent : (nodes last upper : ℕ) (order : List ℕ) →
       ((records : List (List ℕ)) → IsOf bag records → IsTooMuch bag.n records t nodes last upper order) → IsSpent nodes ballots last order upper
   race_is_spent nodes last upper order much =
       race-spent ballots t nodes last upper order (tabulation_of ballots bag t counted)
       (of_ballots (λ n records. IsTooMuch n records t nodes last upper order) much)
 
-  pub certificate_is_spent : (end : RaceEnd) (nodes last : ℕ) → IsBestOf bag t end →
+  pub certificate_is_spent : (end : RaceEnd) (nodes last : ℕ) → 1 ≤ end.margin → IsBestOf bag t end →
       ((records : List (List ℕ)) → IsOf bag records → IsOverBudget bag.n records t.winner end.margin nodes last) →
       IsSpent nodes ballots last end.order end.margin
-  certificate_is_spent end nodes last best spent =
-      certificate-spent ballots t end nodes last counted.two (tabulation_of ballots bag t counted) (best_of ballots bag t end counted best)
+  certificate_is_spent end nodes last some best spent =
+      certificate-spent ballots t end nodes last counted.two (tabulation_of ballots bag t counted) some (best_of ballots bag t end counted best)
       (of_ballots (λ n records. IsOverBudget n records t.winner end.margin nodes last) spent)
 
-  pub is_printable : (end : RaceEnd) (nodes : ℕ) (x : Certificate) → IsBestOf bag t end →
+  pub is_printable : (end : RaceEnd) (nodes : ℕ) (x : Certificate) → 1 ≤ end.margin → IsBestOf bag t end →
       ((records : List (List ℕ)) → IsOf bag records → IsCertified bag.n records t.winner end.margin nodes x) →
       IsPrintable ballots t.winner x
-  is_printable end nodes x best certified =
-      printable ballots t end nodes x counted.two (tabulation_of ballots bag t counted) (best_of ballots bag t end counted best)
+  is_printable end nodes x some best certified =
+      printable ballots t end nodes x counted.two (tabulation_of ballots bag t counted) some (best_of ballots bag t end counted best)
       (of_ballots (λ n records. IsCertified n records t.winner end.margin nodes x) certified)
 
-  pub is_found : (end : RaceEnd) (nodes : ℕ) (x : Certificate) (file : Content) → IsBestOf bag t end →
+  pub is_found : (end : RaceEnd) (nodes : ℕ) (x : Certificate) (file : Content) → 1 ≤ end.margin → IsBestOf bag t end →
       ((records : List (List ℕ)) → IsOf bag records → IsCertified bag.n records t.winner end.margin nodes x) →
       file ≡ content_of ballots t.winner x → IsFoundIn nodes ballots file
-  is_found end nodes x file best certificate shown =
-      certified ballots t end nodes x file (tabulation_of ballots bag t counted) (best_of ballots bag t end counted best)
+  is_found end nodes x file some best certificate shown =
+      certified ballots t end nodes x file counted.two (tabulation_of ballots bag t counted) some (best_of ballots bag t end counted best)
       (of_ballots (λ n records. IsCertified n records t.winner end.margin nodes x) certificate) shown
+
+  -- a race that is to tell whether a tie matters
+  pub race_is_stopped : (nodes last upper : ℕ) (order : List ℕ) → (HasNoTie ballots.rankings t.order → ⊥) →
+      ((records : List (List ℕ)) → IsOf bag records → IsTooMuch bag.n records t nodes last upper order) → IsStopped nodes ballots last order upper
+  race_is_stopped nodes last upper order tied much =
+      let m = of_ballots (λ n records. IsTooMuch n records t nodes last upper order) much in
+      let more : nodes < work_for (candidate_count ballots) ballots.rankings t.order last = m.more in
+      record {
+        winner = t.winner;
+        won = won_by ballots t tabulated_there;
+        tied = tied;
+        named = record { candidate = m.candidate; other = m.other };
+        cause = record { above = more };
+        alternative = m.alternative;
+        hardness = sym m.hardness;
+        within = m.reached;
+        some = m.some;
+      }
+
+-- ---- the ties of a tabulation
+
+module _ (ballots : BallotFile) (t : Tabulated) (is : IsTabulation (candidate_count ballots) ballots.rankings t) where
+  -- without one the contest is decided
+  pub elected_untied : HasNoTie ballots.rankings t.order → IsElected ballots t.winner
+  elected_untied free = no_tie_is_decided (candidate_count ballots) t.winner ballots.rankings t.order is.order is.tabulated is.winner free
+
+  pub tied_not_untied : (tie : FirstTie) → IsTieOf (candidate_count ballots) ballots.rankings tie → HasNoTie ballots.rankings t.order → ⊥
+  tied_not_untied tie (some, first) free =
+      tie_and_none (candidate_count ballots) ballots.rankings t.order is.order is.tabulated (tie.round, tie.tied, tie.tally, some, first) free
+
+pub undecided_tie : (ballots : BallotFile) (tie : FirstTie) → IsTieOf (candidate_count ballots) ballots.rankings tie → IsUndecided ballots →
+    IsTie ballots tie.round tie.tied tie.tally
+undecided_tie ballots tie (some, first) undecided = record { counted = some; first = first; undecided = undecided }

@@ -13,7 +13,7 @@ module _ (ballots : BallotFile) where
   other_searched winner c other = record { candidate = other.candidate; other = other.other }
 
   certificate_there : (file : Content) → IsCertificateOf (searched ballots) file → IsCertificateOf ballots file
-  certificate_there file c = record { winner = c.winner; won = c.won; order = c.order; least = c.least; is = c.is }
+  certificate_there file c = record { winner = c.winner; won = c.won; decided = c.decided; order = c.order; least = c.least; is = c.is }
 
   cause_there : (nodes : ℕ) (tabulated : List ℕ) (winner last margin : ℕ) →
       IsRaceSpent nodes (searched ballots) tabulated last ⊎ IsCertificateSpent nodes (searched ballots) winner last margin →
@@ -31,13 +31,14 @@ module _ (ballots : BallotFile) where
     alternative = is.alternative;
     hardness = is.hardness;
     within = is.within;
+    some = is.some;
   }
 
   pub found_there : (nodes : ℕ) (found : Found) → FoundIn nodes (searched ballots) found → FoundIn nodes ballots found
   unfolding certificate_there
   found_there nodes (Certificate file) found =
       record { is = certificate_there file found.is; budget = λ c other. found.budget c (other_searched found.is.winner c other) }
-  found_there nodes (Tie round tied votes) is = record { counted = is.counted; first = is.first }
+  found_there nodes (Tie round tied votes) is = record { counted = is.counted; first = is.first; undecided = is.undecided }
   found_there nodes (Spent last order margin) is = spent_there nodes last order margin is
 
   -- of the contest of the file, and as that which is told apart

@@ -3,6 +3,7 @@ pub mod Contests
 pub mod Searches
 pub mod Tabulations
 mod Findings
+pub mod Ends
 mod FoundThere
 mod TrialCandidates
 pub mod Nodes

@@ -6,7 +6,7 @@ use Rattle.assertions.specs.Certificate.{certificate_claims}
 use Rattle.assertions.specs.Suffixes.{IsAlternative}
 use Rattle.assertions.proofs.Alternatives.{order_is}
 use Rattle.assertions.proofs.Endings.{alternative_orders_are}
-use Rattle.assertions.proofs.Positive.{best_is_positive}
+use Rattle.assertions.proofs.Decided.{decided-positive}
 use Rattle.ballot_reader.specs.Ballots.{BallotFile}
 use Rattle.ballot_reader.specs.Grammar.{ballots_of}
 use Rattle.assertion_file.specs.Content.{Content, IsMargin, IsSound, IsSoundClaim}
@@ -18,7 +18,7 @@ use Rattle.cover_checker.specs.Holds.{IsCertificateOf as SaysTheCertificate}
 use Rattle.cover_checker.specs.declared.checked.Checked.TheVariants.{Accepted}
 use Rattle.cover_checker.proofs.Certified.{certificate_is_accepted}
 use Rattle.cover_checker.proofs.OneAnswer.{answer_is_one}
-use Rattle.contest_commands.specs.Contest.{candidate_count, IsWon}
+use Rattle.contest_commands.specs.Contest.{candidate_count, IsWon, IsElected}
 use Rattle.contest_commands.specs.Search.{low_of, margin_of, order_of, certificate_of, IsInBudget, HasCertificate}
 use Rattle.contest_commands.specs.Check.{Checks, verdict_on, yes_text}
 use Rattle.cli_base.specs.Outcome.{Verdict, Answered}
@@ -30,7 +30,7 @@ use Rattle.contest_commands.proofs.Searches.{each}
 use Rattle.contest_commands.proofs.Findings.{best-margin, claim-sound}
 use Rattle.contest_commands.proofs.ReadBallots.{IsFit, ballots_fit}
 
-module _ (ballots : BallotFile) (fit : IsFit ballots) (winner : ℕ) (won : IsWon ballots winner) (order : List ℕ)
+module _ (ballots : BallotFile) (fit : IsFit ballots) (winner : ℕ) (won : IsWon ballots winner) (decided : IsElected ballots winner) (order : List ℕ)
     (least : order_of ballots winner ≡ Some order) where
   is_an_order : is_order (candidate_count ballots) order ≡ true
   is_an_order =
@@ -46,7 +46,7 @@ module _ (ballots : BallotFile) (fit : IsFit ballots) (winner : ℕ) (won : IsWo
       let below = winner-below ballots winner won in
       let two = fit.fewest in
       let margin : IsMargin (length records) (margin_of ballots winner) = best-margin n winner records below two
-      (best_is_positive n winner records won.order two won.permutation won.tabulated won.elects) in
+      (decided-positive n winner records below two decided) in
       record {
         fewest = omega (arith, two);
         most = fit.most;
@@ -92,10 +92,10 @@ printed_is_accepted terms bytes asked ballots text read has =
     let fit = ballots_fit bytes asked ballots read in
     let c = has.is in
     let file = certificate_of ballots c.winner c.order in
-    let known = accepted ballots fit c.winner c.won c.order c.least terms.nodes has.budget in
+    let known = accepted ballots fit c.winner c.won c.decided c.order c.least terms.nodes has.budget in
     let same : text ≡ assertion_file_text file = has.shown ∙ ap assertion_file_text c.is in (
       file,
-      ap assertion_file_of same ∙ reads ballots fit c.winner c.won c.order c.least,
+      ap assertion_file_of same ∙ reads ballots fit c.winner c.won c.decided c.order c.least,
       (Ok Accepted, known, refl),
       one_verdict terms.nodes ballots file known,
     )

@@ -13,7 +13,7 @@ use Rattle.cli_base.specs.Script.{Agree, AreOfKind, IsOfKind, SameButBudget}
 use Rattle.cli_base.specs.declared.outcome.AnswerKind.TheVariants.{Done, Tie, Spent, FullCount}
 use Rattle.cli_base.proofs.Ended.{one-same, of_answers, one-kind, refused-kind}
 use Rattle.cli_base.proofs.Scripts.{some_is}
-use Rattle.contest_commands.specs.Contest.{candidate_count, IsWon, IsOther, HasTie}
+use Rattle.contest_commands.specs.Contest.{candidate_count, IsWon, IsElected, IsOther, HasTie}
 use Rattle.contest_commands.specs.declared.search.Terms.{Terms}
 use Rattle.contest_commands.specs.Search.{low_of, order_of, certificate_nodes, certificate_of, full_count_text, IsInBudget, IsCertificateOf, HasCertificate, HasSpent, HasFullCount, Finds, FindsIn, Kinds, script}
 use Rattle.contest_commands.proofs.Contests.{winner-one, winner-below, tie-one, never_both}
@@ -31,11 +31,11 @@ certificate-one ballots f g a b =
     let o : a.order ≡ b.order = some_is (sym least ∙ b.least) in
     a.is ∙ ap (λ x. certificate_of ballots x a.order) w ∙ ap (certificate_of ballots b.winner) o ∙ sym b.is
 
-pub won-certificate : (ballots : BallotFile) (winner : ℕ) → IsWon ballots winner → 1 < candidate_count ballots → (file : Content) × IsCertificateOf ballots file
-won-certificate ballots winner won two =
+pub won-certificate : (ballots : BallotFile) (winner : ℕ) → IsWon ballots winner → IsElected ballots winner → 1 < candidate_count ballots → (file : Content) × IsCertificateOf ballots file
+won-certificate ballots winner won elected two =
     let n = candidate_count ballots in
     let (order, least, among, hard) = order_is n winner (low_of ballots) (winner-below ballots winner won) two in
-    (certificate_of ballots winner order, record { winner = winner; won = won; order = order; least = least; is = refl })
+    (certificate_of ballots winner order, record { winner = winner; won = won; decided = elected; order = order; least = least; is = refl })
 
 -- ---- one end
 
@@ -52,25 +52,27 @@ full-one terms ballots text other a b = a.shown ∙ ap (λ f. full_count_text f 
 
 found-one : (terms : Terms) (ballots : BallotFile) (v w : Verdict) → Finds terms ballots v → Finds terms ballots w → SameButBudget (outcome v) (outcome w)
 found-one terms ballots v w (inl a) (inl b) = inl (ap outcome (one-same (HasCertificate terms ballots) Done (done-one terms ballots) v w a b))
-found-one terms ballots v w (inl (text, a, i)) (inr (inl (other, b, j))) = absurd (never_both ballots a.is.winner other a.is.won b)
+found-one terms ballots v w (inl (text, a, i)) (inr (inl (other, b, j))) = absurd (never_both ballots a.is.winner other a.is.decided b)
 found-one terms ballots v w (inl (text, a, i)) (inr (inr (inl (other, b, j)))) =
-    of_answers Done Spent text other v w i j (inr (inl refl, inr (inl refl), inr refl))
+    of_answers Done Spent text other v w i j (inr (inl refl, inr (inr (inl refl)), inr refl))
 found-one terms ballots v w (inl (text, a, i)) (inr (inr (inr (other, b, j)))) = absurd (done-full terms ballots text other a b)
-found-one terms ballots v w (inr (inl (text, a, i))) (inl (other, b, j)) = absurd (never_both ballots b.is.winner text b.is.won a)
+found-one terms ballots v w (inr (inl (text, a, i))) (inl (other, b, j)) = absurd (never_both ballots b.is.winner text b.is.decided a)
 found-one terms ballots v w (inr (inl a)) (inr (inl b)) = inl (ap outcome (one-same (HasTie ballots) Tie (tie-one ballots) v w a b))
-found-one terms ballots v w (inr (inl (text, a, i))) (inr (inr (inl (other, b, j)))) = absurd (never_both ballots b.is.winner text b.is.won a)
-found-one terms ballots v w (inr (inl (text, a, i))) (inr (inr (inr (other, b, j)))) = absurd (never_both ballots b.is.winner text b.is.won a)
+found-one terms ballots v w (inr (inl (text, a, i))) (inr (inr (inl (other, b, j)))) =
+    of_answers Tie Spent text other v w i j (inr (inr (inl refl), inr (inr (inl refl)), inr refl))
+found-one terms ballots v w (inr (inl (text, a, i))) (inr (inr (inr (other, b, j)))) = absurd (never_both ballots b.is.winner text b.is.decided a)
 found-one terms ballots v w (inr (inr (inl (text, a, i)))) (inl (other, b, j)) =
-    of_answers Spent Done text other v w i j (inr (inr (inl refl), inl refl, inl refl))
-found-one terms ballots v w (inr (inr (inl (text, a, i)))) (inr (inl (other, b, j))) = absurd (never_both ballots a.is.winner other a.is.won b)
+    of_answers Spent Done text other v w i j (inr (inr (inr (inl refl)), inl refl, inl refl))
+found-one terms ballots v w (inr (inr (inl (text, a, i)))) (inr (inl (other, b, j))) =
+    of_answers Spent Tie text other v w i j (inr (inr (inr (inl refl)), inr (inl refl), inl refl))
 found-one terms ballots v w (inr (inr (inl (text, a, i)))) (inr (inr (inl (other, b, j)))) =
-    of_answers Spent Spent text other v w i j (inr (inr (inl refl), inr (inl refl), inl refl))
+    of_answers Spent Spent text other v w i j (inr (inr (inr (inl refl)), inr (inr (inl refl)), inl refl))
 found-one terms ballots v w (inr (inr (inl (text, a, i)))) (inr (inr (inr (other, b, j)))) =
-    of_answers Spent FullCount text other v w i j (inr (inr (inl refl), inr (inr refl), inl refl))
+    of_answers Spent FullCount text other v w i j (inr (inr (inr (inl refl)), inr (inr (inr refl)), inl refl))
 found-one terms ballots v w (inr (inr (inr (text, a, i)))) (inl (other, b, j)) = absurd (done-full terms ballots other text b a)
-found-one terms ballots v w (inr (inr (inr (text, a, i)))) (inr (inl (other, b, j))) = absurd (never_both ballots a.is.winner other a.is.won b)
+found-one terms ballots v w (inr (inr (inr (text, a, i)))) (inr (inl (other, b, j))) = absurd (never_both ballots a.is.winner other a.is.decided b)
 found-one terms ballots v w (inr (inr (inr (text, a, i)))) (inr (inr (inl (other, b, j)))) =
-    of_answers FullCount Spent text other v w i j (inr (inr (inr refl), inr (inl refl), inr refl))
+    of_answers FullCount Spent text other v w i j (inr (inr (inr (inr refl)), inr (inr (inl refl)), inr refl))
 found-one terms ballots v w (inr (inr (inr a))) (inr (inr (inr b))) =
     inl (ap outcome (one-same (HasFullCount terms ballots) FullCount (full-one terms ballots) v w a b))
 
@@ -102,13 +104,14 @@ over-budget ballots winner other c nodes won its is above budget =
     let same : certificate_nodes ballots winner c ≡ certificate_nodes ballots other c = ap (λ v. certificate_nodes ballots v c) w in
     omega (arith, above, within, same)
 
-pub spent_where_above : (terms : Terms) (ballots : BallotFile) (winner c : ℕ) (v : Verdict) → IsWon ballots winner → IsOther ballots winner c →
+pub spent_where_above : (terms : Terms) (ballots : BallotFile) (winner c : ℕ) (v : Verdict) → IsWon ballots winner → IsElected ballots winner →
+    IsOther ballots winner c →
     terms.nodes < certificate_nodes ballots winner c → Finds terms ballots v → One (HasSpent terms ballots) Spent v
-spent_where_above terms ballots winner c v won other above (inl (text, has, e)) =
+spent_where_above terms ballots winner c v won elected other above (inl (text, has, e)) =
     absurd (over-budget ballots winner has.is.winner c terms.nodes won has.is.won other above has.budget)
-spent_where_above terms ballots winner c v won other above (inr (inl (text, tie, e))) = absurd (never_both ballots winner text won tie)
-spent_where_above terms ballots winner c v won other above (inr (inr (inl has))) = has
-spent_where_above terms ballots winner c v won other above (inr (inr (inr (text, has, e)))) =
+spent_where_above terms ballots winner c v won elected other above (inr (inl (text, tie, e))) = absurd (never_both ballots winner text elected tie)
+spent_where_above terms ballots winner c v won elected other above (inr (inr (inl has))) = has
+spent_where_above terms ballots winner c v won elected other above (inr (inr (inr (text, has, e)))) =
     absurd (over-budget ballots winner has.is.winner c terms.nodes won has.is.won other above has.budget)
 
 -- ---- the texts of a kind

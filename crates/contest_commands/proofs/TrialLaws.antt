@@ -3,7 +3,7 @@ use Rattle.std.proofs.Common.{◌≡◌, ◌⊎◌, inl, inr, ℕ, ◌<◌, ◌�
 use Rattle.std.specs.Prelude.{◌↔◌}
 use Rattle.irv_base.specs.declared.limits.TheConstants.{FEWEST_CANDIDATES}
 use Rattle.assertions.specs.Suffixes.{factorial}
-use Rattle.assertions.proofs.Positive.{best_is_positive}
+use Rattle.assertions.proofs.Decided.{decided-positive}
 use Rattle.ballot_reader.specs.Ballots.{BallotFile}
 use Rattle.assertion_file.specs.Content.{Content}
 use Rattle.assertion_file.specs.Text.{assertion_file_text}
@@ -15,6 +15,7 @@ use Rattle.contest_commands.specs.Search.{margin_of, nodes_for, Finds, HasCertif
 use Rattle.contest_commands.specs.Trial.{contest_of, search_of, trial_text, HasLines, Tries}
 use Rattle.contest_commands.specs.Laws.{IsAmongKinds}
 use Rattle.contest_commands.specs.declared.trials.Terms.{Terms}
+use Rattle.contest_commands.proofs.Contests.{winner-below}
 use Rattle.contest_commands.proofs.Nodes.{nodes_are_few, spent_above}
 use Rattle.contest_commands.proofs.TrialCandidates.{length-trial_candidates}
 
@@ -22,7 +23,7 @@ use Rattle.contest_commands.proofs.TrialCandidates.{length-trial_candidates}
 
 positive : (ballots : BallotFile) (file : Content) → 1 < candidate_count ballots → IsCertificateOf ballots file → 1 ≤ file.margin
 positive ballots file two c =
-    let some = best_is_positive (candidate_count ballots) c.winner ballots.rankings c.won.order two c.won.permutation c.won.tabulated c.won.elects in
+    let some = decided-positive (candidate_count ballots) c.winner ballots.rankings (winner-below ballots c.winner c.won) two c.decided in
     let same : file.margin ≡ margin_of ballots c.winner = ap (λ (f : Content). f.margin) c.is in
     omega (arith, some, same)
 

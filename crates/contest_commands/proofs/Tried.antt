@@ -17,15 +17,17 @@ lines-one terms text other a b =
 
 tried-one : (terms : Terms) (v w : Verdict) → Tries terms v → Tries terms w → SameButBudget (outcome v) (outcome w)
 tried-one terms v w (inl a) (inl b) = inl (ap outcome (one-same (HasLines terms) Done (lines-one terms) v w a b))
-tried-one terms v w (inl (text, a, i)) (inr (inl (other, b, j))) = absurd (never_both (contest_of terms) a.found.is.winner other a.found.is.won b)
-tried-one terms v w (inl (text, a, i)) (inr (inr (other, b, j))) = of_answers Done Spent text other v w i j (inr (inl refl, inr (inl refl), inr refl))
-tried-one terms v w (inr (inl (text, a, i))) (inl (other, b, j)) = absurd (never_both (contest_of terms) b.found.is.winner text b.found.is.won a)
+tried-one terms v w (inl (text, a, i)) (inr (inl (other, b, j))) = absurd (never_both (contest_of terms) a.found.is.winner other a.found.is.decided b)
+tried-one terms v w (inl (text, a, i)) (inr (inr (other, b, j))) = of_answers Done Spent text other v w i j (inr (inl refl, inr (inr (inl refl)), inr refl))
+tried-one terms v w (inr (inl (text, a, i))) (inl (other, b, j)) = absurd (never_both (contest_of terms) b.found.is.winner text b.found.is.decided a)
 tried-one terms v w (inr (inl a)) (inr (inl b)) = inl (ap outcome (one-same (HasTie (contest_of terms)) Tie (tie-one (contest_of terms)) v w a b))
-tried-one terms v w (inr (inl (text, a, i))) (inr (inr (other, b, j))) = absurd (never_both (contest_of terms) b.is.winner text b.is.won a)
-tried-one terms v w (inr (inr (text, a, i))) (inl (other, b, j)) = of_answers Spent Done text other v w i j (inr (inr (inl refl), inl refl, inl refl))
-tried-one terms v w (inr (inr (text, a, i))) (inr (inl (other, b, j))) = absurd (never_both (contest_of terms) a.is.winner other a.is.won b)
+tried-one terms v w (inr (inl (text, a, i))) (inr (inr (other, b, j))) =
+    of_answers Tie Spent text other v w i j (inr (inr (inl refl), inr (inr (inl refl)), inr refl))
+tried-one terms v w (inr (inr (text, a, i))) (inl (other, b, j)) = of_answers Spent Done text other v w i j (inr (inr (inr (inl refl)), inl refl, inl refl))
+tried-one terms v w (inr (inr (text, a, i))) (inr (inl (other, b, j))) =
+    of_answers Spent Tie text other v w i j (inr (inr (inr (inl refl)), inr (inl refl), inl refl))
 tried-one terms v w (inr (inr (text, a, i))) (inr (inr (other, b, j))) =
-    of_answers Spent Spent text other v w i j (inr (inr (inl refl), inr (inl refl), inl refl))
+    of_answers Spent Spent text other v w i j (inr (inr (inr (inl refl)), inr (inr (inl refl)), inl refl))
 
 pub agrees : (terms : Terms) → Agree SameButBudget (script terms)
 agrees terms = tried-one terms

@@ -11,12 +11,12 @@ use Rattle.cover_checker.specs.Checks.{IsAnswer}
 use Rattle.cover_checker.specs.Findings.{Answer}
 use Rattle.cover_checker.specs.declared.checked.Checked.{Checked}
 use Rattle.cover_checker.specs.declared.checked.Checked.TheVariants.{OtherContest, OtherWinner, OtherMargin, Stands, NotLeast, NotAlternative, Harder, Accepted}
-use Rattle.cover_checker.specs.declared.checked.CheckFault.TheVariants.{Tie as TieFound, Spent as SpentAt, Memory}
+use Rattle.cover_checker.specs.declared.checked.CheckFault.TheVariants.{Spent as SpentAt, Memory}
 use Rattle.report.specs.Texts.{order_text, assertion_text}
-use Rattle.contest_commands.specs.Contest.{tie_text, refused, refused_file}
+use Rattle.contest_commands.specs.Contest.{refused, refused_file}
 use Rattle.cli_base.specs.Outcome.{Verdict, Answered}
 use Rattle.cli_base.specs.declared.outcome.AnswerKind.{AnswerKind}
-use Rattle.cli_base.specs.declared.outcome.AnswerKind.TheVariants.{Done, Tie, Spent, Differs}
+use Rattle.cli_base.specs.declared.outcome.AnswerKind.TheVariants.{Done, Spent, Differs}
 use Rattle.cli_base.specs.Script.{Script, Read, Ends, ends}
 
 -- ---- the texts
@@ -72,8 +72,6 @@ found_verdict file Accepted = Answered Done (yes_text file)
 
 abbrev pub verdict_on : Content → Answer → Option Verdict
 verdict_on file (Ok found) = Some (found_verdict file found)
-verdict_on file (Err (TieFound round tied votes)) =
-    Some (Answered Tie (tie_text file.candidates round tied votes))
 verdict_on file (Err (SpentAt last)) = Some (Answered Spent (spent_at (id_of file.candidates last)))
 verdict_on file (Err Memory) = None
 
@@ -104,4 +102,4 @@ script name assertions contest nodes =
 
 -- the kinds of its answers
 abbrev pub Kinds : AnswerKind → Type 0
-Kinds kind = (kind ≡ Done) ⊎ (kind ≡ Tie) ⊎ (kind ≡ Spent) ⊎ (kind ≡ Differs)
+Kinds kind = (kind ≡ Done) ⊎ (kind ≡ Spent) ⊎ (kind ≡ Differs)

@@ -2,7 +2,7 @@
 use Rattle.std.specs.Prelude.{◌≡◌, ◌≢◌, ◌≤◌, ◌<◌, ℕ, List, [], ◌++◌, length, All, Result, codes}
 use Rattle.std.specs.Fmt.{decimal}
 use Rattle.irv_base.specs.Names.{Id}
-use Rattle.irv_base.specs.Tabulation.{IsFirstTie}
+use Rattle.irv_base.specs.Tabulation.{AllElect, IsDecided, IsFirstTie}
 use Rattle.irv_base.specs.declared.limits.TheConstants.{MOST_RECORDS}
 use Rattle.ballot_reader.specs.Ballots.{AreCandidates, BallotFile}
 use Rattle.ballot_reader.specs.Faults.{rule_name}
@@ -52,9 +52,17 @@ IsAssertionsOf name = IsReadAs (refused_file name)
 
 -- ---- a winner
 
--- the contest has no tie, and this winner
+-- the tabulated order elects this candidate
 abbrev pub IsWon : BallotFile → ℕ → Type 0
 IsWon ballots winner = IsWinner (candidate_count ballots) ballots.rankings winner
+
+-- each way of breaking the ties of the contest elects this candidate
+abbrev pub IsElected : BallotFile → ℕ → Type 0
+IsElected ballots winner = AllElect (candidate_count ballots) ballots.rankings winner
+
+-- some ways of breaking its ties elect one candidate, and some another
+abbrev pub IsUndecided : BallotFile → Type 0
+IsUndecided ballots = IsDecided (candidate_count ballots) ballots.rankings → ⊥
 
 -- a candidate who isn't the winner
 pub record IsOther (ballots : BallotFile) (winner c : ℕ) : Type 0 where
@@ -63,10 +71,11 @@ pub record IsOther (ballots : BallotFile) (winner c : ℕ) : Type 0 where
 
 -- ---- a tie
 
--- the first tie has this round, this set of those who share the least tally, and that tally
+-- the contest isn't decided; its first tie has this round, this set of those who share the least tally, and that tally
 pub record IsTie (ballots : BallotFile) (round tied votes : ℕ) : Type 0 where
   pub counted : 1 ≤ round
   pub first : IsFirstTie (candidate_count ballots) ballots.rankings round tied votes
+  pub undecided : IsUndecided ballots
 
 abbrev pub tie_lines : ℕ → List ℕ → ℕ → List ℕ
 tie_lines round tied votes =

@@ -26,7 +26,7 @@ FoundIn nodes ballots (Spent last order margin) = IsSpent nodes ballots last ord
 
 -- ---- on the way
 
--- the ballots are counted, and have no tie
+-- the ballots are counted and tabulated
 pub record IsCounted (ballots : BallotFile) (bag : Kept) (t : Tabulated) : Type 0 where
   pub two : 1 < candidate_count ballots
   pub candidates : bag.n ≡ candidate_count ballots

@@ -13,7 +13,7 @@ use Rattle.assertion_file.specs.Ids.{id_of}
 use Rattle.assertion_file.specs.Text.{assertion_file_text}
 use Rattle.report.specs.Texts.{order_text}
 use Rattle.contest_commands.specs.declared.search.Terms.{Terms}
-use Rattle.contest_commands.specs.Contest.{candidate_count, refused, IsWon, IsOther, HasTie}
+use Rattle.contest_commands.specs.Contest.{candidate_count, refused, IsWon, IsElected, IsOther, HasTie}
 use Rattle.cli_base.specs.Outcome.{Verdict, One}
 use Rattle.cli_base.specs.declared.outcome.AnswerKind.{AnswerKind}
 use Rattle.cli_base.specs.declared.outcome.AnswerKind.TheVariants.{Done, Tie, Spent, FullCount}
@@ -45,10 +45,11 @@ certificate_of ballots winner order = record {
   claims = certificate_claims (candidate_count ballots) ballots.rankings winner;
 }
 
--- the canonical certificate of a contest without a tie
+-- the canonical certificate of a contest that is decided
 pub record IsCertificateOf (ballots : BallotFile) (file : Content) : Type 0 where
   pub winner : ℕ
   pub won : IsWon ballots winner
+  pub decided : IsElected ballots winner
   pub order : List ℕ
   pub least : order_of ballots winner ≡ Some order
   pub is : file ≡ certificate_of ballots winner order
@@ -125,7 +126,7 @@ pub record HasFullCount (terms : Terms) (ballots : BallotFile) (text : List ℕ)
   pub shown : text ≡ full_count_text file terms.floor
 
 -- a search is spent at this candidate, in the race or then in the certificate, with an order that elects another candidate than the
--- winner, no harder than the first that is tried
+-- winner, no harder than the first that is tried, and not of hardness 0, which would tell that the contest isn't decided
 pub record IsSpent (nodes : ℕ) (ballots : BallotFile) (last : ℕ) (order : List ℕ)
     (margin : ℕ) : Type 0 where
   pub winner : ℕ
@@ -136,6 +137,7 @@ pub record IsSpent (nodes : ℕ) (ballots : BallotFile) (last : ℕ) (order : Li
   pub alternative : IsAlternative (candidate_count ballots) winner order
   pub hardness : margin ≡ low_of ballots order
   pub within : margin ≤ first_bound (candidate_count ballots) ballots.rankings won.order
+  pub some : 1 ≤ margin
 
 pub record HasSpent (terms : Terms) (ballots : BallotFile) (text : List ℕ) : Type 0 where
   pub last : ℕ

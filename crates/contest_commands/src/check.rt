@@ -5,7 +5,7 @@ ghost use Rattle.assertion_file.specs.Ids.{id_of};
 ghost use Rattle.cli_base.specs.Accounts.{IsAccountedFor};
 ghost use Rattle.cli_base.specs.Script.{ByDesk, MayOrMemory};
 ghost use Rattle.cli_base.specs.Outcome.{Answered};
-ghost use Rattle.cli_base.specs.declared.outcome.AnswerKind.TheVariants.{Tie, Spent};
+ghost use Rattle.cli_base.specs.declared.outcome.AnswerKind.TheVariants.{Spent};
 ghost use Rattle.contest_commands.specs.Check.{Checks, script, check_of as script_of_ballots, differs, found_verdict, spent_at};
 ghost use Rattle.contest_commands.specs.Named.{IsAmong};
 ghost use Rattle.cli_base.specs.Due.{due, IsOneOrMemory};
@@ -13,7 +13,7 @@ ghost use Rattle.cli_base.specs.Due.{due, IsOneOrMemory};
 use crate::check_texts::{
     has_margin, is_refuted_by, no, smallest_is, spent_at, stands, winner_is, yes,
 };
-use crate::contest::{assertions_in, ballots_in, first_tie};
+use crate::contest::{assertions_in, ballots_in};
 use assertion_file::{AssertionFile, id_of};
 use ballot_reader::Ballots;
 use cli_base::{Answer, AnswerKind, Refusal, read_file};
@@ -82,13 +82,6 @@ pub fn check<R: AllocGlobal + Threads + Sync>(
     match check_file(alloc, ballots, &mut tallies, file, nodes) {
         Ok(found) => found_answer(alloc, file, found),
         Err(fault) => match fault {
-            CheckFault::Tie { round, tied, tally } => first_tie(
-                alloc,
-                file.candidates(),
-                round,
-                tied,
-                tally,
-            ),
             CheckFault::Spent { last } => spent_answer(alloc, file, last),
             CheckFault::Memory => Err(Refusal::Memory),
         },

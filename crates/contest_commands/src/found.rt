@@ -1,5 +1,7 @@
 // What a search finds: tabulation, the race for the best margin, and the certificate of that margin.
-ghost use Rattle.std.specs.Prelude.{◌≡◌, ◌≤◌, IfOk};
+ghost use Rattle.std.specs.Prelude.{◌≡◌, ◌≤◌, ℕ, IfOk};
+ghost use Rattle.irv_tabulator.specs.Results.{IsTabulation};
+ghost use Rattle.contest_commands.specs.Contest.{candidate_count, IsUndecided};
 ghost use Rattle.irv_base.specs.declared.limits.TheConstants.{MOST_WORKERS};
 ghost use Rattle.contest_commands.specs.Found.{FoundIn, IsCounted, IsBestOf, IsPrintable, content_of};
 
@@ -10,7 +12,7 @@ use bound_search::{RaceEnd, RaceFault, race};
 use certifier::{CertFault, Certificate, certify};
 use desk::Gate;
 use irv_base::{CandSet, Candidate, Memory, Order};
-use irv_tabulator::{TabFault, Tabulated, tabulate};
+use irv_tabulator::{FirstTie, TabFault, Tabulated, tabulate};
 use set_tallies::Counted;
 use std::alloc::Global;
 use std::thread::Threads;
@@ -20,7 +22,7 @@ use std::thread::Threads;
 pub(crate) enum Found {
     /// The assertions that confirm the winner.
     Certificate(AssertionFile),
-    /// In this round, from 1, the candidates in the set share the least tally, in votes.
+    /// The contest isn't decided: in this round, from 1, the candidates in the set share the least tally, in votes.
     Tie {
         round: u32,
         tied: CandSet,
@@ -57,18 +59,11 @@ pub(crate) fn find<R: AllocGlobal + Threads + Sync, G: Gate + Sync>(
     let mut tallies = counted.tallies()?;
     match tabulate(alloc, &mut tallies) {
         Ok(tabulated) => race_of(rt, contest, &counted, &tabulated, workers, nodes, gate),
-        Err(fault) => match fault {
-            TabFault::Tie { round, tied, tally } => Ok(Found::Tie {
-                round,
-                tied,
-                votes: tally,
-            }),
-            TabFault::Memory => Err(Memory),
-        },
+        Err(TabFault::Memory) => Err(Memory),
     }
 }
 
-// What a search of a contest without a tie finds.
+// What a search of a contest that was tabulated finds.
 fn race_of<R: AllocGlobal + Threads + Sync, G: Gate + Sync>(
     rt: &R,
     contest: &Contest<'_>,
@@ -83,7 +78,13 @@ fn race_of<R: AllocGlobal + Threads + Sync, G: Gate + Sync>(
     ensures { IfOk result (FoundIn nodes contest.now) }
 {
     match race(rt, counted, tabulated, workers, nodes, gate) {
-        Ok(end) => certificate_of(rt, contest, counted, tabulated, end, workers, nodes),
+        Ok(end) => {
+            if end.margin == 0 {
+                Ok(tie_of(contest, tabulated))
+            } else {
+                certificate_of(rt, contest, counted, tabulated, end, workers, nodes)
+            }
+        }
         Err(fault) => match fault {
             RaceFault::Spent { last, upper, order } => Ok(Found::Spent {
                 last,
@@ -92,6 +93,23 @@ fn race_of<R: AllocGlobal + Threads + Sync, G: Gate + Sync>(
             }),
             RaceFault::Memory => Err(Memory),
         },
+    }
+}
+
+// The first tie of a contest that isn't decided. It has one.
+fn tie_of(contest: &Contest<'_>, tabulated: &Tabulated) -> Found
+    requires tabulation { IsTabulation (candidate_count contest.now) (contest.now).rankings
+        tabulated.now }
+    requires undecided { IsUndecided contest.now }
+    ensures { (nodes : ℕ) → FoundIn nodes contest.now result }
+{
+    match tabulated.tie() {
+        Some(FirstTie { round, tied, tally }) => Found::Tie {
+            round,
+            tied,
+            votes: tally,
+        },
+        None => unreachable!(),
     }
 }
 
@@ -108,6 +126,7 @@ fn certificate_of<R: AllocGlobal + Threads + Sync>(
     requires workers { (1 ≤ workers) × (workers ≤ MOST_WORKERS) }
     requires counted { IsCounted contest.now counted.now.bag tabulated.now }
     requires best { IsBestOf counted.now.bag tabulated.now end }
+    requires some { 1 ≤ end.margin }
     ensures { IfOk result (FoundIn nodes contest.now) }
 {
     let RaceEnd { margin, order, .. } = end;

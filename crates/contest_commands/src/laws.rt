@@ -1,12 +1,43 @@
 //! The laws of the commands: each holds of every value that it names, and has no code.
+ghost use Rattle.contest_commands.specs.Laws.{UndecidedHasTie, EndExists, UnspentEndExists, TieIffUndecided, TabulationExists, NoWinnerIffUndecided};
 ghost use Rattle.contest_commands.specs.Laws.{NodesAreFew, SpentWhereAbove, PrintedIsAccepted, TrialIsASearch, TrialIsComplete};
+
+/// A contest that isn't decided has a first tie to tell.
+pub fn undecided_has_tie()
+    ensures { UndecidedHasTie }
+{}
+
+/// Whatever its terms, a search has an end.
+pub fn end_exists()
+    ensures { EndExists }
+{}
+
+/// Where the nodes suffice for the certificate, it has one at which it isn't spent.
+pub fn unspent_end_exists()
+    ensures { UnspentEndExists }
+{}
+
+/// A search that isn't spent ends with a tie exactly where its contest isn't decided.
+pub fn tie_iff_undecided()
+    ensures { TieIffUndecided }
+{}
+
+/// A tabulation has an end at which it isn't spent, whatever its nodes.
+pub fn tabulation_exists()
+    ensures { TabulationExists }
+{}
+
+/// It then names no winner exactly where its contest isn't decided.
+pub fn no_winner_iff_undecided()
+    ensures { NoWinnerIffUndecided }
+{}
 
 /// No search needs more nodes for a candidate than twice the factorial of the number of the other candidates.
 pub fn nodes_are_few()
     ensures { NodesAreFew }
 {}
 
-/// A search whose certificate needs more nodes for a candidate is spent.
+/// A search of a decided contest whose certificate needs more nodes for a candidate is spent.
 pub fn spent_where_above()
     ensures { SpentWhereAbove }
 {}

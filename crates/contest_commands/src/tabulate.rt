@@ -1,67 +1,128 @@
-// `tabulate FILE`: the rounds of a ballot file's contest, or its first tie.
+// `tabulate FILE`: the rounds of a ballot file's contest, or its first tie where that leaves open who has won.
 ghost use Rattle.std.specs.Prelude.{◌≡◌, ◌≤◌, option_copied};
-ghost use Rattle.irv_tabulator.specs.Results.{IsTabulation};
-ghost use Rattle.contest_commands.specs.Contest.{candidate_count, IsTie};
+ghost use Rattle.irv_tabulator.specs.Results.{IsTabulation, IsTieOf};
+ghost use Rattle.contest_commands.specs.Contest.{candidate_count, IsElected, IsTie};
+ghost use Rattle.contest_commands.specs.Found.{IsCounted};
 ghost use Rattle.desk.specs.Count.{Rose};
 ghost use Rattle.cli_base.specs.Accounts.{IsAccountedFor};
 ghost use Rattle.cli_base.specs.Script.{ByDesk, MayOrMemory};
-ghost use Rattle.contest_commands.specs.Tabulate.{Tabulates, script};
+ghost use Rattle.contest_commands.specs.Tabulate.{Tabulates, IsStopped, script};
 ghost use Rattle.cli_base.specs.Due.{due, IsOneOrMemory};
 
 use crate::contest::{ballots_in, first_tie};
+use crate::search_texts::spent;
 use ballot_reader::Ballots;
+use bound_search::{RaceFault, race};
 use cli_base::{Answer, AnswerKind, Refusal, read_file};
-use desk::Desk;
-use irv_base::{CandSet, Name};
-use irv_tabulator::{TabFault, Tabulated, tabulate};
+use desk::{Desk, Gate};
+use irv_base::{Candidate, Name, Order};
+use irv_tabulator::{FirstTie, TabFault, Tabulated, tabulate};
 use report::tabulation;
 use set_tallies::Counted;
 use std::alloc::Global;
 use std::thread::Threads;
 
-/// The rounds of the contest, or its first tie.
-pub fn answer<R: AllocGlobal + Threads + Sync, D: Desk>(
+/// The rounds of the contest, or its first tie where the contest isn't decided. With a tie a race by one worker tells which; `nodes` is
+/// what it may spend on each of its pieces.
+pub fn answer<R: AllocGlobal + Threads + Sync, D: Desk, G: Gate + Sync>(
     rt: &R,
     desk: &mut D,
     file: &str,
     contest: Option<&Name>,
+    nodes: u32,
+    gate: &G,
 ) -> Result<Answer, Refusal>
     ensures held { D.held desk.new ≡ D.held desk.old }
     ensures later { D.faults desk.old ≤ D.faults desk.new }
     ensures due { MayOrMemory
         (ByDesk (D.held desk.old) (Rose (D.faults desk.old) (D.faults desk.new)))
-        (script file.now (option_copied contest.entry)) (due result) }
+        (script file.now (option_copied contest.entry) nodes) (due result) }
     ensures served { IsAccountedFor 1 (D.served desk.old) (D.served desk.new) (due result).status }
 {
     let alloc = rt.alloc();
     let bytes = read_file(alloc, desk, file)?;
     let ballots = ballots_in(alloc, file, &bytes, contest)?;
-    tabulate_all(rt, &ballots)
+    tabulate_all(rt, &ballots, nodes, gate)
 }
 
 // The answer to the ballots of the contest.
-fn tabulate_all<R: AllocGlobal + Threads + Sync>(
+fn tabulate_all<R: AllocGlobal + Threads + Sync, G: Gate + Sync>(
     rt: &R,
     ballots: &Ballots,
+    nodes: u32,
+    gate: &G,
 ) -> Result<Answer, Refusal>
-    ensures { IsOneOrMemory (Tabulates ballots.now) (due result) }
+    ensures { IsOneOrMemory (Tabulates nodes ballots.now) (due result) }
 {
     let alloc = rt.alloc();
     let counted = Counted::of(rt, ballots.candidates().len() as u32, ballots.rankings(), 1)?;
     let mut tallies = counted.tallies()?;
     match tabulate(alloc, &mut tallies) {
-        Ok(tabulated) => rounds(alloc, ballots, &tabulated),
+        Ok(tabulated) => told(rt, ballots, &counted, &tabulated, nodes, gate),
+        Err(TabFault::Memory) => Err(Refusal::Memory),
+    }
+}
+
+// The answer to the tabulation. Without a tie it needs no race.
+fn told<R: AllocGlobal + Threads + Sync, G: Gate + Sync>(
+    rt: &R,
+    ballots: &Ballots,
+    counted: &Counted,
+    tabulated: &Tabulated,
+    nodes: u32,
+    gate: &G,
+) -> Result<Answer, Refusal>
+    requires { IsCounted ballots.now counted.now.bag tabulated.now }
+    ensures { IsOneOrMemory (Tabulates nodes ballots.now) (due result) }
+{
+    match tabulated.tie() {
+        None => rounds(rt.alloc(), ballots, tabulated, nodes),
+        Some(tie) => decide(rt, ballots, counted, tabulated, &tie, nodes, gate),
+    }
+}
+
+// The answer where the contest has a tie.
+fn decide<R: AllocGlobal + Threads + Sync, G: Gate + Sync>(
+    rt: &R,
+    ballots: &Ballots,
+    counted: &Counted,
+    tabulated: &Tabulated,
+    tie: &FirstTie,
+    nodes: u32,
+    gate: &G,
+) -> Result<Answer, Refusal>
+    requires counted { IsCounted ballots.now counted.now.bag tabulated.now }
+    requires tie { IsTieOf (candidate_count ballots.now) (ballots.now).rankings tie.now }
+    ensures { IsOneOrMemory (Tabulates nodes ballots.now) (due result) }
+{
+    let alloc = rt.alloc();
+    match race(rt, counted, tabulated, 1, nodes, gate) {
+        Ok(end) => {
+            if end.margin == 0 {
+                tied_answer(alloc, ballots, tie, nodes)
+            } else {
+                rounds(alloc, ballots, tabulated, nodes)
+            }
+        }
         Err(fault) => match fault {
-            TabFault::Tie { round, tied, tally } => tied_answer(alloc, ballots, round, tied, tally),
-            TabFault::Memory => Err(Refusal::Memory),
+            RaceFault::Spent { last, upper, order } => stopped_answer(
+                alloc, ballots, last, upper, &order, nodes,
+            ),
+            RaceFault::Memory => Err(Refusal::Memory),
         },
     }
 }
 
-// The rounds of a contest without a tie.
-fn rounds(alloc: Global, ballots: &Ballots, tabulated: &Tabulated) -> Result<Answer, Refusal>
-    requires { IsTabulation (candidate_count ballots.now) (ballots.now).rankings tabulated.now }
-    ensures { IsOneOrMemory (Tabulates ballots.now) (due result) }
+// The rounds of a contest that is decided.
+fn rounds(
+    alloc: Global,
+    ballots: &Ballots,
+    tabulated: &Tabulated,
+    nodes: u32,
+) -> Result<Answer, Refusal>
+    requires is { IsTabulation (candidate_count ballots.now) (ballots.now).rankings tabulated.now }
+    requires decided { IsElected ballots.now tabulated.now.winner }
+    ensures { IsOneOrMemory (Tabulates nodes ballots.now) (due result) }
 {
     let text = tabulation(alloc, ballots, tabulated)?;
     Ok(Answer {
@@ -70,16 +131,33 @@ fn rounds(alloc: Global, ballots: &Ballots, tabulated: &Tabulated) -> Result<Ans
     })
 }
 
-// The first tie of a contest that has one, told by the ids of its candidates.
+// The first tie of a contest that isn't decided, told by the ids of its candidates.
 fn tied_answer(
     alloc: Global,
     ballots: &Ballots,
-    round: u32,
-    tied: CandSet,
-    votes: u32,
+    tie: &FirstTie,
+    nodes: u32,
 ) -> Result<Answer, Refusal>
-    requires { IsTie ballots.now round tied votes }
-    ensures { IsOneOrMemory (Tabulates ballots.now) (due result) }
+    requires { IsTie ballots.now tie.now.round tie.now.tied tie.now.tally }
+    ensures { IsOneOrMemory (Tabulates nodes ballots.now) (due result) }
 {
-    first_tie(alloc, ballots.candidates(), round, tied, votes)
+    first_tie(alloc, ballots.candidates(), tie.round, tie.tied, tie.tally)
+}
+
+// The answer where the race is spent at this candidate.
+fn stopped_answer(
+    alloc: Global,
+    ballots: &Ballots,
+    last: Candidate,
+    margin: u32,
+    order: &Order,
+    nodes: u32,
+) -> Result<Answer, Refusal>
+    requires { IsStopped nodes ballots.now last order.now margin }
+    ensures { IsOneOrMemory (Tabulates nodes ballots.now) (due result) }
+{
+    Ok(Answer {
+        kind: AnswerKind::Spent,
+        text: spent(alloc, ballots.candidates(), last, order, margin)?,
+    })
 }

@@ -3,7 +3,7 @@ use Rattle.std.proofs.Common.{◌≡◌, ℕ, List, [], ◌∷◌, ◌++◌, fol
 use Rattle.std.proofs.lemmas.List.Sums.{fold-append}
 use Rattle.irv_base.specs.Orders.{is_order, Elects}
 use Rattle.irv_base.specs.Tabulation.{is_tabulated}
-use Rattle.irv_base.proofs.Ties.{tabulated_is_one}
+use Rattle.irv_base.proofs.Tabulated.{tabulated_is_one}
 use Rattle.assertions.specs.Contests.{three_candidates, two_candidates, county}
 use Rattle.assertions.specs.Hardness.{low, best_margin}
 

@@ -2,10 +2,12 @@
 ghost use Rattle.std.specs.Prelude.{◌≡◌, ◌<◌, ◌≤◌, All, length};
 ghost use Rattle.irv_base.specs.declared.limits.TheConstants.{FEWEST_CANDIDATES, ROOM, MOST_RECORDS, MOST_WORKERS};
 
-use crate::contests::{ONE, TWO, ZERO, ballots_of_three, both, only};
+use crate::contests::{
+    ONE, TWO, ZERO, ballots_of_three, both, only, tie_for_the_win, tie_that_decides,
+};
 use bound_search::{Front, RaceEnd, RaceFault, Turn, WorkerEnd, race, tails_of, work};
 use desk::{Gate, NoGate};
-use irv_base::{Memory, Ranking, Steps};
+use irv_base::{MOST_WORKERS, Memory, Ranking, Steps};
 use irv_tabulator::tabulate;
 use set_tallies::{Counted, Tallies};
 use shared_witness::{Race, Seats};
@@ -170,6 +172,57 @@ fn keeps_the_start_of_two(rt: HostRuntime) {
             assert!(rt; found == [ZERO, ONE].as_slice());
         }
         Err(_) => assert!(rt; false),
+    }
+}
+
+// The bound is 0 from the start: nothing is below it.
+#[test]
+fn expands_nothing_where_the_start_is_possible(rt: HostRuntime) {
+    let rankings = tie_for_the_win();
+    for nodes in [0, 1] {
+        match race_of(&rt, 3, rankings.as_slice(), 2, nodes, &NoGate) {
+            Ok(end) => {
+                assert!(rt; end.margin == 0);
+                assert!(rt; end.order.candidates() == [TWO, ONE, ZERO].as_slice());
+                assert!(rt; end.pieces.len() == 4);
+                for piece in end.pieces.iter() {
+                    assert!(rt; piece.expanded == 0);
+                }
+            }
+            Err(_) => assert!(rt; false),
+        }
+    }
+}
+
+// The start has 1 against it; an order of hardness 0 is found on the way.
+#[test]
+fn finds_a_possible_order(rt: HostRuntime) {
+    let rankings = tie_that_decides();
+    for workers in [1, 2, MOST_WORKERS] {
+        match race_of(&rt, 3, rankings.as_slice(), workers, 100_000, &NoGate) {
+            Ok(end) => {
+                assert!(rt; end.margin == 0);
+                assert!(rt; end.order.candidates() == [TWO, ZERO, ONE].as_slice());
+            }
+            Err(_) => assert!(rt; false),
+        }
+    }
+}
+
+// Without a node it isn't known whether the tie decides.
+#[test]
+fn spends_no_node_on_a_tie(rt: HostRuntime) {
+    let rankings = tie_that_decides();
+    match race_of(&rt, 3, rankings.as_slice(), 1, 0, &NoGate).err() {
+        Some(fault) => match fault {
+            RaceFault::Spent { last, upper, order } => {
+                assert!(rt; last == ONE);
+                assert!(rt; upper == 1);
+                assert!(rt; order.candidates() == [ONE, TWO, ZERO].as_slice());
+            }
+            RaceFault::Memory => assert!(rt; false),
+        },
+        None => assert!(rt; false),
     }
 }
 

@@ -29,6 +29,7 @@ fn answer<R: AllocGlobal + Threads + Sync>(
     requires best { (order : List ℕ) (winner : ℕ) → IsTrue (is_order n order)
         → IsTrue (is_tabulated rankings.now order) → Elects order winner
         → best ≡ best_margin n winner (low n rankings.now) }
+    requires positive { 1 ≤ best }
     requires workers { (1 ≤ workers) × (workers ≤ MOST_WORKERS) }
 {
     let counted = Counted::of(rt, n, rankings, workers)?;

@@ -77,3 +77,27 @@ pub fn county_ballots() -> [Ranking; 10]
         both(ZERO, ONE),
     ]
 }
+
+/// Three ballots 0: 1 and 2 tie for the last place.
+pub fn tie_at_the_bottom() -> [Ranking; 3]
+    ensures { All (λ ranking. All (λ c. c < 3) ranking) result }
+{
+    [only(ZERO), only(ZERO), only(ZERO)]
+}
+
+/// Two ballots 0, two ballots 1, one ballot 2: once 2 is eliminated, 0 and 1 tie for the win.
+pub fn tie_for_the_win() -> [Ranking; 5]
+    ensures { All (λ ranking. All (λ c. c < 3) ranking) result }
+{
+    [only(ZERO), only(ZERO), only(ONE), only(ONE), only(TWO)]
+}
+
+/// Three ballots 0, two ballots 1,2 and two 2,1: of 1 and 2, who tie in the first round, the one that is left wins.
+pub fn tie_that_decides() -> [Ranking; 7]
+    ensures { All (λ ranking. All (λ c. c < 3) ranking) result }
+{
+    let alone = only(ZERO);
+    let forth = both(ONE, TWO);
+    let back = both(TWO, ONE);
+    [alone, alone, alone, forth, forth, back, back]
+}

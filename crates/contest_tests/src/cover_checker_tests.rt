@@ -1,10 +1,10 @@
-// The checker of lists: budgets at twenty and at nine candidates, and a certificate of three.
+// The checker of lists: budgets at the most candidates and at nine, and a certificate of three.
 mod files;
 
 use crate::contests::{FOUR, ONE, THREE, TWO, ZERO};
 use assertions::Assertion;
 use cover_checker::{CoverFault, Verdict, covered};
-use irv_base::{CandSet, Candidate};
+use irv_base::{CandSet, Candidate, MOST_CANDIDATES};
 
 fn nen(w: Candidate, l: Candidate, rest: CandSet) -> Assertion {
     Assertion::Nen { w, l, rest }
@@ -48,19 +48,22 @@ fn stands(answer: &Result<Verdict, CoverFault>, backwards: &[Candidate]) -> bool
     }
 }
 
+// A suffix counts for each length below that of a whole order.
 #[test]
 fn empty_list_spent(rt: HostRuntime) {
-    assert!(rt; is_spent(&covered(rt.alloc(), 20, ZERO, &[], 18), ONE));
+    let most = MOST_CANDIDATES;
+    assert!(rt; is_spent(&covered(rt.alloc(), most, ZERO, &[], most - 2), ONE));
 }
 
 #[test]
 fn empty_list_stands(rt: HostRuntime) {
-    let mut backwards = [ZERO; 20];
-    for c in 2..20 {
+    let most = MOST_CANDIDATES;
+    let mut backwards = [ZERO; MOST_CANDIDATES as usize];
+    for c in 2..most as u8 {
         backwards[usize::from(c)] = Candidate(c);
     }
     backwards[0] = ONE;
-    assert!(rt; stands(&covered(rt.alloc(), 20, ZERO, &[], 19), &backwards));
+    assert!(rt; stands(&covered(rt.alloc(), most, ZERO, &[], most - 1), &backwards));
 }
 
 #[test]

@@ -41,6 +41,23 @@ fn two_candidates(rt: HostRuntime) {
     }
 }
 
+// Only the first round has a tie.
+#[test]
+fn tie_for_the_last_place(rt: HostRuntime) {
+    let file = b"1\nContest,1,3,1,2,3\n1,t_1,1\n1,t_2,1\n1,t_3,1\n".as_slice();
+    let ballots = read_ballots(rt.alloc(), file, None).expect(&rt, "ballots");
+    match tabulated(&rt, &ballots) {
+        Ok(t) => {
+            let text = tabulation(rt.alloc(), &ballots, &t).expect(&rt, "text");
+            assert!(rt;
+                text.as_str()
+                    == "contest 1\nrecords 3\nround 1: 1=3 2=0 3=0 exhausted=0\ntied 2,3\neliminated 2\nround 2: 1=3 3=0 exhausted=0\neliminated 3\nwinner 1\n"
+            );
+        }
+        Err(_) => assert!(rt; false),
+    }
+}
+
 #[test]
 fn order_and_set_of_three(rt: HostRuntime) {
     let one = Name::read(b"1".as_slice()).expect(&rt, "name");

@@ -1,14 +1,13 @@
 -- What is found of a file, as the answer.
 use Rattle.std.proofs.Common.{◌≡◌, ℕ, true, length, Ok, Err, IfOk, IfErr, MatchBool, refl, sym, subst}
-use Rattle.irv_base.specs.Tabulation.{IsFirstTie}
 use Rattle.ballot_reader.specs.Ballots.{BallotFile}
 use Rattle.assertion_file.specs.Content.{Content}
-use Rattle.cover_checker.specs.Outcomes.{Won, Tied, IsWinner}
-use Rattle.cover_checker.specs.Findings.{Answer, is_about, IsErrOf, IsTied}
+use Rattle.cover_checker.specs.Outcomes.{IsWinner}
+use Rattle.cover_checker.specs.Findings.{Answer, is_about, IsErrOf, IsWant}
 use Rattle.cover_checker.specs.Checks.{Judges, IsAnswer, IsFault, findings, first_found}
 use Rattle.cover_checker.specs.declared.checked.Checked.TheVariants.{OtherContest, Accepted}
 use Rattle.cover_checker.specs.declared.checked.CheckFault.{CheckFault}
-use Rattle.cover_checker.specs.declared.checked.CheckFault.TheVariants.{Tie, Spent, Memory}
+use Rattle.cover_checker.specs.declared.checked.CheckFault.TheVariants.{Spent, Memory}
 
 -- where the file is about the contest
 module _ (nodes : ℕ) (ballots : BallotFile) (file : Content) (about : is_about ballots file ≡ true) where
@@ -18,17 +17,14 @@ module _ (nodes : ℕ) (ballots : BallotFile) (file : Content) (about : is_about
   pub judged : (answer : Answer) → Judges nodes ballots file answer → IsAnswer nodes ballots file answer
   judged answer j = subst (λ b. MatchBool b (Judges nodes ballots file answer) (answer ≡ Ok OtherContest)) (sym about) j
 
-  pub tie-fault : (n : ℕ) → n ≡ length ballots.candidates → (fault : CheckFault) → IsTied n ballots.rankings fault → IsFault nodes ballots file fault
-  tie-fault n e (Tie round tied tally) h =
-      judged (Err (Tie round tied tally))
-      (record { outcome = Tied round tied tally; tabulated = (h.0, subst (λ k. IsFirstTie k ballots.rankings round tied tally) e h.1); answer_is = refl })
-  tie-fault n e (Spent last) h = absurd h
-  tie-fault n e Memory h = h
+  pub want-fault : (fault : CheckFault) → IsWant fault → IsFault nodes ballots file fault
+  want-fault (Spent last) h = absurd h
+  want-fault Memory h = h
 
   -- where there is a winner
   module _ (n winner : ℕ) (e : n ≡ length ballots.candidates) (won : IsWinner n ballots.rankings winner) where
     found_is : (answer : Answer) → first_found (findings nodes ballots.rankings file winner) (Ok Accepted) ≡ answer → IsAnswer nodes ballots file answer
-    found_is answer h = judged answer (record { outcome = Won winner; tabulated = subst (λ k. IsWinner k ballots.rankings winner) e won; answer_is = h })
+    found_is answer h = judged answer (record { winner = winner; tabulated = subst (λ k. IsWinner k ballots.rankings winner) e won; answer_is = h })
 
     pub checked-answer : (result : Answer) → IfOk result (λ checked. first_found (findings nodes ballots.rankings file winner) (Ok Accepted) ≡ Ok checked) →
         IfOk result (λ checked. IsAnswer nodes ballots file (Ok checked))
@@ -37,7 +33,6 @@ module _ (nodes : ℕ) (ballots : BallotFile) (file : Content) (about : is_about
 
     fault-one : (fault : CheckFault) → IsErrOf (first_found (findings nodes ballots.rankings file winner) (Ok Accepted)) fault →
         IsFault nodes ballots file fault
-    fault-one (Tie round tied tally) h = found_is (Err (Tie round tied tally)) h
     fault-one (Spent last) h = found_is (Err (Spent last)) h
     fault-one Memory h = h
 

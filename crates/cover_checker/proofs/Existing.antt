@@ -1,10 +1,9 @@
 -- Every file has an answer, and one that no budget spoils where there are nodes enough.
 use Rattle.std.proofs.Common.{◌≡◌, ℕ, ◌+◌, ◌-◌, ◌*◌, ◌<◌, ◌≤◌, Bool, true, false, if◌then◌else◌, nat_lt, ◌==◌, List, [], ◌∷◌, length, Option, Some, None, Ok, Err, MatchBool, inl, inr, refl, sym, ap, subst, arith, ◌∙◌}
 use Rattle.std.proofs.lemmas.Bool.{cases_Bool}
-use Rattle.irv_base.specs.Laws.{HasTie}
 use Rattle.irv_base.specs.Orders.{is_order}
 use Rattle.irv_base.specs.Tabulation.{is_tabulated}
-use Rattle.irv_base.proofs.Exists.{order_or_tie}
+use Rattle.irv_base.proofs.Tabulated.{tabulated_exists}
 use Rattle.irv_base.proofs.Orders.{last_split, order_facts}
 use Rattle.assertions.specs.declared.assertion.Assertion.{Assertion}
 use Rattle.assertions.specs.declared.assertion.Claim.{Claim}
@@ -14,7 +13,6 @@ use Rattle.assertions.specs.Suffixes.{factorial}
 use Rattle.ballot_reader.specs.Ballots.{BallotFile}
 use Rattle.assertion_file.specs.Content.{Content, IsSound, candidate_count}
 use Rattle.cover_checker.specs.Covers.{IsEnough, verdict_on, standing_order}
-use Rattle.cover_checker.specs.Outcomes.{Outcome, Won, Tied}
 use Rattle.cover_checker.specs.Findings.{Answer, is_about, assertions_of, has_other_margin, other_margin_from, unless_covered, uncovered, smallest_margin, elects, other_winner, other_margin, other_smallest, elected, harder, refuted_by}
 use Rattle.cover_checker.specs.Checks.{Judges, IsAnswer, checked_is, first_found}
 use Rattle.cover_checker.specs.declared.cover.Verdict.{Verdict}
@@ -37,19 +35,14 @@ module _ (nodes : ℕ) (ballots : BallotFile) (file : Content) where
   by_order about [] some whole tab = absurd (omega (arith, some, (order_facts (length ballots.candidates) [] whole).long))
   by_order about (x ∷ xs) some whole tab =
       let (before, winner, e) = last_split x xs in
-      let answer = checked_is nodes ballots.rankings file (Won winner) in (
+      let answer = checked_is nodes ballots.rankings file winner in (
         answer,
         judged nodes ballots file about answer (record {
-          outcome = Won winner;
+          winner = winner;
           tabulated = record { order = x ∷ xs; permutation = whole; tabulated = tab; elects = (before, e) };
           answer_is = refl;
         }),
       )
-
-  by_tie : is_about ballots file ≡ true → HasTie (length ballots.candidates) ballots.rankings → HasAnswer
-  by_tie about (round, tied, votes, le, tie) =
-      let answer = checked_is nodes ballots.rankings file (Tied round tied votes) in
-      (answer, judged nodes ballots file about answer (record { outcome = Tied round tied votes; tabulated = (le, tie); answer_is = refl }))
 
   abbrev elsewhere : Answer
   elsewhere = Ok OtherContest
@@ -65,10 +58,8 @@ module _ (nodes : ℕ) (ballots : BallotFile) (file : Content) where
         | inr f ↦ by_contest f
         | inl t ↦
             let same : length file.candidates ≡ length ballots.candidates = ap length (from_about ballots file t).candidates in
-            elim (order_or_tie (length ballots.candidates) ballots.rankings) [
-              | inl o ↦ by_order t o.0 (omega (arith, sound.fewest)) o.1 o.2
-              | inr tie ↦ by_tie t tie
-            ]
+            let o = tabulated_exists (length ballots.candidates) ballots.rankings in
+            by_order t o.0 (omega (arith, sound.fewest)) o.1 o.2
       ]
 
 -- ---- no other finding is a fault
@@ -120,9 +111,8 @@ uncovered-never nodes file enough fault h =
 
 -- ---- a budget of that many is never spent
 module _ (nodes : ℕ) (ballots : BallotFile) (file : Content) (last : ℕ) (le : 2 * factorial (candidate_count file - 1) ≤ nodes) where
-  by_outcome : (outcome : Outcome) → checked_is nodes ballots.rankings file outcome ≡ Err (SpentAt last) → ⊥
-  by_outcome (Tied round tied votes) h = cc
-  by_outcome (Won winner) h =
+  by_winner : (winner : ℕ) → checked_is nodes ballots.rankings file winner ≡ Err (SpentAt last) → ⊥
+  by_winner winner h =
       let records = ballots.rankings in
       let rest-winner : List (Option Answer) = other_margin records file ∷ uncovered nodes file ∷ other_smallest file ∷ elected file ∷ harder records file ∷
       [] in
@@ -149,5 +139,5 @@ module _ (nodes : ℕ) (ballots : BallotFile) (file : Content) (last : ℕ) (le 
         | inr f ↦
             let other : failed ≡ Ok OtherContest = subst (λ b. MatchBool b (Judges nodes ballots file failed) (failed ≡ Ok OtherContest)) f h in
             cc
-        | inl t ↦ let j = from_answer nodes ballots file t (Err (SpentAt last)) h in by_outcome j.outcome j.answer_is
+        | inl t ↦ let j = from_answer nodes ballots file t (Err (SpentAt last)) h in by_winner j.winner j.answer_is
       ]

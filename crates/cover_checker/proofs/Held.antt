@@ -19,7 +19,7 @@ use Rattle.assertions.proofs.Endings.{from_alternative, alternative-member}
 use Rattle.ballot_reader.specs.Ballots.{BallotFile}
 use Rattle.assertion_file.specs.Content.{Content, IsSound, candidate_count}
 use Rattle.cover_checker.specs.Covers.{covered_is}
-use Rattle.cover_checker.specs.Outcomes.{Outcome, Won, Tied, IsOutcome, IsWinner}
+use Rattle.cover_checker.specs.Outcomes.{IsWinner}
 use Rattle.cover_checker.specs.Findings.{Answer, is_about, assertions_of, unless_covered, uncovered, smallest_margin, elects, other_winner, other_margin, other_smallest, elected, harder}
 use Rattle.cover_checker.specs.Checks.{Judges, IsAnswer, checked_is, findings, first_found}
 use Rattle.cover_checker.specs.Holds.{Holds}
@@ -193,18 +193,17 @@ module _ (ballots : BallotFile) (file : Content) where
 module _ (nodes : ℕ) (ballots : BallotFile) (file : Content) where
   pub accepted-held : IsSound file → IsAnswer nodes ballots file (Ok Accepted) → Holds ballots file
   accepted-held sound h = go (cases_Bool (is_about ballots file)) where
-    by_outcome : About ballots file → (outcome : Outcome) → IsOutcome (length ballots.candidates) ballots.rankings outcome →
-        checked_is nodes ballots.rankings file outcome ≡ Ok Accepted → Holds ballots file
-    by_outcome about (Won winner) won e =
+    by_winner : About ballots file → (winner : ℕ) → IsWinner (length ballots.candidates) ballots.rankings winner →
+        checked_is nodes ballots.rankings file winner ≡ Ok Accepted → Holds ballots file
+    by_winner about winner won e =
         facts-held ballots file nodes winner sound about (subst (λ n. IsWinner n ballots.rankings winner) (sym (ap length about.candidates)) won)
         (facts-accepted nodes ballots.rankings file winner e)
-    by_outcome about (Tied round tied tally) first e = cc
 
     other : (answer : Answer) → is_about ballots file ≡ false → IsAnswer nodes ballots file answer → answer ≡ Ok OtherContest
     other answer f k = subst (λ b. MatchBool b (Judges nodes ballots file answer) (answer ≡ Ok OtherContest)) f k
 
     go : (is_about ballots file ≡ true) ⊎ (is_about ballots file ≡ false) → Holds ballots file
-    go (inl t) = let j = from_answer nodes ballots file t (Ok Accepted) h in by_outcome (from_about ballots file t) j.outcome j.tabulated j.answer_is
+    go (inl t) = let j = from_answer nodes ballots file t (Ok Accepted) h in by_winner (from_about ballots file t) j.winner j.tabulated j.answer_is
     go (inr f) = let e = other (Ok Accepted) f h in cc
 
   pub held-accepted : Holds ballots file → covered_is (candidate_count file) file.winner (assertions_of file) nodes ≡ Ok Covered →
@@ -212,7 +211,7 @@ module _ (nodes : ℕ) (ballots : BallotFile) (file : Content) where
   held-accepted h covered =
       let about : About ballots file = record { contest = h.contest; candidates = h.candidates; records = h.records } in
       judged nodes ballots file (about-from ballots file about) (Ok Accepted) (record {
-        outcome = Won file.winner;
+        winner = file.winner;
         tabulated = subst (λ n. IsWinner n ballots.rankings file.winner) (ap length h.candidates) h.winner;
         answer_is = accepted-facts nodes ballots.rankings file file.winner (held-facts ballots file nodes h covered);
       })
@@ -223,7 +222,7 @@ module _ (nodes : ℕ) (ballots : BallotFile) (file : Content) where
   held-covered checked h answer =
       let about : About ballots file = record { contest = h.contest; candidates = h.candidates; records = h.records } in
       let j = from_answer nodes ballots file (about-from ballots file about) (Ok checked) answer in
-      by_outcome j.outcome j.tabulated j.answer_is
+      by_winner j.winner j.tabulated j.answer_is
     where
       by_cover : (result : Result Verdict CoverFault) → covered_is (candidate_count file) file.winner (assertions_of file) nodes ≡ result →
           first_found (unless_covered result ∷ other_smallest file ∷ elected file ∷ harder ballots.rankings file ∷ []) (Ok Accepted) ≡ Ok checked →
@@ -233,16 +232,15 @@ module _ (nodes : ℕ) (ballots : BallotFile) (file : Content) where
       by_cover (Err (CoverSpent last)) e found = cc
       by_cover (Err CoverMemory) e found = cc
 
-      by_outcome : (outcome : Outcome) → IsOutcome (length ballots.candidates) ballots.rankings outcome →
-          checked_is nodes ballots.rankings file outcome ≡ Ok checked →
+      by_winner : (winner : ℕ) → IsWinner (length ballots.candidates) ballots.rankings winner →
+          checked_is nodes ballots.rankings file winner ≡ Ok checked →
           covered_is (candidate_count file) file.winner (assertions_of file) nodes ≡ Ok Covered
-      by_outcome (Won winner) won e =
+      by_winner winner won e =
           let own : IsWinner (length ballots.candidates) ballots.rankings file.winner =
           subst (λ n. IsWinner n ballots.rankings file.winner) (ap length h.candidates) h.winner in
           let same : file.winner ≡ winner = one_winner (length ballots.candidates) ballots.rankings file.winner winner own won in
           by_cover (covered_is (candidate_count file) file.winner (assertions_of file) nodes) refl
           (sym (to_cover nodes ballots.rankings file winner same h.margins) ∙ e)
-      by_outcome (Tied round tied tally) first e = cc
 
   pub accepted_iff_holds : (checked : Checked) → IsSound file → IsAnswer nodes ballots file (Ok checked) → ((checked ≡ Accepted) ↔ Holds ballots file)
   accepted_iff_holds checked sound answer = (

@@ -3,7 +3,7 @@ use Rattle.std.specs.Prelude.{ℕ, ◌+◌, ◌-◌, Bool, not, ◌&&◌, ◌==�
 use Rattle.std.specs.Cmp.Lexicographic.{pointwise}
 use Rattle.std.specs.Ordering.{int_eq}
 use Rattle.irv_base.specs.Names.{Id, is_same}
-use Rattle.irv_base.specs.Tabulation.{least, IsFirstTie}
+use Rattle.irv_base.specs.Tabulation.{least}
 use Rattle.assertions.specs.declared.assertion.Assertion.{Assertion}
 use Rattle.assertions.specs.declared.assertion.Claim.{Claim}
 use Rattle.assertions.specs.Assertions.{margin}
@@ -18,7 +18,7 @@ use Rattle.cover_checker.specs.declared.cover.CoverFault.TheVariants.{Spent as C
 use Rattle.cover_checker.specs.declared.checked.Checked.{Checked}
 use Rattle.cover_checker.specs.declared.checked.Checked.TheVariants.{OtherWinner, OtherMargin, Stands, NotLeast, NotAlternative, Harder}
 use Rattle.cover_checker.specs.declared.checked.CheckFault.{CheckFault}
-use Rattle.cover_checker.specs.declared.checked.CheckFault.TheVariants.{Spent, Memory, Tie}
+use Rattle.cover_checker.specs.declared.checked.CheckFault.TheVariants.{Spent, Memory}
 
 abbrev pub Answer : Type 0
 Answer = Result Checked CheckFault
@@ -100,21 +100,18 @@ harder records file =
 
 -- the fault is the answer's
 abbrev pub IsErrOf : Answer → CheckFault → Type 0
-IsErrOf answer (Tie round tied tally) = answer ≡ Err (Tie round tied tally)
 IsErrOf answer (Spent last) = answer ≡ Err (Spent last)
 IsErrOf answer Memory = ⊤
 
 -- the fault is what is found
 abbrev pub IsFindingOf : Option Answer → CheckFault → Type 0
-IsFindingOf found (Tie round tied tally) = found ≡ Some (Err (Tie round tied tally))
 IsFindingOf found (Spent last) = found ≡ Some (Err (Spent last))
 IsFindingOf found Memory = ⊤
 
--- the fault is the first tie
-abbrev pub IsTied : ℕ → List (List ℕ) → CheckFault → Type 0
-IsTied n records (Tie round tied tally) = (1 ≤ round) × IsFirstTie n records round tied tally
-IsTied n records (Spent last) = ⊥
-IsTied n records Memory = ⊤
+-- the fault is want of memory
+abbrev pub IsWant : CheckFault → Type 0
+IsWant (Spent last) = ⊥
+IsWant Memory = ⊤
 
 -- what a fault of `covered` is to `check`
 abbrev pub as_check_fault : CoverFault → CheckFault

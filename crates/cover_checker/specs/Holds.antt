@@ -15,7 +15,7 @@ pub record Holds (ballots : BallotFile) (file : Content) : Type 0 where
   pub contest : file.contest ≡ ballots.contest
   pub candidates : file.candidates ≡ ballots.candidates
   pub records : file.records ≡ length ballots.rankings
-  -- which has no tie, and this winner
+  -- whose tabulated order elects this one
   pub winner : IsWinner (candidate_count file) ballots.rankings file.winner
   -- each claim has its assertion's margin
   pub margins :

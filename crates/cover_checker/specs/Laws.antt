@@ -2,7 +2,7 @@
 use Rattle.std.specs.Prelude.{◌≡◌, ◌≢◌, ◌↔◌, ◌⊎◌, ℕ, ◌-◌, ◌*◌, ◌<◌, ◌≤◌, List, Ok, Err, IsTrue}
 use Rattle.std.specs.List.{list_all}
 use Rattle.irv_base.specs.Orders.{is_order, Elects}
-use Rattle.irv_base.specs.Tabulation.{is_possible}
+use Rattle.irv_base.specs.Tabulation.{is_possible, AllElect}
 use Rattle.assertions.specs.declared.assertion.Assertion.{Assertion}
 use Rattle.assertions.specs.Assertions.{is_proper, is_true}
 use Rattle.assertions.specs.Suffixes.{IsAlternative, comes_before, factorial}
@@ -62,7 +62,7 @@ AnswerIsOne =
     (nodes : ℕ) (ballots : BallotFile) (file : Content) (answer other : Answer) →
     IsAnswer nodes ballots file answer → IsAnswer nodes ballots file other → answer ≡ other
 
--- where the contest has no tie, and no budget is spent, a file is accepted exactly where it holds
+-- where no budget is spent, a file is accepted exactly where it holds
 abbrev pub AcceptedIffHolds : Type 0
 AcceptedIffHolds =
     (nodes : ℕ) (ballots : BallotFile) (file : Content) (checked : Checked) → IsSound file →
@@ -83,6 +83,13 @@ AcceptedIsCovered =
     (nodes : ℕ) (ballots : BallotFile) (file : Content) → IsSound file →
     IsAnswer nodes ballots file (Ok Accepted) →
     covered_is (candidate_count file) file.winner (assertions_of file) nodes ≡ Ok Covered
+
+-- the contest of an accepted file is decided: each way of breaking its ties elects the file's winner
+abbrev pub AcceptedIsDecided : Type 0
+AcceptedIsDecided =
+    (nodes : ℕ) (ballots : BallotFile) (file : Content) → IsSound file →
+    IsAnswer nodes ballots file (Ok Accepted) →
+    AllElect (candidate_count file) ballots.rankings file.winner
 
 -- there is an answer
 abbrev pub AnswerExists : Type 0

@@ -5,7 +5,7 @@ ghost use Rattle.cover_checker.specs.Findings.{as_check_fault};
 
 use crate::cover::CoverFault;
 use assertions::Assertion;
-use irv_base::{CandSet, Candidate, Memory, Order};
+use irv_base::{Candidate, Memory, Order};
 use std::error::Error;
 use std::fmt;
 
@@ -34,17 +34,9 @@ pub enum Checked {
 /// Why it isn't known whether an assertion file holds.
 #[derive(Clone, Copy, Debug)]
 pub enum CheckFault {
-    /// In this round, from 1, the candidates in the set share the least tally; in each round before it one candidate alone has it.
-    Tie {
-        round: u32,
-        tied: CandSet,
-        tally: u32,
-    },
     /// Of the candidates who didn't win this is the least for whom the budget doesn't suffice to tell whether the claims refute
     /// all orders.
-    Spent {
-        last: Candidate,
-    },
+    Spent { last: Candidate },
     /// Memory could not be had.
     Memory,
 }
@@ -52,10 +44,6 @@ pub enum CheckFault {
 impl fmt::Display for CheckFault {
     fn fmt<W: fmt::Write>(&self, f: &mut fmt::Formatter<W>) -> fmt::Result {
         match self {
-            CheckFault::Tie { round, tally, .. } => write!(
-                f,
-                "a tie in round {round}, at a tally of {tally}"
-            ),
             CheckFault::Spent { last } => write!(
                 f,
                 "more suffixes than the budget has count for candidate {}",

@@ -4,7 +4,7 @@ ghost use Rattle.set_tallies.specs.Bags.{IsOf};
 ghost use Rattle.assertion_file.specs.Content.{candidate_count};
 ghost use Rattle.cover_checker.specs.Checks.{IsAnswer, IsFault, findings, first_found};
 ghost use Rattle.cover_checker.specs.Outcomes.{IsWinner};
-ghost use Rattle.cover_checker.specs.Findings.{IsErrOf, IsTied};
+ghost use Rattle.cover_checker.specs.Findings.{IsErrOf, IsWant};
 
 use crate::checked::{CheckFault, Checked};
 use crate::findings::{
@@ -17,20 +17,16 @@ use irv_tabulator::{TabFault, tabulate};
 use set_tallies::Tallies;
 use std::alloc::Global;
 
-// The winner of the tallies' contest, or its first tie.
+// Who stands last in the tabulated order of the tallies' contest.
 fn winner_of(alloc: Global, tallies: &mut Tallies<'_>) -> Result<Candidate, CheckFault>
     ensures winner { (records : List (List ℕ)) → IsOf tallies.old.bag records
         → IfOk result (IsWinner tallies.old.bag.n records) }
-    ensures tie { (records : List (List ℕ)) → IsOf tallies.old.bag records
-        → IfErr result (IsTied tallies.old.bag.n records) }
+    ensures fault { IfErr result IsWant }
     ensures same { tallies.new ≡ tallies.old }
 {
     match tabulate(alloc, tallies) {
         Ok(tabulated) => Ok(tabulated.winner),
-        Err(fault) => match fault {
-            TabFault::Tie { round, tied, tally } => Err(CheckFault::Tie { round, tied, tally }),
-            TabFault::Memory => Err(CheckFault::Memory),
-        },
+        Err(TabFault::Memory) => Err(CheckFault::Memory),
     }
 }
 
@@ -73,7 +69,8 @@ fn judge(
 }
 
 /// Whether the file holds of the ballots, whose tallies these are. If it doesn't, the answer is the first that is found, in the
-/// order of `Checked`; a tie comes after `OtherContest`, and a budget is spent where `covered` says so for the claims.
+/// order of `Checked`; a budget is spent where `covered` says so for the claims. Claims that hold prove the winner, whatever ties the
+/// contest has.
 ///
 /// The other error is want of memory.
 pub fn check(

@@ -3,7 +3,6 @@ ghost use Rattle.std.specs.Prelude.{◌≡◌, [], ◌∷◌, Ok, Err, drop};
 ghost use Rattle.assertions.specs.Contests as contests;
 ghost use Rattle.assertion_file.specs.Examples as files;
 ghost use Rattle.cover_checker.specs.Covers.{covered_is};
-ghost use Rattle.cover_checker.specs.Outcomes.{Won};
 ghost use Rattle.cover_checker.specs.Checks.{checked_is};
 
 use crate::{Checked, CoverFault, Verdict};
@@ -36,12 +35,12 @@ pub fn nothing_asserted()
 /// The certificate of three candidates is accepted within one node. Without its NEB the order 1,0,2 stands. The order 2,1,0 is
 /// refuted by more than the file's margin.
 pub fn certificate()
-    ensures accepted { checked_is 1 contests.three_candidates files.three_candidates (Won 1)
+    ensures accepted { checked_is 1 contests.three_candidates files.three_candidates 1
         ≡ Ok Checked.Accepted }
     ensures without_neb { checked_is 2 contests.three_candidates
-        (record files.three_candidates { claims = drop 1 files.three_candidates.claims }) (Won 1)
+        (record files.three_candidates { claims = drop 1 files.three_candidates.claims }) 1
         ≡ Ok (Checked.Stands (1 ∷ 0 ∷ 2 ∷ [])) }
     ensures other_order { checked_is 1 contests.three_candidates
-        (record files.three_candidates { order = 2 ∷ 1 ∷ 0 ∷ [] }) (Won 1)
+        (record files.three_candidates { order = 2 ∷ 1 ∷ 0 ∷ [] }) 1
         ≡ Ok (Checked.Harder (Assertion.Nen 1 0 3) 2) }
 {}

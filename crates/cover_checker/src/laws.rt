@@ -1,7 +1,7 @@
 //! What an answer of `covered` says, and one of `check`. Each law holds of every value that it names, and has no code.
 ghost use Rattle.cover_checker.specs.Laws.{CoveredIsSound, CoveredIffCovers, StandsIsLeast, CoveredIsNeverSpent};
 ghost use Rattle.cover_checker.specs.Laws.{AnswerIsOne, AnswerExists, AnswerIsNeverSpent, AcceptedIffHolds};
-ghost use Rattle.cover_checker.specs.Laws.{AcceptedExactly, AcceptedIsCovered, AcceptedMarginIsBest, CertificateIsAccepted};
+ghost use Rattle.cover_checker.specs.Laws.{AcceptedExactly, AcceptedIsCovered, AcceptedIsDecided, AcceptedMarginIsBest, CertificateIsAccepted};
 
 /// `Covered` alone proves the winner: for every list of records of which all assertions of the list are true, every
 /// possible order elects the winner, however ties are broken. The assertions must be proper.
@@ -39,7 +39,7 @@ pub fn answer_is_one()
     ensures { AnswerIsOne }
 {}
 
-/// A file is accepted exactly where it holds of the ballots, if their contest has no tie and no budget is spent.
+/// A file is accepted exactly where it holds of the ballots, if no budget is spent.
 pub fn accepted_iff_holds()
     ensures { AcceptedIffHolds }
 {}
@@ -52,6 +52,11 @@ pub fn accepted_exactly()
 /// The claims of an accepted file are called covered, so that they prove the winner.
 pub fn accepted_is_covered()
     ensures { AcceptedIsCovered }
+{}
+
+/// The contest of an accepted file is decided, whatever ties it has.
+pub fn accepted_is_decided()
+    ensures { AcceptedIsDecided }
 {}
 
 /// The margin of an accepted file is the best of the contest.

@@ -60,12 +60,14 @@ fn refuses_contests(rt: HostRuntime) {
 }
 
 #[test]
-fn takes_two_to_twenty_candidates(rt: HostRuntime) {
+fn takes_two_to_thirty_two_candidates(rt: HostRuntime) {
     let one = b"1\nContest,7,1,A\n7".as_slice();
-    let twenty = b"1\nContest,7,20,A,B,C,D,E,F,G,H,I,J,K,L,M,N,O,P,Q,R,S,T\n7".as_slice();
-    let more = b"1\nContest,7,21,A,B,C,D,E,F,G,H,I,J,K,L,M,N,O,P,Q,R,S,T,U\n7".as_slice();
+    let most =
+        b"1\nContest,7,32,A,B,C,D,E,F,G,H,I,J,K,L,M,N,O,P,Q,R,S,T,U,V,W,X,Y,Z,a,b,c,d,e,f\n7".as_slice();
+    let more =
+        b"1\nContest,7,33,A,B,C,D,E,F,G,H,I,J,K,L,M,N,O,P,Q,R,S,T,U,V,W,X,Y,Z,a,b,c,d,e,f,g\n7".as_slice();
     assert!(rt; is_refused(&rt, one, BRule::B3, 2));
-    assert!(rt; is_refused(&rt, twenty, BRule::B6, 3));
+    assert!(rt; is_refused(&rt, most, BRule::B6, 3));
     assert!(rt; is_refused(&rt, more, BRule::B3, 2));
 }
 

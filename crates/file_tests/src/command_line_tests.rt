@@ -26,6 +26,8 @@ fn takes_lines(rt: HostRuntime) -> Result<(), Fail> {
         "search --workers 1 row1.raire",
         "search row1.raire --workers=08 --nodes 1",
         "tabulate --contest 7 -- --nodes",
+        "tabulate a --nodes 1",
+        "tabulate --nodes=200000 a --contest 7",
         "check row1.raire f.json",
         "check --nodes=200000 a --contest 7 -- -b",
         "sample m.csv --seed 2024 --draws 3",
@@ -38,7 +40,7 @@ fn takes_lines(rt: HostRuntime) -> Result<(), Fail> {
         "audit --draws=100000 s.json --nodes 200000 -- a.raire m.csv f.json -v",
         "report s.json",
         "trial --number 0",
-        "trial --number=4294967295 --candidates 20 --ballots=1000000",
+        "trial --number=4294967295 --candidates 32 --ballots=1000000",
         "trial --workers 8 --candidates=2 --nodes 200000 --ballots 1 --number 0000000007",
     ];
     for line in lines {
@@ -69,7 +71,10 @@ fn takes_no_other_words(rt: HostRuntime) -> Result<(), Fail> {
         "search a --floor 1000001",
         "search a --contest -1",
         "search a --contest=",
-        "tabulate a --nodes 1",
+        "tabulate a --nodes 0",
+        "tabulate a --nodes 200001",
+        "tabulate a --floor 1",
+        "tabulate a --workers 1",
         "search -- --contest 1",
         "search ",
         "search a -h",
@@ -109,7 +114,7 @@ fn takes_no_other_words(rt: HostRuntime) -> Result<(), Fail> {
         "trial --number 7 --number 7",
         "trial --number 7 a.raire",
         "trial --number 7 --candidates 1",
-        "trial --number 7 --candidates 21",
+        "trial --number 7 --candidates 33",
         "trial --number 7 --ballots 0",
         "trial --number 7 --ballots 1000001",
         "trial --number 7 --workers 0",
@@ -150,6 +155,26 @@ fn reads_a_search(rt: HostRuntime) -> Result<(), Fail> {
     assert!(rt; workers == 2);
     assert!(rt; nodes == 8);
     assert!(rt; floor == 1);
+    Ok(())
+}
+
+#[test]
+fn reads_a_tabulation(rt: HostRuntime) -> Result<(), Fail> {
+    let words = words(rt.alloc(), "tabulate row1.raire --nodes 3 --contest=7")?;
+    let command = read(rt.alloc(), words.as_slice()).expect(&rt, "memory");
+    let Some(
+        Command::Tabulate {
+            ballots,
+            contest,
+            nodes,
+        },
+    ) = command
+    else {
+        panic!(rt; "no tabulation");
+    };
+    assert!(rt; ballots.as_str() == "row1.raire");
+    assert!(rt; contest.is_some_and(|name| name.bytes() == b"7".as_slice()));
+    assert!(rt; nodes == 3);
     Ok(())
 }
 

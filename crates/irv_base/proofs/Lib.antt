@@ -8,9 +8,12 @@ pub mod Ranges
 pub mod Padded
 pub mod NameBytes
 pub mod Least
+pub mod Sames
+pub mod Losing
 pub mod Ties
+pub mod Possible
+pub mod Decided
 pub mod NameText
 pub mod Suffixes
 pub mod Firsts
 pub mod Positions
-pub mod Exists

@@ -1,28 +1,30 @@
 -- The laws of tabulation.
-use Rattle.std.specs.Prelude.{◌≡◌, ◌≤◌, ◌⊎◌, ℕ, List, IsTrue}
-use Rattle.irv_base.specs.Orders.{is_order}
-use Rattle.irv_base.specs.Tabulation.{is_tabulated, is_possible, IsFirstTie}
+use Rattle.std.specs.Prelude.{◌≡◌, ◌≤◌, ◌⊎◌, ◌↔◌, ℕ, List, [], ◌∷◌, ◌++◌, IsTrue}
+use Rattle.irv_base.specs.Candidates.{set_of}
+use Rattle.irv_base.specs.Orders.{is_order, Elects}
+use Rattle.irv_base.specs.Records.{tally}
+use Rattle.irv_base.specs.Tabulation.{is_tabulated, is_possible, HasNoTie, IsFirstTie, AllElect, IsDecided}
 
-abbrev pub HasOrder : ℕ → List (List ℕ) → Type 0
-HasOrder n records =
+-- ==== the tabulated order
+
+abbrev pub TabulatedExists : Type 0
+TabulatedExists =
+    (n : ℕ) (records : List (List ℕ)) →
     (order : List ℕ) × IsTrue (is_order n order) × IsTrue (is_tabulated records order)
 
-abbrev pub HasTie : ℕ → List (List ℕ) → Type 0
-HasTie n records = (round tied votes : ℕ) × (1 ≤ round) × IsFirstTie n records round tied votes
-
-abbrev pub TabulatedIsPossible : Type 0
-TabulatedIsPossible =
-    (records : List (List ℕ)) (order : List ℕ) → IsTrue (is_tabulated records order) →
-    IsTrue (is_possible records order)
-
--- the records determine the tabulated order
 abbrev pub TabulatedIsOne : Type 0
 TabulatedIsOne =
     (n : ℕ) (records : List (List ℕ)) (order other : List ℕ) → IsTrue (is_order n order) →
     IsTrue (is_tabulated records order) →
     IsTrue (is_order n other) → IsTrue (is_tabulated records other) → order ≡ other
 
--- the records determine the first tie
+abbrev pub TabulatedIsPossible : Type 0
+TabulatedIsPossible =
+    (records : List (List ℕ)) (order : List ℕ) → IsTrue (is_tabulated records order) →
+    IsTrue (is_possible records order)
+
+-- ==== ties
+
 abbrev pub FirstTieIsOne : Type 0
 FirstTieIsOne =
     (n : ℕ) (records : List (List ℕ)) (round tied votes round' tied' votes' : ℕ) → 1 ≤ round →
@@ -30,13 +32,51 @@ FirstTieIsOne =
     IsFirstTie n records round tied votes → IsFirstTie n records round' tied' votes' →
     (round ≡ round') × (tied ≡ tied') × (votes ≡ votes')
 
--- there is one or the other
-abbrev pub TabulatedOrTieExists : Type 0
-TabulatedOrTieExists = (n : ℕ) (records : List (List ℕ)) → HasOrder n records ⊎ HasTie n records
+abbrev pub HasTie : ℕ → List (List ℕ) → Type 0
+HasTie n records = (round tied votes : ℕ) × (1 ≤ round) × IsFirstTie n records round tied votes
 
--- there is never both
-abbrev pub TabulatedOrTie : Type 0
-TabulatedOrTie =
-    (n : ℕ) (records : List (List ℕ)) (order : List ℕ) (round tied votes : ℕ) →
-    IsTrue (is_order n order) → IsTrue (is_tabulated records order) →
-    1 ≤ round → IsFirstTie n records round tied votes → ⊥
+-- there is a first tie, or no round of the tabulated order has one
+abbrev pub TieOrNone : Type 0
+TieOrNone =
+    (n : ℕ) (records : List (List ℕ)) (order : List ℕ) → IsTrue (is_order n order) →
+    IsTrue (is_tabulated records order) → HasTie n records ⊎ HasNoTie records order
+
+-- and never both
+abbrev pub TieAndNone : Type 0
+TieAndNone =
+    (n : ℕ) (records : List (List ℕ)) (order : List ℕ) → IsTrue (is_order n order) →
+    IsTrue (is_tabulated records order) → HasTie n records → HasNoTie records order → ⊥
+
+-- without a tie there is one possible order alone, and with one there are others
+abbrev pub NoTieIsOnePossible : Type 0
+NoTieIsOnePossible =
+    (n : ℕ) (records : List (List ℕ)) (order : List ℕ) → IsTrue (is_order n order) →
+    IsTrue (is_tabulated records order) →
+    (HasNoTie records order
+    ↔ ((other : List ℕ) → IsTrue (is_order n other) → IsTrue (is_possible records other) →
+    other ≡ order))
+
+-- ==== decided contests
+
+-- if one candidate is elected by all possible orders, it is the winner of the tabulated one
+abbrev pub DecidedByTabulated : Type 0
+DecidedByTabulated =
+    (n winner : ℕ) (records : List (List ℕ)) (order : List ℕ) → IsTrue (is_order n order) →
+    IsTrue (is_tabulated records order) → Elects order winner →
+    (IsDecided n records ↔ AllElect n records winner)
+
+-- a contest without a tie is decided, so one that isn't decided has a first tie
+abbrev pub NoTieIsDecided : Type 0
+NoTieIsDecided =
+    (n winner : ℕ) (records : List (List ℕ)) (order : List ℕ) → IsTrue (is_order n order) →
+    IsTrue (is_tabulated records order) → Elects order winner → HasNoTie records order →
+    AllElect n records winner
+
+-- two candidates that tie for the win: the last two of a possible order
+abbrev pub TieForTheWin : Type 0
+TieForTheWin =
+    (n a b : ℕ) (records : List (List ℕ)) (before : List ℕ) →
+    IsTrue (is_order n (before ++ a ∷ b ∷ [])) →
+    IsTrue (is_possible records (before ++ a ∷ b ∷ [])) →
+    tally records (set_of (a ∷ b ∷ [])) a ≡ tally records (set_of (a ∷ b ∷ [])) b →
+    IsDecided n records → ⊥

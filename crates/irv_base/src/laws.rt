@@ -1,16 +1,22 @@
 //! The limits as equations, and the laws of tabulation, each of which holds of every value that it names. They have no code.
 ghost use Rattle.std.specs.Prelude.{◌≡◌, ◌≤◌};
-ghost use Rattle.irv_base.specs.Laws.{TabulatedIsPossible, TabulatedIsOne, FirstTieIsOne, TabulatedOrTie, TabulatedOrTieExists};
+ghost use Rattle.irv_base.specs.Laws.{TabulatedExists, TabulatedIsOne, TabulatedIsPossible, FirstTieIsOne, TieOrNone, TieAndNone, NoTieIsOnePossible};
+ghost use Rattle.irv_base.specs.Laws.{DecidedByTabulated, NoTieIsDecided, TieForTheWin};
 ghost use Rattle.irv_base.specs.declared.limits.TheConstants as limit;
+
+/// There is a tabulated order, whatever ties there are.
+pub fn tabulated_exists()
+    ensures { TabulatedExists }
+{}
+
+/// There is one alone.
+pub fn tabulated_is_one()
+    ensures { TabulatedIsOne }
+{}
 
 /// The tabulated order is a possible one.
 pub fn tabulated_is_possible()
     ensures { TabulatedIsPossible }
-{}
-
-/// There is at most one tabulated order.
-pub fn tabulated_is_one()
-    ensures { TabulatedIsOne }
 {}
 
 /// There is at most one first tie.
@@ -18,21 +24,41 @@ pub fn first_tie_is_one()
     ensures { FirstTieIsOne }
 {}
 
-/// There is a tabulated order or a first tie.
-pub fn tabulated_or_tie_exists()
-    ensures { TabulatedOrTieExists }
+/// There is a first tie, or no round has one.
+pub fn tie_or_none()
+    ensures { TieOrNone }
 {}
 
-/// There isn't both a tabulated order and a tie.
-pub fn tabulated_or_tie()
-    ensures { TabulatedOrTie }
+/// There isn't both a first tie and none.
+pub fn tie_and_none()
+    ensures { TieAndNone }
+{}
+
+/// One order alone is possible exactly where no round has a tie.
+pub fn no_tie_is_one_possible()
+    ensures { NoTieIsOnePossible }
+{}
+
+/// A contest is decided exactly where all possible orders elect the winner of the tabulated one.
+pub fn decided_by_tabulated()
+    ensures { DecidedByTabulated }
+{}
+
+/// A contest without a tie is decided.
+pub fn no_tie_is_decided()
+    ensures { NoTieIsDecided }
+{}
+
+/// A contest in which two candidates tie for the win isn't.
+pub fn tie_for_the_win()
+    ensures { TieForTheWin }
 {}
 
 /// The numbers of the limits.
 pub fn limits()
     ensures room { limit.ROOM ≡ 32 }
     ensures fewest_candidates { limit.FEWEST_CANDIDATES ≡ 2 }
-    ensures most_candidates { limit.MOST_CANDIDATES ≡ 20 }
+    ensures most_candidates { limit.MOST_CANDIDATES ≡ 32 }
     ensures most_records { limit.MOST_RECORDS ≡ 1000000 }
     ensures most_cards { limit.MOST_CARDS ≡ 10000000 }
     ensures most_draws { limit.MOST_DRAWS ≡ 100000 }

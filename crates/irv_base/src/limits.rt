@@ -7,7 +7,7 @@ pub const ROOM: u8 = 32;
 pub const FEWEST_CANDIDATES: u32 = 2;
 
 /// The most candidates of an audited contest. It may be raised up to `ROOM`, here and in the law `limits` alone.
-pub const MOST_CANDIDATES: u32 = 20;
+pub const MOST_CANDIDATES: u32 = 32;
 
 /// The most ballot records of a file.
 pub const MOST_RECORDS: u32 = 1_000_000;

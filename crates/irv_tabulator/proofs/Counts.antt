@@ -7,6 +7,7 @@ use Rattle.irv_base.specs.Candidates.{candidates, has, set_of}
 use Rattle.irv_base.specs.Records.{top, is_some_of, tally}
 use Rattle.irv_base.proofs.Sets.{set_of_is}
 use Rattle.set_tallies.specs.Bags.{tallies}
+use Rattle.irv_base.specs.Tabulation.{sharing_least}
 use Rattle.irv_tabulator.specs.Rounds.{Count, exhausted_of, count_of, rounds_of}
 use Rattle.irv_tabulator.proofs.Progress.{IsRest, IsWithout, rest-more}
 
@@ -88,36 +89,36 @@ Noted n records done set counts = (c : ℕ) (rest : List ℕ) → IsRest set (c 
 pub first-noted : (n : ℕ) (records : List (List ℕ)) (set : ℕ) → Noted n records [] set []
 first-noted n records set c rest r = refl
 
-pub noted-more : (n : ℕ) (records : List (List ℕ)) (done : List ℕ) (set c less : ℕ) (counts : List Count) → IsWithout set c less →
-    Noted n records done set counts →
-    Noted n records (done ++ c ∷ []) less (counts ++ count_of n records set ∷ [])
-noted-more n records done set c less counts w h d rest r =
-    let more = rest-more set c less (d ∷ rest) w r in
-    let same : set_of (c ∷ d ∷ rest) ≡ set = sym (set_of_is set (c ∷ d ∷ rest) more.apart more.same) in
-    ap (rounds_of n records) (append_assoc done (c ∷ []) (d ∷ rest))
-    ∙ h c (d ∷ rest) more
-    ∙ ap (λ s. counts ++ count_of n records s ∷ rounds_of n records (d ∷ rest)) same
-    ∙ sym (append_assoc counts (count_of n records set ∷ []) (rounds_of n records (d ∷ rest)))
-
--- a round that was counted: the row of its set, and what that leaves of all records
-pub record IsCounted (n : ℕ) (records : List (List ℕ)) (set : ℕ) (row : List ℕ) (exhausted : ℕ) : Type 0 where
+-- a round that was counted: the row of its set, what that leaves of all records, and those who share its least tally
+pub record IsCounted (n : ℕ) (records : List (List ℕ)) (set : ℕ) (count : Count) : Type 0 where
   pub all : ℕ
   pub every : all ≡ length records
   pub below : (c : ℕ) → has set c ≡ true → c < n
-  pub tallied : row ≡ tallies records n set
-  pub left : exhausted ≡ all - sum row
+  pub tallied : count.votes ≡ tallies records n set
+  pub left : count.exhausted ≡ all - sum count.votes
+  pub shared : (rest : List ℕ) → IsRest set rest → count.tied ≡ set_of (sharing_least records rest)
 
-counted : (n : ℕ) (records : List (List ℕ)) (set : ℕ) (row : List ℕ) (exhausted : ℕ) → IsCounted n records set row exhausted →
-    count_of n records set ≡ record { votes = row; exhausted = exhausted }
-counted n records set row exhausted h =
+abbrev to : List ℕ → ℕ → ℕ → Count
+to v e t = record { votes = v; exhausted = e; tied = t }
+
+counted : (n : ℕ) (records : List (List ℕ)) (set : ℕ) (rest : List ℕ) (count : Count) → IsRest set rest → IsCounted n records set count →
+    count_of n records rest ≡ count
+counted n records set rest count r h =
+    let same : set_of rest ≡ set = sym (set_of_is set rest r.apart r.same) in
     let whole = all-counted n records set h.below in
-    let same : sum row ≡ sum (tallies records n set) = ap sum h.tallied in
-    let spent : exhausted_of records set ≡ exhausted = omega (arith, whole, same, h.every, h.left) in
-    ap₂ (λ (v : List ℕ) (e : ℕ). let count : Count = record { votes = v; exhausted = e } in count) (sym h.tallied) spent
+    let sums : sum count.votes ≡ sum (tallies records n set) = ap sum h.tallied in
+    let spent : exhausted_of records set ≡ count.exhausted = omega (arith, whole, sums, h.every, h.left) in
+    three (ap (tallies records n) same ∙ sym h.tallied) (ap (exhausted_of records) same ∙ spent) (sym (h.shared rest r))
+  where
+    three : {v v' : List ℕ} {e e' t t' : ℕ} → v ≡ v' → e ≡ e' → t ≡ t' → to v e t ≡ to v' e' t'
+    three {v} {v'} {e} {e'} {t} {t'} p q r = ap (λ x. to x e t) p ∙ ap (λ x. to v' x t) q ∙ ap (λ x. to v' e' x) r
 
-pub noted-counted : (n : ℕ) (records : List (List ℕ)) (done : List ℕ) (set c less : ℕ) (counts : List Count) (row : List ℕ) (exhausted : ℕ) →
-    IsCounted n records set row exhausted → IsWithout set c less →
-    Noted n records done set counts → Noted n records (done ++ c ∷ []) less (counts ++ (record { votes = row; exhausted = exhausted }) ∷ [])
-noted-counted n records done set c less counts row exhausted h w s =
-    subst (λ x. Noted n records (done ++ c ∷ []) less (counts ++ x ∷ [])) (counted n records set row exhausted h)
-    (noted-more n records done set c less counts w s)
+pub noted-counted : (n : ℕ) (records : List (List ℕ)) (done : List ℕ) (set c less : ℕ) (counts : List Count) (count : Count) →
+    IsCounted n records set count → IsWithout set c less →
+    Noted n records done set counts → Noted n records (done ++ c ∷ []) less (counts ++ count ∷ [])
+noted-counted n records done set c less counts count k w h d rest r =
+    let more = rest-more set c less (d ∷ rest) w r in
+    ap (rounds_of n records) (append_assoc done (c ∷ []) (d ∷ rest))
+    ∙ h c (d ∷ rest) more
+    ∙ ap (λ x. counts ++ x ∷ rounds_of n records (d ∷ rest)) (counted n records set (c ∷ d ∷ rest) count more k)
+    ∙ sym (append_assoc counts (count ∷ []) (rounds_of n records (d ∷ rest)))

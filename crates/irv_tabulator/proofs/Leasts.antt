@@ -1,20 +1,24 @@
--- The least tally of the remaining candidates.
-use Rattle.std.proofs.Common.{◌==◌, ◌≡◌, ◌≢◌, ℕ, zero, suc, ◌+◌, ◌-◌, ◌<◌, ◌≤◌, ◌^◌, Bool, true, false, cond, nat_lt, nat_le, inl, inr, List, [], ◌∷◌, ◌++◌, Some, length, map, take, drop, filter, get_or, slice_get, slice_index, refl, sym, ap, ap₂, subst, arith, eq-eqb, lt-ltb, le-leb, ◌∙◌}
-use Rattle.std.proofs.lemmas.Bool.{cases_lt}
+-- The least tally of the remaining candidates, and who has it.
+use Rattle.std.proofs.Common.{◌==◌, ◌≡◌, ◌≢◌, ℕ, zero, suc, ◌+◌, ◌-◌, ◌<◌, ◌≤◌, ◌^◌, Bool, true, false, cond, inl, inr, List, [], ◌∷◌, ◌++◌, Some, length, map, take, filter, get_or, slice_get, slice_index, refl, sym, ap, ap₂, subst, arith, eq-eqb, eqb-true, le_antisymm, ◌∙◌}
+use Rattle.std.proofs.lemmas.Bool.{cases_Bool, cases_eq, cases_lt}
 use Rattle.std.proofs.lemmas.List.{take_more}
 use Rattle.std.proofs.lemmas.List.Elements.{filter-append}
 use Rattle.std.proofs.lemmas.List.Sums.{sum_by_push}
 use Rattle.std.proofs.lemmas.List.FromFn.{get_or-map-range_with_len}
+use Rattle.std.specs.List.{range_with_len}
 use Rattle.irv_base.specs.Candidates.{candidates, has, members, set_of}
 use Rattle.irv_base.specs.Records.{tally}
 use Rattle.irv_base.specs.declared.limits.TheConstants.{ROOM}
-use Rattle.irv_base.specs.Tabulation.{loses, least, least_tally, sharing_least, ties_after, IsFirstTie}
-use Rattle.irv_base.proofs.Members.{Member, here, there, member_at, member_cases, member_nil, member-map, from_map, member-filter, from_filter, list_all-each, member-from_in, in-from_member, none-from_out, member-from_contains, from_candidates}
+use Rattle.irv_base.specs.Tabulation.{least, least_tally, sharing_least}
+use Rattle.irv_base.proofs.Members.{Member, here, there, member_at, member_cases, member_nil, member-map, from_map, member-filter, from_filter, member-from_in, in-from_member, member-from_contains, from_range, candidate-member}
 use Rattle.irv_base.proofs.Distinct.{Distinct, distinct-head, distinct-tail}
 use Rattle.irv_base.proofs.Sets.{set_of_is, has-set_of}
 use Rattle.irv_base.proofs.Least.{least-member, least_is}
+use Rattle.irv_base.proofs.Sames.{Same, set_of-same, distinct-filter, least-le, shared-same}
 use Rattle.set_tallies.specs.Bags.{tallies}
-use Rattle.irv_tabulator.proofs.Progress.{IsRest, IsWithout, Shape, Rounds, rest-more, distinct_filter, drop-done}
+use Rattle.irv_base.specs.Tabulation.{goes_before, loses}
+use Rattle.irv_base.proofs.Losing.{Goes, goes-facts, goes-test, goes-loser}
+use Rattle.irv_tabulator.proofs.Progress.{IsRest, IsWithout, rest-more, distinct_filter}
 
 -- ---- the member at a place
 pub got : (xs : List ℕ) (i c : ℕ) → slice_get xs i ≡ Some c → (i < length xs) × (get_or xs i 0 ≡ c)
@@ -23,54 +27,102 @@ got [] (suc i) c e = cc
 got (x ∷ xs) zero c e = let s : x ≡ c = cc in (omega arith, s)
 got (x ∷ xs) (suc i) c e = let (l, h) = got xs i c e in (omega arith, h)
 
+pub got-member : (xs : List ℕ) (i c : ℕ) → slice_get xs i ≡ Some c → Member c xs
+got-member [] zero c e = cc
+got-member [] (suc i) c e = cc
+got-member (x ∷ xs) zero c e = let s : x ≡ c = cc in member_at s
+got-member (x ∷ xs) (suc i) c e = there (got-member xs i c e)
+
+pub member-got : {c : ℕ} {xs : List ℕ} → Member c xs → (i : ℕ) × (i < length xs) × (slice_get xs i ≡ Some c)
+member-got here = (0, omega arith, refl)
+member-got (there m) = let (i, l, e) = member-got m in (suc i, omega arith, e)
+
+some-one : (a b : ℕ) → Some a ≡ Some b → a ≡ b
+some-one a b e = cc
+
 pub got-has : (set i c : ℕ) → slice_get (members set) i ≡ Some c → has set c ≡ true
-got-has set i c e =
-    let (l, h) = got (members set) i c e in
-    (from_filter (has set) (candidates ROOM) (member-from_contains c (members set) (
-      i,
-      l,
-      Rattle.std.proofs.lemmas.List.get_or_default (members set) i c 0 l
-          ∙ h,
-    ))).1
+got-has set i c e = (from_filter (has set) (candidates ROOM) (got-member (members set) i c e)).1
+
+-- the members stand in rising order
+rising : (p : ℕ → Bool) (a n i j c d : ℕ) → i < j → slice_get (filter p (range_with_len a n)) i ≡ Some c → slice_get (filter p (range_with_len a n)) j ≡ Some d →
+    c < d
+rising p a zero zero j c d l e f = cc
+rising p a zero (suc i) j c d l e f = cc
+rising p a (suc n) i j c d l e f =
+    go (p a) i j l e f (λ i j l e f. rising p (a + 1) n i j c d l e f)
+    (λ k f. from_range d (a + 1) n (from_filter p (range_with_len (a + 1) n) (got-member (filter p (range_with_len (a + 1) n)) k d f)).0) where
+      go : (b : Bool) (i j : ℕ) → i < j → slice_get (cond b (a ∷ filter p (range_with_len (a + 1) n)) (filter p (range_with_len (a + 1) n))) i ≡ Some c →
+          slice_get (cond b (a ∷ filter p (range_with_len (a + 1) n)) (filter p (range_with_len (a + 1) n))) j ≡ Some d →
+          ((i j : ℕ) → i < j → slice_get (filter p (range_with_len (a + 1) n)) i ≡ Some c → slice_get (filter p (range_with_len (a + 1) n)) j ≡ Some d → c < d) →
+          ((k : ℕ) → slice_get (filter p (range_with_len (a + 1) n)) k ≡ Some d → (a + 1 ≤ d) × (d < a + 1 + n)) → c < d
+      go false i j l e f later from = later i j l e f
+      go true i zero l e f later from = absurd (omega (arith, l))
+      go true zero (suc j) l e f later from = let s : a ≡ c = some-one a c e in let h = (from j f).0 in omega (arith, s, h)
+      go true (suc i) (suc j) l e f later from = later i j (omega (arith, l)) e f
+
+pub members-rise : (set i j c d : ℕ) → i < j → slice_get (members set) i ≡ Some c → slice_get (members set) j ≡ Some d → c < d
+members-rise set i j c d l e f = rising (has set) 0 ROOM i j c d l e f
 
 -- ---- the lowest
-abbrev pub IsLowest : List ℕ → ℕ → ℕ → ℕ → Type 0
-IsLowest row set i c = (k : ℕ) → k < i → slice_index row c ≤ slice_index row (get_or (members set) k 0)
+-- of the first i members this one goes before each other
+pub record IsLowest (row : List ℕ) (set i c : ℕ) : Type 0 where
+  pub place : ℕ
+  pub before : place < i
+  pub at : slice_get (members set) place ≡ Some c
+  pub first : (k d : ℕ) → k < i → slice_get (members set) k ≡ Some d → d ≢ c → goes_before (slice_index row) c d ≡ true
 
 pub lowest-first : (row : List ℕ) (set c : ℕ) → slice_get (members set) 0 ≡ Some c → IsLowest row set 1 c
-lowest-first row set c e k l =
-    let at = (got (members set) 0 c e).1 in
-    let zero' : k ≡ 0 = omega arith in
-    let same : slice_index row (get_or (members set) k 0) ≡ slice_index row c = ap (λ j. slice_index row (get_or (members set) j 0)) zero'
-    ∙ ap (slice_index row) at in
-    omega (arith, same)
+lowest-first row set c e = record {
+  place = 0;
+  before = omega arith;
+  at = e;
+  first = λ k d l f ne.
+      let zero' : k ≡ 0 = omega (arith, l) in
+      absurd (ne (some-one d c (sym f ∙ ap (slice_get (members set)) zero' ∙ e)));
+}
 
 pub lowest-other : (row : List ℕ) (set i c d : ℕ) → slice_get (members set) i ≡ Some d → slice_index row c ≤ slice_index row d → IsLowest row set i c →
     IsLowest row set (i + 1) c
-lowest-other row set i c d e le h k l =
-    elim (cases_lt k i) [
-      | inl b ↦ h k b
-      | inr g ↦
-          let at = (got (members set) i d e).1 in
-          let last : k ≡ i = omega (arith, g, l) in
-          let same : slice_index row (get_or (members set) k 0) ≡ slice_index row d = ap (λ j. slice_index row (get_or (members set) j 0)) last
-          ∙ ap (slice_index row) at in
-          omega (arith, same, le)
-    ]
+lowest-other row set i c d e le h = record {
+  place = h.place;
+  before = let l = h.before in omega (arith, l);
+  at = h.at;
+  first = λ k x l f ne. elim (cases_lt k i) [
+    | inl b ↦ h.first k x b f ne
+    | inr g ↦
+        let last : k ≡ i = omega (arith, g, l) in
+        let same : x ≡ d = some-one x d (sym f ∙ ap (slice_get (members set)) last ∙ e) in
+        let rise : c < d = members-rise set h.place i c d h.before h.at e in
+        subst (λ y. goes_before (slice_index row) c y ≡ true) (sym same)
+        (goes-test (slice_index row) c d (record { fewer = le; same = λ _. rise }))
+  ];
+}
 
 pub lowest-next : (row : List ℕ) (set i c d : ℕ) → slice_get (members set) i ≡ Some d → slice_index row d < slice_index row c → IsLowest row set i c →
     IsLowest row set (i + 1) d
-lowest-next row set i c d e lt h = lowest-other row set i d d e (omega arith) (λ k l. let a = h k l in omega (arith, a, lt))
+lowest-next row set i c d e lt h = record {
+  place = i;
+  before = omega arith;
+  at = e;
+  first = λ k x l f ne. elim (cases_lt k i) [
+    | inr g ↦
+        let last : k ≡ i = omega (arith, g, l) in
+        absurd (ne (some-one x d (sym f ∙ ap (slice_get (members set)) last ∙ e)))
+    | inl b ↦
+        let le : slice_index row c ≤ slice_index row x = elim (cases_eq x c) [
+          | inl s ↦ let same = ap (slice_index row) s in omega (arith, same)
+          | inr apart ↦ (goes-facts (slice_index row) c x (h.first k x b f apart)).fewer
+        ] in
+        goes-test (slice_index row) d x (record { fewer = omega (arith, le, lt); same = λ same. absurd (omega (arith, le, lt, same)) })
+  ];
+}
 
 pub lowest-whole : (row : List ℕ) (set c : ℕ) → ((d : ℕ) → has set d ≡ true → d < ROOM) → IsLowest row set (length (members set)) c → (d : ℕ) →
-    has set d ≡ true → slice_index row c ≤ slice_index row d
-lowest-whole row set c below h d t =
-    let m : Member d (members set) = member-filter (has set) (candidates ROOM) (Rattle.irv_base.proofs.Members.candidate-member d ROOM (below d t)) t in
-    let (k, l, e) = Rattle.irv_base.proofs.Members.contains-from_member m in
-    let same : slice_index row (get_or (members set) k 0) ≡ slice_index row d =
-    ap (slice_index row) (Rattle.std.proofs.lemmas.List.get_or_default (members set) k 0 d l ∙ e) in
-    let a = h k l in
-    omega (arith, a, same)
+    has set d ≡ true → d ≢ c → goes_before (slice_index row) c d ≡ true
+lowest-whole row set c below h d t ne =
+    let m : Member d (members set) = member-filter (has set) (candidates ROOM) (candidate-member d ROOM (below d t)) t in
+    let (k, l, e) = member-got m in
+    h.first k d l e ne
 
 -- ---- those who share a tally
 pub sharing-yes : (p : ℕ → Bool) (xs : List ℕ) (i c : ℕ) → slice_get xs i ≡ Some c → p c ≡ true → filter p (take (i + 1) xs) ≡ filter p (take i xs) ++ c ∷ []
@@ -133,7 +185,7 @@ pub record Round (n : ℕ) (records : List (List ℕ)) (row : List ℕ) (set c :
   pub rest : IsRest set (members set)
   pub below : (d : ℕ) → has set d ≡ true → d < n
   pub remains : has set c ≡ true
-  pub least : (d : ℕ) → has set d ≡ true → slice_index row c ≤ slice_index row d
+  pub first : (d : ℕ) → has set d ≡ true → d ≢ c → goes_before (slice_index row) c d ≡ true
 
 module _ (n : ℕ) (records : List (List ℕ)) (row : List ℕ) (set c : ℕ) (r : Round n records row set c) where
   whole : set_of (members set) ≡ set
@@ -142,6 +194,13 @@ module _ (n : ℕ) (records : List (List ℕ)) (row : List ℕ) (set c : ℕ) (r
   value : (d : ℕ) → has set d ≡ true → slice_index row d ≡ tally records set d
   value d h = ap (λ xs. slice_index xs d) r.tallied ∙ in-row records n set d (r.below d h)
 
+  fewest : (d : ℕ) → has set d ≡ true → slice_index row c ≤ slice_index row d
+  fewest d h =
+      elim (cases_eq d c) [
+        | inl e ↦ let same = ap (slice_index row) e in omega (arith, same)
+        | inr ne ↦ (goes-facts (slice_index row) c d (r.first d h ne)).fewer
+      ]
+
   is-least : slice_index row c ≡ least_tally records (members set)
   is-least =
       let votes : ℕ → ℕ = tally records (set_of (members set)) in
@@ -149,7 +208,7 @@ module _ (n : ℕ) (records : List (List ℕ)) (row : List ℕ) (set c : ℕ) (r
       let least-at : least (map votes (members set)) ≤ votes c = least-member (votes c) (map votes (members set)) (member-map votes m) in
       let (d, k, e) = from_map votes (least (map votes (members set))) (members set) (least_is (member-map votes m)) in
       let has-d : has set d ≡ true = r.rest.same d ∙ in-from_member k in
-      let a : slice_index row c ≤ slice_index row d = r.least d has-d in
+      let a : slice_index row c ≤ slice_index row d = fewest d has-d in
       let vc : slice_index row c ≡ votes c = value c r.remains ∙ ap (λ s. tally records s c) (sym whole) in
       let vd : slice_index row d ≡ votes d = value d has-d ∙ ap (λ s. tally records s d) (sym whole) in
       omega (arith, least-at, e, a, vc, vd)
@@ -159,66 +218,24 @@ module _ (n : ℕ) (records : List (List ℕ)) (row : List ℕ) (set c : ℕ) (r
       (members set)
       (λ d m. ap₂ (λ x y. x == y) (value d (r.rest.same d ∙ in-from_member m) ∙ ap (λ s. tally records s d) (sym whole)) is-least)
 
-  pub tie : (done : List ℕ) (round tied votes : ℕ) → Shape n done set → Rounds records done set → round ≡ length done + 1 →
-      tied ≡ set_of (filter (λ d. slice_index row d == slice_index row c) (members set)) →
-      2 ≤ length (filter (λ d. slice_index row d == slice_index row c) (members set)) →
-      votes ≡ slice_index row c → IsFirstTie n records round tied votes
-  tie done round tied votes s h at who two with =
-      let before : round - 1 ≡ length done = omega (arith, at) in
-      let before' : round - 1 ≡ length done + 0 = omega (arith, at) in
-      let left : drop (round - 1) (done ++ members set) ≡ members set = ap (λ k. drop k (done ++ members set)) before ∙ drop-done done (members set) in
-      let shared : nat_le 2 (length (sharing_least records (members set))) ≡ true =
-      le-leb 2 (length (sharing_least records (members set))) (subst (λ xs. 2 ≤ length xs) sharers two) in
-      record {
-        order = done ++ members set;
-        permutation = s.order (members set) r.rest;
-        ties = ap (λ k. ties_after records k (done ++ members set)) before' ∙ h.ties (members set) 0 r.rest shared;
-        who = who ∙ ap set_of sharers ∙ ap (λ xs. set_of (sharing_least records xs)) (sym left);
-        with = with ∙ is-least ∙ ap (least_tally records) (sym left);
-      }
+  -- those who share the least tally, however they are listed
+  pub tied-of : (tied : ℕ) (rest : List ℕ) → IsRest set rest → tied ≡ set_of (filter (λ d. slice_index row d == slice_index row c) (members set)) →
+      tied ≡ set_of (sharing_least records rest)
+  tied-of tied rest s who =
+      who ∙ ap set_of sharers ∙ shared-same records (members set) rest r.rest.apart s.apart
+      (record {
+        left = λ d m. member-from_in d rest (sym (s.same d) ∙ r.rest.same d ∙ in-from_member m);
+        right = λ d m. member-from_in d (members set) (sym (r.rest.same d) ∙ s.same d ∙ in-from_member m);
+      })
 
-  two-apart : (xs : List ℕ) (d : ℕ) → Member c xs → Member d xs → d ≢ c → 2 ≤ length xs
-  two-apart [] d m k ne = absurd (member_nil m)
-  two-apart (x ∷ []) d m k ne =
-      elim (member_cases m) [
-        | inl e ↦ elim (member_cases k) [ inl f ↦ absurd (ne (sym f ∙ e)) | inr q ↦ absurd (member_nil q) ]
-        | inr q ↦ absurd (member_nil q)
-      ]
-  two-apart (x ∷ y ∷ xs) d m k ne = omega arith
-
-  pub loser : (less : ℕ) → length (filter (λ d. slice_index row d == slice_index row c) (members set)) ≤ 1 → IsWithout set c less → (rest : List ℕ) →
-      IsRest less rest → loses records c rest ≡ true
-  loser less one w rest s =
+  pub loser : (less : ℕ) → IsWithout set c less → (rest : List ℕ) → IsRest less rest → loses records c rest ≡ true
+  loser less w rest s =
       let more' = rest-more set c less rest w s in
       let set' : set_of (c ∷ rest) ≡ set = sym (set_of_is set (c ∷ rest) more'.apart more'.same) in
-      list_all-each (λ d. nat_lt (tally records (set_of (c ∷ rest)) c) (tally records (set_of (c ∷ rest)) d)) rest
-      (λ d m.
+      goes-loser records c rest (λ d m.
       let ne : d ≢ c = λ e. distinct-head more'.apart (subst (λ x. Member x rest) e m) in
       let has-d : has set d ≡ true = more'.same d ∙ in-from_member (there m) in
-      let a : slice_index row c ≤ slice_index row d = r.least d has-d in
-      let k : Member d (members set) = member-from_in d (members set) (sym (r.rest.same d) ∙ has-d) in
-      let kc : Member c (members set) = member-from_in c (members set) (sym (r.rest.same c) ∙ r.remains) in
-      let differ : slice_index row d ≢ slice_index row c = λ e.
-      let two = two-apart (filter (λ d. slice_index row d == slice_index row c) (members set)) d
-      (member-filter (λ d. slice_index row d == slice_index row c) (members set) kc (eq-eqb (slice_index row c) (slice_index row c) refl))
-      (member-filter (λ d. slice_index row d == slice_index row c) (members set) k (eq-eqb (slice_index row d) (slice_index row c) e)) ne in
-      absurd (omega (arith, two, one)) in
+      let g = goes-facts (slice_index row) c d (r.first d has-d ne) in
       let vc : tally records (set_of (c ∷ rest)) c ≡ slice_index row c = ap (λ s. tally records s c) set' ∙ sym (value c r.remains) in
       let vd : tally records (set_of (c ∷ rest)) d ≡ slice_index row d = ap (λ s. tally records s d) set' ∙ sym (value d has-d) in
-      lt-ltb (tally records (set_of (c ∷ rest)) c) (tally records (set_of (c ∷ rest)) d) (omega (arith, vc, vd, a, differ)))
-
-  -- ---- as the rounds come to know it
-  pub found-tie : (done : List ℕ) (round count tied votes : ℕ) → Shape n done set → Rounds records done set → round ≡ length done + 1 →
-      votes ≡ slice_index row c →
-      tied ≡ set_of (filter (λ d. slice_index row d == votes) (members set)) → count ≡ length (filter (λ d. slice_index row d == votes) (members set)) →
-      1 < count → IsFirstTie n records round tied votes
-  found-tie done round count tied votes s h at with who many two =
-      let same = ap (λ v. filter (λ d. slice_index row d == v) (members set)) with in
-      tie done round tied votes s h at (who ∙ ap set_of same) (subst (λ xs. 2 ≤ length xs) same (subst (λ k. 2 ≤ k) many (omega arith))) with
-
-  pub found-loser : (less count votes : ℕ) → votes ≡ slice_index row c → count ≡ length (filter (λ d. slice_index row d == votes) (members set)) → count ≤ 1 →
-      IsWithout set c less →
-      (rest : List ℕ) → IsRest less rest → loses records c rest ≡ true
-  found-loser less count votes with many one w =
-      let same = ap (λ v. filter (λ d. slice_index row d == v) (members set)) with in
-      loser less (subst (λ xs. length xs ≤ 1) same (subst (λ k. k ≤ 1) many one)) w
+      record { fewer = let le = g.fewer in omega (arith, vc, vd, le); same = λ e. g.same (omega (arith, vc, vd, e)) })

@@ -1,3 +1,4 @@
 pub mod Progress
 pub mod Leasts
 pub mod Counts
+pub mod Telling

@@ -7,7 +7,7 @@ use Rattle.irv_base.specs.Orders.{is_order, Refuses}
 use Rattle.irv_base.specs.declared.order.BadOrder.{BadOrder}
 use Rattle.irv_base.specs.declared.order.BadOrder.TheVariants.{Length, Range, Repeated}
 use Rattle.irv_base.specs.declared.limits.TheConstants.{ROOM}
-use Rattle.irv_base.specs.Tabulation.{is_tabulated, loses, ties_after}
+use Rattle.irv_base.specs.Tabulation.{is_tabulated, loses}
 use Rattle.irv_base.proofs.Members.{Member, here, there, member_cases, member_nil, member-filter, from_filter, member-from_in, in-from_member, out-from_none, none-from_out, from_candidates, candidate-member, member-from_contains, member_at, member-append_right}
 use Rattle.irv_base.proofs.Distinct.{Distinct, none, more, distinct-head, distinct-tail, distinct-le, distinct-range, length-range, distinct-split}
 use Rattle.irv_base.proofs.Sets.{set_of_is, set_of-lt}
@@ -22,9 +22,8 @@ pub record Shape (n : ℕ) (done : List ℕ) (set : ℕ) : Type 0 where
   pub order : (rest : List ℕ) → IsRest set rest → is_order n (done ++ rest) ≡ true
   pub below : (c : ℕ) → has set c ≡ true → c < n
 
-pub record Rounds (records : List (List ℕ)) (done : List ℕ) (set : ℕ) : Type 0 where
-  pub tabulated : (rest : List ℕ) → IsRest set rest → is_tabulated records rest ≡ true → is_tabulated records (done ++ rest) ≡ true
-  pub ties : (rest : List ℕ) (k : ℕ) → IsRest set rest → ties_after records k rest ≡ true → ties_after records (length done + k) (done ++ rest) ≡ true
+abbrev pub Rounds : List (List ℕ) → List ℕ → ℕ → Type 0
+Rounds records done set = (rest : List ℕ) → IsRest set rest → is_tabulated records rest ≡ true → is_tabulated records (done ++ rest) ≡ true
 
 -- ---- the members in rising order
 pub distinct_filter : (p : ℕ → Bool) (xs : List ℕ) → Distinct xs → Distinct (filter p xs)
@@ -61,10 +60,7 @@ first-shape n set all = record {
 }
 
 pub first-rounds : (records : List (List ℕ)) (set : ℕ) → Rounds records [] set
-first-rounds records set = record {
-  tabulated = λ rest r h. h;
-  ties = λ rest k r h. subst (λ j. ties_after records j rest ≡ true) (omega arith) h;
-}
+first-rounds records set rest r h = h
 
 -- ---- one more is eliminated
 pub record IsWithout (set c less : ℕ) : Type 0 where
@@ -103,17 +99,9 @@ shape-more n done set c less w s = record {
 pub rounds-more : (records : List (List ℕ)) (done : List ℕ) (set c less : ℕ) → IsWithout set c less →
     ((rest : List ℕ) → IsRest less rest → loses records c rest ≡ true) →
     Rounds records done set → Rounds records (done ++ c ∷ []) less
-rounds-more records done set c less w loser s = record {
-  tabulated = λ rest r h.
-      ap (is_tabulated records) (append_assoc done (c ∷ []) rest)
-      ∙ s.tabulated (c ∷ rest) (rest-more set c less rest w r) (and_from (loses records c rest) (is_tabulated records rest) (loser rest r) h);
-  ties = λ rest k r h.
-      let long : length (done ++ c ∷ []) ≡ length done + 1 = length-append done (c ∷ []) in
-      let at : length (done ++ c ∷ []) + k ≡ length done + suc k = omega (arith, long) in
-      ap (λ j. ties_after records j ((done ++ c ∷ []) ++ rest)) at
-      ∙ ap (ties_after records (length done + suc k)) (append_assoc done (c ∷ []) rest)
-      ∙ s.ties (c ∷ rest) (suc k) (rest-more set c less rest w r) (and_from (loses records c rest) (ties_after records k rest) (loser rest r) h);
-}
+rounds-more records done set c less w loser s rest r h =
+    ap (is_tabulated records) (append_assoc done (c ∷ []) rest)
+    ∙ s (c ∷ rest) (rest-more set c less rest w r) (and_from (loses records c rest) (is_tabulated records rest) (loser rest r) h)
 
 -- ---- how many remain
 pub remaining : (n : ℕ) (done : List ℕ) (set : ℕ) → n ≤ ROOM → Shape n done set → length done + length (members set) ≡ n

@@ -1,5 +1,4 @@
-//! Instant-runoff tabulation: the order in which the candidates of a contest are eliminated, with its rounds, or the first
-//! tie.
+//! Instant-runoff tabulation: the order in which the candidates of a contest are eliminated, with its rounds and its ties.
 #![tactic(auto)]
 
 mod fault;
@@ -9,4 +8,4 @@ mod tabulated;
 
 pub use fault::TabFault;
 pub use rounds::tabulate;
-pub use tabulated::{Round, Tabulated};
+pub use tabulated::{FirstTie, Round, Tabulated};

@@ -1,9 +1,9 @@
 // Tabulation, round by round.
-ghost use Rattle.std.specs.Prelude.{◌≡◌, ℕ, ◌<◌, ◌≤◌, ◌-◌, List, nat_lt, slice_index, sum, IfOk, IfErr};
+ghost use Rattle.std.specs.Prelude.{◌≡◌, ℕ, ◌≤◌, ◌-◌, List, nat_lt, sum, IfOk};
 ghost use Rattle.irv_base.specs.Candidates.{has};
 ghost use Rattle.irv_base.specs.declared.limits.TheConstants.{ROOM};
 ghost use Rattle.set_tallies.specs.Bags.{IsOf};
-ghost use Rattle.irv_tabulator.specs.Results.{IsTabulation, Names};
+ghost use Rattle.irv_tabulator.specs.Results.{IsTabulation};
 ghost use Rattle.irv_tabulator.specs.Rounds.{Notes};
 
 use crate::fault::TabFault;
@@ -35,23 +35,23 @@ fn uncounted(row: &[u32], records: u32) -> u32
     left
 }
 
-fn note(rounds: &mut Vec<Round>, row: Vec<u32>, exhausted: u32) -> Result<(), Memory>
-    ensures { IfOk result (λ _. Notes rounds.old.items row.items exhausted rounds.new.items) }
+fn note(rounds: &mut Vec<Round>, row: Vec<u32>, exhausted: u32, tied: CandSet) -> Result<(), Memory>
+    ensures { IfOk result (λ _. Notes rounds.old.items
+        (record { votes = row.items; exhausted = exhausted; tied = tied }) rounds.new.items) }
 {
     let round = Round {
         tallies: row,
         exhausted,
+        tied,
     };
     rounds.push(round)?;
     Ok(())
 }
 
-/// The tabulated order of the tallies' contest with its rounds, or the first tie.
+/// The tabulated order of the tallies' contest with its rounds.
 pub fn tabulate(alloc: Global, tallies: &mut Tallies<'_>) -> Result<Tabulated, TabFault>
     ensures tabulated { (records : List (List ℕ)) → IsOf tallies.old.bag records
-        → IfOk result (λ t. IsTabulation tallies.old.bag.n records t) }
-    ensures tie { (records : List (List ℕ)) → IsOf tallies.old.bag records
-        → IfErr result (λ fault. Names tallies.old.bag.n records fault) }
+        → IfOk result (IsTabulation tallies.old.bag.n records) }
     ensures same { tallies.new ≡ tallies.old }
 {
     let n = tallies.candidates();
@@ -63,19 +63,11 @@ pub fn tabulate(alloc: Global, tallies: &mut Tallies<'_>) -> Result<Tabulated, T
         let row = tallies.tally(remaining)?;
         let counts = row.as_slice();
         let loser = lowest(counts, remaining);
-        let tally = votes(counts, loser);
-        let tied = sharing(counts, remaining, tally);
-        if tied.count > 1 {
-            return Err(TabFault::Tie {
-                round,
-                tied: tied.candidates,
-                tally,
-            });
-        }
+        let tied = sharing(counts, remaining, votes(counts, loser));
         places[round as usize - 1] = loser.0;
         remaining = remaining.without(loser);
         let exhausted = uncounted(counts, records);
-        note(&mut rounds, row, exhausted)?;
+        note(&mut rounds, row, exhausted, tied)?;
     }
     let winner = remaining.nth(0);
     places[n as usize - 1] = winner.0;

@@ -1,6 +1,6 @@
 // What a call takes, and what comes of it.
 use crate::table::{CASES, FAILING, FILES, File};
-use crate::{audit_table, session_table};
+use crate::{audit_table, session_table, tie_table};
 use desk::{Gate, MemoryDesk, MemorySink, Named, NoGate};
 use irv_base::{MOST_FILE_BYTES, Name};
 use raire_cli::run;
@@ -139,6 +139,15 @@ pub(crate) fn case_ran<R: AllocGlobal + Threads + Sync>(
 #[test]
 fn each_case_comes_to_its_status_and_text(rt: HostRuntime) -> Result<(), Fail> {
     for (line, status, text) in CASES {
+        let ran = case_ran(&rt, line, &[], &[])?;
+        assert!(rt; is_as_wanted(&ran, status, text), "{line}");
+    }
+    Ok(())
+}
+
+#[test]
+fn each_case_of_a_tie_comes_to_its_status_and_text(rt: HostRuntime) -> Result<(), Fail> {
+    for (line, status, text) in tie_table::CASES {
         let ran = case_ran(&rt, line, &[], &[])?;
         assert!(rt; is_as_wanted(&ran, status, text), "{line}");
     }

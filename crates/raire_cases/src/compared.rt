@@ -1,6 +1,6 @@
 // The search, compared with the plain program, and with itself at other numbers of workers.
 use crate::cases::{Ran, hold, ran_over};
-use crate::contests::{SIZES, SMALL_SIZES, ballot_file, generated};
+use crate::contests::{SIZES, SMALL_SIZES, ballot_file, generated, generated_with_ties};
 use crate::plain::{Contest, Plain, search};
 use desk::Named;
 use std::alloc::{AllocError, Global};
@@ -42,6 +42,18 @@ fn agree<R: AllocGlobal + Threads + Sync>(rt: &R, number: u64) -> Result<bool, A
     let plain = search(rt.alloc(), &contest)?;
     let ran = searched(rt, &contest, "4")?;
     Ok(is_same(&ran, &plain))
+}
+
+// The plain program's answer of a contest with many ties, at 1, 2, 4 and 8 workers.
+fn agree_on_ties<R: AllocGlobal + Threads + Sync>(rt: &R, number: u64) -> Result<bool, AllocError> {
+    let contest = generated_with_ties(rt.alloc(), number)?;
+    let plain = search(rt.alloc(), &contest)?;
+    let mut same = true;
+    for workers in ["1", "2", "4", "8"] {
+        let ran = searched(rt, &contest, workers)?;
+        same = same && is_same(&ran, &plain);
+    }
+    Ok(same)
 }
 
 // An answer or a tie, and the same bytes for 1, 2, 4 and 8 workers.
@@ -101,6 +113,14 @@ fn a_second_hundred_at_any_number_of_workers(rt: HostRuntime) -> Result<(), Fail
 fn a_third_hundred_at_any_number_of_workers(rt: HostRuntime) -> Result<(), Fail> {
     for number in 200..300 {
         assert!(rt; is_one(&rt, number)?, "contest {number}");
+    }
+    Ok(())
+}
+
+#[test]
+fn a_hundred_contests_with_ties(rt: HostRuntime) -> Result<(), Fail> {
+    for number in 0..100 {
+        assert!(rt; agree_on_ties(&rt, number)?, "contest {number}");
     }
     Ok(())
 }

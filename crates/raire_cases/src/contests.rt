@@ -62,11 +62,29 @@ fn ranking(draws: &mut Draws, candidates: &[Candidate]) -> Ranking {
 
 /// The contest of this number, of one of so many numbers of candidates in turn.
 pub fn generated(alloc: Global, number: u64, sizes: u64) -> Result<Contest, AllocError> {
+    drawn(alloc, number, sizes, 20, 100)
+}
+
+/// The contest of this number, of few candidates and so few ballots that most have a tie.
+pub fn generated_with_ties(alloc: Global, number: u64) -> Result<Contest, AllocError> {
+    drawn(alloc, number, SMALL_SIZES, 0, 12)
+}
+
+// It has `fewest` ballots or more, one of so many numbers of ballots.
+fn drawn(
+    alloc: Global,
+    number: u64,
+    sizes: u64,
+    fewest: u64,
+    more: u64,
+) -> Result<Contest, AllocError> {
     let mut draws = Draws { state: number };
-    let more = number.checked_rem(sizes).unwrap_or(0);
-    let candidates = candidates(alloc, more.saturating_add(2))?;
+    let candidates = candidates(
+        alloc,
+        number.checked_rem(sizes).unwrap_or(0).saturating_add(2),
+    )?;
     let mut rankings = Vec::new(alloc);
-    for _ in 0..draws.below(100).saturating_add(20) {
+    for _ in 0..draws.below(more).saturating_add(fewest) {
         rankings.push(ranking(&mut draws, &candidates))?;
     }
     Ok(Contest {

@@ -23,5 +23,7 @@ mod session_table;
 #[cfg(test)]
 mod table;
 #[cfg(test)]
+mod tie_table;
+#[cfg(test)]
 mod together;
 pub mod trying;

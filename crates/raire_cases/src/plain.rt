@@ -89,8 +89,47 @@ fn stands_before(list: &Ranking, one: Candidate, other: Candidate) -> bool {
     }
 }
 
-/// What a search of the contest prints: the certificate, or the first tie.
+/// What a search of the contest prints: the certificate where each way of breaking its ties elects the same candidate, and else
+/// the first tie.
 pub fn search(alloc: Global, contest: &Contest) -> Result<Plain, AllocError> {
+    match winners(alloc, contest)?.as_slice() {
+        [only] => Ok(Plain::Certificate(certificate(alloc, contest, *only)?)),
+        _ => first_tie(alloc, contest),
+    }
+}
+
+// Those who may stand at the end, a set of one for each, by all ways of breaking ties.
+fn winners(alloc: Global, contest: &Contest) -> Result<Vec<CandSet>, AllocError> {
+    let mut all = Vec::new(alloc);
+    all.push(contest.all())?;
+    for _ in 1..contest.candidates.len() {
+        all = after_a_round(alloc, contest, &all)?;
+    }
+    Ok(all)
+}
+
+// What may stand after a round where one of these sets stood, each set once.
+fn after_a_round(
+    alloc: Global,
+    contest: &Contest,
+    all: &[CandSet],
+) -> Result<Vec<CandSet>, AllocError> {
+    let mut left = Vec::new(alloc);
+    for standing in all {
+        let least = least_tally(contest, *standing);
+        let tied = of_tally(alloc, contest, *standing, least)?;
+        for c in &tied {
+            let others = standing.without(*c);
+            if !left.contains(&others) {
+                left.push(others)?;
+            }
+        }
+    }
+    Ok(left)
+}
+
+// The first tie where of the tied the one with the least number leaves. Some round of a contest has one that isn't decided.
+fn first_tie(alloc: Global, contest: &Contest) -> Result<Plain, AllocError> {
     let mut standing = contest.all();
     for round in 1..contest.candidates.len() {
         let least = least_tally(contest, standing);
@@ -100,7 +139,7 @@ pub fn search(alloc: Global, contest: &Contest) -> Result<Plain, AllocError> {
             _ => return tie(alloc, contest, round, &tied, least),
         }
     }
-    Ok(Plain::Certificate(certificate(alloc, contest, standing)?))
+    Ok(Plain::Tie(String::new(alloc)))
 }
 
 fn least_tally(contest: &Contest, standing: CandSet) -> usize {

@@ -305,8 +305,8 @@ pub const CASES: [(&str, u8, &str); 43] = [
     ),
     (
         "open tie.raire two_cards.csv tie.json --seed 1",
-        3,
-        "tie\nround 1\ntied a b,c\\d\ntally 1\n",
+        6,
+        "no: winner is c\\d\n",
     ),
     (
         "open row1.raire twelve.csv empty.json --seed 1 --nodes 1",

@@ -12,6 +12,12 @@ pub const PRINTED: &str = "\
     \"candidates\":[\"1\",\"2\",\"3\"],\"contest\":\"1\",\"margin\":1,\"order\":[\"2\",\"1\",\"3\"],\"records\":12,\"version\":1,\
     \"winner\":\"2\"}\n";
 
+/// The assertion file that a search prints of none_for_two.raire.
+pub const NONE_FOR_TWO_PRINTED: &str = "\
+    {\"assertions\":[{\"kind\":\"NEB\",\"loser\":\"2\",\"margin\":3,\"winner\":\"1\"},{\"kind\":\"NEB\",\"loser\":\"3\",\"margin\":3,\
+    \"winner\":\"1\"}],\"candidates\":[\"1\",\"2\",\"3\"],\"contest\":\"1\",\"margin\":3,\"order\":[\"3\",\"1\",\"2\"],\"records\":3,\
+    \"version\":1,\"winner\":\"1\"}\n";
+
 /// A file of a case.
 pub struct File {
     /// Its name, as the words of a call give it.
@@ -21,7 +27,7 @@ pub struct File {
 }
 
 /// The files of the commands on a contest.
-pub const FILES: [File; 16] = [
+pub const FILES: [File; 27] = [
     File {
         name: "five.raire",
         text: "1\nContest,1,2,1,2\n1,t_1,1\n1,t_2,1\n1,t_3,1\n1,t_4,2\n1,t_5,2\n",
@@ -70,6 +76,49 @@ pub const FILES: [File; 16] = [
         text: "1\nContest,1,3,1,2,3\n",
     },
     File {
+        name: "two_without.raire",
+        text: "1\nContest,1,2,1,2\n",
+    },
+    File {
+        name: "one_each.raire",
+        text: "1\nContest,1,3,1,2,3\n1,b_1,1\n1,b_2,2\n1,b_3,3\n",
+    },
+    File {
+        name: "for_the_win.raire",
+        text: "1\nContest,1,3,1,2,3\n1,b_1,1\n1,b_2,1\n1,b_3,2\n1,b_4,2\n1,b_5,3\n",
+    },
+    File {
+        name: "for_second.raire",
+        text: "\
+        1\nContest,1,4,1,2,3,4\n1,b_1,1\n1,b_2,1\n1,b_3,1\n1,b_4,1\n1,b_5,1\n1,b_6,2\n1,b_7,2\n1,b_8,3,1\n1,b_9,3\n1,b_10,4\n",
+    },
+    File {
+        name: "for_a_place.raire",
+        text: "1\nContest,1,3,1,2,3\n1,b_1,1\n1,b_2,1\n1,b_3,1\n1,b_4,2,3\n1,b_5,2,3\n1,b_6,3,2\n1,b_7,3,2\n",
+    },
+    File {
+        name: "two_ties.raire",
+        text: "1\nContest,1,4,1,2,3,4\n1,b_1,1\n1,b_2,1\n1,b_3,2\n1,b_4,2\n",
+    },
+    File {
+        name: "four.raire",
+        text: "1\nContest,1,4,1,2,3,4\n1,b_1,2\n1,b_2,4\n1,b_3,2\n1,b_4,3,2\n",
+    },
+    File {
+        name: "four_open.raire",
+        text: "1\nContest,1,4,1,2,3,4\n1,b_1,2,4\n1,b_2,1\n1,b_3,4\n1,b_4,3\n",
+    },
+    File {
+        name: "most.raire",
+        text: "\
+        1\nContest,1,32,1,2,3,4,5,6,7,8,9,10,11,12,13,14,15,16,17,18,19,20,21,22,23,24,25,26,27,28,29,30,31,32\n1,b_1,1\n",
+    },
+    File {
+        name: "one_more.raire",
+        text: "\
+        1\nContest,1,33,1,2,3,4,5,6,7,8,9,10,11,12,13,14,15,16,17,18,19,20,21,22,23,24,25,26,27,28,29,30,31,32,33\n1,b_1,1\n",
+    },
+    File {
         name: "six.raire",
         text: "\
         1\nContest,6,6,1,2,3,4,5,6\n6,b_1,1\n6,b_2,1\n6,b_3,1\n6,b_4,1\n6,b_5,1\n6,b_6,1\n6,b_7,1\n6,b_8,1\n6,b_9,2,1\n6,b_10,2,1\n\
@@ -102,6 +151,10 @@ pub const FILES: [File; 16] = [
         \"rest\":[\"1\"],\"winner\":\"2\"},{\"kind\":\"NEN\",\"loser\":\"1\",\"margin\":2,\"rest\":[\"1\",\"3\"],\"winner\":\"3\"}],\
         \"candidates\":[\"1\",\"2\",\"3\"],\"contest\":\"1\",\"margin\":1,\"order\":[\"2\",\"1\",\"3\"],\"records\":12,\"version\":1,\
         \"winner\":\"2\"}\n",
+    },
+    File {
+        name: "none_for_two.json",
+        text: NONE_FOR_TWO_PRINTED,
     },
     File {
         name: "tie.json",
@@ -157,7 +210,7 @@ const COUNTY_ROUNDS: &str =
     "contest 339\nrecords 10\nround 1: 15=1 16=4 17=3 18=2 exhausted=0\neliminated 15\nround 2: 16=5 17=3 18=2 exhausted=0\neliminated 18\nround 3: 16=5 17=4 exhausted=1\neliminated 17\nwinner 16\n";
 
 /// The words of a call, its status, and the text that goes to `out` where that is an answer, and else to `err`.
-pub const CASES: [(&str, u8, &str); 72] = [
+pub const CASES: [(&str, u8, &str); 71] = [
     ("search five.raire", 0, FIVE_PRINTED),
     ("search later.raire", 0, LATER_PRINTED),
     (
@@ -170,16 +223,6 @@ pub const CASES: [(&str, u8, &str); 72] = [
     ("search county.raire", 0, COUNTY_PRINTED),
     ("search council.raire", 0, COUNCIL_PRINTED),
     ("search six.raire", 0, SIX_PRINTED),
-    (
-        "search none_for_two.raire",
-        3,
-        "tie\nround 1\ntied 2,3\ntally 0\n",
-    ),
-    (
-        "search no_ballots.raire",
-        3,
-        "tie\nround 1\ntied 1,2,3\ntally 0\n",
-    ),
     ("search row1.raire --nodes 2", 0, PRINTED),
     ("search row1.raire --nodes 1", 4, SPENT),
     ("search row1.raire --nodes 3", 0, PRINTED),
@@ -216,11 +259,6 @@ pub const CASES: [(&str, u8, &str); 72] = [
         3,
         "tie\nround 1\ntied a b,c\\d\ntally 1\n",
     ),
-    (
-        "tabulate no_ballots.raire",
-        3,
-        "tie\nround 1\ntied 1,2,3\ntally 0\n",
-    ),
     ("search --contest 1 row1.raire", 0, PRINTED),
     ("search --contest=1 -- row1.raire", 0, PRINTED),
     (
@@ -236,7 +274,9 @@ pub const CASES: [(&str, u8, &str); 72] = [
     ("search row1.raire --contest", 1, BAD_WORDS),
     ("search --contest 1 --contest 1 row1.raire", 1, BAD_WORDS),
     ("search row1.raire --floor 0", 1, BAD_WORDS),
-    ("tabulate row1.raire --nodes 1", 1, BAD_WORDS),
+    ("tabulate row1.raire --nodes 1", 0, ROW_1_ROUNDS),
+    ("tabulate row1.raire --nodes 0", 1, BAD_WORDS),
+    ("tabulate row1.raire --floor 1", 1, BAD_WORDS),
     ("search none.raire", 12, "raire: none.raire: no such file\n"),
     (
         "check row1.raire row1.json",
@@ -263,11 +303,7 @@ pub const CASES: [(&str, u8, &str); 72] = [
         4,
         "spent\ncandidate 1\n",
     ),
-    (
-        "check tie.raire tie.json",
-        3,
-        "tie\nround 1\ntied a b,c\\d\ntally 1\n",
-    ),
+    ("check tie.raire tie.json", 6, "no: winner is c\\d\n"),
     ("check tie.raire row1.json", 6, "no: contest differs\n"),
     (
         "check row1.raire rest_of_one.json",
@@ -309,8 +345,8 @@ pub const CASES: [(&str, u8, &str); 72] = [
     ),
     (
         "trial --number 1 --candidates 3 --ballots 2",
-        3,
-        "tie\nround 1\ntied 2,3\ntally 0\n",
+        0,
+        "number 1\ncandidates 3\nrecords 2\nwinner 1\nmargin 2\nassertions 2\norder 3,1,2\n",
     ),
     (
         "trial --number 7 --candidates 4 --ballots 30 --nodes 1 --workers 1",

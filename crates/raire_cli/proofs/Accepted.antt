@@ -9,7 +9,7 @@ use Rattle.cover_checker.specs.Checks.{IsAnswer}
 use Rattle.cover_checker.specs.Findings.{Answer}
 use Rattle.cover_checker.proofs.Held.{accepted_iff_holds}
 use Rattle.cover_checker.specs.declared.checked.Checked.TheVariants.{OtherContest, OtherWinner, OtherMargin, Stands, NotLeast, NotAlternative, Harder, Accepted}
-use Rattle.cover_checker.specs.declared.checked.CheckFault.TheVariants.{Tie, Spent, Memory}
+use Rattle.cover_checker.specs.declared.checked.CheckFault.TheVariants.{Spent, Memory}
 use Rattle.cli_base.specs.Outcome.{Answered}
 use Rattle.cli_base.specs.Script.{AsHeld, Concludes, ComesTo}
 use Rattle.cli_base.specs.declared.outcome.AnswerKind.TheVariants.{Done}
@@ -29,7 +29,6 @@ accepted_answer file (Ok (NotLeast found)) text told = absurd (cc told)
 accepted_answer file (Ok NotAlternative) text told = absurd (cc told)
 accepted_answer file (Ok (Harder assertion margin)) text told = absurd (cc told)
 accepted_answer file (Ok Accepted) text told = refl
-accepted_answer file (Err (Tie round tied votes)) text told = absurd (cc told)
 accepted_answer file (Err (Spent last)) text told = absurd (cc told)
 accepted_answer file (Err Memory) text told = absurd (cc told)
 

@@ -69,8 +69,7 @@ not_checked nodes ballots file kind text (inr unconfirmed) out (answer, found, i
     elim (answer-kind file answer (Answered kind text) is) [
       | inl e ↦ cc (unconfirmed, e)
       | inr (inl e) ↦ cc (unconfirmed, e)
-      | inr (inr (inl e)) ↦ cc (unconfirmed, e)
-      | inr (inr (inr e)) ↦ cc (unconfirmed, e)
+      | inr (inr e) ↦ cc (unconfirmed, e)
     ]
 
 accepted_on : (readings : Readings) (nodes : ℕ) (ballots : BallotFile) (file : FileContent) (next : Script) (kind : AnswerKind) (text : List ℕ) → IsKind kind →

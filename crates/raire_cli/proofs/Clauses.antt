@@ -10,7 +10,7 @@ use Rattle.cli_base.specs.Ends.{Writing, Took, IsWritten}
 use Rattle.cli_base.specs.Statuses.{IsUndone, IsQuiet, Exactly, ExactlyInBudget, IsNothing, HasAnswer, Statuses}
 use Rattle.cli_base.specs.Story.{Story}
 use Rattle.cli_base.specs.declared.outcome.AnswerKind.{AnswerKind}
-use Rattle.cli_base.specs.declared.outcome.AnswerKind.TheVariants.{Done, Spent, FullCount, Unconfirmed}
+use Rattle.cli_base.specs.declared.outcome.AnswerKind.TheVariants.{Done, Tie, Spent, FullCount, Unconfirmed}
 use Rattle.session_commands.specs.Audit.{kind_of}
 use Rattle.cli_base.proofs.Statuses.{status_in}
 use Rattle.cli_base.proofs.Clauses.{statuses_clause, exact_clause, answered_with, undone_is_nine}
@@ -24,7 +24,8 @@ use Rattle.session_text.specs.Text.{session_text}
 use Rattle.raire_cli.specs.Answers.{asked, asked_by, is_open}
 use Rattle.raire_cli.specs.Confirmation.{AsksForSearch, ConfirmsAsked, GivesReason, IsConfirmed, IsReasoned}
 use Rattle.raire_cli.specs.Acceptance.{AsksForCheck, HoldsAsked, IsUpheld}
-use Rattle.raire_cli.specs.Promises.{IsSearchable, IsComplete, IsTrialComplete, IsExactUnlessOpen, HasCause}
+use Rattle.raire_cli.specs.Promises.{IsComplete, IsTabulationComplete, IsTrialComplete, IsExactUnlessOpen, HasCause}
+use Rattle.raire_cli.specs.Undecided.{IsTied, IsTieComplete, TellsTie}
 use Rattle.raire_cli.specs.Audits.{AsksForAudit, GoesOn, IsAudited}
 use Rattle.raire_cli.specs.Enough.{AreEnough, Judging, IsNeverSpent, judging_of}
 use Rattle.raire_cli.specs.Openings.{AsksForOpening, Opens, IsOpened}
@@ -36,6 +37,8 @@ use Rattle.raire_cli.proofs.Opened.{is_opened}
 use Rattle.raire_cli.proofs.EachCommand.{agrees_by, agrees_exactly, counts_in_full}
 use Rattle.raire_cli.proofs.Complete.{not_spent, has_answer, tried}
 use Rattle.raire_cli.proofs.Headline.{confirms_asked, gives_reason}
+use Rattle.raire_cli.proofs.Rounds.{has_rounds, never_stopped}
+use Rattle.raire_cli.proofs.Undecided.{has_tie, never_spent_there, tells_tie}
 
 -- how a call went by what was due, and by what the sinks took of it
 pub story_of : {asked : Asked} {held : Option (List File)} {failed : Type 0} {status : ℕ} {out err : Writing} {due : Outcome}
@@ -79,6 +82,14 @@ module _ (words : List (List ℕ)) {held : Option (List File)} {failed : Type 0}
       let (text, comes, took) = answer five in
       (text, gives_reason words files (counts_in_full words (AsHeld files) text (command_of words) refl comes) text comes, took))
       (answered_with story FullCount)
+
+  pub tied_clause : IsTied held words status out
+  tied_clause = if_some held (λ files. status ≡ 3 → (text : List ℕ) × ComesTo (AsHeld files) (asked words) (Answered Tie text) × Took out text)
+      (λ files. status ≡ 3 → (text : List ℕ) × TellsTie words files text × Took out text)
+      (λ files answer three.
+      let (text, comes, took) = answer three in
+      (text, tells_tie words files text comes, took))
+      (answered_with story Tie)
 
   pub accepted_clause : IsUpheld held words status out
   accepted_clause = if_some held (λ files. status ≡ 0 → (text : List ℕ) × ComesTo (AsHeld files) (asked words) (Answered Done text) × Took out text)
@@ -153,13 +164,13 @@ module _ (words : List (List ℕ)) {held : Option (List File)} {failed : Type 0}
       (λ files spent command judging line is enough four. never_spent words files command judging line is enough (spent four))
       causes.spent
 
-  -- ---- a search that can't be spent
+  -- ---- a call that can't be spent
 
-  settled : {n : ℕ} (files : List File) → IsSearchable words files → IsQuiet failed out err → (status ≡ 4 → HasAnswer (asked words) files Spent) →
+  settled : {n : ℕ} (files : List File) → (HasAnswer (asked words) files Spent → ⊥) → IsQuiet failed out err → (status ≡ 4 → HasAnswer (asked words) files Spent) →
       (status ≡ n) ⊎ (status ≡ 4) ⊎ IsUndone status → (status ≡ n) ⊎ (status ≡ 9)
-  settled files ok quiet spent (inl is) = inl is
-  settled files ok quiet spent (inr (inl four)) = absurd (not_spent words files ok (spent four))
-  settled files ok quiet spent (inr (inr undone)) = inr (undone_is_nine story quiet undone)
+  settled files never quiet spent (inl is) = inl is
+  settled files never quiet spent (inr (inl four)) = absurd (never (spent four))
+  settled files never quiet spent (inr (inr undone)) = inr (undone_is_nine story quiet undone)
 
   pub complete_clause : IsComplete held words failed status out err
   complete_clause = by held causes.done causes.full_count causes.spent
@@ -170,9 +181,23 @@ module _ (words : List (List ℕ)) {held : Option (List File)} {failed : Type 0}
           IsComplete h words failed status out err
       by None done full spent = tt
       by (Some files) done full spent = λ ok quiet. elim (has_answer words files ok) [
-        | inl answer ↦ ⊎_elim (λ zero. inl zero) (λ nine. inr (inr nine)) (settled files ok quiet spent (done.1 answer))
-        | inr count ↦ ⊎_elim (λ five. inr (inl five)) (λ nine. inr (inr nine)) (settled files ok quiet spent (full.1 count))
+        | inl answer ↦ ⊎_elim (λ zero. inl zero) (λ nine. inr (inr nine)) (settled files (not_spent words files ok) quiet spent (done.1 answer))
+        | inr count ↦ ⊎_elim (λ five. inr (inl five)) (λ nine. inr (inr nine)) (settled files (not_spent words files ok) quiet spent (full.1 count))
       ]
+
+  pub complete_tie_clause : IsTieComplete held words failed status out err
+  complete_tie_clause = by held causes.tie causes.spent where
+    by : (h : Option (List File)) → IfSome h (λ files. ExactlyInBudget 3 status (HasAnswer (asked words) files Tie)) →
+        IfSome h (λ files. status ≡ 4 → HasAnswer (asked words) files Spent) → IsTieComplete h words failed status out err
+    by None tie spent = tt
+    by (Some files) tie spent = λ ok quiet. settled files (never_spent_there words files ok) quiet spent (tie.1 (has_tie words files ok))
+
+  pub complete_tabulation_clause : IsTabulationComplete held words failed status out err
+  complete_tabulation_clause = by held causes.done causes.spent where
+    by : (h : Option (List File)) → IfSome h (λ files. ExactlyInBudget 0 status (HasAnswer (asked words) files Done)) →
+        IfSome h (λ files. status ≡ 4 → HasAnswer (asked words) files Spent) → IsTabulationComplete h words failed status out err
+    by None done spent = tt
+    by (Some files) done spent = λ ok quiet. settled files (never_stopped words files ok) quiet spent (done.1 (has_rounds words files ok))
 
   -- ---- a trial that can't be spent
 

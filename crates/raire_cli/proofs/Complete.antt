@@ -72,7 +72,7 @@ module _ (words : List (List ℕ)) (files : List File) (ok : IsSearchable words 
   pub has_answer : HasAnswer (asked words) files Done ⊎ HasAnswer (asked words) files FullCount
   has_answer =
       let search = ok.asks.search in
-      let (file, is) = won-certificate ok.ballots ok.winner ok.asks.won (ballots_fit ok.asks.bytes search.contest ok.ballots ok.asks.accepted).fewest in
+      let (file, is) = won-certificate ok.ballots ok.winner ok.asks.won ok.decided (ballots_fit ok.asks.bytes search.contest ok.ballots ok.asks.accepted).fewest in
       let budget = in_budget is.winner (winner-one ok.ballots is.winner ok.winner is.won ok.asks.won) in
       elim (leb_tells search.floor file.margin) [
         | inl (test, le) ↦

@@ -14,7 +14,7 @@ use Rattle.assertions.proofs.Alternatives.{order_is}
 use Rattle.assertions.proofs.Certificates.{certificate_is_proper, certificate_is_true, certificate-le, certificate_covers, certificate_has_best}
 use Rattle.assertions.proofs.Endings.{alternative_orders_are}
 use Rattle.assertions.proofs.Lows.{low-refuter}
-use Rattle.assertions.proofs.Positive.{best_is_positive}
+use Rattle.assertions.proofs.Decided.{decided-positive}
 use Rattle.ballot_reader.specs.Ballots.{BallotFile}
 use Rattle.assertion_file.specs.Content.{Content}
 use Rattle.cli_base.proofs.Scripts.{some_is}
@@ -88,7 +88,7 @@ confirmed n records winner file below two positive c =
 pub certificate-positive : (ballots : BallotFile) (file : Content) → 1 < candidate_count ballots → (c : IsCertificateOf ballots file) →
     1 ≤ margin_of ballots c.winner
 certificate-positive ballots file two c =
-    best_is_positive (candidate_count ballots) c.winner ballots.rankings c.won.order two c.won.permutation c.won.tabulated c.won.elects
+    decided-positive (candidate_count ballots) c.winner ballots.rankings (winner-below ballots c.winner c.won) two c.decided
 
 pub certificate-confirms : (ballots : BallotFile) (file : Content) → 1 < candidate_count ballots → (c : IsCertificateOf ballots file) →
     Confirms (candidate_count ballots) ballots.rankings c.winner file

@@ -1,9 +1,9 @@
 -- What is known of every command: a row each.
-use Rattle.std.proofs.Common.{◌≡◌, inl, inr, ℕ, List, Option, Some, None, false}
+use Rattle.std.proofs.Common.{◌≡◌, inl, inr, ℕ, List, Option, Some, None, false, refl}
 use Rattle.cli_base.specs.Outcome.{Answered}
 use Rattle.cli_base.specs.Script.{Script, Readings, Agree, AgreeOn, AreOfKind, ComesTo, Concludes, Same, SameButBudget}
 use Rattle.cli_base.specs.declared.outcome.AnswerKind.{AnswerKind}
-use Rattle.cli_base.specs.declared.outcome.AnswerKind.TheVariants.{FullCount}
+use Rattle.cli_base.specs.declared.outcome.AnswerKind.TheVariants.{Tie, FullCount}
 use Rattle.cli_base.proofs.Scripts.{agree-weaker, of_kind}
 use Rattle.command_line.specs.Line.{command_of}
 use Rattle.command_line.specs.declared.command.Command.{Command}
@@ -37,7 +37,7 @@ weaker script same = agree-weaker Same SameButBudget (λ d e same. inl same) scr
 -- A budget alone leaves a command open.
 agrees : (command : Command) → Agree SameButBudget (script_of command)
 agrees (Search ballots contest workers nodes floor) = searches.agrees ballots contest (record { nodes = nodes; floor = floor })
-agrees (Tabulate ballots contest) = weaker (tabulate.script ballots contest) (tabulations.agrees ballots contest)
+agrees (Tabulate ballots contest nodes) = tabulations.agrees ballots contest nodes
 agrees (Check ballots assertions contest nodes) = weaker (check.script ballots assertions contest nodes) (checks.agrees ballots assertions contest nodes)
 agrees (Sample manifest seed draws) = weaker (sample.script manifest seed draws) (samples.agrees manifest seed draws)
 agrees (Plan manifest assertions limit gamma) =
@@ -55,10 +55,10 @@ pub agrees_by : (command : Option Command) → AgreeOn SameButBudget (asked_by c
 agrees_by None = tt
 agrees_by (Some command) = agrees command
 
--- Those that search no contest come to one end.
+-- Those that no budget leaves open come to one end.
 pub agrees_exactly : (command : Command) → is_open command ≡ false → Agree Same (script_of command)
 agrees_exactly (Search ballots contest workers nodes floor) closed = absurd (cc closed)
-agrees_exactly (Tabulate ballots contest) closed = tabulations.agrees ballots contest
+agrees_exactly (Tabulate ballots contest nodes) closed = absurd (cc closed)
 agrees_exactly (Check ballots assertions contest nodes) closed = checks.agrees ballots assertions contest nodes
 agrees_exactly (Sample manifest seed draws) closed = samples.agrees manifest seed draws
 agrees_exactly (Plan manifest assertions limit gamma) closed = plans.agrees manifest assertions (record { limit = limit; gamma = gamma })
@@ -68,32 +68,64 @@ agrees_exactly (Audit session ballots manifest assertions seen draws nodes) clos
 agrees_exactly (Report session) closed = reports.agrees session
 agrees_exactly (Trial number candidates ballots workers nodes) closed = absurd (cc closed)
 
-never_full : (kinds : AnswerKind → Type 0) → (kinds FullCount → ⊥) → (readings : Readings) (script : Script) (text : List ℕ) → AreOfKind kinds script →
-    Concludes readings script (Answered FullCount text) → ⊥
-never_full kinds other readings script text are concludes = other (of_kind kinds readings script (Answered FullCount text) are concludes)
+-- ---- kinds of answers
+
+of_closed : (kinds : AnswerKind → Type 0) → ((kind : AnswerKind) → kinds kind → audit.Kinds kind) → (readings : Readings) (script : Script)
+    (kind : AnswerKind) (text : List ℕ) → AreOfKind kinds script → Concludes readings script (Answered kind text) → audit.Kinds kind
+of_closed kinds weaker readings script kind text are concludes = weaker kind (of_kind kinds readings script (Answered kind text) are concludes)
+
+of_check : (kind : AnswerKind) → check.Kinds kind → audit.Kinds kind
+of_check kind (inl e) = inl e
+of_check kind (inr (inl e)) = inr (inl e)
+of_check kind (inr (inr e)) = inr (inr (inl e))
+
+-- Those that no budget leaves open tell no tie, and call for no full count.
+closed_kinds : (readings : Readings) (kind : AnswerKind) (text : List ℕ) (command : Command) → is_open command ≡ false →
+    Concludes readings (script_of command) (Answered kind text) → audit.Kinds kind
+closed_kinds readings kind text (Search ballots contest workers nodes floor) closed comes = absurd (cc closed)
+closed_kinds readings kind text (Tabulate ballots contest nodes) closed comes = absurd (cc closed)
+closed_kinds readings kind text (Check ballots assertions contest nodes) closed comes =
+    of_closed check.Kinds of_check readings (check.script ballots assertions contest nodes) kind text (checks.kinds ballots assertions contest nodes) comes
+closed_kinds readings kind text (Sample manifest seed draws) closed comes =
+    of_closed sample.Kinds (λ kind e. inl e) readings (sample.script manifest seed draws) kind text (samples.kinds manifest seed draws) comes
+closed_kinds readings kind text (Plan manifest assertions limit gamma) closed comes =
+    let setting : Setting = record { limit = limit; gamma = gamma } in
+    of_closed plan.Kinds (λ kind e. inl e) readings (plan.script manifest assertions setting) kind text (plans.kinds manifest assertions setting) comes
+closed_kinds readings kind text (Open ballots manifest assertions seed contest limit gamma nodes) closed comes =
+    let terms : Terms = record { seed = seed; limit = limit; gamma = gamma; nodes = nodes } in
+    of_closed opening.Kinds of_check readings (opening.script ballots manifest assertions contest terms) kind text
+    (opens.kinds ballots manifest assertions contest terms) comes
+closed_kinds readings kind text (Audit session ballots manifest assertions seen draws nodes) closed comes =
+    of_closed audit.Kinds (λ kind e. e) readings (audit.script session ballots manifest assertions seen draws nodes) kind text
+    (audits.kinds session ballots manifest assertions seen draws nodes) comes
+closed_kinds readings kind text (Report session) closed comes =
+    of_closed report.Kinds (λ kind e. inl e) readings (report.script session) kind text (reports.kinds session) comes
+closed_kinds readings kind text (Trial number candidates ballots workers nodes) closed comes = absurd (cc closed)
+
+not_full : audit.Kinds FullCount → ⊥
+not_full (inl e) = cc e
+not_full (inr (inl e)) = cc e
+not_full (inr (inr (inl e))) = cc e
+not_full (inr (inr (inr e))) = cc e
+
+not_tie : audit.Kinds Tie → ⊥
+not_tie (inl e) = cc e
+not_tie (inr (inl e)) = cc e
+not_tie (inr (inr (inl e))) = cc e
+not_tie (inr (inr (inr e))) = cc e
+
+pub tells_no_tie : (readings : Readings) (text : List ℕ) (command : Command) → is_open command ≡ false →
+    Concludes readings (script_of command) (Answered Tie text) → ⊥
+tells_no_tie readings text command closed comes = not_tie (closed_kinds readings Tie text command closed comes)
+
+never_full : (readings : Readings) (text : List ℕ) (command : Command) → is_open command ≡ false →
+    Concludes readings (script_of command) (Answered FullCount text) → ⊥
+never_full readings text command closed comes = not_full (closed_kinds readings FullCount text command closed comes)
 
 not_tabulated : tabulate.Kinds FullCount → ⊥
 not_tabulated (inl e) = cc e
-not_tabulated (inr e) = cc e
-
-not_checked : check.Kinds FullCount → ⊥
-not_checked (inl e) = cc e
-not_checked (inr (inl e)) = cc e
-not_checked (inr (inr (inl e))) = cc e
-not_checked (inr (inr (inr e))) = cc e
-
-not_opened : opening.Kinds FullCount → ⊥
-not_opened (inl e) = cc e
-not_opened (inr (inl e)) = cc e
-not_opened (inr (inr (inl e))) = cc e
-not_opened (inr (inr (inr e))) = cc e
-
-not_audited : audit.Kinds FullCount → ⊥
-not_audited (inl e) = cc e
-not_audited (inr (inl e)) = cc e
-not_audited (inr (inr (inl e))) = cc e
-not_audited (inr (inr (inr (inl e)))) = cc e
-not_audited (inr (inr (inr (inr e)))) = cc e
+not_tabulated (inr (inl e)) = cc e
+not_tabulated (inr (inr e)) = cc e
 
 not_tried : trial.Kinds FullCount → ⊥
 not_tried (inl e) = cc e
@@ -106,25 +138,19 @@ pub counts_in_full : (words : List (List ℕ)) (readings : Readings) (text : Lis
 counts_in_full words readings text None is comes = absurd comes
 counts_in_full words readings text (Some (Search ballots contest workers nodes floor)) is comes =
     record { name = ballots; contest = contest; workers = workers; nodes = nodes; floor = floor; asked = is }
-counts_in_full words readings text (Some (Tabulate ballots contest)) is comes =
-    absurd (never_full tabulate.Kinds not_tabulated readings (tabulate.script ballots contest) text (tabulations.kinds ballots contest) comes)
+counts_in_full words readings text (Some (Tabulate ballots contest nodes)) is comes =
+    absurd (not_tabulated (of_kind tabulate.Kinds readings (tabulate.script ballots contest nodes) (Answered FullCount text)
+    (tabulations.kinds ballots contest nodes) comes))
 counts_in_full words readings text (Some (Check ballots assertions contest nodes)) is comes =
-    absurd (never_full check.Kinds not_checked readings (check.script ballots assertions contest nodes) text
-    (checks.kinds ballots assertions contest nodes) comes)
-counts_in_full words readings text (Some (Sample manifest seed draws)) is comes =
-    absurd (never_full sample.Kinds (λ e. cc e) readings (sample.script manifest seed draws) text (samples.kinds manifest seed draws) comes)
+    absurd (never_full readings text (Check ballots assertions contest nodes) refl comes)
+counts_in_full words readings text (Some (Sample manifest seed draws)) is comes = absurd (never_full readings text (Sample manifest seed draws) refl comes)
 counts_in_full words readings text (Some (Plan manifest assertions limit gamma)) is comes =
-    let setting : Setting = record { limit = limit; gamma = gamma } in
-    absurd (never_full plan.Kinds (λ e. cc e) readings (plan.script manifest assertions setting) text (plans.kinds manifest assertions setting) comes)
+    absurd (never_full readings text (Plan manifest assertions limit gamma) refl comes)
 counts_in_full words readings text (Some (Open ballots manifest assertions seed contest limit gamma nodes)) is comes =
-    let terms : Terms = record { seed = seed; limit = limit; gamma = gamma; nodes = nodes } in
-    absurd (never_full opening.Kinds not_opened readings (opening.script ballots manifest assertions contest terms) text
-    (opens.kinds ballots manifest assertions contest terms) comes)
+    absurd (never_full readings text (Open ballots manifest assertions seed contest limit gamma nodes) refl comes)
 counts_in_full words readings text (Some (Audit session ballots manifest assertions seen draws nodes)) is comes =
-    absurd (never_full audit.Kinds not_audited readings (audit.script session ballots manifest assertions seen draws nodes) text
-    (audits.kinds session ballots manifest assertions seen draws nodes) comes)
-counts_in_full words readings text (Some (Report session)) is comes =
-    absurd (never_full report.Kinds (λ e. cc e) readings (report.script session) text (reports.kinds session) comes)
+    absurd (never_full readings text (Audit session ballots manifest assertions seen draws nodes) refl comes)
+counts_in_full words readings text (Some (Report session)) is comes = absurd (never_full readings text (Report session) refl comes)
 counts_in_full words readings text (Some (Trial number candidates ballots workers nodes)) is comes =
     let terms : TrialTerms = record { number = number; candidates = candidates; ballots = ballots; nodes = nodes } in
-    absurd (never_full trial.Kinds not_tried readings (trial.script terms) text (tried.kinds terms) comes)
+    absurd (not_tried (of_kind trial.Kinds readings (trial.script terms) (Answered FullCount text) (tried.kinds terms) comes))

@@ -1,10 +1,13 @@
 -- Words and files for each status.
-use Rattle.std.proofs.Common.{◌≡◌, inl, inr, ℕ, suc, ◌<◌, if◌then◌else◌, List, [], ◌∷◌, length, replicate, None, Some, Ok, Err, codes, refl, sym, ap, subst, arith}
+use lib.Seq.{drop-nil}
+use Rattle.std.proofs.Common.{◌≡◌, ◌≢◌, inl, inr, ℕ, zero, suc, ◌<◌, if◌then◌else◌, List, [], ◌∷◌, length, replicate, None, Some, Ok, Err, codes, refl, sym, ap, subst, arith}
 use Rattle.std.proofs.lemmas.Bool.Decides.{leb_tells}
 use Rattle.std.proofs.lemmas.List.{length-replicate}
 use Rattle.csv.specs.Machine.{next_record}
 use Rattle.csv.specs.Reading.{records_from, strip_bom}
 use Rattle.desk.specs.Desk.{File}
+use Rattle.irv_base.proofs.Decided.{no_tie_is_decided, tie_for_the_win}
+use Rattle.irv_base.specs.Tabulation.{is_tied, HasNoTie}
 use Rattle.std.proofs.lemmas.List.Elements.{All-nil}
 use Rattle.std.specs.Fmt.{digits}
 use Rattle.serde_json.proofs.OnLiterals.{serde_json_on_literals}
@@ -23,18 +26,17 @@ use Rattle.command_line.specs.Line.{command_of}
 use Rattle.command_line.specs.declared.limits.TheConstants.{DEFAULT_NODES}
 use Rattle.cover_checker.specs.Checks.{IsAnswer, checked_is}
 use Rattle.cover_checker.specs.Findings.{Answer}
-use Rattle.cover_checker.specs.Outcomes.{IsOutcome, Won}
+use Rattle.cover_checker.specs.Outcomes.{IsWinner}
 use Rattle.cover_checker.specs.declared.checked.Checked.TheVariants.{Stands}
 use Rattle.cover_checker.specs.declared.checked.CheckFault.TheVariants.{Spent as SpentAt}
-use Rattle.command_line.specs.declared.command.Command.TheVariants.{Tabulate, Check}
-use Rattle.contest_commands.specs.Contest.{HasTie, IsWon, refused, tie_text}
+use Rattle.command_line.specs.declared.command.Command.TheVariants.{Check}
+use Rattle.contest_commands.specs.Contest.{HasTie, IsElected, IsWon, refused, tie_text}
 use Rattle.contest_commands.specs.Check.{ChecksIn, check_after, differs, spent_at, stands, verdict_on}
 use Rattle.contest_commands.specs.Search.{FindsIn, HasFullCount, certificate_of, full_count_text, margin_of}
 use Rattle.contest_commands.specs.declared.search.Terms.{Terms}
 use Rattle.contest_commands.specs.Tabulate.{HasRounds, TabulatesIn}
 use Rattle.report.specs.Tabulations.{tabulation_text}
 use Rattle.report.specs.Texts.{order_text}
-use Rattle.raire_cli.specs.Agreement.{MayBeSpent}
 use Rattle.raire_cli.specs.Answers.{asked_by}
 use Rattle.raire_cli.specs.EachStatus.{EndsWith, IsOfSome, EachStatus}
 use Rattle.raire_cli.proofs.Agreement.{not_spent}
@@ -56,12 +58,8 @@ tabulate_words = codes "tabulate" ∷ f ∷ []
 bad_words_end : IsOfSome 1
 bad_words_end = ([], [], ends_with [] [] bad_words refl (λ asks. let is = asks.asked_for in absurd (cc is)))
 
--- a tabulation has no budget
-not_tabulating : MayBeSpent tabulate_words → ⊥
-not_tabulating = not_spent tabulate_words (Tabulate f None) refl refl
-
 missing_end : IsOfSome 12
-missing_end = (tabulate_words, [], ends_with tabulate_words [] (no_such_file f) (inl (Missing, refl, refl)) (λ asks. absurd (not_tabulating asks)))
+missing_end = (tabulate_words, [], ends_with tabulate_words [] (no_such_file f) (inl (Missing, refl, refl)) (λ asks. λ four. absurd (cc four)))
 
 -- ---- a file that is too long
 
@@ -73,7 +71,7 @@ long_reading bytes long = elim (leb_tells (length bytes) limit) [
 
 too_long_ends : (bytes : List ℕ) → limit < length bytes → EndsWith 11 tabulate_words (one_file bytes)
 too_long_ends bytes long =
-    ends_with tabulate_words (one_file bytes) (too_long f) (inl (TooLong, long_reading bytes long, refl)) (λ asks. absurd (not_tabulating asks))
+    ends_with tabulate_words (one_file bytes) (too_long f) (inl (TooLong, long_reading bytes long, refl)) (λ asks. λ four. absurd (cc four))
 
 -- kept folded, since it is long
 unfoldable longer : (n : ℕ) → (bytes : List ℕ) × (n < length bytes)
@@ -84,10 +82,10 @@ too_long_end = let (bytes, long) = longer limit in (tabulate_words, one_file byt
 
 -- ---- a tabulation
 
-tabulated_end : (bytes : List ℕ) (v : Verdict) → Bytes bytes ≡ reading_of (Some bytes) → TabulatesIn f (ballots_of bytes None) v →
-    EndsWith (outcome v).status tabulate_words (one_file bytes)
-tabulated_end bytes v short tabulates =
-    ends_with tabulate_words (one_file bytes) (outcome v) (inr (bytes, short, (v, tabulates, refl))) (λ asks. absurd (not_tabulating asks))
+tabulated_end : (bytes : List ℕ) (v : Verdict) → Bytes bytes ≡ reading_of (Some bytes) → TabulatesIn DEFAULT_NODES f (ballots_of bytes None) v →
+    (outcome v).status ≢ 4 → EndsWith (outcome v).status tabulate_words (one_file bytes)
+tabulated_end bytes v short tabulates unspent =
+    ends_with tabulate_words (one_file bytes) (outcome v) (inr (bytes, short, (v, tabulates, refl))) (λ asks. unspent)
 
 nothing_read : ballots_of [] None ≡ Err (record { rule = B1; at = 1 })
 unfolding strip_bom records_from next_record
@@ -95,8 +93,11 @@ nothing_read = refl
 
 refused_end : IsOfSome 2
 refused_end =
-    let verdict : Verdict = refused f (record { rule = B1; at = 1 }) in
-    (tabulate_words, one_file [], tabulated_end [] verdict refl (subst (λ r. TabulatesIn f r verdict) (sym nothing_read) refl))
+    let verdict : Verdict = refused f (record { rule = B1; at = 1 }) in (
+      tabulate_words,
+      one_file [],
+      tabulated_end [] verdict refl (subst (λ r. TabulatesIn DEFAULT_NODES f r verdict) (sym nothing_read) refl) (λ four. absurd (cc four)),
+    )
 
 -- two candidates, and one ballot or none
 
@@ -117,7 +118,19 @@ tie_of_none = record {
   round = 1;
   tied = 3;
   votes = 0;
-  is = record { counted = omega arith; first = record { order = 0 ∷ 1 ∷ []; permutation = refl; ties = refl; who = refl; with = refl } };
+  is = record {
+    counted = omega arith;
+    first = record {
+      order = 0 ∷ 1 ∷ [];
+      permutation = refl;
+      tabulated = refl;
+      shared = refl;
+      first = λ k before. absurd (omega (arith, before));
+      who = refl;
+      with = refl;
+    };
+    undecided = tie_for_the_win 2 0 1 [] [] refl refl refl;
+  };
   shown = refl;
 }
 
@@ -128,8 +141,12 @@ none_read = refl
 tie_end : IsOfSome 3
 tie_end =
     let text = tie_text none.candidates 1 3 0 in
-    let tabulates : TabulatesIn f (Ok none) (Answered Tie text) = inr (text, tie_of_none, refl) in
-    (tabulate_words, one_file head, tabulated_end head (Answered Tie text) refl (subst (λ r. TabulatesIn f r (Answered Tie text)) (sym none_read) tabulates))
+    let tabulates : TabulatesIn DEFAULT_NODES f (Ok none) (Answered Tie text) = inr (inl (text, tie_of_none, refl)) in (
+      tabulate_words,
+      one_file head,
+      tabulated_end head (Answered Tie text) refl
+          (subst (λ r. TabulatesIn DEFAULT_NODES f r (Answered Tie text)) (sym none_read) tabulates) (λ four. absurd (cc four)),
+    )
 
 abbrev one_bytes : List ℕ
 one_bytes = codes "1\nContest,1,2,a,b\n1,c,a\n"
@@ -141,15 +158,23 @@ one_read = refl
 abbrev won_of_one : IsWon one 0
 won_of_one = record { order = 1 ∷ 0 ∷ []; permutation = refl; tabulated = refl; elects = (1 ∷ [], refl) }
 
+no_tie_of_one : HasNoTie one.rankings (1 ∷ 0 ∷ [])
+no_tie_of_one zero = refl
+no_tie_of_one (suc zero) = refl
+no_tie_of_one (suc (suc k)) = ap (is_tied one.rankings) (drop-nil k)
+
+elected_of_one : IsElected one 0
+elected_of_one = no_tie_is_decided 2 0 one.rankings (1 ∷ 0 ∷ []) refl refl (1 ∷ [], refl) no_tie_of_one
+
 done_end : IsOfSome 0
 done_end =
     let text = tabulation_text one (1 ∷ 0 ∷ []) 0 in
-    let rounds : HasRounds one text = record { winner = 0; won = won_of_one; shown = refl } in
-    let tabulates : TabulatesIn f (Ok one) (Answered Done text) = inl (text, rounds, refl) in (
+    let rounds : HasRounds one text = record { winner = 0; won = won_of_one; decided = elected_of_one; shown = refl } in
+    let tabulates : TabulatesIn DEFAULT_NODES f (Ok one) (Answered Done text) = inl (text, rounds, refl) in (
       tabulate_words,
       one_file one_bytes,
       tabulated_end one_bytes (Answered Done text) refl
-          (subst (λ r. TabulatesIn f r (Answered Done text)) (sym one_read) tabulates),
+          (subst (λ r. TabulatesIn DEFAULT_NODES f r (Answered Done text)) (sym one_read) tabulates) (λ four. absurd (cc four)),
     )
 
 -- ---- a full count
@@ -169,7 +194,7 @@ margin_is_one = refl
 full_count : HasFullCount terms one (full_count_text certificate 2)
 full_count = record {
   file = certificate;
-  is = record { winner = 0; won = won_of_one; order = 0 ∷ 1 ∷ []; least = refl; is = refl };
+  is = record { winner = 0; won = won_of_one; decided = elected_of_one; order = 0 ∷ 1 ∷ []; least = refl; is = refl };
   budget = λ c other. let few = default_suffices one [] 0 c other (omega arith) in omega (arith, few);
   floor = let is = margin_is_one in omega (arith, is);
   shown = refl;
@@ -240,18 +265,18 @@ read_empty =
 abbrev two_files : List File
 two_files = record { name = f; bytes = three_bytes } ∷ record { name = g; bytes = empty_bytes } ∷ []
 
-won_of_three : IsOutcome 3 three.rankings (Won 0)
+won_of_three : IsWinner 3 three.rankings 0
 won_of_three = record { order = 2 ∷ 1 ∷ 0 ∷ []; permutation = refl; tabulated = refl; elects = (2 ∷ 1 ∷ [], refl) }
 
 checked_end : (words : List (List ℕ)) (nodes : ℕ) (answer : Answer) (v : Verdict) → command_of words ≡ Some (Check f g None nodes) →
-    checked_is nodes three.rankings empty (Won 0) ≡ answer →
+    checked_is nodes three.rankings empty 0 ≡ answer →
     verdict_on empty answer ≡ Some v → EndsWith (outcome v).status words two_files
 checked_end words nodes answer v is found told =
     ends_with words two_files (outcome v) (subst (λ command. MayCome (AsHeld two_files) (asked_by command) (outcome v)) (sym is) comes)
     (λ asks. absurd (not_spent words (Check f g None nodes) is refl asks))
   where
     judges : IsAnswer nodes three empty answer
-    judges = record { outcome = Won 0; tabulated = won_of_three; answer_is = found }
+    judges = record { winner = 0; tabulated = won_of_three; answer_is = found }
 
     checks : ChecksIn nodes three g (assertion_file_of empty_bytes) v
     checks = subst (λ r. ChecksIn nodes three g r v) (sym read_empty) (answer, judges, told)

@@ -16,7 +16,7 @@ use Rattle.audit_rounds.specs.declared.digests.Digests.{Digests}
 use Rattle.cover_checker.specs.Checks.{IsAnswer}
 use Rattle.cover_checker.specs.Findings.{Answer}
 use Rattle.cover_checker.specs.declared.checked.Checked.TheVariants.{OtherContest, OtherWinner, OtherMargin, Stands, NotLeast, NotAlternative, Harder, Accepted}
-use Rattle.cover_checker.specs.declared.checked.CheckFault.TheVariants.{Tie as TieFound, Spent as SpentAt, Memory}
+use Rattle.cover_checker.specs.declared.checked.CheckFault.TheVariants.{Spent as SpentAt, Memory}
 use Rattle.cover_checker.proofs.Existing.{answer_never_spent}
 use Rattle.cli_base.specs.Outcome.{Verdict, Answered, Refused}
 use Rattle.cli_base.specs.Script.{Script, Ends, Bytes, AsHeld, ComesTo, Concludes}
@@ -56,7 +56,6 @@ spent_answer file (Ok (NotLeast found)) text is = absurd (cc is)
 spent_answer file (Ok NotAlternative) text is = absurd (cc is)
 spent_answer file (Ok (Harder assertion margin)) text is = absurd (cc is)
 spent_answer file (Ok Accepted) text is = absurd (cc is)
-spent_answer file (Err (TieFound round tied votes)) text is = absurd (cc is)
 spent_answer file (Err (SpentAt last)) text is = (last, refl)
 spent_answer file (Err Memory) text is = absurd (cc is)
 
@@ -164,7 +163,7 @@ judged-is files own judging is enough = subst (AreEnough files) (sym (some_is is
 script-never : (files : List File) (command : Command) (judging : Judging) (text : List ℕ) → judging_of command ≡ Some judging → AreEnough files judging →
     Concludes (AsHeld files) (script_of command) (Answered Spent text) → ⊥
 script-never files (Search ballots contest workers nodes floor) judging text is enough = absurd (cc is)
-script-never files (Tabulate ballots contest) judging text is enough = absurd (cc is)
+script-never files (Tabulate ballots contest nodes) judging text is enough = absurd (cc is)
 script-never files (Check ballots assertions contest nodes) judging text is enough =
     let own : Judging = record { assertions = assertions; nodes = nodes } in
     check-never files own (judged-is files own judging is enough) text ballots contest

@@ -49,6 +49,7 @@ module _ (words : List (List ℕ)) (files : List File) (asks : AsksForSearch wor
           ballots = ballots;
           winner = c.winner;
           asks = record { search = asks; bytes = bytes; held = held; accepted = is; won = c.won };
+          elected = c.decided;
           contest = ap (λ (f : Content). f.contest) c.is;
           candidates = ap (λ (f : Content). f.candidates) c.is;
           records = ap (λ (f : Content). f.records) c.is;
@@ -68,6 +69,7 @@ module _ (words : List (List ℕ)) (files : List File) (asks : AsksForSearch wor
         ballots = ballots;
         winner = c.winner;
         asks = record { search = asks; bytes = bytes; held = held; accepted = is; won = c.won };
+        elected = c.decided;
         order = has.file.order;
         margin = has.file.margin;
         below = has.floor;

@@ -6,9 +6,12 @@ mod Audited
 mod Opened
 mod Enough
 mod Limited
+mod SignedOff
 mod EachCommand
 mod Workers
 mod Complete
+mod Undecided
+mod Rounds
 mod Clauses
 mod Nodes
 mod Agreement

@@ -17,7 +17,7 @@ use Rattle.session_commands.specs.Report as report
 abbrev pub script_of : Command → Script
 script_of (Search ballots contest workers nodes floor) =
     search.script ballots contest (record { nodes = nodes; floor = floor })
-script_of (Tabulate ballots contest) = tabulate.script ballots contest
+script_of (Tabulate ballots contest nodes) = tabulate.script ballots contest nodes
 script_of (Check ballots assertions contest nodes) = check.script ballots assertions contest nodes
 script_of (Sample manifest seed draws) = sample.script manifest seed draws
 script_of (Plan manifest assertions limit gamma) =
@@ -46,7 +46,7 @@ asked words = asked_by (command_of words)
 -- the files of a command by their names, in the order in which it reads them
 abbrev pub files_of : Command → List (List ℕ)
 files_of (Search ballots contest workers nodes floor) = ballots ∷ []
-files_of (Tabulate ballots contest) = ballots ∷ []
+files_of (Tabulate ballots contest nodes) = ballots ∷ []
 files_of (Check ballots assertions contest nodes) = ballots ∷ assertions ∷ []
 files_of (Sample manifest seed draws) = manifest ∷ []
 files_of (Plan manifest assertions limit gamma) = manifest ∷ assertions ∷ []
@@ -68,7 +68,7 @@ file_count words = count_of (command_of words)
 -- a budget may leave open what the command comes to
 abbrev pub is_open : Command → Bool
 is_open (Search ballots contest workers nodes floor) = true
-is_open (Tabulate ballots contest) = false
+is_open (Tabulate ballots contest nodes) = true
 is_open (Check ballots assertions contest nodes) = false
 is_open (Sample manifest seed draws) = false
 is_open (Plan manifest assertions limit gamma) = false

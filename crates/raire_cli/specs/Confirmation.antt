@@ -15,7 +15,7 @@ use Rattle.report.specs.Texts.{order_text}
 use Rattle.cli_base.specs.Ends.{Writing, Took}
 use Rattle.command_line.specs.Line.{command_of}
 use Rattle.command_line.specs.declared.command.Command.TheVariants.{Search}
-use Rattle.contest_commands.specs.Contest.{candidate_count, IsWon}
+use Rattle.contest_commands.specs.Contest.{candidate_count, IsElected, IsWon}
 use Rattle.contest_commands.specs.Search.{full_count_lines}
 
 -- an assertion among n candidates that is true of the records, by the margin that is claimed
@@ -60,7 +60,7 @@ pub record AsksForSearch (words : List (List ℕ)) : Type 0 where
   pub floor : ℕ
   pub asked : command_of words ≡ Some (Search name contest workers nodes floor)
 
--- its file is held and accepted, and the contest has this winner
+-- its file is held and accepted, and the tabulated order of the contest elects this candidate
 pub record AsksFor (words : List (List ℕ)) (files : List File) (ballots : BallotFile)
     (winner : ℕ) : Type 0 where
   pub search : AsksForSearch words
@@ -69,11 +69,13 @@ pub record AsksFor (words : List (List ℕ)) (files : List File) (ballots : Ball
   pub accepted : ballots_of bytes search.contest ≡ Ok ballots
   pub won : IsWon ballots winner
 
--- this is a file that confirms the winner of the contest that was asked for, by a margin that reaches the floor
+-- this is a file that confirms the winner of the contest that was asked for, whom each way of breaking its ties elects, by a margin
+-- that reaches the floor
 pub record ConfirmsAsked (words : List (List ℕ)) (files : List File) (file : Content) : Type 0 where
   pub ballots : BallotFile
   pub winner : ℕ
   pub asks : AsksFor words files ballots winner
+  pub elected : IsElected ballots winner
   pub contest : file.contest ≡ ballots.contest
   pub candidates : file.candidates ≡ ballots.candidates
   pub records : file.records ≡ length ballots.rankings
@@ -82,11 +84,12 @@ pub record ConfirmsAsked (words : List (List ℕ)) (files : List File) (file : C
   pub confirms : Confirms (candidate_count ballots) ballots.rankings winner file
 
 -- this is a text that gives an order as reason for a full count: it elects another candidate than the winner of the contest that was
--- asked for, and no true assertion whose margin reaches the floor refutes it
+-- asked for, whom each way of breaking its ties elects, and no true assertion whose margin reaches the floor refutes it
 pub record GivesReason (words : List (List ℕ)) (files : List File) (text : List ℕ) : Type 0 where
   pub ballots : BallotFile
   pub winner : ℕ
   pub asks : AsksFor words files ballots winner
+  pub elected : IsElected ballots winner
   pub order : List ℕ
   pub margin : ℕ
   pub below : margin < asks.search.floor
@@ -97,13 +100,15 @@ pub record GivesReason (words : List (List ℕ)) (files : List File) (text : Lis
 
 -- ---- what `run` promises
 
--- Status 0 of a search: the printed assertions are all true of the records, and refute every elimination order that elects another
--- candidate. The printed margin is the smallest of theirs, and no true assertion of larger margin refutes the printed order.
+-- Status 0 of a search: each way of breaking ties elects the winner. The printed assertions are all true of the records, and refute
+-- every elimination order that elects another candidate. The printed margin is the smallest of theirs, and no true assertion of larger
+-- margin refutes the printed order.
 abbrev pub IsConfirmed : Option (List File) → List (List ℕ) → ℕ → Writing → Type 0
 IsConfirmed held words status out = IfSome held (λ files. AsksForSearch words → status ≡ 0 →
     (file : Content) × ConfirmsAsked words files file × Took out (assertion_file_text file))
 
--- Status 5: an order that elects another candidate is printed, which no true assertion refutes by a margin that reaches the floor.
+-- Status 5: each way of breaking ties elects the winner. An order that elects another candidate is printed, and no true
+-- assertion whose margin reaches the floor refutes it.
 abbrev pub IsReasoned : Option (List File) → List (List ℕ) → ℕ → Writing → Type 0
 IsReasoned held words status out =
     IfSome held (λ files. status ≡ 5 →

@@ -16,7 +16,7 @@ pub record Judging : Type 0 where
 -- what a command judges: a check, one that opens a session, and one before a round
 abbrev pub judging_of : Command → Option Judging
 judging_of (Search ballots contest workers nodes floor) = None
-judging_of (Tabulate ballots contest) = None
+judging_of (Tabulate ballots contest nodes) = None
 judging_of (Check ballots assertions contest nodes) =
     Some (record { assertions = assertions; nodes = nodes })
 judging_of (Sample manifest seed draws) = None

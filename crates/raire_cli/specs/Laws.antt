@@ -62,14 +62,14 @@ DefaultSuffices =
     candidate_count ballots ≤ 9 →
     nodes_for ballots tabulated winner c ≤ DEFAULT_NODES
 
--- A session that an audit signs off is one that the risk limit counts, where the cards that were seen were read as they are; also
+-- A session that an audit signs off is one that the risk limit counts, where the cards that were drawn were read as they are; also
 -- among sequences of more draws.
 abbrev pub SignedOffIsCounted : Type 0
 SignedOffIsCounted =
     (words : List (List ℕ)) (files : List File) (next : Content) (on : GoesOn words files next)
     (actual : List (List ℕ)) (most : ℕ) →
     IsTrue (is_signed_off next.session) → on.asks.draws ≤ most → length actual ≡ cards on.inputs →
-    AreTrueEntries actual on.inputs.entries →
+    AreTrueEntries actual on.inputs.entries (drawn on.inputs on.asks.draws) →
     MayBeSignedOff on.inputs.session.session.limit on.inputs.session.session.gamma
     on.inputs.basis.file.claims
     (linked_of on.inputs.basis.batches on.inputs.basis.ballots) actual (drawn on.inputs most)

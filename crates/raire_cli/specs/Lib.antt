@@ -6,7 +6,9 @@ pub mod Audits
 pub mod Openings
 pub mod Enough
 pub mod Promises
+pub mod Undecided
 pub mod Laws
+pub mod SignedOff
 pub mod Agreement
 pub mod EachStatus
 pub mod PrintedFiles

@@ -1,26 +1,31 @@
 -- What `run` promises by its status.
 use Rattle.std.specs.Prelude.{◌≡◌, ◌⊎◌, ◌≤◌, ℕ, false, List, Option, Some, IfSome, length}
 use Rattle.desk.specs.Desk.{File}
+use Rattle.irv_base.specs.Names.{Id}
+use Rattle.irv_base.specs.Tabulation.{HasNoTie}
+use Rattle.bound_search.specs.Race.{work_for}
 use Rattle.ballot_reader.specs.Ballots.{BallotFile}
 use Rattle.cli_base.specs.Script.{limit}
 use Rattle.cli_base.specs.Ends.{Writing}
 use Rattle.cli_base.specs.Statuses.{IsQuiet, Exactly, IsExact, Statuses}
 use Rattle.command_line.specs.Line.{command_of, is_line}
 use Rattle.command_line.specs.declared.command.Command.{Command}
-use Rattle.command_line.specs.declared.command.Command.TheVariants.{Trial}
-use Rattle.contest_commands.specs.Contest.{IsOther, IsWon}
+use Rattle.command_line.specs.declared.command.Command.TheVariants.{Tabulate, Trial}
+use Rattle.contest_commands.specs.Contest.{candidate_count, IsElected, IsOther, IsWon}
 use Rattle.contest_commands.specs.Search.{nodes_for}
 use Rattle.contest_commands.specs.Trial.{contest_of}
 use Rattle.contest_commands.specs.declared.trials.Terms.{Terms}
 use Rattle.raire_cli.specs.Answers.{asked, is_open}
 use Rattle.raire_cli.specs.Confirmation.{AsksFor}
+use Rattle.raire_cli.specs.Undecided.{AreBallots}
 
--- The words ask for a search of a file that is held, not too long and accepted. Its contest has no tie, and the budget has as
--- many nodes as may be needed for each candidate who didn't win.
+-- The words ask for a search of a file that is held, not too long and accepted. Its contest is decided: each way of breaking its
+-- ties elects the winner. The budget has as many nodes as may be needed for each candidate who didn't win.
 pub record IsSearchable (words : List (List ℕ)) (files : List File) : Type 0 where
   pub ballots : BallotFile
   pub winner : ℕ
   pub asks : AsksFor words files ballots winner
+  pub decided : IsElected ballots winner
   pub is_short : length asks.bytes ≤ limit
   pub budget : (c : ℕ) → IsOther ballots winner c →
       nodes_for ballots asks.won.order winner c ≤ asks.search.nodes
@@ -30,6 +35,29 @@ abbrev pub IsComplete : Option (List File) → List (List ℕ) → Type 0 → �
 IsComplete held words failed status out err =
     IfSome held (λ files. IsSearchable words files → IsQuiet failed out err →
     (status ≡ 0) ⊎ (status ≡ 5) ⊎ (status ≡ 9))
+
+-- The words ask for a tabulation of a file that is held, not too long and accepted, and its contest is decided. No round has a tie,
+-- or the budget has as many nodes as the race may need for each candidate who didn't win.
+pub record IsTabulable (words : List (List ℕ)) (files : List File) : Type 0 where
+  pub name : List ℕ
+  pub contest : Option Id
+  pub nodes : ℕ
+  pub asked : command_of words ≡ Some (Tabulate name contest nodes)
+  pub ballots : BallotFile
+  pub are : AreBallots files name contest ballots
+  pub winner : ℕ
+  pub won : IsWon ballots winner
+  pub decided : IsElected ballots winner
+  pub budget : HasNoTie ballots.rankings won.order
+      ⊎ ((c : ℕ) → IsOther ballots winner c →
+      work_for (candidate_count ballots) ballots.rankings won.order c ≤ nodes)
+
+-- Such a tabulation ends with its rounds, if memory was found and no count of faults rose.
+abbrev pub IsTabulationComplete : Option (List File) → List (List ℕ) → Type 0 → ℕ → Writing →
+    Writing → Type 0
+IsTabulationComplete held words failed status out err =
+    IfSome held (λ files. IsTabulable words files → IsQuiet failed out err →
+    (status ≡ 0) ⊎ (status ≡ 9))
 
 -- the words ask for a trial
 pub record AsksForTrial (words : List (List ℕ)) : Type 0 where
@@ -49,8 +77,8 @@ terms_of trial = record {
   nodes = trial.nodes;
 }
 
--- The words ask for a trial. Where its contest has no tie, the budget has as many nodes as may be needed for each candidate who
--- didn't win.
+-- The words ask for a trial. The budget has as many nodes as may be needed for each candidate whom the tabulated order of its
+-- contest doesn't elect.
 pub record IsTriable (words : List (List ℕ)) : Type 0 where
   pub trial : AsksForTrial words
   pub budget : (winner c : ℕ) (won : IsWon (contest_of (terms_of trial)) winner) →
@@ -62,7 +90,7 @@ abbrev pub IsTrialComplete : List (List ℕ) → Type 0 → ℕ → Writing → 
 IsTrialComplete words failed status out err =
     IsTriable words → IsQuiet failed out err → (status ≡ 0) ⊎ (status ≡ 3) ⊎ (status ≡ 9)
 
--- Of each command but those that search, each answer comes exactly where that is what the files make it.
+-- Of each command that no budget leaves open, each answer comes exactly where that is what the files make it.
 abbrev pub IsExactUnlessOpen : Option (List File) → List (List ℕ) → ℕ → Type 0
 IsExactUnlessOpen held words status =
     (command : Command) → command_of words ≡ Some command → is_open command ≡ false →

@@ -14,7 +14,8 @@ ghost use Rattle.raire_cli.specs.Audits.{IsAudited};
 ghost use Rattle.raire_cli.specs.Confirmation.{IsConfirmed, IsReasoned};
 ghost use Rattle.raire_cli.specs.Enough.{IsNeverSpent};
 ghost use Rattle.raire_cli.specs.Openings.{IsOpened};
-ghost use Rattle.raire_cli.specs.Promises.{IsComplete, IsTrialComplete, IsExactUnlessOpen, HasCause};
+ghost use Rattle.raire_cli.specs.Promises.{IsComplete, IsTabulationComplete, IsTrialComplete, IsExactUnlessOpen, HasCause};
+ghost use Rattle.raire_cli.specs.Undecided.{IsTied, IsTieComplete};
 
 use crate::commands::answer_command;
 use cli_base::{Answer, Refusal, deliver};
@@ -29,7 +30,7 @@ use std::thread::Threads;
 /// | 0 | the answer | `out` |
 /// | 1 | the words are no command line | `err` |
 /// | 2 | a rule refuses a file | `err` |
-/// | 3 | the tabulation has a tie | `out` |
+/// | 3 | the contest isn't decided: ways of breaking its ties elect different candidates | `out` |
 /// | 4 | the budget of nodes is spent | `out` |
 /// | 5 | the margin is below the floor, a full count is called for | `out` |
 /// | 6 | the assertion file doesn't hold of the ballots | `out` |
@@ -47,7 +48,7 @@ pub fn run<R: AllocGlobal + Threads + Sync, D: Desk, O: Sink, E: Sink, G: Gate +
     err: &mut E,
     gate: &G,
 ) -> u8
-    // Assertions confirm the winner.
+    // Assertions confirm the winner of a contest that is decided: each way of breaking its ties elects the same candidate.
     ensures headline { IsConfirmed (D.held desk.old) (texts words.now) result
         (writing O.Sink out.old out.new) }
 
@@ -55,8 +56,22 @@ pub fn run<R: AllocGlobal + Threads + Sync, D: Desk, O: Sink, E: Sink, G: Gate +
     ensures full_count { IsReasoned (D.held desk.old) (texts words.now) result
         (writing O.Sink out.old out.new) }
 
-    // A search whose budget is large enough ends in one of these two ways.
+    // A search of a contest that is decided ends in one of these two ways, if its budget is large enough.
     ensures complete { IsComplete (D.held desk.old) (texts words.now)
+        (Rose (D.faults desk.old) (D.faults desk.new)) result
+        (writing O.Sink out.old out.new) (writing E.Sink err.old err.new) }
+
+    // Ways of breaking the contest's ties elect different candidates, and its first tie is told.
+    ensures tied { IsTied (D.held desk.old) (texts words.now) result
+        (writing O.Sink out.old out.new) }
+
+    // A search, a tabulation or a trial of such a contest ends so, if its budget is large enough.
+    ensures complete_tie { IsTieComplete (D.held desk.old) (texts words.now)
+        (Rose (D.faults desk.old) (D.faults desk.new)) result
+        (writing O.Sink out.old out.new) (writing E.Sink err.old err.new) }
+
+    // A tabulation of a contest that is decided ends with its rounds, if none has a tie or its budget is large enough.
+    ensures complete_tabulation { IsTabulationComplete (D.held desk.old) (texts words.now)
         (Rose (D.faults desk.old) (D.faults desk.new)) result
         (writing O.Sink out.old out.new) (writing E.Sink err.old err.new) }
 
@@ -90,7 +105,7 @@ pub fn run<R: AllocGlobal + Threads + Sync, D: Desk, O: Sink, E: Sink, G: Gate +
         (Rose (D.faults desk.old) (D.faults desk.new)) result
         (writing O.Sink out.old out.new) (writing E.Sink err.old err.new) }
 
-    // No budget leaves open what another command than a search or a trial comes to.
+    // No budget leaves open what another command than a search, a tabulation or a trial comes to.
     ensures exact { IsExactUnlessOpen (D.held desk.old) (texts words.now) result }
 
     // 11 and 12 come exactly where the desk served so, told or not told what it holds. At most as many files are begun as the words

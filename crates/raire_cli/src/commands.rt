@@ -47,9 +47,11 @@ pub(crate) fn answer_command<R: AllocGlobal + Threads + Sync, D: Desk, G: Gate +
             let (file, contest) = (ballots.as_str(), contest.as_ref());
             search::answer(rt, desk, file, contest, terms, *workers, gate)
         }
-        Command::Tabulate { ballots, contest } => {
-            tabulate::answer(rt, desk, ballots.as_str(), contest.as_ref())
-        }
+        Command::Tabulate {
+            ballots,
+            contest,
+            nodes,
+        } => tabulate::answer(rt, desk, ballots.as_str(), contest.as_ref(), *nodes, gate),
         Command::Check {
             ballots,
             assertions,

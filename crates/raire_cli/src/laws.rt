@@ -3,6 +3,7 @@ ghost use Rattle.raire_cli.specs.Agreement.{SameFilesSameAnswer};
 ghost use Rattle.raire_cli.specs.EachStatus.{EachStatus};
 ghost use Rattle.raire_cli.specs.Laws.{WorkersAskTheSame, WorkersComeToTheSame, TrialsComeToTheSame, DefaultSuffices, SignedOffIsCounted};
 ghost use Rattle.raire_cli.specs.PrintedFiles.{PrintedIsAccepted, PrintedIsOpened};
+ghost use Rattle.raire_cli.specs.SignedOff.{SignedOffAreFew};
 
 /// What a search may come to, searches that differ from it in their number of workers alone may come to.
 pub fn workers_ask_the_same()
@@ -29,8 +30,14 @@ pub fn signed_off_is_counted()
     ensures { SignedOffIsCounted }
 {}
 
+/// Where the actual rankings of the cards may elect another candidate than the assertion file says, audits of the same files, limit and
+/// gamma are signed off on at most `limit` millionths of all sequences of draws.
+pub fn signed_off_are_few()
+    ensures { SignedOffAreFew }
+{}
+
 /// Two calls with the same words, over desks that hold the same, have the same status and write the same, where nothing failed,
-/// memory was found, and no search and no trial was spent.
+/// memory was found, and no search, no tabulation and no trial was spent.
 pub fn same_files_same_answer()
     ensures { SameFilesSameAnswer }
 {}

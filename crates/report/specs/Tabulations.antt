@@ -1,11 +1,12 @@
 -- The tabulation of a contest, round by round.
-use Rattle.std.specs.Prelude.{ℕ, ◌+◌, List, [], ◌∷◌, ◌++◌, length, filter, flat_map, slice_index, codes}
+use Rattle.std.specs.Prelude.{ℕ, ◌+◌, List, [], ◌∷◌, ◌++◌, length, filter, flat_map, slice_index, nat_le, if◌then◌else◌, codes}
 use Rattle.std.specs.Fmt.{decimal}
-use Rattle.irv_base.specs.Candidates.{candidates, is_in}
+use Rattle.irv_base.specs.Candidates.{candidates, is_in, members}
 use Rattle.irv_base.specs.Names.{Id}
 use Rattle.ballot_reader.specs.Ballots.{BallotFile}
 use Rattle.irv_tabulator.specs.Rounds.{Count, rounds_of}
 use Rattle.assertion_file.specs.Ids.{id_of}
+use Rattle.report.specs.Texts.{set_text}
 
 -- the candidates of the list, by their numbers
 abbrev pub in_number_order : ℕ → List ℕ → List ℕ
@@ -17,13 +18,18 @@ tally_text ids votes c = codes " " ++ id_of ids c ++ codes "=" ++ decimal (slice
 abbrev pub tallies_text : List Id → List ℕ → List ℕ → List ℕ
 tallies_text ids votes remaining = flat_map (tally_text ids votes) remaining
 
+-- the line of those who share the least tally, where they are several
+abbrev pub tied_line : List Id → ℕ → List ℕ
+tied_line ids tied =
+    if nat_le 2 (length (members tied)) then codes "tied " ++ set_text ids tied ++ codes "\n" else []
+
 -- the lines of round i, in which these remain and the loser is eliminated
 abbrev pub round_text : List Id → ℕ → List ℕ → ℕ → Count → List ℕ
 round_text ids i remaining loser count =
     codes "round " ++ decimal i ++ codes ":"
     ++ tallies_text ids count.votes (in_number_order (length ids) remaining)
-    ++ codes " exhausted=" ++ decimal count.exhausted
-    ++ codes "\neliminated " ++ id_of ids loser ++ codes "\n"
+    ++ codes " exhausted=" ++ decimal count.exhausted ++ codes "\n"
+    ++ tied_line ids count.tied ++ codes "eliminated " ++ id_of ids loser ++ codes "\n"
 
 -- the lines of the rounds from round i on, in which these candidates of the order remain
 abbrev pub rounds_text : List Id → ℕ → List ℕ → List Count → List ℕ

@@ -5,12 +5,13 @@ ghost use Rattle.irv_base.specs.Candidates.{is_in};
 ghost use Rattle.irv_base.specs.declared.limits.TheConstants.{ROOM};
 ghost use Rattle.irv_tabulator.specs.Rounds.{count_in, counts_in};
 ghost use Rattle.irv_tabulator.specs.Results.{IsTabulation};
-ghost use Rattle.report.specs.Tabulations.{in_number_order, tallies_text, round_text, rounds_text, tabulation_text};
+ghost use Rattle.report.specs.Tabulations.{in_number_order, tallies_text, tied_line, round_text, rounds_text, tabulation_text};
+ghost use Rattle.report.specs.Texts.{set_text};
 
-use crate::text::choose;
+use crate::text::{choose, set_text};
 use assertion_file::id_of;
 use ballot_reader::Ballots;
-use irv_base::{Candidate, Memory, Name, Order};
+use irv_base::{CandSet, Candidate, Memory, Name, Order};
 use irv_tabulator::{Round, Tabulated};
 use std::alloc::{AllocError, Global};
 
@@ -63,14 +64,35 @@ fn round_lines(
     i: u32,
     tallies: &str,
     exhausted: u32,
+    tied: &str,
     loser: &str,
 ) -> Result<String, AllocError>
     ensures { IfOk result (λ text. string_bytes text ≡
         codes "round " ++ decimal i ++ codes ":" ++ tallies.now ++
-        codes " exhausted=" ++ decimal exhausted ++
-        codes "\neliminated " ++ loser.now ++ codes "\n") }
+        codes " exhausted=" ++ decimal exhausted ++ codes "\n" ++ tied.now ++
+        codes "eliminated " ++ loser.now ++ codes "\n") }
 {
-    format!(in alloc; "round {i}:{tallies} exhausted={exhausted}\neliminated {loser}\n")
+    format!(in alloc; "round {i}:{tallies} exhausted={exhausted}\n{tied}eliminated {loser}\n")
+}
+
+fn tied_text(alloc: Global, tied: &str) -> Result<String, AllocError>
+    ensures { IfOk result (λ text. string_bytes text ≡
+        codes "tied " ++ tied.now ++ codes "\n") }
+{
+    format!(in alloc; "tied {tied}\n")
+}
+
+// The line of those who share the least tally, where they are several.
+fn tied_line(alloc: Global, names: &[Name], tied: CandSet) -> Result<String, Memory>
+    requires { length names.now ≤ ROOM }
+    ensures { IfOk result (λ text. string_bytes text ≡ tied_line names.now tied) }
+{
+    if tied.len() < 2 {
+        return Ok(String::new(alloc));
+    }
+    let ids = set_text(alloc, names, tied)?;
+    let line = tied_text(alloc, ids.as_str())?;
+    Ok(line)
 }
 
 // The lines of round `i`, in which these candidates remain and the first of them is eliminated.
@@ -90,11 +112,13 @@ fn round_text(
 {
     let remaining = in_number_order(alloc, names.len(), remaining)?;
     let tallies = tallies_text(alloc, names, &round.tallies, &remaining)?;
+    let tied = tied_line(alloc, names, round.tied)?;
     let text = round_lines(
         alloc,
         i,
         tallies.as_str(),
         round.exhausted,
+        tied.as_str(),
         id_of(names, loser),
     )?;
     Ok(text)

@@ -13,7 +13,7 @@ use Rattle.assertions.specs.Suffixes.{orders_ending}
 use Rattle.assertions.proofs.Endings.{orders_ending-member}
 use Rattle.ballot_reader.specs.Ballots.{BallotFile}
 use Rattle.assertion_file.specs.Content.{Content}
-use Rattle.cover_checker.specs.Outcomes.{Outcome, Won, Tied, IsOutcome, IsWinner}
+use Rattle.cover_checker.specs.Outcomes.{IsWinner}
 use Rattle.cover_checker.specs.Findings.{Answer, is_about, other_winner}
 use Rattle.cover_checker.specs.Checks.{Judges, IsAnswer, checked_is, findings, first_found}
 use Rattle.cover_checker.specs.declared.checked.Checked.TheVariants.{OtherContest, Accepted}
@@ -105,15 +105,14 @@ module _ (nodes : ℕ) (ballots : BallotFile) (file : Content) where
       let (head, none) = and_parts (is_about ballots file && is_won ballots file.winner) _ h in
       let (about, won) = and_parts (is_about ballots file) (is_won ballots file.winner) head in
       judged nodes ballots file about (Ok Accepted) (record {
-        outcome = Won file.winner;
+        winner = file.winner;
         tabulated = from_won ballots file.winner won;
         answer_is = nothing_found (findings nodes ballots.rankings file file.winner) none;
       })
 
-  by_outcome : is_about ballots file ≡ true → (outcome : Outcome) → IsOutcome (length ballots.candidates) ballots.rankings outcome →
-      checked_is nodes ballots.rankings file outcome ≡ Ok Accepted → is_accepted nodes ballots file ≡ true
-  by_outcome about (Tied round tied tally) first e = absurd cc
-  by_outcome about (Won winner) won e =
+  by_winner : is_about ballots file ≡ true → (winner : ℕ) → IsWinner (length ballots.candidates) ballots.rankings winner →
+      checked_is nodes ballots.rankings file winner ≡ Ok Accepted → is_accepted nodes ballots file ≡ true
+  by_winner about winner won e =
       let none = all_none (findings nodes ballots.rankings file winner) (never_accept nodes ballots.rankings file winner) e in
       let same : file.winner ≡ winner = same_winner nodes ballots.rankings file winner none in
       let own : is_won ballots file.winner ≡ true = subst (λ w. is_won ballots w ≡ true) (sym same) (won_from ballots winner won) in
@@ -123,7 +122,7 @@ module _ (nodes : ℕ) (ballots : BallotFile) (file : Content) where
 
   accepted : IsAnswer nodes ballots file (Ok Accepted) → is_accepted nodes ballots file ≡ true
   accepted h = elim (cases_Bool (is_about ballots file)) [
-    | inl t ↦ let j = from_answer nodes ballots file t (Ok Accepted) h in by_outcome t j.outcome j.tabulated j.answer_is
+    | inl t ↦ let j = from_answer nodes ballots file t (Ok Accepted) h in by_winner t j.winner j.tabulated j.answer_is
     | inr f ↦
         absurd (yes-isnt-other (subst (λ b. MatchBool b (Judges nodes ballots file yes) (yes ≡ Ok OtherContest)) f h))
   ]

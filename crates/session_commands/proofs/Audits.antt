@@ -94,8 +94,7 @@ accepted-agrees nodes ballots file next agree = by (is_accepted nodes ballots fi
 wider : (v : Verdict) → IsOfKind check.Kinds v → IsOfKind Kinds v
 wider (Verdict.Answered kind text) (inl is) = inl is
 wider (Verdict.Answered kind text) (inr (inl is)) = inr (inl is)
-wider (Verdict.Answered kind text) (inr (inr (inl is))) = inr (inr (inl is))
-wider (Verdict.Answered kind text) (inr (inr (inr is))) = inr (inr (inr (inl is)))
+wider (Verdict.Answered kind text) (inr (inr is)) = inr (inr (inl is))
 wider (Refused name text) of = tt
 
 accepted-kinds : (nodes : ℕ) (ballots : BallotFile) (file : FileContent) (next : Script) → AreOfKind Kinds next →
@@ -109,7 +108,7 @@ session_answer-kind : (session : Content) → IsOfKind Kinds (session_answer ses
 session_answer-kind session = by (is_signed_off session.session) where
   by : (b : Bool) → Kinds (if b then Done else Unconfirmed)
   by true = inl refl
-  by false = inr (inr (inr (inr refl)))
+  by false = inr (inr (inr refl))
 
 verdict-kind : (asked : Asked) (judged : Result Content Verdict) → OnlyRefuses judged → IsOfKind Kinds (verdict_of asked judged)
 verdict-kind asked (Ok next) only = session_answer-kind next

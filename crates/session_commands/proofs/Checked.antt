@@ -6,13 +6,13 @@ use Rattle.assertion_file.specs.Content.{Content}
 use Rattle.cover_checker.specs.Checks.{IsAnswer}
 use Rattle.cover_checker.specs.Findings.{Answer}
 use Rattle.cover_checker.specs.declared.checked.Checked.TheVariants.{OtherContest, OtherWinner, OtherMargin, Stands, NotLeast, NotAlternative, Harder, Accepted}
-use Rattle.cover_checker.specs.declared.checked.CheckFault.TheVariants.{Tie as TieFound, Spent as SpentAt, Memory}
+use Rattle.cover_checker.specs.declared.checked.CheckFault.TheVariants.{Spent as SpentAt, Memory}
 use Rattle.cover_checker.proofs.OneAnswer.{answer_is_one}
 use Rattle.cli_base.specs.Outcome.{Outcome, Verdict, Answered, outcome, status_of, out_of_memory}
 use Rattle.cli_base.specs.Due.{due, due_refusal, IsOneOrMemory}
 use Rattle.cli_base.specs.declared.outcome.Answer.{Answer as Reply}
 use Rattle.cli_base.specs.declared.outcome.AnswerKind.{AnswerKind}
-use Rattle.cli_base.specs.declared.outcome.AnswerKind.TheVariants.{Done, Tie, Spent, Differs}
+use Rattle.cli_base.specs.declared.outcome.AnswerKind.TheVariants.{Done, Spent, Differs}
 use Rattle.cli_base.specs.declared.outcome.Refusal.{Refusal}
 use Rattle.cli_base.specs.declared.outcome.Refusal.TheVariants.{Words, Memory as OutOfMemory, Line}
 use Rattle.cli_base.specs.declared.outcome.RefusalKind.TheVariants.{Input, ReadFault, TooLong, Missing}
@@ -33,7 +33,6 @@ kind_on (Ok (Stands order)) = Differs
 kind_on (Ok (NotLeast found)) = Differs
 kind_on (Ok NotAlternative) = Differs
 kind_on (Ok (Harder assertion margin)) = Differs
-kind_on (Err (TieFound round tied votes)) = Tie
 kind_on (Err (SpentAt last)) = Spent
 kind_on (Err Memory) = Spent
 
@@ -46,7 +45,6 @@ told_kind file (Ok (Stands order)) v told = (_, sym (some_is told))
 told_kind file (Ok (NotLeast found)) v told = (_, sym (some_is told))
 told_kind file (Ok NotAlternative) v told = (_, sym (some_is told))
 told_kind file (Ok (Harder assertion margin)) v told = (_, sym (some_is told))
-told_kind file (Err (TieFound round tied votes)) v told = (_, sym (some_is told))
 told_kind file (Err (SpentAt last)) v told = (_, sym (some_is told))
 told_kind file (Err Memory) v told = absurd (cc told)
 
@@ -59,7 +57,6 @@ done_is (Ok (Stands order)) is = absurd (cc is)
 done_is (Ok (NotLeast found)) is = absurd (cc is)
 done_is (Ok NotAlternative) is = absurd (cc is)
 done_is (Ok (Harder assertion margin)) is = absurd (cc is)
-done_is (Err (TieFound round tied votes)) is = absurd (cc is)
 done_is (Err (SpentAt last)) is = absurd (cc is)
 done_is (Err Memory) is = absurd (cc is)
 

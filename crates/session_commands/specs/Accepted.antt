@@ -12,7 +12,7 @@ use Rattle.contest_commands.specs.Contest.{candidate_count}
 use Rattle.contest_commands.specs.Check.{Checks}
 use Rattle.cli_base.specs.Script.{Script, Ends}
 
--- the contest has no tie, and this winner
+-- the tabulated order of the contest elects this one
 abbrev pub is_won : BallotFile → ℕ → Bool
 is_won ballots winner =
     list_any (λ order. is_order (candidate_count ballots) order

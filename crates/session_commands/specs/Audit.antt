@@ -21,7 +21,7 @@ use Rattle.contest_commands.specs.Contest.{refused, refused_file}
 use Rattle.cli_base.specs.Outcome.{Verdict, Answered}
 use Rattle.cli_base.specs.Script.{Script, Read, Ends}
 use Rattle.cli_base.specs.declared.outcome.AnswerKind.{AnswerKind}
-use Rattle.cli_base.specs.declared.outcome.AnswerKind.TheVariants.{Done, Tie, Spent, Differs, Unconfirmed}
+use Rattle.cli_base.specs.declared.outcome.AnswerKind.TheVariants.{Done, Spent, Differs, Unconfirmed}
 use Rattle.session_commands.specs.Accepted.{if_accepted}
 use Rattle.session_commands.specs.Inputs.{cards_for, without_facts}
 use Rattle.session_commands.specs.Judged.{told, then_judged, unless, go_on}
@@ -178,4 +178,4 @@ script session ballots manifest assertions seen draws nodes = audit (record {
 
 -- the kinds of its answers
 abbrev pub Kinds : AnswerKind → Type 0
-Kinds kind = (kind ≡ Done) ⊎ (kind ≡ Tie) ⊎ (kind ≡ Spent) ⊎ (kind ≡ Differs) ⊎ (kind ≡ Unconfirmed)
+Kinds kind = (kind ≡ Done) ⊎ (kind ≡ Spent) ⊎ (kind ≡ Differs) ⊎ (kind ≡ Unconfirmed)

@@ -17,7 +17,7 @@ use Rattle.contest_commands.specs.Contest.{refused, refused_file}
 use Rattle.cli_base.specs.Outcome.{Verdict, Answered}
 use Rattle.cli_base.specs.Script.{Script, Read, Ends}
 use Rattle.cli_base.specs.declared.outcome.AnswerKind.{AnswerKind}
-use Rattle.cli_base.specs.declared.outcome.AnswerKind.TheVariants.{Done, Tie, Spent, Differs}
+use Rattle.cli_base.specs.declared.outcome.AnswerKind.TheVariants.{Done, Spent, Differs}
 use Rattle.session_commands.specs.Accepted.{is_accepted}
 use Rattle.session_commands.specs.Inputs.{cards_for}
 use Rattle.session_commands.specs.Judged.{told, go_on}
@@ -71,4 +71,4 @@ script ballots manifest assertions contest terms = Read ballots (λ bytes.
 
 -- the kinds of its answers
 abbrev pub Kinds : AnswerKind → Type 0
-Kinds kind = (kind ≡ Done) ⊎ (kind ≡ Tie) ⊎ (kind ≡ Spent) ⊎ (kind ≡ Differs)
+Kinds kind = (kind ≡ Done) ⊎ (kind ≡ Spent) ⊎ (kind ≡ Differs)

@@ -45,15 +45,6 @@ fn changed<R: Abort + AllocGlobal + Threads + Sync>(
     checked(rt, BALLOTS, file.as_str(), 100)
 }
 
-fn is_tie(answer: &Result<Checked, CheckFault>, at: u32, who: CandSet, votes: u32) -> bool {
-    match answer {
-        Err(CheckFault::Tie { round, tied, tally }) => {
-            *round == at && *tied == who && *tally == votes
-        }
-        _ => false,
-    }
-}
-
 fn stands(answer: &Result<Checked, CheckFault>, candidates: &[Candidate]) -> bool {
     match answer {
         Ok(Checked::Stands(order)) => order.candidates() == candidates,
@@ -95,20 +86,45 @@ fn other_contests(rt: HostRuntime) {
     }
 }
 
+// The others tie for the last place, whom nobody ranks.
+const TIED_BELOW: &str = "1\nContest,1,3,1,2,3\n1,t_1,1\n1,t_2,1\n1,t_3,1\n";
+
+const CERTIFICATE_TIED_BELOW: &str =
+    "{\"assertions\":[{\"kind\":\"NEB\",\"loser\":\"2\",\"margin\":3,\"winner\":\"1\"},{\"kind\":\"NEB\",\"loser\":\"3\",\"margin\":3,\"winner\":\"1\"}],\"candidates\":[\"1\",\"2\",\"3\"],\"contest\":\"1\",\"margin\":3,\"order\":[\"3\",\"1\",\"2\"],\"records\":3,\"version\":1,\"winner\":\"1\"}\n";
+
 #[test]
-fn tie_comes_after_the_contest(rt: HostRuntime) {
-    let ballots = "1\nContest,1,3,1,2,3\n1,t_1,1\n1,t_2,1\n1,t_3,1\n";
-    assert!(rt;
-        matches!(
-            checked(&rt, ballots, CERTIFICATE, 100),
-            Ok(Checked::OtherContest)
+fn tie_that_changes_nothing(rt: HostRuntime) {
+    let answer = checked(&rt, TIED_BELOW, CERTIFICATE_TIED_BELOW, 1);
+    assert!(rt; matches!(answer, Ok(Checked::Accepted)));
+    let file = CERTIFICATE_TIED_BELOW
+        .replace(
+            rt.alloc(),
+            "\"version\":1,\"winner\":\"1\"",
+            "\"version\":1,\"winner\":\"2\"",
         )
-    );
-    let file = CERTIFICATE
-        .replace(rt.alloc(), "\"records\":12", "\"records\":3")
         .expect(&rt, "text");
-    let answer = checked(&rt, ballots, file.as_str(), 100);
-    assert!(rt; is_tie(&answer, 1, CandSet::empty().with(ONE).with(TWO), 0));
+    let answer = checked(&rt, TIED_BELOW, file.as_str(), 1);
+    assert!(rt; matches!(answer, Ok(Checked::OtherWinner(ZERO))));
+    let answer = checked(&rt, TIED_BELOW, CERTIFICATE, 1);
+    assert!(rt; matches!(answer, Ok(Checked::OtherContest)));
+}
+
+// Candidates 1 and 2 have a vote each; the tabulated order elects 2, whom no true claim proves the winner.
+const TIED_FOR_THE_WIN: &str = "1\nContest,1,2,1,2\n1,t_1,1\n1,t_2,2\n";
+
+const CLAIM_OF_TWO: &str =
+    "{\"assertions\":[{\"kind\":\"NEB\",\"loser\":\"1\",\"margin\":1,\"winner\":\"2\"}],\"candidates\":[\"1\",\"2\"],\"contest\":\"1\",\"margin\":1,\"order\":[\"2\",\"1\"],\"records\":2,\"version\":1,\"winner\":\"2\"}\n";
+
+#[test]
+fn tie_for_the_win(rt: HostRuntime) {
+    let answer = checked(&rt, TIED_FOR_THE_WIN, CLAIM_OF_TWO, 1);
+    assert!(rt; matches!(answer, Ok(Checked::OtherMargin { index: 1, found: 0 })));
+    let claim = "{\"kind\":\"NEB\",\"loser\":\"1\",\"margin\":1,\"winner\":\"2\"}";
+    let file = CLAIM_OF_TWO
+        .replace(rt.alloc(), claim, "")
+        .expect(&rt, "text");
+    let answer = checked(&rt, TIED_FOR_THE_WIN, file.as_str(), 1);
+    assert!(rt; stands(&answer, &[ONE, ZERO]));
 }
 
 #[test]

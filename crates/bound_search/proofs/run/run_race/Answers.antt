@@ -6,6 +6,7 @@ use Rattle.shared_witness.specs.declared.view.Terms.{Terms}
 use Rattle.shared_witness.specs.View.{highest}
 use Rattle.shared_witness.specs.Race.{Seated, SharedRace, new_seat}
 use Rattle.bound_search.specs.Team.{waiting, WorkerWaits, HasFewEnds, IsJoined, TeamRan}
+use Rattle.bound_search.specs.declared.run.Raced.{Raced}
 use Rattle.bound_search.specs.declared.team.Worker.{Worker}
 use Rattle.bound_search.proofs.Raced.{whole_team, few_of_all, is_raced}
 use Rattle.bound_search.proofs.run.run_race.Goals as goal
@@ -65,4 +66,5 @@ returns g c =
     is_raced bag c.args.nodes c.args.workers c.finish.result c.args.tails.now race c.args.first j _ joined first_is
     (ap (λ (t : Terms). t.pieces) c.in_ok-race.ensures.terms) fits
     (omega (arith, seats, c.run_team.ensures.len, ap length c.as_mut_slice.ensures.value, all)) c.finish.ensures.bound c.finish.ensures.seen
-    (c.finish.ensures.taken joined.done) refl
+    (c.finish.ensures.taken joined.done)
+    (ap (λ s. let r : Raced = record { ends = j.ends; reports = j.reports; best = j.best; spent = s } in r) c.spent_above-spent.ensures)

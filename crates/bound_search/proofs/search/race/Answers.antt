@@ -9,7 +9,7 @@ use Rattle.bound_search.specs.Reached.{IsCostly}
 use Rattle.bound_search.specs.Raced.{IsRaced}
 use Rattle.bound_search.specs.declared.ends.PieceEnd.{PieceEnd}
 use Rattle.bound_search.proofs.Cutting.{tail_facts}
-use Rattle.bound_search.proofs.Raced.{closed_where, costly_where, elected_below, some_pieces, of_contest, joined_reached, taken_entry, best_race, pieces_race, within_race, named_race, told_race, spent_race}
+use Rattle.bound_search.proofs.Raced.{closed_where, costly_where, spent_where, elected_below, some_pieces, of_contest, joined_reached, taken_entry, best_race, pieces_race, within_race, named_race, told_race, spent_race}
 use Rattle.bound_search.proofs.search.race.Goals as goal
 use Rattle.bound_search.proofs.search.race.Goals.{In_ok-ends}
 
@@ -80,6 +80,7 @@ returns-in-Some-clause-spent g c =
     let got : c.index.result.now ≡ costly.0 = c.index.ensures ∙ get_or_from_slice_get tails c.in-Some.piece costly.0 c.index.result.now costly.1 in
     spent_race bag c.args.nodes winner c.in-Some.piece first.margin c.args.tab.now costly.0 r.best _ refl
     (joined_reached bag winner first r.best tails start.tails start.reached raced.best)
+    (spent_where bag c.args.nodes tails c.args.workers first r raced c.in-Some.piece c.in-Some.is).0
     (λ records of. (start.first records of, raced.upper))
     at' (subst (λ ts. IsCostly bag first.margin c.args.nodes ts c.in-Some.piece) start.tails costly)
     (λ last other is. c.spent_on.ensures other last (ap (λ (t : Suffix). t.list) got ∙ is))

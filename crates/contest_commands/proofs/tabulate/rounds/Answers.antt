@@ -10,5 +10,5 @@ pub returns : goal.returns
 returns c =
     let t = c.args.tabulated.now in
     let shown = bytes_of c.into_bytes.result c.in_ok-text.text c.into_bytes.ensures.value ∙ c.in_ok-text.ensures in
-    let lines : HasRounds c.args.ballots.now _ = record { winner = t.winner; won = won_by c.args.ballots.now t c.requires; shown = shown } in
+    let lines : HasRounds c.args.ballots.now _ = record { winner = t.winner; won = won_by c.args.ballots.now t c.requires.is; decided = c.requires.decided; shown = shown } in
     inl (Answered Done _, inl (_, lines, refl), refl)

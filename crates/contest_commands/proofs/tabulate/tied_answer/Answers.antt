@@ -1,4 +1,4 @@
-use Rattle.std.proofs.Common.{inr, refl}
+use Rattle.std.proofs.Common.{inl, inr, refl}
 use Rattle.cli_base.specs.Due.{due}
 use Rattle.cli_base.proofs.Ended.{told_as}
 use Rattle.contest_commands.specs.Tabulate.{Tabulates}
@@ -7,5 +7,6 @@ use Rattle.contest_commands.proofs.tabulate.tied_answer.Goals as goal
 
 pub returns : goal.returns
 returns c =
-    let told = tie_told c.args.ballots.now c.candidates.result.now c.args.round c.args.tied c.args.votes c.candidates.ensures.same c.requires in
-    told_as (Tabulates c.args.ballots.now) _ (due c.first_tie.result) (inr (_, told, refl)) c.first_tie.ensures
+    let tie = c.args.tie.now in
+    let told = tie_told c.args.ballots.now c.candidates.result.now tie.round tie.tied tie.tally c.candidates.ensures.same c.requires in
+    told_as (Tabulates c.args.nodes c.args.ballots.now) _ (due c.first_tie.result) (inr (inl (_, told, refl))) c.first_tie.ensures

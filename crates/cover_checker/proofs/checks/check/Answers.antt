@@ -2,7 +2,7 @@ use Rattle.std.proofs.Common.{◌≡◌, true, sym, subst, ◌∙◌}
 use Rattle.std.proofs.lemmas.Result.{err_from_is_err_and}
 use Rattle.set_tallies.specs.Bags.{IsOf}
 use Rattle.cover_checker.specs.Findings.{is_about}
-use Rattle.cover_checker.proofs.Answered.{tie-fault, checked-answer, fault-answer}
+use Rattle.cover_checker.proofs.Answered.{want-fault, checked-answer, fault-answer}
 use Rattle.cover_checker.proofs.checks.check.Goals as goal
 
 pub returns-in_err-winner-clause-fault : goal.returns-in_err-winner-clause-fault
@@ -10,8 +10,7 @@ returns-in_err-winner-clause-fault c =
     let p = err_from_is_err_and c.from_residual.result c.from_residual.ensures.1 in
     let about : is_about c.args.ballots.now c.args.file.now ≡ true = sym c.is_about.ensures ∙ c.if-not-is_about.false in
     rw (p.1, p.2)
-    (tie-fault c.args.nodes c.args.ballots.now c.args.file.now about c.args.tallies.now.bag.n c.requires.candidates c.in_err-winner.field-0.0
-    (c.in_err-winner.ensures.tie c.args.ballots.now.rankings c.requires.records))
+    (want-fault c.args.nodes c.args.ballots.now c.args.file.now about c.in_err-winner.field-0.0 c.in_err-winner.ensures.fault)
 
 pub returns-clause-checked : goal.returns-clause-checked
 returns-clause-checked c =

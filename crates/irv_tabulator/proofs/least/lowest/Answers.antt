@@ -28,8 +28,8 @@ loop-i-preserved c =
       })
     ]
 
-pub returns-clause-least : goal.returns-clause-least
-returns-clause-least c =
+pub returns-clause-first : goal.returns-clause-first
+returns-clause-first c =
     let all : c.loop-i.i ≡ length (members c.args.remaining) = omega (arith, c.loop-i-test.false, c.loop-i.auto.i-end, c.len-i-end.ensures, c.requires.some) in
     lowest-whole c.args.row.now c.args.remaining c.loop-i.lowest (λ d h. let l = c.requires.within d h in
     omega (arith, l, c.requires.room)) (rw all at c.loop-i.invariant.least)

@@ -1,13 +1,13 @@
-use Rattle.std.proofs.Common.{◌≡◌, ◌+◌, ◌-◌, ◌<◌, ◌^◌, ◌++◌, ◌∷◌, [], length, sum, take, set, refl, sym, ap, subst, arith, ◌∙◌}
+use Rattle.std.proofs.Common.{◌==◌, ◌≡◌, ◌+◌, ◌-◌, ◌<◌, ◌^◌, ◌++◌, ◌∷◌, [], length, sum, take, filter, slice_index, set, refl, sym, ap, subst, arith, ◌∙◌}
 use Rattle.std.proofs.lemmas.List.{append-nil, length-set}
-use Rattle.irv_base.specs.Candidates.{members}
+use Rattle.irv_base.specs.Candidates.{members, set_of}
 use Rattle.irv_base.specs.Orders.{is_order}
-use Rattle.irv_base.specs.Tabulation.{is_tabulated, IsFirstTie}
+use Rattle.irv_base.specs.Tabulation.{is_tabulated}
 use Rattle.set_tallies.specs.Bags.{IsOf, tallies}
 use Rattle.irv_tabulator.proofs.Progress.{Shape, Rounds, IsRest, IsWithout, members-rest, set-below, first-shape, first-rounds, shape-more, rounds-more, remaining, take-long, place-more, place-last, last-one, not-refused}
-use Rattle.irv_tabulator.specs.Rounds.{counts_in, rounds_of}
+use Rattle.irv_tabulator.specs.Rounds.{Count, counts_in, rounds_of}
 use Rattle.irv_tabulator.proofs.Counts.{IsCounted, Noted, first-noted, noted-counted}
-use Rattle.irv_tabulator.proofs.Leasts.{Round, found-tie, found-loser}
+use Rattle.irv_tabulator.proofs.Leasts.{Round, tied-of, loser}
 use Rattle.irv_tabulator.proofs.rounds.tabulate.Goals as goal
 
 pub loop-round-init : goal.loop-round-init
@@ -36,30 +36,6 @@ lowest-loser-requires-clause-some c =
     let some : 0 < length (members c.loop-round.remaining) = omega (arith, left, long, c.loop-round-test.true) in
     some
 
-pub returns-then-tied-gt1-clause-tie : goal.returns-then-tied-gt1-clause-tie
-returns-then-tied-gt1-clause-tie c = λ records h.
-    let n = c.candidates-n.result in
-    let done = take (c.loop-round.round - 1) c.loop-round.places in
-    let long : length done ≡ c.loop-round.round - 1 = take-long (c.loop-round.round - 1) c.loop-round.places
-    (omega (arith, c.loop-round.invariant.wide, c.loop-round-test.true, c.candidates-n.ensures.room)) in
-    let shape = c.loop-round.invariant.shape in
-    let own : IsOf c.loop-round.tallies.bag records = subst (λ t. IsOf t.bag records) (sym c.loop-round.invariant.same) h in
-    let now : c.loop-round.tallies.bag.n ≡ n = ap (λ t. t.bag.n) c.loop-round.invariant.same ∙ sym c.candidates-n.ensures.same in
-    let r : Round n records c.as_slice-counts.result.now c.loop-round.remaining c.lowest-loser.result = record {
-      tallied = c.as_slice-counts.ensures.value ∙ c.in_ok-row.ensures.tallies records own ∙ ap (λ k. tallies records k c.loop-round.remaining) now;
-      rest = members-rest n c.loop-round.remaining c.candidates-n.ensures.room shape.below;
-      below = shape.below;
-      remains = c.lowest-loser.ensures.remains;
-      least = c.lowest-loser.ensures.least;
-    } in (
-      omega (arith, c.loop-round.auto.round),
-      subst (λ k. IsFirstTie k records c.loop-round.round c.sharing-tied.result.candidates c.votes-tally.result) c.candidates-n.ensures.same
-          (found-tie n records c.as_slice-counts.result.now c.loop-round.remaining c.lowest-loser.result r done c.loop-round.round c.sharing-tied.result.count
-          c.sharing-tied.result.candidates c.votes-tally.result
-          shape (c.loop-round.invariant.rounds records h) (omega (arith, long, c.loop-round.auto.round)) c.votes-tally.ensures
-          c.sharing-tied.ensures.candidates c.sharing-tied.ensures.count c.if-tied-gt1.true),
-    )
-
 pub loop-round-preserved : goal.loop-round-preserved
 loop-round-preserved c =
     let n = c.candidates-n.result in
@@ -84,27 +60,36 @@ loop-round-preserved c =
             rest = members-rest n c.loop-round.remaining c.candidates-n.ensures.room shape.below;
             below = shape.below;
             remains = c.lowest-loser.ensures.remains;
-            least = c.lowest-loser.ensures.least;
+            first = c.lowest-loser.ensures.first;
           } in
           subst (λ d. Rounds records d less) (sym e)
           (rounds-more records done c.loop-round.remaining c.lowest-loser.result less w
-          (found-loser n records c.as_slice-counts.result.now c.loop-round.remaining c.lowest-loser.result r less c.sharing-tied.result.count
-          c.votes-tally.result c.votes-tally.ensures c.sharing-tied.ensures.count (omega (arith, c.if-tied-gt1.false)) w)
+          (loser n records c.as_slice-counts.result.now c.loop-round.remaining c.lowest-loser.result r less w)
           (c.loop-round.invariant.rounds records h));
       noted = λ records h.
           let own : IsOf c.loop-round.tallies.bag records = subst (λ t. IsOf t.bag records) (sym c.loop-round.invariant.same) h in
           let now : c.loop-round.tallies.bag.n ≡ n = ap (λ t. t.bag.n) c.loop-round.invariant.same ∙ sym c.candidates-n.ensures.same in
-          let counted : IsCounted n records c.loop-round.remaining c.in_ok-row.row.items c.uncounted-exhausted.result = record {
+          let r : Round n records c.as_slice-counts.result.now c.loop-round.remaining c.lowest-loser.result = record {
+            tallied = c.as_slice-counts.ensures.value ∙ c.in_ok-row.ensures.tallies records own ∙ ap (λ k. tallies records k c.loop-round.remaining) now;
+            rest = members-rest n c.loop-round.remaining c.candidates-n.ensures.room shape.below;
+            below = shape.below;
+            remains = c.lowest-loser.ensures.remains;
+            first = c.lowest-loser.ensures.first;
+          } in
+          let count : Count = record { votes = c.in_ok-row.row.items; exhausted = c.uncounted-exhausted.result; tied = c.sharing-tied.result } in
+          let counted : IsCounted n records c.loop-round.remaining count = record {
             all = c.records-records.result;
             every = c.records-records.ensures.same records h;
             below = shape.below;
             tallied = c.in_ok-row.ensures.tallies records own ∙ ap (λ k. tallies records k c.loop-round.remaining) now;
             left = c.uncounted-exhausted.ensures ∙ ap (λ row. c.records-records.result - sum row) c.as_slice-counts.ensures.value;
+            shared = λ rest is. tied-of n records c.as_slice-counts.result.now c.loop-round.remaining c.lowest-loser.result r c.sharing-tied.result rest is
+                (c.sharing-tied.ensures ∙ ap (λ v. set_of (filter (λ d. slice_index c.as_slice-counts.result.now d == v) (members c.loop-round.remaining)))
+                c.votes.ensures);
           } in
           subst (λ d. Noted n records d less (counts_in c.note.new.rounds.items)) (sym e)
           (subst (λ counts. Noted n records (done ++ c.lowest-loser.result ∷ []) less counts) (sym c.in_ok-note.ensures)
-          (noted-counted n records done c.loop-round.remaining c.lowest-loser.result less (counts_in c.loop-round.rounds.items) c.in_ok-row.row.items
-          c.uncounted-exhausted.result counted w
+          (noted-counted n records done c.loop-round.remaining c.lowest-loser.result less (counts_in c.loop-round.rounds.items) count counted w
           (c.loop-round.invariant.noted records h)));
     }
 
@@ -157,7 +142,7 @@ returns-clause-tabulated c = λ records h.
     record {
       order = ap (is_order c.args.tallies.now.bag.n) whole ∙ ap (λ k. is_order k (done ++ c.nth-winner.result ∷ [])) (sym c.candidates-n.ensures.same)
           ∙ c.loop-round.invariant.shape.order (c.nth-winner.result ∷ []) one;
-      tabulated = ap (is_tabulated records) whole ∙ (c.loop-round.invariant.rounds records h).tabulated (c.nth-winner.result ∷ []) one refl;
+      tabulated = ap (is_tabulated records) whole ∙ c.loop-round.invariant.rounds records h (c.nth-winner.result ∷ []) one refl;
       winner = (done, whole);
       rounds =
           sym (ap (λ k. rounds_of k records c.in-Ok.order) (sym c.candidates-n.ensures.same)

@@ -1,7 +1,7 @@
 -- Each clause follows from the story of the call: what was due, and what the sinks took of it.
 use Rattle.cli_base.proofs.Clauses.{answered_clause, kept_clause}
 use Rattle.command_line.specs.Words.{texts}
-use Rattle.raire_cli.proofs.Clauses.{story_of, headline_clause, full_count_clause, complete_clause, complete_trial_clause, enough_clause, accepted_clause, opened_clause, audited_clause, status_clause, exact_promise}
+use Rattle.raire_cli.proofs.Clauses.{story_of, headline_clause, full_count_clause, tied_clause, complete_tie_clause, complete_clause, complete_tabulation_clause, complete_trial_clause, enough_clause, accepted_clause, opened_clause, audited_clause, status_clause, exact_promise}
 use Rattle.raire_cli.proofs.call.run.Goals as goal
 
 pub returns-clause-headline : goal.returns-clause-headline
@@ -12,6 +12,15 @@ returns-clause-full_count g c = full_count_clause (texts c.args.words.now) (stor
 
 pub returns-clause-complete : goal.returns-clause-complete
 returns-clause-complete g c = complete_clause (texts c.args.words.now) (story_of c.answer-outcome.ensures.due c.deliver.ensures)
+
+pub returns-clause-tied : goal.returns-clause-tied
+returns-clause-tied g c = tied_clause (texts c.args.words.now) (story_of c.answer-outcome.ensures.due c.deliver.ensures)
+
+pub returns-clause-complete_tie : goal.returns-clause-complete_tie
+returns-clause-complete_tie g c = complete_tie_clause (texts c.args.words.now) (story_of c.answer-outcome.ensures.due c.deliver.ensures)
+
+pub returns-clause-complete_tabulation : goal.returns-clause-complete_tabulation
+returns-clause-complete_tabulation g c = complete_tabulation_clause (texts c.args.words.now) (story_of c.answer-outcome.ensures.due c.deliver.ensures)
 
 pub returns-clause-complete_trial : goal.returns-clause-complete_trial
 returns-clause-complete_trial g c = complete_trial_clause (texts c.args.words.now) (story_of c.answer-outcome.ensures.due c.deliver.ensures)

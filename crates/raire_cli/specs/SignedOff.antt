@@ -1,0 +1,79 @@
+-- The risk limit of whole audits, from the words of their calls to the count: `SignedOffAreFew`, at the end, is what is promised; the
+-- records before it are the premises.
+--
+-- The audits that could be held of one contest stand side by side, as many as one likes. They have the same files, limit and gamma, and
+-- each has its own session and seed. If some way of breaking the ties of the cards elects another candidate than the assertion file
+-- says, then of all sequences of draws those are few on which one of these audits is signed off.
+--
+-- What each audit may have of its own, also by a look at its draws: how many rounds there are and where they end, which of the drawn
+-- cards are missing, what is noted of cards that weren't drawn, and its words and the names of its files. Several seeds may draw the
+-- same cards: a sequence counts once.
+--
+-- It is a count, and speaks of no chance. An audit that is begun anew with another seed draws another sequence: whoever may try seeds
+-- until one audit is signed off comes upon one of the few.
+use Rattle.std.specs.Prelude.{◌≡◌, ◌≢◌, ℕ, ◌*◌, ◌^◌, ◌≤◌, List, length, All, AllPairs, Some, IsTrue}
+use Rattle.desk.specs.Desk.{File}
+use Rattle.manifest.specs.Cards.{cards_of}
+use Rattle.assertion_file.specs.Content.{candidate_count}
+use Rattle.km_risk.specs.Exact.{millionths_in_one}
+use Rattle.audit_rounds.specs.Content.{Content}
+use Rattle.audit_rounds.specs.Sessions.{is_signed_off}
+use Rattle.audit_laws.specs.Laws.{AreTrueEntries}
+use Rattle.audit_laws.specs.RiskLimit.{MayElectAnother}
+use Rattle.raire_cli.specs.Audits.{GoesOn, drawn}
+use Rattle.raire_cli.specs.Basis.{Basis, FileBytes, Say}
+
+-- ---- what is given
+
+-- What is announced before a seed is drawn: three files and the terms.
+pub record Announced : Type 0 where
+  -- the bytes of the ballots, the manifest and the assertion file
+  pub bytes : FileBytes
+  -- the ballots, the cards and the assertions that they say
+  pub basis : Basis
+  -- they say so of the contest of the assertion file
+  pub say : Say (Some basis.file.contest) bytes basis
+  -- The limit in millionths, and gamma in thousandths. They are announced since what is promised doesn't hold of terms that are chosen
+  -- by a look at the draws: two cards are recorded for one candidate, and in truth there is a tie; of the 128 sequences of seven draws a
+  -- limit of 250,600 allows 32. With gamma 1 it is 32 that may be signed off, with gamma 500 it is 12, and with one or the other 34.
+  pub limit : ℕ
+  pub gamma : ℕ
+
+-- ---- what is counted
+
+-- The cards have these actual rankings, and no audit goes beyond so many draws.
+module _ (announced : Announced) (actual : List (List ℕ)) (most : ℕ) where
+  -- an audit of what was announced is signed off, and its seed draws this sequence
+  pub record IsSignedOffOn (sequence : List ℕ) : Type 0 where
+    -- a call goes on with its session, which then is signed off: `run` promises so where an audit ends with status 0 (`IsAudited`)
+    pub words : List (List ℕ)
+    pub files : List File
+    pub next : Content
+    pub on : GoesOn words files next
+    pub signed_off : IsTrue (is_signed_off next.session)
+    -- it stands on the files that were announced
+    pub same_files : on.bytes.basis ≡ announced.bytes
+    -- its session has the terms that were announced
+    pub same_limit : on.inputs.session.session.limit ≡ announced.limit
+    pub same_gamma : on.inputs.session.session.gamma ≡ announced.gamma
+    -- it ends at one of the draws of the sequence, at whichever
+    pub few : on.asks.draws ≤ most
+    -- each card that it drew is missing, or was read as it is
+    pub true_entries : AreTrueEntries actual on.inputs.entries (drawn on.inputs on.asks.draws)
+    -- the sequence is what its seed draws, also behind its end
+    pub of_seed : sequence ≡ drawn on.inputs most
+
+-- ---- what is promised
+
+-- The actual rankings, one each for the cards, may elect another candidate than the assertion file says. Then of all cards ^ most
+-- sequences at most limit millionths are such that an audit is signed off on them.
+abbrev pub SignedOffAreFew : Type 0
+SignedOffAreFew =
+    (announced : Announced) (actual : List (List ℕ)) (most : ℕ) (sequences : List (List ℕ)) →
+    MayElectAnother (candidate_count announced.basis.file) announced.basis.file.winner
+    (length (cards_of announced.basis.batches)) actual →
+    -- no two of the sequences are the same, and an audit is signed off on each
+    AllPairs ◌≢◌ sequences →
+    All (IsSignedOffOn announced actual most) sequences →
+    length sequences * millionths_in_one
+    ≤ announced.limit * length (cards_of announced.basis.batches) ^ most

@@ -447,7 +447,7 @@ def changed(draws, contest, printed):
 
 
 def printed_of(contest):
-    """What a search prints, or, where there is a tie, some file of the contest."""
+    """What a search prints, or, where the contest isn't decided, some file of it."""
     try:
         return json.loads(plain.certificate(contest))
     except plain.Tie:

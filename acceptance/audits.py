@@ -162,7 +162,7 @@ def tables(runs):
 
 
 def trials(runs):
-    """Trials of 2 to 6 candidates: with a winner or a tie, by any number of workers."""
+    """Trials of 2 to 6 candidates: decided or not, by any number of workers."""
     draws = Draws(2026)
     for _ in range(100):
         number, n, ballots, workers = (low + draws.below(count) for low, count in [(0, MOST_NUMBER + 1), (2, 5), (1, 400), (1, MOST_WORKERS)])
@@ -216,11 +216,11 @@ def one_of(draws, choices):
 
 
 def rankings_of(draws, ids):
-    """Ballots, of which few end in a tie."""
+    """Ballots, of which few leave open who has won."""
     while True:
         rankings = compare.contest_of(draws, len(ids), 4 + draws.below(24))
         try:
-            plain.tabulated(plain.Contest("9", ids, rankings))
+            plain.decided(plain.Contest("9", ids, rankings))
             return rankings
         except plain.Tie:
             if draws.below(20) == 0:

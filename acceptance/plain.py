@@ -52,31 +52,62 @@ class Contest:
 
 
 class Tie(Exception):
-    pass
+    """Ways of breaking the ties elect different candidates; the text tells the first tie."""
+
+
+def least_of(contest, standing):
+    """The least tally where just these stand, and those who have it."""
+    votes = contest.tally(standing)
+    least = min(votes.values())
+    return least, sorted(c for c in standing if votes[c] == least)
 
 
 def tabulated(contest):
-    """The order of elimination, with each round's tallies and exhausted ballots."""
+    """The order of elimination, with each round's tallies, exhausted ballots and those who share the least tally.
+
+    Of several with the least tally the first of the file is eliminated.
+    """
     standing, order, rounds = frozenset(range(contest.n)), [], []
     while len(standing) > 1:
-        votes = contest.tally(standing)
-        least = min(votes.values())
-        tied = sorted(c for c in standing if votes[c] == least)
-        if len(tied) > 1:
-            names = ",".join(contest.ids[c] for c in tied)
-            raise Tie(f"tie\nround {len(order) + 1}\ntied {names}\ntally {least}\n")
-        rounds.append((votes, contest.records - sum(votes.values())))
+        votes, (_, tied) = contest.tally(standing), least_of(contest, standing)
+        rounds.append((votes, contest.records - sum(votes.values()), tied))
         order.append(tied[0])
         standing -= {tied[0]}
     return tuple(order) + tuple(standing), rounds
 
 
-def tabulation(contest):
+def possible_winners(contest):
+    """Who wins where each tie is broken in every way: a set of candidates."""
+    known = {}
+
+    def from_here(standing):
+        if standing not in known:
+            tied = least_of(contest, standing)[1]
+            known[standing] = standing if len(standing) == 1 else frozenset().union(*(from_here(standing - {c}) for c in tied))
+        return known[standing]
+
+    return from_here(frozenset(range(contest.n)))
+
+
+def decided(contest):
+    """The tabulated order and its rounds, if each way of breaking the ties elects the same candidate; else Tie with the first."""
     order, rounds = tabulated(contest)
+    if len(possible_winners(contest)) > 1:
+        number, (votes, _, tied) = next((number, told) for number, told in enumerate(rounds, 1) if len(told[2]) > 1)
+        names = ",".join(contest.ids[c] for c in tied)
+        raise Tie(f"tie\nround {number}\ntied {names}\ntally {votes[tied[0]]}\n")
+    return order, rounds
+
+
+def tabulation(contest):
+    order, rounds = decided(contest)
     lines = [f"contest {contest.name}", f"records {contest.records}"]
-    for number, (votes, exhausted) in enumerate(rounds, 1):
+    for number, (votes, exhausted, tied) in enumerate(rounds, 1):
         shown = " ".join(f"{contest.ids[c]}={votes[c]}" for c in sorted(votes))
-        lines += [f"round {number}: {shown} exhausted={exhausted}", f"eliminated {contest.ids[order[number - 1]]}"]
+        lines.append(f"round {number}: {shown} exhausted={exhausted}")
+        if len(tied) > 1:
+            lines.append("tied " + ",".join(contest.ids[c] for c in tied))
+        lines.append(f"eliminated {contest.ids[order[number - 1]]}")
     return "\n".join(lines + [f"winner {contest.ids[order[-1]]}"]) + "\n"
 
 
@@ -147,7 +178,7 @@ def text_of(contest, winner, best, order, claims):
 
 def certificate(contest):
     """By the definition alone: every order, every suffix, every assertion that refutes it."""
-    tabulated_order, _ = tabulated(contest)
+    tabulated_order, _ = decided(contest)
     winner, n, lows = tabulated_order[-1], contest.n, Lows(contest)
     orders = [order for order in itertools.permutations(range(n)) if order[-1] != winner]
     hardness = {order: lows.low(order)[0] for order in orders}
@@ -165,7 +196,7 @@ def certificate(contest):
 
 def certificate_by_bound(contest):
     """The same from the end, under a bound, for contests whose orders are too many."""
-    tabulated_order, _ = tabulated(contest)
+    tabulated_order, _ = decided(contest)
     winner, n, lows = tabulated_order[-1], contest.n, Lows(contest)
     losers = [c for c in range(n) if c != winner]
     alone = {(c,): lows.grown((), (0, None), c)[1] for c in losers}
@@ -387,10 +418,7 @@ def difference(contest, file, nodes):
     """The status and the text of the first difference, or None."""
     if (file["contest"], file["candidates"], file["records"]) != (contest.name, contest.ids, contest.records):
         return 6, "no: contest differs\n"
-    try:
-        winner = tabulated(contest)[0][-1]
-    except Tie as tie:
-        return 3, str(tie)
+    winner = tabulated(contest)[0][-1]
     if file["winner"] != contest.ids[winner]:
         return 6, f"no: winner is {contest.ids[winner]}\n"
     claims = file["assertions"]

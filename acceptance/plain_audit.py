@@ -582,7 +582,7 @@ KINDS = {
 
 # the call, the number of its files, the options that must be given, those that may be
 COMMANDS = {
-    "tabulate": (tabulate, 1, "", "contest"),
+    "tabulate": (tabulate, 1, "", "contest nodes"),
     "search": (search, 1, "", "contest workers nodes floor"),
     "check": (check, 2, "", "contest nodes"),
     "sample": (sample, 1, "seed draws", ""),

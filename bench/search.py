@@ -22,7 +22,7 @@ from draws import Draws  # noqa: E402
 
 PROGRAM = os.path.join(TOP, "crates/raire/out/raire")
 
-REALISTIC = [(2, 1_000_000), (4, 10_000), (10, 200_000), (14, 940_000)]
+REALISTIC = [(2, 1_000_000), (4, 10_000), (10, 200_000), (14, 940_000), (32, 100_000)]
 NEAR_EQUAL = [12, 15, 20]
 
 
@@ -45,7 +45,7 @@ def pool(draws, weights, size, most):
 
 def write_ballots(path, candidates, ballots, is_equal):
     draws = Draws(candidates)
-    weights = [1000 if is_equal else int(1000 * 0.75**c) for c in range(candidates)]
+    weights = [1000 if is_equal else max(1, int(1000 * 0.75**c)) for c in range(candidates)]
     rankings = pool(draws, weights, 50_000, candidates if is_equal else 5)
     with open(path, "w") as file:
         file.write(f"1\nContest,339,{candidates},{','.join(str(15 + c) for c in range(candidates))}\n")

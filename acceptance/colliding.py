@@ -1,0 +1,220 @@
+#!/usr/bin/env python3
+"""Files whose author picked ids with one digest, and names and cards that crowd in a table, by a hash with a known seed.
+
+acceptance/colliding.py PROGRAM runs commands on such files and on honest ones of the same size. Status and standard error have to
+be the same. The processor time has to be within ten times that of the honest file for ids and members; for batches and seen cards,
+which are found by a hash with a known seed, it is told alone. The last line says how many were.
+"""
+import os
+import resource
+import subprocess
+import sys
+import tempfile
+
+from limits import MOST_BATCH_CARDS, MOST_RECORDS
+
+MOST_TIMES = 10
+# What is shorter than this counts as this, since the start of a program isn't what is measured.
+LEAST_SECONDS = 0.05
+BATCHES = 65_536
+CARD_BATCHES = 5
+MEMBERS = 1_000_000
+
+# ---- the hash: that of the kit's `FoldHasher`
+
+SEED, MULTIPLIER, MASK = 0x243F6A8885A308D3, 0x9E3779B97F4A7C15, 2**64 - 1
+
+
+def folded(a, b):
+    product = a * b
+    return product & MASK ^ product >> 64
+
+
+def word(data, at):
+    return int.from_bytes(data[at:at + 8], "little")
+
+
+def after_eight(state, number):
+    """The state after a number of eight bytes."""
+    return folded(state ^ number, MULTIPLIER ^ 16)
+
+
+def after_four(state, number):
+    return folded(state ^ number ^ number << 32, MULTIPLIER ^ 8)
+
+
+def after_byte(state, byte):
+    return folded(state ^ byte * 0x10101, MULTIPLIER ^ 2)
+
+
+def group(state, groups):
+    """Where a table of so many groups puts a key first."""
+    return (state ^ state >> 32) % groups
+
+
+# ---- what is alike to it
+
+LETTERS = b"0123456789ABCDEFGHIJKLMNOPQRSTUVWXYZabcdefghijklmnopqrstuvwxyz"
+
+
+def alike_front():
+    """24 bytes with which 32 bytes have the digest 0, whatever the last eight are.
+
+    The first 16 lead to a state that could be text. It comes next, so that the product after it is 0.
+    """
+    for number in range(len(LETTERS) ** 4):
+        tail = bytes(LETTERS[number // len(LETTERS) ** k % len(LETTERS)] for k in range(4))
+        front = b"collidingids" + tail
+        state = folded(word(front, 0) ^ SEED + 32, word(front, 8) ^ MULTIPLIER).to_bytes(8, "little")
+        if all(0x21 <= byte <= 0x7E and byte not in b'",' for byte in state):
+            return (front + state).decode()
+    raise AssertionError("no front leads to a text")
+
+
+def crowded_names(count):
+    """Names of nine bytes that all begin in a 64th of the groups of a table for them."""
+    groups = 1 << (count // 9).bit_length()
+    names = []
+    start = after_eight(SEED, 9)
+    for number in range(len(LETTERS) ** 4):
+        front, state = b"batch", start
+        for k in (2, 1, 0):
+            front += bytes([LETTERS[number // len(LETTERS) ** k % len(LETTERS)]])
+        for byte in front:
+            state = after_byte(state, byte)
+        for last in LETTERS:
+            if group(after_byte(state, last), groups) < groups // 64:
+                names.append((front + bytes([last])).decode())
+                if len(names) == count:
+                    return names
+    raise AssertionError("too few names")
+
+
+def crowded_cards(most):
+    """Numbers of cards that all begin in a 64th of the groups of a table for them."""
+    groups = 1 << (most // 64 // 9).bit_length()
+    return [card for card in range(1, most + 1) if group(after_four(SEED, card), groups) < groups // 64]
+
+
+# ---- files
+
+HEAD = "1\nContest,1,2,a,b\n"
+
+
+def write(name, parts):
+    with open(name, "w", encoding="ascii") as file:
+        file.writelines(parts)
+
+
+def write_ballots(name, ids):
+    """Ballots of which the first ranks b, and all others a."""
+    write(name, [HEAD, *(f"1,{ballot},{'a' if number else 'b'}\n" for number, ballot in enumerate(ids))])
+
+
+def write_manifest(name, batches):
+    write(name, ["batch,cards\n", *(f"{batch},1\n" for batch in batches)])
+
+
+class Runs:
+    def __init__(self, program):
+        self.program, self.count, self.failed = os.path.abspath(program), 0, 0
+
+    def timed(self, words):
+        before = resource.getrusage(resource.RUSAGE_CHILDREN)
+        ran = subprocess.run([self.program, *words], stdin=subprocess.DEVNULL, stdout=subprocess.PIPE, stderr=subprocess.PIPE, timeout=600)
+        after = resource.getrusage(resource.RUSAGE_CHILDREN)
+        told = ran.stderr.decode()
+        for name in words:
+            told = told.replace(name, "FILE")
+        return after.ru_utime + after.ru_stime - before.ru_utime - before.ru_stime, ran.returncode, told, ran.stdout.decode()
+
+    def made(self, words):
+        """What the program prints for honest files."""
+        _, status, told, printed = self.timed(words)
+        if status != 0:
+            raise AssertionError(f"{' '.join(words)}: {status} {told}")
+        return printed
+
+    def pair(self, shows, honest, colliding, is_told=False):
+        """Runs both. Where the times are told alone, they aren't judged."""
+        self.count += 1
+        long, status, told, _ = self.timed(honest)
+        try:
+            longer, *answer = self.timed(colliding)[:3]
+        except subprocess.TimeoutExpired:
+            self.failed += 1
+            return print(f"{shows}: it doesn't end")
+        print(f"{shows}: {long:.2f} s, colliding {longer:.2f} s")
+        if answer != [status, told]:
+            self.failed += 1
+            print(f"{shows}: wanted {status} {told!r}, got {answer}")
+        elif not is_told and longer > MOST_TIMES * max(long, LEAST_SECONDS):
+            self.failed += 1
+            print(f"{shows}: more than {MOST_TIMES} times as long")
+
+
+# ---- the cases
+
+def ballots(runs):
+    front = alike_front()
+    honest = [f"{'batch_':>024}{number:08}x" for number in range(MOST_RECORDS)]
+    colliding = [f"{front}{number:08}x" for number in range(MOST_RECORDS)]
+    write_ballots("honest", honest)
+    write_ballots("colliding", colliding)
+    runs.pair("ids of ballots", ["tabulate", "honest"], ["tabulate", "colliding"])
+    write_ballots("honest", honest[:-1] + honest[:1])
+    write_ballots("colliding", colliding[:-1] + colliding[:1])
+    runs.pair("ids of ballots, the last repeats the first", ["tabulate", "honest"], ["tabulate", "colliding"])
+    write("honest", ["2\nContest,1,2,a,b\nContest,2,2,a,b\n1,x,a\n", *(f"2,{ballot},a\n" for ballot in honest[:-1])])
+    write("colliding", ["2\nContest,1,2,a,b\nContest,2,2,a,b\n1,x,a\n", *(f"2,{ballot},a\n" for ballot in colliding[:-1])])
+    runs.pair("ids of ballots of another contest", ["tabulate", "honest", "--contest=1"], ["tabulate", "colliding", "--contest=1"])
+
+
+def batches(runs):
+    honest, crowded = [f"batch{number:04}" for number in range(BATCHES)], crowded_names(BATCHES)
+    for name, names in (("honest", honest), ("colliding", crowded)):
+        write_manifest(name, names)
+        write_ballots(f"{name}.raire", [f"{batch}_1" for batch in names])
+    sample = ["--seed=1", "--draws=3"]
+    runs.pair("names of batches", ["sample", "honest", *sample], ["sample", "colliding", *sample], is_told=True)
+    write("assertions", [runs.made(["search", "honest.raire"])])
+    opened = (["open", f"{name}.raire", name, "assertions", "--seed=1"] for name in ("honest", "colliding"))
+    runs.pair("ballots of batches", *opened, is_told=True)
+
+
+def cards(runs):
+    write("manifest", ["batch,cards\n", *(f"b{batch},{MOST_BATCH_CARDS}\n" for batch in range(CARD_BATCHES))])
+    write_ballots("ballots", ["b0_1", "b0_2", "b0_3"])
+    write("assertions", [runs.made(["search", "ballots"])])
+    files = ["ballots", "manifest", "assertions"]
+    write("session", [runs.made(["open", *files, "--seed=1"])])
+    crowded = crowded_cards(CARD_BATCHES * MOST_BATCH_CARDS)
+    for name, seen in (("honest", range(1, len(crowded) + 1)), ("colliding", crowded)):
+        write(name, (f"b{(card - 1) // MOST_BATCH_CARDS}_{(card - 1) % MOST_BATCH_CARDS + 1},ballot,a\n" for card in seen))
+    audited = (["audit", "session", *files, name, "--draws=1"] for name in ("honest", "colliding"))
+    runs.pair("seen cards", *audited, is_told=True)
+
+
+def members(runs):
+    front = alike_front()
+    write_ballots("ballots", ["1", "2", "3"])
+    printed = runs.made(["search", "ballots"])
+    for name, front in (("honest", "member of a file in JSON"), ("colliding", front)):
+        quoted = front.replace("\\", "\\\\")
+        write(name, ["{", *(f'"{quoted}{number:08}":0,' for number in range(MEMBERS)), printed[1:]])
+    runs.pair("members of an assertion file", ["check", "ballots", "honest"], ["check", "ballots", "colliding"])
+
+
+def main():
+    runs, here = Runs(sys.argv[1]), os.getcwd()
+    for part in (ballots, batches, cards, members):
+        with tempfile.TemporaryDirectory() as folder:
+            os.chdir(folder)
+            part(runs)
+            os.chdir(here)
+    print(f"{runs.count - runs.failed} passed, {runs.failed} failed")
+    sys.exit(1 if runs.failed else 0)
+
+
+if __name__ == "__main__":
+    main()

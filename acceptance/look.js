@@ -1,5 +1,5 @@
 // What is wrong with a page as it is laid out, told in the element #found: texts with too little contrast, that are cut,
-// that stand on one another or can't be selected, a page wider than its window, drawings without a text.
+// that stand on one another or can't be selected, a page wider than its window, drawings without a text, what no keyboard reaches.
 (() => {
     const found = [];
     const tell = (what, node) => found.push(what + ": " + (node.textContent || node.id || "").trim().slice(0, 60));
@@ -63,6 +63,16 @@
         if (!bar.closest("[aria-hidden]")) tell("a bar that is read out", bar);
     }
     if (document.querySelectorAll("script:not(#look), link, iframe, [src], [href]").length) tell("something from elsewhere", document.body);
+    for (const node of document.querySelectorAll("summary, .scroll")) {
+        if (!node.checkVisibility()) continue;
+        node.focus({focusVisible: true});
+        if (document.activeElement !== node) tell("no keyboard reaches", node);
+        if (node.matches(":focus-visible") && getComputedStyle(node).outlineStyle !== "solid") tell("nothing shows that the keyboard is at", node);
+        if (node.matches(".scroll") && !node.getAttribute("aria-label") && !node.getAttribute("aria-labelledby")) tell("has no name", node);
+    }
+    for (const node of document.querySelectorAll("main *")) {
+        if (node.scrollWidth > node.clientWidth + 1 && /auto|scroll/.test(getComputedStyle(node).overflowX) && node.tabIndex !== 0) tell("scrolls for a mouse alone", node);
+    }
     const told = document.createElement("pre");
     told.id = "found";
     told.textContent = JSON.stringify({found, texts, least, ground: ground(document.body)});

@@ -3,12 +3,14 @@
 
 acceptance/page.py PROGRAM [AUDITS] first tries words, programs and files that are refused, and what the page says of sessions
 and seen cards. Then it makes pages of so many generated audits, 40 if no number is given, and compares their numbers
-with what the commands print. PROGRAM is asked; for commands that it doesn't have, plain_audit.py. Then
-the example audit, a contest of 14 candidates and one with names that are no names are opened in Chromium (the package
-chromium-headless-shell): narrow, wide, dark and as in print, nothing may overlap or be cut, and contrast and texts
-beside drawings have to hold. With a folder as third word the screenshots are left there.
+with what the commands print; and of as many generated contests, whose bars it measures. PROGRAM is asked; for commands that it
+doesn't have, plain_audit.py. Then the example audits, contests of many candidates and one with names that are no names are opened in
+a browser (the package chromium-headless-shell or chromium, or google-chrome): narrow, wide, dark and as in print, nothing may overlap
+or be cut, and contrast, texts beside drawings and what a keyboard reaches have to hold. With a folder as third word the screenshots
+are left there.
 """
 import html
+import itertools
 import json
 import os
 import re
@@ -16,15 +18,20 @@ import shutil
 import subprocess
 import sys
 import tempfile
+import threading
+from multiprocessing.pool import ThreadPool
 
 import audits
 import plain_audit
+import walk
 from draws import Draws
+from limits import MOST_CANDIDATES
 
 HERE = os.path.dirname(os.path.abspath(__file__))
 TOP = os.path.dirname(HERE)
 SHOW = os.path.join(TOP, "show")
 BROWSERS = ("chromium-headless-shell", "chromium", "google-chrome")
+FLAGS = ["--headless", "--no-sandbox", "--disable-gpu", "--hide-scrollbars"]
 LOOKS = {"narrow": (360, "screen", False), "wide": (1200, "screen", False), "dark": (900, "screen", True), "print": (700, "print", False)}
 DARK = "@media screen and (prefers-color-scheme: dark)"
 
@@ -76,8 +83,7 @@ class Shows:
 
 def text_of(page):
     """The words of a page, without its marks."""
-    body = page[page.index("<main>"):]
-    return " ".join(html.unescape(re.sub("<[^>]*>", " ", body)).split())
+    return " ".join(html.unescape(re.sub("<[^>]*>", " ", page.partition("<main>")[2])).split())
 
 
 # ---- refusals
@@ -200,8 +206,14 @@ def programs(shows, tried):
 
 
 def top_of(page):
-    """The list of findings on top of a page."""
-    return page[page.index('<ul class="short">'):page.index("</header>")]
+    """The state and the findings on top of a page."""
+    return page.partition("<header>")[2].partition("</header>")[0]
+
+
+def states_of(page):
+    """What stands in the frames on top: of each its kind, its mark and its words."""
+    found = re.findall(r'<p class="state (\w+)"><span class="mark" aria-hidden="true">(.)</span>(.*)</p>', page)
+    return [(kind, mark, " ".join(html.unescape(re.sub("<[^>]*>", "", text)).split())) for kind, mark, text in found]
 
 
 def sessions(shows, tried):
@@ -211,12 +223,12 @@ def sessions(shows, tried):
     rounds, files = [audits.FIRST, audits.SECOND], ["ballots.raire", "manifest.csv", "assertions.json"]
     audits.write("session.json", audits.session_with(rounds, True))
     write("open.json", audits.session_with(rounds[:1], False))
-    for name, said in (("session.json", "<b>Signed off</b> after 5 draws in 2 rounds"), ("open.json", "<b>Not signed off</b> after 4 draws")):
+    for name, said in (("session.json", "SIGNED OFF in round 2, after 5 draws"), ("open.json", "NOT SIGNED OFF, and no cards left: 1 of 1 assertion")):
         for others in ([], files, ["seen.csv", *files]):
             page = shows.run(name, *others)[1]
-            mine = [line for line in top_of(page).splitlines() if "igned off" in line]
-            tried.see(f"{name} with {others} is told", len(mine) == 1 and said in mine[0], mine)
-            is_green = "ran the whole audit again, and ended with the same session" in page and '<span class="good">' in page
+            mine = states_of(page)
+            tried.see(f"{name} with {others} is told", [text.startswith(said) for _, _, text in mine] == [True], mine)
+            is_green = any(kind == "signed" and "ran the whole audit again, and ended with the same bytes" in text for kind, _, text in mine) and '<span class="good">' in page
             tried.see(f"{name} with {others} is green where it was run again", is_green == (name == "session.json" and len(others) == 4), mine)
     for name, text, told in [
         ("session.json", "[1", "it isn't JSON"), ("a.json", '{"seed":1}', "the member assertions is missing"),
@@ -227,6 +239,13 @@ def sessions(shows, tried):
         write(name, text)
         status, page, err = shows.run(name)
         tried.see(f"{told} is told", status == 2 and page == "" and err.startswith(f"raire: {name}: S1\nshow: {name}: {told}"), (status, err))
+    write("m.csv", "batch,cards\nb,0\n")
+    walk.write_stand_in(os.path.abspath(shows.given["PROGRAM"]), "./adds")
+    for name, told in (("a.json", "show: a.json: round 1 doesn't"), ("m.csv", "raire: M3: the number of cards isn't one")):
+        status, page, err = shows.run(name, program=os.path.abspath("adds"))
+        tried.see(f"{told} is told behind ./raire's line", page == "" and err.split("\n")[1].startswith(told), (status, err))
+    lines = shows.run("a.json", program=os.path.abspath("adds"))[2].split("\n")
+    tried.see("the line that ./raire adds stands last", len(lines) == 4 and lines[2].startswith("raire: S1: "), lines)
     write("cards.json", audits.session_with(rounds[:0], False).replace('"cards":1', '"cards":2'))
     got = shows.run("cards.json", "manifest.csv")
     tried.see("another number of cards is told", got == (1, "", "show: cards.json is about 2 cards, and manifest.csv has 1\n"), got)
@@ -327,6 +346,268 @@ def kinds(shows, tried):
         tried.see(f"{told} is told of {text!r}", status == 2 and page == "" and f" {name}: {told}" in err, (status, err))
 
 
+# ---- the state of an audit
+
+def two_candidates(records, seen_of):
+    """An audit of 200 cards, with a record each: the files, and what is seen of the cards; `seen_of` tells it of a card's number and record."""
+    write("ballots.raire", "1\nContest,7,2,1,2\n" + "".join(f"7,b_{k},{c}\n" for k, c in enumerate(records, 1)))
+    write("manifest.csv", f"batch,cards\nb,{len(records)}\n")
+    write("seen.csv", "".join(f"b_{k},ballot,{seen_of(k, c)}\n" for k, c in enumerate(records, 1)))
+    write("assertions.json", plain_audit.run(["search", "ballots.raire"])[1])
+    return ["ballots.raire", "manifest.csv", "assertions.json"]
+
+
+def go_on(files, name, draws, *terms):
+    """A session of so many rounds."""
+    write(name, plain_audit.run(["open", *files, "--seed=1", *terms])[1])
+    for number in draws:
+        write(name, plain_audit.run(["audit", name, *files, "seen.csv", f"--draws={number}"])[1])
+
+
+def states(shows, tried):
+    """Each page begins with the state of the audit, in words and with a mark of its own."""
+    files = two_candidates([1] * 150 + [2] * 50, lambda k, c: c)
+    go_on(files, "opened.json", [])
+    go_on(files, "few.json", [2])
+    go_on(files, "whole.json", [2, 40])
+    one = [("ballots1.raire", audits.BALLOTS), ("manifest1.csv", audits.MANIFEST), ("assertions1.json", audits.ASSERTIONS), ("seen1.csv", audits.SEEN)]
+    for name, text in one:
+        write(name, text)
+    write("none_left.json", audits.session_with([audits.FIRST], False))
+    no_paper, marks = "NOT AUDITED: records only. No paper has been looked at", {}
+    for words, kind, said in [
+        (["ballots.raire"], "unaudited", no_paper), (["assertions.json"], "unaudited", no_paper), (files, "unaudited", no_paper),
+        (["manifest.csv"], "unaudited", "NOT AUDITED: no session"), (["seen.csv"], "unaudited", "NOT AUDITED: no session"),
+        ([*files, "seen.csv"], "unaudited", "NOT AUDITED: no session is given, so what was read from paper"),
+        (["opened.json", *files], "open", "OPEN: no card was drawn yet. 1 of 1 assertion"),
+        (["few.json", *files, "seen.csv"], "open", "OPEN: not signed off after 2 draws in 1 round: 1 of 1 assertion"),
+        (["whole.json"], "said", "SIGNED OFF in round 2, after 40 draws, so the session says"),
+        (["whole.json", *files], "said", "SIGNED OFF in round 2, after 40 draws, so the session says"),
+        (["whole.json", *files, "seen.csv"], "signed", "SIGNED OFF in round 2, after 40 draws. Each assertion had a risk of at most 0.05"),
+        (["none_left.json", *(name for name, _ in one)], "unsigned", "NOT SIGNED OFF, and no cards left: 1 of 1 assertion"),
+    ]:
+        status, page, err = shows.run(*words)
+        found = states_of(page) if status == 0 else []
+        tried.see(f"the state of {words}", [each[0] for each in found] == [kind] and found[0][2].startswith(said), (found, err[-200:]))
+        marks.setdefault(found[0][1] if found else kind, set()).add(kind)
+        has_title = status == 0 and re.search("<title>.*: (NOT AUDITED|OPEN|SIGNED OFF|NOT SIGNED OFF)", page)
+        tried.see(f"the title of {words} has the state", has_title, page[:300])
+        tried.see(f"what was only checked isn't green: {words}", kind == "signed" or 'class="good"' not in page)
+    tried.see("each state has its own mark", len(marks) == 5 and all(len(kinds) == 1 for kinds in marks.values()), marks)
+    page = shows.run(*files)[1]
+    tried.see("a check is of the records", "The assertions hold of these records" in text_of(page) and "For this alone no paper was looked at." in text_of(page))
+    unusual(shows, tried, files)
+
+
+def unusual(shows, tried, files):
+    """A limit above a tenth and a gamma that few audits have are named."""
+    for terms, said in [
+        ((), None), (("--limit=100000", "--gamma=50"), None), (("--gamma=200",), None),
+        (("--limit=100001",), "a risk limit of 0.100001, which is above 0.1."), (("--gamma=49",), "a gamma of 49 thousandths, which is outside 50 to 200."),
+        (("--limit=300000", "--gamma=201"), "a risk limit of 0.3, which is above 0.1, and a gamma of 201 thousandths, which is outside 50 to 200."),
+    ]:
+        go_on(files, "session.json", [], *terms)
+        found = [text for kind, _, text in states_of(shows.run("session.json")[1]) if kind == "unusual"]
+        tried.see(f"the terms {terms}", found == ([f"UNUSUAL TERMS: {said}"] if said else []), found)
+
+
+def later(shows, tried):
+    """Signed off after 40 draws, and then gone on with, to cards that speak against it."""
+    drawn = {plain_audit.drawn("1", k, 200) for k in range(1, 41)}
+    files = two_candidates([1] * 150 + [2] * 50, lambda k, c: c if k in drawn else 2)
+    go_on(files, "session.json", [40, 200])
+    for others in ([], [*files, "seen.csv"]):
+        page = shows.run("session.json", *others)[1]
+        found = {kind: text for kind, _, text in states_of(page)}
+        first = found.get("signed" if others else "said", "")
+        tried.see(f"the round of the sign-off is told, with {others}", first.startswith("SIGNED OFF in round 1, after 40 draws"), found)
+        against = "LATER DRAWS SPEAK AGAINST IT: the risk of 1 assertion is now above the limit of 0.05."
+        tried.see(f"what speaks against it is told, with {others}", found.get("against") == against, found)
+        tried.see("and in the row of the assertion", re.search("Confirmed in round 1 ?, now above", text_of(page)) is not None)
+    go_on(files, "session.json", [40])
+    tried.see("nothing speaks against it before", "against" not in {kind for kind, _, _ in states_of(shows.run("session.json")[1])})
+
+
+def bytes_of_sessions(shows, tried):
+    """A session of which a byte is another one than the program prints isn't called the same."""
+    files = two_candidates([1] * 150 + [2] * 50, lambda k, c: c)
+    go_on(files, "session.json", [40])
+    with open("session.json") as file:
+        printed = file.read()
+    for text, told in [
+        (printed, None), (printed.replace('"version":1', '"version":1,"watched":"by nobody"'), "its bytes are others, and watched was added."),
+        (printed.replace(",", ", "), "its bytes are others."), (printed + "\n", "its bytes are others."),
+    ]:
+        write("session.json", text)
+        for others in ([], [*files, "seen.csv"]):
+            status, page, err = shows.run("session.json", *others)
+            words = text_of(page) if status == 0 else err
+            is_same = "with the same bytes" in words
+            tried.see(f"the same bytes, {told}", is_same == (told is None and bool(others)), words[:300])
+            is_otherwise = "ended with other bytes" in words
+            tried.see(f"what the audit ended with, {told}", is_otherwise == (told is not None and bool(others)), words[:300])
+            tried.see(f"other bytes are told, {told}", (told is None) == ("isn’t as the program prints it" not in words) and (told or "") in words, words[:300])
+
+
+# ---- a full count, cards, names, ties
+
+def counts(shows, tried):
+    """A full count is shown as what it is, beside the audit that led to it."""
+    village = os.path.join(TOP, "examples", "village")
+    files = [os.path.join(village, name) for name in sorted(os.listdir(village))]
+    for words in (files, files[::-1]):
+        status, page, err = shows.run(*words)
+        text = text_of(page) if status == 0 else err
+        found = states_of(page)
+        tried.see("the village is counted", status == 0 and [kind for kind, _, _ in found] == ["counted", "unsigned"], (found, err))
+        tried.see("who wins by the count", found and found[0][2].startswith("COUNTED IN FULL: Oak wins by 59 ballots of counted.raire."), found)
+        tried.see("the audit before it", found and found[-1][2].startswith("NOT SIGNED OFF after 38 draws in 1 round: 3 of 3 assertions"), found)
+        tried.see("nobody is told to draw on", status == 0 and "Draw further cards" not in text)
+        count = text.partition("The full count ")[2]
+        tried.see("the rounds of the count", all(each in count for each in ("Fir 16", "Hazel 14", "Oak 27", "Fir 23 +7", "Oak 30 +3")), count[:400])
+        tried.see("it is named as that", "full count, judged by the program counted.raire" in text, text[-900:])
+    write("a.raire", "1\nContest,7,2,1,2\n7,b_1,1\n7,b_2,1\n7,b_3,2\n")
+    write("counted.raire", "1\nContest,7,2,1,2\n7,b_1,1\n7,b_2,2\n7,b_3,2\n")
+    write("tie_counted.raire", "1\nContest,7,2,1,2\n7,b_1,1\n7,b_2,2\n")
+    write("others_counted.raire", "1\nContest,7,2,1,3\n7,b_1,1\n")
+    write("contest_counted.raire", "1\nContest,8,2,1,2\n8,b_1,1\n")
+    write("b.raire", "1\nContest,7,2,1,2\n7,b_1,1\n7,b_2,2\n7,b_3,2\n")
+    found = states_of(shows.run("counted.raire", "a.raire")[1])
+    tried.see("another winner is told", found and "2 wins by 3 ballots of counted.raire. The records elect 1: they are wrong, or the count is." in found[0][2], found)
+    page = shows.run("a.raire", "tie_counted.raire")[1]
+    found = states_of(page)
+    tried.see("its state is", found and found[0][2] == "COUNTED IN FULL: tie_counted.raire leaves open who wins.", found)
+    tried.see("its ballots are told", "The full count 2 ballots of tie_counted.raire." in text_of(page), text_of(page)[:600])
+    tried.see("no tree is told where there is none", "The page itself proves nothing." in text_of(page) and "drawn and counted by it" not in page)
+    tried.see("a count without a winner is told", "leaves open who wins" in page and "Candidates share the least votes in round 1" in page, page[:300])
+    for words, status, told in [
+        (["a.raire", "b.raire"], 1, "show: a.raire and b.raire are both of one kind (ballot file); give one of them, or call"),
+        (["a.raire", "b.raire", "counted.raire"], 1, "show: a.raire and b.raire are both of one kind"),
+        (["counted.raire", "tie_counted.raire"], 1, "show: counted.raire and tie_counted.raire are both of one kind"),
+        (["a.raire", "others_counted.raire"], 1, "show: others_counted.raire has other candidates than a.raire"),
+        (["a.raire", "contest_counted.raire"], 2, "raire: contest_counted.raire: B5 at 1"),
+    ]:
+        got = shows.run(*words)
+        tried.see(f"{words} are refused", got[0] == status and got[1] == "" and got[2].startswith(told), got)
+    files = two_candidates([1] * 150 + [2] * 50, lambda k, c: c)
+    go_on(files, "session.json", [2])
+    page = shows.run("b.raire", "session.json", *files)[1]
+    tried.see("a session tells the records from the count", "2 wins by 3 ballots of b.raire" in text_of(page), top_of(page) if page else "")
+
+
+def cards(shows, tried):
+    """Cards, records and the cards without a record stand on top, and a batch that no ballot names."""
+    town = os.path.join(TOP, "examples", "town")
+    ballots, manifest = (os.path.join(town, name) for name in ("ballots.raire", "manifest.csv"))
+    text = text_of(shows.run(ballots, manifest)[1])
+    tried.see("the town's cards", "480 cards by the manifest, 477 ballots on record, 3 cards without a record ." in text, text[:400])
+    tried.see("each of its batches is named", "No ballot is of a card of" not in text)
+    with open(manifest) as file:
+        write("manifest.csv", file.read() + "Total,480\n")
+    page = shows.run(ballots, "manifest.csv")[1]
+    text = text_of(page)
+    tried.see("a line of sums is counted", "960 cards by the manifest, 477 ballots on record, 483 cards without a record ." in text, text[:400])
+    tried.see("and pointed at", "No ballot is of a card of this batch: Total (480 cards)." in text, text[:600])
+    one = "See that it is a box of cards, and no line of sums, and that its records are there."
+    tried.see("and to be seen to", one in text, text[:700])
+    with open("manifest.csv", "a") as file:
+        file.write("Sum,480\n")
+    two = "See that they are boxes of cards, and no lines of sums, and that their records are there."
+    tried.see("two of them too", two in text_of(shows.run(ballots, "manifest.csv")[1]))
+    tried.see("and in its row", re.search("Total 480 none 481 to 960", text) is not None, text[-900:])
+
+
+def names(shows, tried):
+    """Names stand for ids everywhere."""
+    ids = {"c-one": "Zoë Œil", "c-two": "Lee, Ann", "c-three": "<b>Ray</b>"}
+    write("names.csv", "id,name\n" + "".join(f'{c},"{name}"\n' for c, name in ids.items()))
+    one, two, three = ids
+    cast = [[one, two]] * 90 + [[two, three]] * 70 + [[three, one]] * 40
+    write("ballots.raire", f"1\nContest,7,3,{','.join(ids)}\n" + "".join(f"7,b_{k},{','.join(ranking)}\n" for k, ranking in enumerate(cast, 1)))
+    write("manifest.csv", "batch,cards\nb,200\n")
+    write("seen.csv", "".join(f"b_{k},ballot,{','.join(ranking if k % 9 else ranking[::-1])}\n" for k, ranking in enumerate(cast, 1)))
+    write("assertions.json", plain_audit.run(["search", "ballots.raire"])[1])
+    go_on(["ballots.raire", "manifest.csv", "assertions.json"], "session.json", [30])
+    with open("assertions.json") as file:
+        printed = file.read()
+    write("less.json", re.sub(r'"assertions":\[({[^}]*}).*?],"candidates"', r'"assertions":[\1],"candidates"', printed))
+    write("winner.json", printed.replace(f'"winner":"{one}"}}\n', f'"winner":"{two}"}}\n'))
+    write("tie.raire", f"1\nContest,7,3,{','.join(ids)}\n7,b_1,{one}\n7,b_2,{two}\n")
+    whole = ["ballots.raire", "manifest.csv", "assertions.json", "session.json", "seen.csv"]
+    for order in itertools.permutations(ids):
+        write("order.json", re.sub(r'"order":\[.*?\]', f'"order":{json.dumps(order)}', printed))
+        if "refuted by" in plain_audit.run(["check", "ballots.raire", "order.json"])[1]:
+            break
+    for files in [
+        ["ballots.raire"], ["assertions.json"], whole, *(["ballots.raire", f"{name}.json"] for name in ("less", "winner", "order")), ["tie.raire"], [*whole, "tie.raire"],
+    ]:
+        status, page, err = shows.run(*files, "names.csv")
+        text = text_of(page).partition("What this page is made of")[0] if status == 0 else err
+        left = [c for c in ids if c in text]
+        tried.see(f"no id stands where a name is: {files}", status == 0 and not left and "Zoë Œil" in text, (left, text[:500]))
+        is_told = "c-one is Zoë Œil; c-two is Lee, Ann; c-three is <b>Ray</b>" in text_of(page) and "names, not judged by the program names.csv" in text_of(page)
+        tried.see(f"who is who: {files}", is_told, text_of(page)[-500:])
+    text = text_of(shows.run("ballots.raire", "order.json", "names.csv")[1])
+    tried.see("an assertion of a check has names", re.search("no: order is refuted by NE[BN] (Zoë|Lee|<b>)", text) is not None, text[:500])
+    page = shows.run(*whole, "names.csv")[1]
+    tried.see("a card's ranking has names", "Lee, Ann > Zoë Œil" in text_of(page), text_of(page)[-900:])
+    for text, told in [
+        ("c-one,Zoë\n", "doesn't begin with a line id,name"), ("id,name\nc-one\n", "record 2 isn't an id and a name"), ("id,name\nc-one,\n", "record 2 isn't"),
+        ("id,name\nc-one,A\nc-one,B\n", "record 3 names c-one once more"), ("id,name\nc-four,A\n", "has a name for c-four, who is no candidate"),
+        ("id,name\nc-one,A\nc-two,A\n", "both c-one and c-two are called A"), ("id,name\nc-one,c-two\n", "both c-one and c-two are called c-two"),
+        ("id,name\nc-one,A\u202eB\n", "record 2 isn't an id and a name that can be shown"), ('id,name\nc-one,"A\n', "isn't comma-separated text"),
+    ]:
+        write("names.csv", text)
+        got = shows.run("ballots.raire", "names.csv")
+        tried.see(f"{told} is told", got[0] == 1 and got[1] == "" and got[2].startswith("show: ") and "names.csv" in got[2] and told in got[2], got)
+    with open("names.csv", "wb") as file:
+        file.write("id,name\nc-one,Zoë\n".encode("latin-1"))
+    tried.see("another code than UTF-8 is told", "isn't comma-separated text in UTF-8" in shows.run("ballots.raire", "names.csv")[2])
+    write("names.csv", "id,name\nc-one,A\n")
+    got = shows.run("session.json", "names.csv")
+    tried.see("names without candidates are told", got[0] == 1 and "names.csv names candidates: give a ballot file" in got[2], got)
+    tried.see("one name is enough", "<b>A</b> wins" in shows.run("ballots.raire", "names.csv")[1])
+
+
+# A program that prints a prepared text for a tabulation.
+PREPARED = """#!/usr/bin/env bash
+cat tabulated.txt
+exit "$(cat status.txt)"
+"""
+
+
+def ties(shows, tried):
+    """A tie is told, and whether it matters."""
+    write("ballots.raire", "1\nContest,7,4,a,b,c d,e=1 f=2\n7,b_1,a\n")
+    write_program("prepared", PREPARED)
+    prepared = os.path.abspath("prepared")
+    rounds = [
+        "contest 7", "records 9", "round 1: a=5 b=1 c d=1 e=1 f=2=2 exhausted=0", "tied b,c d", "eliminated b", "round 2: a=5 c d=2 e=1 f=2=2 exhausted=0",
+        "tied c d,e=1 f=2", "eliminated c d", "round 3: a=5 e=1 f=2=3 exhausted=1", "eliminated e=1 f=2", "winner a",
+    ]
+    share = "Candidates share the least votes in round"
+    for text, status, marked, said in [
+        (rounds, 0, [1, 2], f"{share}s 1 and 2. Each way of breaking these ties elects a."),
+        ([line for line in rounds if line != "tied b,c d"], 0, [2], f"{share} 2. Each way of breaking this tie elects a."),
+        ([line for line in rounds if not line.startswith("tied")], 0, [], None),
+        (["tie", "round 2", "tied b,c d,e=1 f=2", "tally 1"], 3, [], f"{share} 2: b, c d and e=1 f=2, 1 vote each. The ways of breaking the ties"),
+        (["spent", "candidate b", "order a,b", "margin 0"], 4, [], "wasn’t found within the budget (spent, candidate b, order a,b, margin 0)."),
+    ]:
+        write("tabulated.txt", "".join(f"{line}\n" for line in text))
+        write("status.txt", str(status))
+        got, page, err = shows.run("ballots.raire", program=prepared)
+        tried.see("exhausted are those from before the round", "Exhausted so far" not in page and ("Exhausted before: 1." in page) == (status == 0), page[:300])
+        words = text_of(page) if got == 0 else err
+        tried.see(f"the tie of {text}", got == 0 and (said in words if said else "share the least votes" not in words), words[:500])
+        found = [number for number in (1, 2, 3) if f"Round {number} a tie" in words]
+        tried.see(f"rounds with a tie are marked: {text}", found == marked, (found, marked))
+        told = "c d and e=1 f=2 share the least votes. Whoever of them goes first, a wins; c d , who stands first in the file, is eliminated"
+        tried.see(f"who goes, and that it doesn't matter: {text}", (told in words) == (2 in marked), words[:900])
+    write("bottom.raire", "1\nContest,1,3,1,2,3\n1,b_1,1\n1,b_2,1\n1,b_3,1\n")
+    status, page, _ = shows.run("bottom.raire")
+    tried.see("a tie at the bottom is shown", status == 0 and "Candidates share the least votes in round 1" in text_of(page))
+
+
 # ---- numbers
 
 def numbers(shows, tried, draws):
@@ -334,7 +615,7 @@ def numbers(shows, tried, draws):
     audits.Made(draws)
     if plain_audit.run(["search", "ballots.raire"])[0] != 0:
         status, page, _ = shows.run("ballots.raire")
-        tried.see("a tie is shown", status == 0 and "A tie in round" in text_of(page))
+        tried.see("a tie is shown", status == 0 and "Candidates share the least votes in round" in text_of(page))
         return
     for words, name in [
         ("search ballots.raire", "assertions.json"),
@@ -353,7 +634,7 @@ def numbers(shows, tried, draws):
             shown = text.partition(f"Round {match[1]} ")[2].partition("is eliminated")[0]
             tried.see(line, all(re.search(rf"(^| ){c} {int(n):,}( |$)", shown) for c, n in votes), shown)
     report = plain_audit.run(["report", "session.json"])[1].splitlines()
-    tried.see(report[-1], ("Signed off after" in text) == report[-1].endswith("yes"))
+    tried.see(report[-1], ("SIGNED OFF in round" in text) == report[-1].endswith("yes"))
     last = max(at for at, line in enumerate(report) if line.startswith("round"))
     for line in report[last + 1:-1]:
         _, j, _, margin, _, *counts, _, risk, state = line.split(" ")
@@ -373,26 +654,40 @@ def short(risk):
 
 # ---- looks
 
+def browsers():
+    """Those that are there, each of which can lay out a page without a screen."""
+    return list(filter(None, map(shutil.which, BROWSERS)))
+
+
+def laid_out(browser, path, page, *flags):
+    """What a page's script tells in the element #found once it is laid out, or None."""
+    write(path, page)
+    ran = subprocess.run([browser, *FLAGS, *flags, "--virtual-time-budget=3000", "--dump-dom", f"file://{os.path.abspath(path)}"], capture_output=True, text=True, timeout=300)
+    told = re.search(r'<pre id="found">(.*?)</pre>', ran.stdout, re.DOTALL)
+    return json.loads(html.unescape(told[1])) if told else None
+
+
+def script_of(name):
+    with open(os.path.join(HERE, name)) as file:
+        return f'<script id="look">{file.read()}</script>'
+
+
+def as_printed(page):
+    return page.replace(DARK, "@media not all").replace("@media print", "@media all")
+
+
 def look(browser, page, name, folder, keep):
     """What is wrong with the page in one look of it."""
     width, medium, is_dark = LOOKS[name]
-    with open(os.path.join(HERE, "look.js")) as file:
-        script = file.read()
-    if medium == "print":
-        page = page.replace(DARK, "@media not all").replace("@media print", "@media all")
-    path = os.path.join(folder, f"{name}.html")
-    write(path, page.replace("</body>", f'<script id="look">{script}</script></body>'))
-    flags = ["--no-sandbox", "--disable-gpu", "--hide-scrollbars", f"--window-size={width},1000", "--virtual-time-budget=3000"]
-    flags += [f"--blink-settings=preferredColorScheme={0 if is_dark else 1}"]
-    ran = subprocess.run([browser, *flags, "--dump-dom", f"file://{path}"], capture_output=True, text=True, timeout=60)
-    told = re.search(r'<pre id="found">(.*?)</pre>', ran.stdout, re.DOTALL)
-    if not told:
-        return ["the page was not laid out: " + ran.stderr[-300:]]
-    laid = json.loads(html.unescape(told[1]))
+    page = as_printed(page) if medium == "print" else page
+    path, colours = os.path.join(folder, f"{name}.html"), f"--blink-settings=preferredColorScheme={0 if is_dark else 1}"
+    laid = laid_out(browser, path, page.replace("</body>", script_of("look.js") + "</body>"), f"--window-size={width},1000", colours)
+    if laid is None:
+        return ["the page was not laid out"]
     if keep:
         write(path, page)
         shot = ["--window-size=%d,4000" % width, f"--screenshot={os.path.join(keep, name + '.png')}"]
-        subprocess.run([browser, *flags[:3], *flags[4:], *shot, f"file://{path}"], capture_output=True, timeout=60)
+        subprocess.run([browser, *FLAGS, colours, *shot, f"file://{path}"], capture_output=True, timeout=120)
     wrong = laid["found"]
     if laid["texts"] < 10:
         wrong.append("few texts")
@@ -402,20 +697,26 @@ def look(browser, page, name, folder, keep):
 
 
 def looks(shows, tried, folder, keep):
-    browser = next(filter(None, map(shutil.which, BROWSERS)), None)
-    tried.see("a browser is there: apt-get install chromium-headless-shell", browser is not None)
-    if not browser:
+    found = browsers()
+    tried.see("a browser is there: apt-get install chromium-headless-shell", found)
+    if not found:
         return
+    browser = found[0]
     town, village = (os.path.join(TOP, "examples", name) for name in ("town", "village"))
     pages = {
         "town": shows.run(*(os.path.join(town, name) for name in sorted(os.listdir(town)))),
         "names": shows.run(*names_that_are_none(folder)),
         "many": shows.run(*many_candidates(folder)),
+        "most": shows.run(*most_candidates(shows, folder)),
         "tie": shows.run(os.path.join(TOP, "examples", "tie.raire")),
-        "village": shows.run(*(os.path.join(village, name) for name in sorted(os.listdir(village)) if name != "counted.raire")),
+        "village": shows.run(*(os.path.join(village, name) for name in sorted(os.listdir(village)))),
         "session": shows.run(os.path.join(town, "session.json")),
         "seen": shows.run(os.path.join(town, "manifest.csv"), os.path.join(town, "seen.csv")),
+        "later": shows.run(*gone_on_with()),
     }
+    for other in found[1:]:
+        wrong = look(other, pages["town"][1], "narrow", folder, None)
+        tried.see(f"the town looks right in {other}", not wrong, wrong[:5])
     for shown, (status, page, err) in pages.items():
         tried.see(f"{shown} is shown", status == 0, err)
         if keep and status == 0:
@@ -425,6 +726,91 @@ def looks(shows, tried, folder, keep):
             tried.see(f"{shown} looks right, {name}", not wrong, wrong[:5])
     page = pages["names"][1]
     tried.see("a candidate called <script> is shown as that", "&lt;script&gt;alert(1)&lt;/script&gt;" in page and "<script>" not in page)
+
+
+def without_browser(tried):
+    """Where none is there or can be had, .ci/page says so and fails."""
+    os.mkdir("bin")
+    for name in ("bash", "dirname", "head", "id", "env"):
+        os.symlink(shutil.which(name), os.path.join("bin", name))
+    for name in ("apt-get", "sudo"):
+        write_program(os.path.join("bin", name), "#!/usr/bin/env bash\nexit 100\n")
+    ran = subprocess.run([os.path.join(TOP, ".ci", "page")], capture_output=True, text=True, env={**os.environ, "PATH": os.path.abspath("bin")})
+    told = (ran.stdout + ran.stderr).strip()
+    tried.see("no browser is told, and fails", ran.returncode == 1 and told.startswith(".ci/page: NOT TRIED:") and "chromium" in told, ran)
+
+
+# ---- bars
+
+LEE = {("Lee",): 125_000, ("Wong",): 102_000, ("Tan", "Wong"): 30_000}
+
+
+def generated_bars(draws):
+    """Ballots of a few kinds, of some of which there are many."""
+    ids = [f"C{c}" for c in range(2 + draws.below(6))]
+    kinds = {}
+    for _ in range(1 + draws.below(9)):
+        ranking = dict.fromkeys(ids[draws.below(len(ids))] for _ in range(1 + draws.below(4)))
+        kinds[tuple(ranking)] = 1 + draws.below(10 ** (1 + draws.below(4)))
+    return ids, kinds
+
+
+def bars(shows, tried, draws, count):
+    """On each page all bars have one scale: what is drawn of each number is as wide as it is large."""
+    def made(contest):
+        (ids, kinds), name = contest, f"{threading.get_ident()}.raire"
+        cast = (ranking for ranking, times in kinds.items() for _ in range(times))
+        write(name, f"1\nContest,9,{len(ids)},{','.join(ids)}\n" + "".join(f"9,b_{k},{','.join(ranking)}\n" for k, ranking in enumerate(cast, 1)))
+        return shows.run(name)
+
+    contests = [(["Lee", "Tan", "Wong"], LEE)] + [generated_bars(draws) for _ in range(count - 1)]
+    with ThreadPool(4) as pool:
+        pages = pool.map(made, contests)
+    tried.see("contests are shown", all(status == 0 for status, _, _ in pages), [err for _, _, err in pages if err][:1])
+    drawn = [(contest, page) for contest, (_, page, _) in zip(contests, pages) if 'class="bars"' in page]
+    tried.see("most of them have rounds", len(drawn) > count // 3, len(drawn))
+    for width in (LOOKS["narrow"][0], LOOKS["wide"][0]):
+        for at in range(0, len(drawn), 50):
+            part = drawn[at:at + 50]
+            frames = "".join(f'<iframe width="{width}" srcdoc="{html.escape(page)}"></iframe>' for _, page in part)
+            laid = laid_out(browsers()[0], "bars.html", f"<!doctype html><meta charset=utf-8>{script_of('measure.js')}<body>{frames}</body>") if browsers() else None
+            for (contest, _), rows in zip(part, laid or [[]] * len(part)):
+                wrong = off_scale(rows)
+                tried.see(f"bars of one scale, {width} wide", rows and not wrong, (contest, wrong[:3]))
+
+
+def off_scale(rows):
+    """The rows of a page that are drawn wider or narrower than the largest number's scale wants, by half a pixel."""
+    largest = max(rows, key=lambda row: row["votes"], default=None)
+    if not largest or not largest["votes"]:
+        return []
+    scale = (largest["kept_width"] + largest["gained_width"]) / largest["votes"]
+    return [
+        row for row in rows
+        if abs(row["gained_width"] - scale * row["gained"]) > 0.5 or abs(row["kept_width"] - scale * (row["votes"] - row["gained"])) > 0.5
+    ]
+
+
+# ---- contests to look at
+
+def gone_on_with():
+    """An audit that later draws speak against."""
+    drawn = {plain_audit.drawn("1", k, 200) for k in range(1, 41)}
+    files = two_candidates([1] * 150 + [2] * 50, lambda k, c: c if k in drawn else 2)
+    go_on(files, "session.json", [40, 80, 120, 200], "--limit=200000")
+    return [*files, "session.json", "seen.csv"]
+
+
+def most_candidates(shows, folder):
+    """As many candidates as may be, with long names; the lowest have as many votes as each other."""
+    ids = [f"c{c}" for c in range(1, MOST_CANDIDATES + 1)]
+    cast = [c for place, c in enumerate(ids) for _ in range(max(0, place - 1) ** 2)]
+    ballots, assertions, named = (os.path.join(folder, name) for name in ("most.raire", "most.json", "names.csv"))
+    write(ballots, f"1\nContest,most,{len(ids)},{','.join(ids)}\n" + "".join(f"most,b_{k},{c}\n" for k, c in enumerate(cast, 1)))
+    write(named, "id,name\n" + "".join(f'{c},"Alexandra {c}, Upper Willowbrook"\n' for c in ids))
+    ran = subprocess.run([shows.path, "search", ballots], capture_output=True, text=True, env=shows.given)
+    write(assertions, ran.stdout)
+    return [ballots, *[assertions] * (ran.returncode == 0), named]
 
 
 def names_that_are_none(folder):
@@ -460,9 +846,9 @@ def main():
     tried, draws, here = Tried(), Draws(23), os.getcwd()
     with tempfile.TemporaryDirectory() as tools:
         shows = Shows(program, tools)
-        cases = (refusals, words, programs, sessions, promises, belonging, seen_alone, kinds)
+        cases = (refusals, words, programs, sessions, promises, belonging, seen_alone, kinds, states, later, bytes_of_sessions, counts, cards, names, ties)
         makers = [lambda case=case: case(shows, tried) for case in cases] + [lambda: numbers(shows, tried, draws)] * count
-        makers.append(lambda: looks(shows, tried, os.getcwd(), keep))
+        makers += [lambda: without_browser(tried), lambda: bars(shows, tried, draws, count), lambda: looks(shows, tried, os.getcwd(), keep)]
         for maker in makers:
             with tempfile.TemporaryDirectory() as folder:
                 os.chdir(folder)

@@ -1,10 +1,12 @@
 """What a session, a manifest and the cards that were seen say, for a page."""
+import bisect
 import json
 import math
 
 import plain
 import plain_audit
 from files import told
+from texts import superscript
 
 UNIT = plain_audit.UNIT
 WIDTH, HEIGHT, LEFT, RIGHT, TOP, BOTTOM = 640, 300, 60, 610, 16, 262
@@ -18,10 +20,6 @@ def short(units):
     """A risk in a few digits, rounded up, since it is never to look smaller than it is."""
     digits = 4 if units >= UNIT // 1000 else 6
     return f"{math.ceil(units * 10**digits / UNIT) / 10**digits:.{digits}f}"
-
-
-def millionths(number):
-    return f"{number / 10**6:.6f}".rstrip("0")
 
 
 def session_of(file):
@@ -52,16 +50,26 @@ def why_no_session(data):
 
 
 def state(session):
-    """Of each claim its last round's counts and risk, and in which round it was confirmed first."""
+    """Of each claim its last round's counts and risk, in which round it was confirmed first, and whether the risk is above the limit."""
     claims = []
     for j, margin in enumerate(session["margins"]):
         within = [i for i, done in enumerate(session["rounds"], 1) if done["risks"][j] <= session["limit"] * 10**12]
         last = session["rounds"][-1] if session["rounds"] else None
         claims.append({
             "margin": margin, "confirmed": within[0] if within else None, "counts": last["counts"][j] if last else None,
-            "risk": last["risks"][j] if last else None,
+            "risk": last["risks"][j] if last else None, "is_above": not last or last["risks"][j] > session["limit"] * 10**12,
         })
     return claims
+
+
+def signed_round(session):
+    """The round with which each claim was confirmed."""
+    return max(claim["confirmed"] for claim in state(session)) if session["signed_off"] else None
+
+
+def added(file):
+    """The members of a session that the program doesn't print."""
+    return sorted(set(json.loads(file.data)) - set(plain_audit.SESSION))
 
 
 def nice_steps(most):
@@ -72,10 +80,6 @@ def nice_steps(most):
             step = finer
             break
     return list(range(0, most + 1, max(step, 1)))
-
-
-def superscript(number):
-    return str(number).translate(str.maketrans("0123456789", "\u2070\u00b9\u00b2\u00b3\u2074\u2075\u2076\u2077\u2078\u2079"))
 
 
 def chart(session, numbers):
@@ -112,6 +116,14 @@ def sizes(manifest):
         {"id": batch, "cards": size, "first": manifest.firsts[batch] + 1, "last": manifest.firsts[batch] + size}
         for batch, size in manifest.batches.items()
     ]
+
+
+def count_records(batches, recorded):
+    """Adds to each batch how many of its cards have a record."""
+    places, had = sorted(recorded), 0
+    for batch in batches:
+        upto = bisect.bisect_right(places, batch["last"])
+        batch["records"], had = upto - had, upto
 
 
 def shown_ranking(ranking, ids):

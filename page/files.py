@@ -12,7 +12,9 @@ from limits import MOST_BATCH_BYTES, MOST_BATCH_CARDS, MOST_CONTESTS
 
 KINDS = {
     "ballots": "ballot file", "manifest": "manifest", "assertions": "assertion file", "session": "session", "seen": "seen file",
+    "counted": "full count", "names": "names",
 }
+NOT_THE_PROGRAMS = {"seen", "names"}  # what no command judges by itself
 
 
 class Refusal(Exception):
@@ -63,6 +65,8 @@ def kind_of_rows(rows):
     if not rows:
         return None
     seconds = [row[1] if len(row) > 1 else "" for row in rows]
+    if [field.lower() for field in rows[0]] == ["id", "name"]:
+        return "names"
     if rows[0][0] == "batch":
         return "manifest"
     if any(row[0] == "Contest" for row in rows[:2]):
@@ -76,21 +80,45 @@ def kind_of_rows(rows):
 
 def kind_of_name(path):
     name = os.path.basename(path)
-    return "manifest" if "manifest" in name else "seen" if "seen" in name else "ballots"
+    return next((kind for kind in ("manifest", "seen", "names") if kind in name), "ballots")
 
 
 def given(paths):
-    """The files by their kinds, each kind once."""
-    files = {}
+    """The files by their kinds, each kind once. Of two ballot files one is a full count."""
+    files = {kind: [] for kind in KINDS}
     for path in paths:
         try:
             file = File(path)
         except plain_audit.End as end:
             raise Refusal(end.answer[0], end.answer[2]) from None
-        if file.kind in files:
-            raise told(f"{files[file.kind].path} and {path} are both of one kind ({file.what}); give one of them")
-        files[file.kind] = file
-    return {kind: files[kind] for kind in KINDS if kind in files}
+        files[file.kind].append(file)
+    if len(files["ballots"]) == 2:
+        files["ballots"], files["counted"] = told_apart(files["ballots"], files["session"])
+    for kind, same in files.items():
+        if len(same) > 1:
+            raise told(f"{same[0].path} and {same[1].path} are both of one kind ({KINDS[kind]}); give one of them{OR_COUNTED * (kind == 'ballots')}")
+    return {kind: same[0] for kind, same in files.items() if same}
+
+
+OR_COUNTED = ", or call the one that was counted in full “counted”"
+
+
+def told_apart(two, sessions):
+    """The records and the full count: a session has the digest of the records, else the name of a full count says so."""
+    recorded = [digest_in(file.data) for file in sessions]
+    for counted in ([file for file in two if recorded and file.digest not in recorded], [file for file in two if "counted" in file.name]):
+        if len(counted) == 1:
+            counted[0].kind, counted[0].what = "counted", KINDS["counted"]
+            return [file for file in two if file not in counted], counted
+    return two, []
+
+
+def digest_in(data):
+    """The digest of the records, as a session names it."""
+    try:
+        return json.loads(data)["ballots"].lower()
+    except (ValueError, TypeError, KeyError, AttributeError, RecursionError):
+        return None
 
 
 def contests_of(data):

@@ -1,5 +1,7 @@
 """The rounds of a tabulation, from the program's text."""
 
+LONGEST_BESIDE = 12  # letters of a name that stands beside its bar; a longer one makes all stand above theirs
+
 
 def parsed(line, label, remaining):
     """The votes of those who remain, and the exhausted ballots, of one line. Ids may have blanks and equals signs."""
@@ -11,21 +13,44 @@ def parsed(line, label, remaining):
     return votes, int(rest[len(" exhausted="):])
 
 
-def rounds_of(text, ids):
-    """Each round with everyone's votes, how many of them are new, and where the votes of who leaves go next."""
+def tie_of(text, names):
+    """The first of the ties that leave open who wins: its round, who shares the least votes, and these."""
+    _, number, tied, tally = text.splitlines()
+    return {
+        "number": int(number[len("round "):]), "tied": [names.of(c) for c in tied[len("tied "):].split(",")], "votes": int(tally[len("tally "):]),
+    }
+
+
+def rounds_of(text, ids, names):
+    """Each round with everyone's votes, how many of them are new, who shares the least, and where the votes of who leaves go next."""
     lines = text.splitlines()
-    records, remaining, rounds = int(lines[1][len("records "):]), list(ids), []
+    records, lines, remaining, rounds = int(lines[1][len("records "):]), lines[2:], list(ids), []
     for number in range(1, len(ids)):
-        votes, exhausted = parsed(lines[2 * number], f"round {number}:", remaining)
-        gone = lines[2 * number + 1][len("eliminated "):]
-        rounds.append({"number": number, "votes": votes, "exhausted": exhausted, "gone": gone})
+        votes, exhausted = parsed(lines.pop(0), f"round {number}:", remaining)
+        tied = lines.pop(0)[len("tied "):].split(",") if lines[0].startswith("tied ") else []
+        gone = lines.pop(0)[len("eliminated "):]
+        rounds.append({
+            "number": number, "votes": {names.of(c): n for c, n in votes.items()}, "exhausted": exhausted, "gone": names.of(gone),
+            "tied": [names.of(c) for c in tied],
+        })
         remaining.remove(gone)
-    last = rounds[-1]
     for earlier, later in zip(rounds, rounds[1:]):
         later["gained"] = {c: later["votes"][c] - earlier["votes"][c] for c in later["votes"]}
         earlier["passed"] = {c: n for c, n in later["gained"].items() if n}
         earlier["spent"] = later["exhausted"] - earlier["exhausted"]
         later["from"] = earlier["gone"]
-    rounds[0]["gained"] = dict.fromkeys(ids, 0)
-    most = max(max(each["votes"].values()) for each in rounds)
-    return {"records": records, "rounds": rounds, "winner": remaining[0], "most": max(most, 1), "last": last}
+    rounds[0]["gained"] = dict.fromkeys(rounds[0]["votes"], 0)
+    return {"records": records, "rounds": rounds, "winner": names.of(remaining[0])}
+
+
+def scale_of(tabulations):
+    """One scale for all bars of a page: the most votes, how many letters the longest numbers beside the bars have, and whether names are long."""
+    shown = [
+        (votes, f"{votes:,}", f" +{each['gained'][c]:,}" if each["gained"][c] else "")
+        for tabulation in tabulations for each in tabulation["rounds"] for c, votes in each["votes"].items()
+    ]
+    return {
+        "most": max(1, *(votes for votes, _, _ in shown)), "votes": 1 + max(len(number + plus) for _, number, plus in shown),
+        "number": 1 + max(max(len(number), len(plus)) for _, number, plus in shown),
+        "is_long": any(len(c) > LONGEST_BESIDE for tabulation in tabulations for c in tabulation["rounds"][0]["votes"]),
+    }

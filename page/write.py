@@ -10,9 +10,12 @@ import orders
 import plain
 import plain_audit
 import rounds
+import state
 from files import broken_to_page, Refusal, told
 from limits import MOST_NODES
+from names import Names
 from program import TOP, Program
+from texts import listed, millionths, ordinal, plural, shown
 
 HELP = os.path.join(TOP, "docs", "help", "show.txt")
 OPTIONS = ("--contest", "--nodes")
@@ -68,22 +71,17 @@ def see_output(paths):
             raise told(f"the page would be written over {path}")
 
 
-def plural(number, one, more=None):
-    return f"{number:,} {one if number == 1 else more or one + 's'}"
-
-
-def ordinal(place):
-    ending = "th" if place % 100 in (11, 12, 13) else {1: "st", 2: "nd", 3: "rd"}.get(place % 10, "th")
-    return f"{place}{ending}"
-
-
 class Page:
     """What is known of the files, part by part."""
 
     def __init__(self, given, options, program):
         self.files, self.options, self.program, self.notes = given, options, program, []
-        self.parts = dict.fromkeys(("session", "tabulation", "tie", "assertions", "verdict", "tree", "plan", "manifest", "claims", "seen_file"))
-        self.judged = set(files.KINDS) - {"seen"}  # the kinds that the program judges; seen cards once it has run the audit again
+        self.parts = dict.fromkeys((
+            "session", "contest", "tabulation", "counted", "assertions", "verdict", "tree", "plan", "manifest", "claims", "seen_file", "other_form",
+            "is_replayed",
+        ))
+        self.names = Names(given.get("names"))
+        self.judged = set(files.KINDS) - files.NOT_THE_PROGRAMS  # the kinds that the program judges; seen cards once it has run the audit again
         self.manifest = self.ballots = None  # as this page reads them
 
     def path(self, kind):
@@ -99,8 +97,9 @@ class Page:
         try:
             self.program.must_run("report", [file.path])
         except Refusal as refusal:
-            why = f"show: {file.path}: {audit.why_no_session(file.data)}\n" if refusal.text.endswith(": S1\n") else ""
-            raise Refusal(refusal.status, refusal.text + why) from None
+            line, end, added = refusal.text.partition("\n")  # ./raire adds a line of its own
+            why = f"show: {file.path}: {audit.why_no_session(file.data)}\n" if line.endswith(": S1") else ""
+            raise Refusal(refusal.status, line + end + why + added) from None
         session = audit.session_of(file)
         for kind in ("ballots", "manifest", "assertions"):
             if self.has(kind) and self.files[kind].digest != session[kind]:
@@ -109,6 +108,8 @@ class Page:
             raise told(f"{file.path} is about contest {session['contest']}, and not {self.options['--contest']}")
         self.options["--contest"] = session["contest"]
         self.parts["session"] = session
+        if plain_audit.session_text(session).encode() != file.data:
+            self.parts["other_form"] = {"added": audit.added(file)}
 
     def read_assertions(self):
         """The members of the assertion file; the contest is its own where none is named."""
@@ -125,11 +126,12 @@ class Page:
             raise told(f"{self.path('assertions')} doesn't have the margins of {self.path('session')}")
         if self.has("ballots") and file["contest"] in self.contests():
             self.options.setdefault("--contest", file["contest"])
+        self.names.see(file["candidates"])
         self.parts["assertions"] = file
 
-    def contests(self):
+    def contests(self, kind="ballots"):
         try:
-            return files.contests_of(self.files["ballots"].data)
+            return files.contests_of(self.files[kind].data)
         except plain_audit.Broken:
             return {}
 
@@ -143,11 +145,28 @@ class Page:
         status, text = self.program.must_run("tabulate", [self.path("ballots")], *self.contest_words())
         contests = self.contests()
         name = self.options.get("--contest") or next(iter(contests))
-        if status == 3:
-            self.parts["tie"] = text.splitlines()
-        else:
-            self.parts["tabulation"] = rounds.rounds_of(text, contests[name])
+        self.names.see(contests[name])
+        self.parts["tabulation"] = self.tabulation(status, text, contests[name])
         self.parts["contest"], self.parts["ids"] = name, contests[name]
+
+    def tabulation(self, status, text, ids):
+        """The rounds; or the tie that leaves open who wins; or that the budget ended before it was known whether the ties do."""
+        if status == 0:
+            return rounds.rounds_of(text, ids, self.names)
+        return {"tie": rounds.tie_of(text, self.names)} if status == 3 else {"spent": text.splitlines()}
+
+    def read_count(self):
+        """The ballots that were counted in full: those of the same contest, as a ballot file has them."""
+        if not self.has("counted"):
+            return
+        path, name = self.path("counted"), self.parts["contest"]
+        status, text = self.program.must_run("tabulate", [path], f"--contest={name}")
+        if self.contests("counted")[name] != self.parts["ids"]:
+            raise told(f"{path} has other candidates than {self.path('ballots')}")
+        counted = {**self.tabulation(status, text, self.parts["ids"]), "file": self.files["counted"].name}
+        if "rounds" not in counted:
+            counted["records"] = len(plain_audit.ballots_of(self.files["counted"].data, name).cast)
+        self.parts["counted"] = counted
 
     def check(self):
         """Whether the assertion file holds of the ballots, in the program's words."""
@@ -157,7 +176,8 @@ class Page:
         status, text = self.program.must_run("check", [self.path("ballots"), self.path("assertions")], *words)
         if text.startswith("no: contest differs"):
             raise told(f"{self.path('assertions')} isn't about the contest of {self.path('ballots')}: {text.strip()}")
-        self.parts["verdict"] = {"status": status, "lines": text.splitlines()}
+        lines = text.splitlines()
+        self.parts["verdict"] = {"status": status, "lines": lines, "shown": [self.names.in_line(line, self.parts["ids"]) for line in lines]}
 
     def read_manifest(self):
         if not self.has("manifest"):
@@ -201,7 +221,9 @@ class Page:
             ballot = next(ballot for ballot, place, _ in self.ballots.cast if place == at)
             ballots, manifest = self.path("ballots"), self.path("manifest")
             raise told(f"{ballots} doesn't belong to {manifest}: {broken} of {ballots}: the ballot {ballot} names no card of {manifest}") from None
-        self.parts["manifest"]["linked"] = len(recorded)
+        batches = self.parts["manifest"]["batches"]
+        audit.count_records(batches, recorded)
+        self.parts["manifest"].update(linked=len(recorded), unnamed=[batch for batch in batches if not batch["records"]])
         self.recorded = recorded
 
     def read_plan(self, path):
@@ -239,7 +261,7 @@ class Page:
             raise told(f"{self.path('seen')} doesn't give the rounds of {self.path('session')}")
         if session["rounds"]:
             self.judged.add("seen")
-            self.parts["is_replayed"] = True
+            self.parts["is_replayed"] = text.encode() == self.files["session"].data
 
     def candidates(self):
         """The candidates that a seen file may name, where another file tells them."""
@@ -270,7 +292,7 @@ class Page:
             raise told(f"{self.path('seen')} doesn't give the counts of {self.path('session')}")
         self.parts["seen"] = {
             "cards": len(draws_of), "draws": last["draws"],
-            "differing": audit.differing(session, self.ballots.ids, self.manifest, self.recorded, claims, seen, draws_of),
+            "differing": audit.differing(session, self.shown(self.ballots.ids), self.manifest, self.recorded, claims, seen, draws_of),
         }
 
     def note_unjudged(self):
@@ -283,15 +305,30 @@ class Page:
                 f"reading {', '.join(judged[:-1])} and {judged[-1]} of docs/formats.md are kept."
             )
 
+    def shown(self, ids):
+        return [self.names.of(c) for c in ids]
+
+    def named_assertions(self):
+        """The assertion file with names for ids, as the page shows it."""
+        file, of = self.parts["assertions"], self.names.of
+        if file:
+            claims = [
+                {**claim, "winner": of(claim["winner"]), "loser": of(claim["loser"]), **({"rest": self.shown(claim["rest"])} if "rest" in claim else {})}
+                for claim in file["assertions"]
+            ]
+            file = {**file, "winner": of(file["winner"]), "candidates": self.shown(file["candidates"]), "assertions": claims}
+            self.parts["assertions"] = file
+        return file
+
     def make_claims(self):
         """A row an assertion: words, margin, what it cuts, its draws and its risk."""
-        file, tabulation, verdict = self.parts["assertions"], self.parts["tabulation"], self.parts["verdict"]
+        file, tabulation, verdict = self.named_assertions(), self.parts["tabulation"], self.parts["verdict"]
         states = audit.state(self.parts["session"]) if self.parts["session"] else None
         if not file:
             self.list_claims([{"margin": state["margin"], "state": state, "words": None} for state in states or []])
             return
         tree = orders.Tree(file["candidates"], file["winner"], file["assertions"])
-        counted = tabulation and verdict and not verdict["lines"][0].startswith(UNCOUNTED)
+        counted = verdict and "rounds" in tabulation and not verdict["lines"][0].startswith(UNCOUNTED)
         first = tabulation["rounds"][0]["votes"] if counted else None
         plan = self.parts["plan"] or []
         self.parts["tree"] = tree
@@ -317,12 +354,15 @@ class Page:
             raise told("--nodes is the budget of a check: give a ballot file and an assertion file")
         if "--contest" in self.options and not {"ballots", "assertions", "session"} & set(self.files):
             raise told("--contest wants a file that is about a contest")
+        if self.has("names") and not {"ballots", "assertions"} & set(self.files):
+            raise told(f"{self.path('names')} names candidates: give a ballot file or an assertion file too")
 
     def read(self):
         self.see_options()
         self.read_session()
         self.read_assertions()
         self.read_ballots()
+        self.read_count()
         self.check()
         self.read_manifest()
         self.replay()
@@ -349,11 +389,13 @@ def filled(page):
     made = jinja2.Environment(
         loader=loader, autoescape=True, trim_blocks=True, lstrip_blocks=True, undefined=jinja2.ChainableUndefined,
     )
-    made.filters.update(plural=plural, ordinal=ordinal, risk=audit.risk_text, short=audit.short, millionths=audit.millionths, number="{:,}".format)
+    made.filters.update(plural=plural, ordinal=ordinal, risk=audit.risk_text, short=audit.short, millionths=millionths, number=shown, listed=listed)
     session = page.parts["session"]
+    tabulations = [each for each in (page.parts["tabulation"], page.parts["counted"]) if each and "rounds" in each]
     return made.get_template("page.html").render(
         page.parts, files=page.files, judged=page.judged, notes=page.notes, asked=page.program.asked, program=page.program.told(),
         chart=audit.chart(session, [row["number"] for row in page.parts["listed"]]) if session else None, title=title(page), most_counted=orders.MOST_COUNTED,
+        states=state.states(page.parts), scale=rounds.scale_of(tabulations) if tabulations else None, names=page.names.by_id,
     )
 
 

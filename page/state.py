@@ -1,0 +1,80 @@
+"""The state of an audit, for the top of a page. A mark and a frame tell it too, for those who see no colours or no words."""
+import audit
+import plain_audit
+from limits import MOST_DRAWS
+from texts import millionths, plural
+
+MARKS = {"unaudited": "○", "open": "◐", "unsigned": "✗", "said": "?", "signed": "✓", "against": "▲", "counted": "■", "unusual": "!"}
+MOST_USUAL_LIMIT, USUAL_GAMMAS = 100_000, range(50, 201)
+
+
+def told(kind, head, text):
+    return {"kind": kind, "mark": MARKS[kind], "head": head, "text": text}
+
+
+def states(parts):
+    """What stands on top: whether there is an audit and how far it is, what speaks against it, and what is unusual of its terms."""
+    session, counted = parts["session"], parts["counted"]
+    found = [of_count(counted, parts["tabulation"])] if counted else []
+    if not session:
+        return found or [of_no_session(parts)]
+    found.append(of_session(parts, session, counted))
+    above = sum(claim["is_above"] for claim in audit.state(session))
+    if session["signed_off"] and above:
+        text = f"the risk of {plural(above, 'assertion')} is now above the limit of {millionths(session['limit'])}."
+        found.append(told("against", "LATER DRAWS SPEAK AGAINST IT:", text))
+    return found + unusual(session)
+
+
+def of_no_session(parts):
+    if not (parts["assertions"] or parts["contest"]):
+        return told("unaudited", "NOT AUDITED:", "no session is given.")
+    if parts["seen_file"]:
+        return told("unaudited", "NOT AUDITED:", "no session is given, so what was read from paper counts in no audit here.")
+    return told("unaudited", "NOT AUDITED: records only.", "No paper has been looked at for this page.")
+
+
+def of_count(counted, recorded):
+    """What a full count says, and whether the records say the same."""
+    if "rounds" not in counted:
+        return told("counted", "COUNTED IN FULL:", f"{counted['file']} leaves open who wins.")
+    text = f"{counted['winner']} wins by {plural(counted['records'], 'ballot')} of {counted['file']}."
+    if "rounds" in recorded and recorded["winner"] != counted["winner"]:
+        text += f" The records elect {recorded['winner']}: they are wrong, or the count is."
+    return told("counted", "COUNTED IN FULL:", text + " Whether these are all ballots is for those who watched the count to say.")
+
+
+def of_session(parts, session, counted):
+    limit, claims = millionths(session["limit"]), audit.state(session)
+    open_claims = sum(claim["confirmed"] is None for claim in claims)
+    above = f"{open_claims} of {plural(len(claims), 'assertion')} {'is' if open_claims == 1 else 'are'}"
+    if session["signed_off"]:
+        number = audit.signed_round(session)
+        head = f"SIGNED OFF in round {number}, after {plural(session['rounds'][number - 1]['draws'], 'draw')}"
+        text = f"Each assertion had a risk of at most {limit} at the end of a round. "
+        if parts["is_replayed"]:
+            return told("signed", f"{head}.", text + "The program ran the whole audit again, and ended with the same bytes.")
+        return told("said", f"{head}, so the session says.", text + (WANTED if parts["is_replayed"] is None else OTHERWISE))
+    if not session["rounds"]:
+        return told("open", "OPEN: no card was drawn yet.", f"{above} to be confirmed, at a risk of at most {limit} each.")
+    draws, rounds = session["rounds"][-1]["draws"], plural(len(session["rounds"]), "round")
+    missing = f"{above} still above the limit of {limit}."
+    if counted:
+        return told("unsigned", f"NOT SIGNED OFF after {plural(draws, 'draw')} in {rounds}:", missing)
+    if draws >= MOST_DRAWS or len(audit.draws_by_card(session, draws)) == session["cards"]:
+        return told("unsigned", "NOT SIGNED OFF, and no cards left:", f"{missing} Count in full.")
+    return told("open", f"OPEN: not signed off after {plural(draws, 'draw')} in {rounds}:", f"{missing} Draw further cards, or count in full.")
+
+
+WANTED = "Give all its files, and what was read from the cards, to have the program run the audit again."
+OTHERWISE = "The program ran the whole audit again, and ended with other bytes."
+
+
+def unusual(session):
+    """Terms that few audits have; who sees them asks for the reason."""
+    terms = []
+    if session["limit"] > MOST_USUAL_LIMIT:
+        terms.append(f"a risk limit of {millionths(session['limit'])}, which is above {millionths(MOST_USUAL_LIMIT)}")
+    if session["gamma"] not in USUAL_GAMMAS:
+        terms.append(f"a gamma of {session['gamma']} thousandths, which is outside {USUAL_GAMMAS[0]} to {USUAL_GAMMAS[-1]}")
+    return [told("unusual", "UNUSUAL TERMS:", ", and ".join(terms) + ".")] if terms else []

@@ -1,0 +1,301 @@
+#!/usr/bin/env python3
+"""Tries the line that ./raire adds behind a refusal, and the counts of ./boxes.
+
+acceptance/hints.py PROGRAM makes files that break a rule each, and compares the added line with the one that is wanted here. Status,
+standard output and the program's own line have to stay as they are, also where the line can't be made. The last line says how many
+came out as they should.
+"""
+import json
+import os
+import re
+import shutil
+import subprocess
+import sys
+import tempfile
+
+import limits
+import walk
+
+TOP = os.path.dirname(os.path.dirname(os.path.abspath(__file__)))
+sys.path.append(os.path.join(TOP, "hints"))
+
+import table  # noqa: E402
+
+POINTER = "./raire help tells the commands, ./raire help COMMAND the files and options of one"
+END = "What to do: docs/faults.md"
+
+HEAD = "1\nContest,9,2,Ann,Ben\n"
+BALLOTS = HEAD + "9,b_1,Ann\n9,b_2,Ann,Ben\n9,b_3,Ben\n"
+MANIFEST = "batch,cards\nb,4\n"
+SEEN = "b_1,ballot,Ann\n"
+ASSERTIONS = (
+    '{"assertions":[{"kind":"NEN","loser":"Ben","margin":1,"rest":["Ann","Ben"],"winner":"Ann"}],"candidates":["Ann","Ben"],'
+    '"contest":"9","margin":1,"order":["Ann","Ben"],"records":3,"version":1,"winner":"Ann"}\n'
+)
+CHANGED = ASSERTIONS.replace
+MANY = json.dumps([f"c{c}" for c in range(limits.MOST_CANDIDATES + 1)])
+
+# What a ballot file is, by `tabulate`; the sentences behind the rule's cause.
+OF_BALLOTS = [
+    ("", "B1", "The file is empty; a > behind the command empties its file first"),
+    (MANIFEST, "B1", 'It begins with "batch,cards", as a manifest does'),
+    (ASSERTIONS, "B1", 'It begins with "{"assertions":[{"kind":"NEN","loser":"Ben","margin":1,"rest":["Ann",..", as an assertion file does'),
+    ("1;\nContest;9;2;Ann;Ben\n", "B1", 'It begins with "1;"; its semicolons have to be commas'),
+    ("1\nContest;9;2\n", "B2", '"Contest;9;2" stands where "Contest" has to; its semicolons have to be commas. Record 2, line 2: Contest;9;2'),
+    ("1\ncontest,9,2,Ann,Ben\n", "B2", '"contest" stands where "Contest" has to. Record 2, line 2: contest,9,2,Ann,Ben'),
+    ("2\n\nContest,9,2,Ann,Ben\n", "B2", "The file ends before record 3"),
+    ("2\nContest,9,2,Ann,Ben\nContest,9,2,Ann,Ben\n", "B2", '"9" stood before. Record 3, line 3: Contest,9,2,Ann,Ben'),
+    ("1\nContest,9,3,Ann,Ben\n", "B3", "It says 3 candidates, and 2 ids follow. Record 2, line 2: Contest,9,3,Ann,Ben"),
+    ("1\nContest,9,2,Ann\n", "B3", "It says 2 candidates, and 1 id follows. Record 2, line 2: Contest,9,2,Ann"),
+    ("1\nContest,9,1,Ann\n", "B3", "It says 1 candidate. Record 2, line 2: Contest,9,1,Ann"),
+    ("1\nContest,9,two,Ann,Ben\n", "B3", '"two" is no number of candidates. Record 2, line 2: Contest,9,two,Ann,Ben'),
+    ("1\nContest,9,2,Zoë,Ben\n", "B4", '"Zoë" is no id; "Zoe" would be one. Record 2, line 2: Contest,9,2,Zoë,Ben'),
+    ('1\nContest,9,2,"Lee, Ann",Ben\n', "B4", '"Lee, Ann" is no id; "Lee Ann" would be one. Record 2, line 2: Contest,9,2,"Lee, Ann",Ben'),
+    ("1\nContest,9,2,Ann,Ann\n", "B4", '"Ann" stands twice. Record 2, line 2: Contest,9,2,Ann,Ann'),
+    (HEAD + "9,,Ann\n", "B4", "The id is empty. Record 3, line 3: 9,,Ann"),
+    ("2\nContest,9,2,Ann,Ben\nContest,10,2,Cy,Di\n", "B5", 'The file has the contests "9", "10". --contest says which is meant'),
+    (HEAD + "\n  \n9\n", "B6", "Record 3, line 5: 9"),
+    (HEAD + "90,b_1,Ann\n", "B7", '"90" is no contest; the file has "9". Record 3, line 3: 90,b_1,Ann'),
+    (HEAD + "9,b_1,Ben,ANN\n", "B8", '"ANN" is no candidate; the contest has "Ann". Record 3, line 3: 9,b_1,Ben,ANN'),
+    (HEAD + "9,b_1,Ben\r9,b_2,\x1b[2J\r", "B8", r'"\x1b[2J" is no candidate; the contest has "Ann", "Ben". Record 4, line 4: 9,b_2,\x1b[2J'),
+    (HEAD + "9,b_1,Ben\n\n9,b_1,Ann\n", "B9", '"b_1" stood in record 3, line 3. Record 4, line 5: 9,b_1,Ann'),
+]
+# A manifest, by `sample`.
+OF_MANIFEST = [
+    ("Batch,Cards\nb,3\n", "M1", 'It begins with "Batch,Cards"'),
+    (BALLOTS, "M1", 'It begins with "1", as a ballot file does'),
+    ("batch;cards\nb;3\n", "M1", 'It begins with "batch;cards"; its semicolons have to be commas'),
+    ("batch,cards\nb;3\n", "M2", "It has 1 field; its semicolons have to be commas. Record 2, line 2: b;3"),
+    ("batch,cards\nb,1,200\n", "M2", "It has 3 fields; without commas the number would be 1200. Record 2, line 2: b,1,200"),
+    ("batch,cards\nb,1.200\n", "M3", '"1.200" is no number of cards; 1200 would be one. Record 2, line 2: b,1.200'),
+    ("batch,cards\nb,1\n\nb,2\n", "M4", '"b" stood in record 2, line 2. Record 3, line 4: b,2'),
+    ("batch,cards\nZoë,2\n", "M4", '"Zoë" is no id; "Zoe" would be one. Record 2, line 2: Zoë,2'),
+    ("batch,cards\n" + "".join(f"b{number},1000000\n" for number in range(11)), "M5", "Record 12, line 12: b10,1000000"),
+    ("batch,cards\n", "M6", ""),
+]
+# An assertion file, by `plan` of the manifest.
+OF_ASSERTIONS = [
+    (BALLOTS, "F1", 'It begins with "1", as a ballot file does'),
+    (ASSERTIONS[:60], "F1", "The file ends before the object does"),
+    (CHANGED('"margin":1,"rest"', '"rest"'), "F2", 'It lacks "margin". Assertion 1: {"kind":"NEN","loser":"Ben","rest":["Ann","Ben"],"winner":"Ann"}'),
+    (CHANGED('"version":1', '"version":2'), "F3", "It says version 2"),
+    (CHANGED('"loser":"Ben"', '"loser":"ben"'), "F4", '"ben" is no candidate; the file has "Ben". Assertion 1: {"kind":"NEN","loser":"ben","margin":1,"rest":["Ann","Ben"],"winner":"Ann"}'),
+    (CHANGED('"rest":["Ann","Ben"]', '"rest":["Ann"]'), "F5", 'The rest lacks "Ben". Assertion 1: {"kind":"NEN","loser":"Ben","margin":1,"rest":["Ann"],"winner":"Ann"}'),
+    (CHANGED('"rest":["Ann","Ben"]', '"rest":["Ann","Ann","Ben"]'), "F5",
+     '"Ann" stands twice in the rest. Assertion 1: {"kind":"NEN","loser":"Ben","margin":1,"rest":["Ann","Ann","Ben"],"winner":"Ann"}'),
+    (CHANGED('"loser":"Ben"', '"loser":"Ann"'), "F4",
+     '"Ann" is its winner and its loser. Assertion 1: {"kind":"NEN","loser":"Ann","margin":1,"rest":["Ann","Ben"],"winner":"Ann"}'),
+    (CHANGED('"candidates":["Ann","Ben"]', f'"candidates":{MANY}'), "F4", f"It has {limits.MOST_CANDIDATES + 1} candidates"),
+    (CHANGED('"candidates":["Ann","Ben"]', '"candidates":["Ann"]'), "F4", "It has 1 candidate"),
+    (CHANGED('"candidates":["Ann","Ben"]', '"candidates":["Ann","Ben","Ann"]'), "F4", '"Ann" stands twice among the candidates'),
+    (CHANGED('"candidates":["Ann","Ben"]', '"candidates":["Ann",""]'), "F4", "The id is empty"),
+    (CHANGED('"order":["Ann","Ben"]', '"order":["Ann","ben"]'), "F4", '"ben" is no candidate; the file has "Ben"'),
+    (CHANGED('"order":["Ann","Ben"]', '"order":["Ann"]'), "F5", 'The order lacks "Ben"'),
+    (CHANGED('"order":["Ann","Ben"]', '"order":["Ann","Ann"]'), "F5", '"Ann" stands twice in the order'),
+    (CHANGED('"margin":1,"order"', '"margin":4,"order"'), "F6", "Its margin 4 is above the 3 records"),
+    (CHANGED('"margin":1,"order"', '"margin":0,"order"'), "F6", "Its margin is 0"),
+    (CHANGED('"margin":1,"rest"', '"margin":4,"rest"'), "F6",
+     'Its margin 4 is above the 3 records. Assertion 1: {"kind":"NEN","loser":"Ben","margin":4,"rest":["Ann","Ben"],"winner":"Ann"}'),
+    (CHANGED('"records":3', '"records":0'), "F6", "It says 0 records"),
+    (CHANGED('"records":3', '"records":5'), "F7", "The assertions are about 5 ballots, and the manifest has 4 cards"),
+]
+# Seen cards, by `audit` with four draws, of cards 1, 2, 3 and 4 (seed 10).
+OF_SEEN = [
+    (BALLOTS, "V1", 'It begins with "1", as a ballot file does'),
+    ("b_1;ballot\n", "V1", "It has 1 field; its semicolons have to be commas. Record 1, line 1: b_1;ballot"),
+    ("b_1,ballots,Ann\n", "V1", '"ballots" is no word of a seen card; nearly right is "ballot". Record 1, line 1: b_1,ballots,Ann'),
+    ("b_1,missing,Ann\n", "V1", '"Ann" stands behind missing. Record 1, line 1: b_1,missing,Ann'),
+    ("b_01,ballot\n", "V2", '"b_01" has a zero in front of its number; there is "b_1". Record 1, line 1: b_01,ballot'),
+    ("B_1,ballot\n", "V2", '"B" is no batch; the manifest has "b". Record 1, line 1: B_1,ballot'),
+    ("b_9,ballot\n", "V2", '"b" has 4 cards, and "9" is none of their numbers. Record 1, line 1: b_9,ballot'),
+    (SEEN + "\n" + SEEN, "V3", '"b_1" stood in record 1, line 1. Record 2, line 3: b_1,ballot,Ann'),
+    ("b_1,ballot,Anne\n", "V5", '"Anne" is no candidate; the contest has "Ann". Record 1, line 1: b_1,ballot,Anne'),
+]
+SCRIPTS = ("agree", "batches", "boxes", "cards", "convert", "export", "release", "show")
+# Words; which of them is wrong.
+OF_WORDS = [
+    (["serch", "x"], '"serch" is no command; nearly right is "search"'),
+    (["x"], '"x" is no command; they are audit, check, open, plan, report, sample, search, tabulate, trial'),
+    *[([script, "x"], f'"{script}" is no command; it is a script of its own: ./{script}') for script in SCRIPTS],
+    (["audit", "--draw", "5"], '"--draw" is no option of audit; nearly right is "--draws"'),
+    (["search", "-x", "b"], '"-x" is no option of search; it has --contest, --workers, --nodes, --floor'),
+    (["check", "--workers=5", "b"], '"--workers=5" is no option of check; it has --contest, --nodes'),
+    (["report", "--nodes=5", "b"], '"--nodes=5" is no option of report; it has none'),
+    (["search", "b", "--nodes", "1", "--nodes", "1"], "--nodes stands twice"),
+    (["search", "b", "--nodes"], "--nodes has no value"),
+    (["sample", "b", "--seed", "-1", "--draws", "1"], '--seed has no value; "-1" begins with -, so it is written behind --seed='),
+    (["search", "b", "--workers", "0"], '"0" is no value of --workers, which is 1 to 8'),
+    (["sample", "b", "--seed", "2", "6", "1", "--draws", "1"],
+     '"6" is a word too many: sample takes MANIFEST; a seed of several words wants quotes, as in --seed "2 6 1 4"'),
+    (["check", "b"], "check takes BALLOTS ASSERTIONS, and 1 of these stands here"),
+    (["check"], "check takes BALLOTS ASSERTIONS, and none of these stands here"),
+    (["sample", "b", "--draws", "1"], "sample wants --seed"),
+    (["search", ""], "a file has no name"),
+]
+
+
+class Tried:
+    def __init__(self, program, folder):
+        self.program, self.script = program, os.path.join(folder, "raire")
+        self.count, self.failed = 0, 0
+        walk.write_stand_in(program, self.script)
+
+    def see(self, shows, holds, got=""):
+        self.count += 1
+        if not holds:
+            self.failed += 1
+            print(f"./raire: {shows}: not so {got}")
+
+    def ran(self, words, program=None, **how):
+        ran = subprocess.run([program or self.script, *words], stdin=subprocess.DEVNULL, stdout=subprocess.PIPE, stderr=subprocess.PIPE, **how)
+        return ran.returncode, ran.stdout, ran.stderr.decode()
+
+    def says(self, words, line):
+        """Behind the program's own line stands this one; the rest is the program's."""
+        status, out, err = self.ran(words, self.program)
+        got = self.ran(words)
+        self.see(f"{words} has {line}", got == (status, out, err + f"raire: {line}\n"), got)
+        return status, err
+
+    def breaks(self, name, text, rule, told, *words):
+        write(name, text)
+        status, err = self.says(words, ". ".join(part for part in (f"{rule}: {table.causes()[rule]}", told, END) if part))
+        self.see(f"{text[:60]!r} breaks {rule}", status == 2 and f"raire: {name}: {rule} " in err, err)
+
+
+def write(name, text):
+    with open(name, "w", newline="") as file:
+        file.write(text)
+
+
+def rules_are_told(tried):
+    """Each rule of formats.md has one cause, and each limit of that page is the one that acceptance/ knows."""
+    rules = {cells[0] for cells in table.rows("formats.md") if re.fullmatch("[BFMSV][0-9]+", cells[0])}
+    stand = [match[1] for cells in table.rows("faults.md") if len(cells) == 4 and (match := table.KEYS.match(cells[1]))]
+    tried.see("each rule stands in faults.md once", sorted(rules) == sorted(key for key in stand if key in rules), sorted(stand))
+    known = {name: number for name, number in vars(limits).items() if name.isupper()}
+    for name, number in table.limits().items():
+        tried.see(f"{name} is {number}", known.get(name, int(number.replace(",", ""))) == int(number.replace(",", "")))
+
+
+def files_are_told(tried):
+    write("ballots.raire", BALLOTS)
+    write("manifest.csv", MANIFEST)
+    write("assertions.json", ASSERTIONS)
+    for text, rule, told in OF_BALLOTS:
+        tried.breaks("broken.raire", text, rule, told, "tabulate", "broken.raire")
+    two = next(text for text, rule, _ in OF_BALLOTS if rule == "B5")
+    tried.breaks("two.raire", two, "B5", 'The file has the contests "9", "10". "90" is none of them', "search", "two.raire", "--contest=90")
+    for text, rule, told in OF_MANIFEST:
+        tried.breaks("broken.csv", text, rule, told, "sample", "broken.csv", "--seed=1", "--draws=1")
+    for text, rule, told in OF_ASSERTIONS:
+        tried.breaks("broken.json", text, rule, told, "plan", "manifest.csv", "broken.json")
+    opens = ["manifest.csv", "assertions.json", "--seed=10"]
+    tried.breaks("far.raire", HEAD + "9,c_1,Ann\n", "M7", '"c" is no batch; the manifest has "b". Record 3, line 3: 9,c_1,Ann', "open", "far.raire", *opens)
+
+
+def audits_are_told(tried):
+    files = ["ballots.raire", "manifest.csv", "assertions.json"]
+    status, session, err = tried.ran(["open", *files, "--seed=10"])
+    tried.see("an audit is opened, and nothing more is said", (status, err) == (0, ""), err)
+    write("open.json", session.decode())
+    for text, rule, told in OF_SEEN:
+        tried.breaks("seen.csv", text, rule, told, "audit", "open.json", *files, "seen.csv", "--draws=4")
+    cards = dict.fromkeys(line.split(",")[2] for line in tried.ran(["sample", "manifest.csv", "--seed=10", "--draws=9"])[1].decode().split())
+    left = [card for card in cards if card != "b_1"]
+    told = f"Not read yet ({len(left)} of the {len(cards)} cards that are drawn): {' '.join(left)}"
+    tried.see("several cards are unread", len(left) > 1)
+    tried.breaks("seen.csv", SEEN, "V4", told, "audit", "open.json", *files, "seen.csv", "--draws=9")
+    swapped = ["audit", "open.json", "manifest.csv", "ballots.raire", "assertions.json", "seen.csv", "--draws=9"]
+    tried.says(swapped, f'S2: {table.causes()["S2"]}. "ballots.raire" has the first digest; see the order of the files. {END}')
+    write("other.json", ASSERTIONS)
+    tried.says(["report", "other.json"], f"S1: {table.causes()['S1']}. It is an assertion file. {END}")
+    write("again.json", "")
+    tried.says(["report", "again.json"], f"S1: {table.causes()['S1']}. The file is empty; a > behind the command empties its file first. {END}")
+
+
+def words_are_told(tried):
+    for words, told in OF_WORDS:
+        tried.says(words, f"{told}. {POINTER}")
+    tried.says(["tabulate", "ballot.raire"], f'no such file: {table.causes()["no such file"]}. Nearly right is "ballots.raire". {END}')
+    tried.says(["tabulate", "."], f'read fault: {table.causes()["read fault"]}. It is a folder. {END}')
+    for path in ("ballots.raire/x", "ballots.raire/x/y"):
+        tried.says(["tabulate", path], f'read fault: {table.causes()["read fault"]}. "ballots.raire" is a file, and no folder. {END}')
+
+
+def answers_are_left(tried):
+    """Where nothing is refused, nothing is added and nothing is started."""
+    path = os.path.join(os.getcwd(), "bin")
+    os.mkdir(path)
+    write("bin/python3", "#!/bin/sh\ntouch started\nexit 1\n")
+    os.chmod("bin/python3", 0o755)
+    given = {**os.environ, "PATH": f"{path}:{os.environ['PATH']}"}
+    write("tie.raire", HEAD + "9,b_1,Ann\n9,b_2,Ben\n")
+    for words in (["tabulate", "ballots.raire"], ["search", "ballots.raire"], ["search", "tie.raire"], ["search", "--floor=9", "ballots.raire"]):
+        tried.see(f"{words} is answered", tried.ran(words, env=given) == tried.ran(words, tried.program) and not os.path.exists("started"))
+    for words, more in ((["tabulate", "broken.raire"], ""), (["tabulate"], f"raire: {POINTER}\n"), (["tabulate", "none"], "")):
+        status, out, err = tried.ran(words, tried.program)
+        tried.see(f"{words} without python", tried.ran(words, env=given) == (status, out, err + more))
+    tried.see("python was started", os.path.exists("started"))
+    for words in (["tabulate", "broken.raire"], ["tabulate"]):
+        status = subprocess.run(["bash", "-c", '"$0" "$@" 2>&-', tried.script, *words], stdout=subprocess.DEVNULL).returncode
+        was = subprocess.run(["bash", "-c", '"$0" "$@" 2>&-', tried.program, *words], stdout=subprocess.DEVNULL).returncode
+        tried.see(f"{words} with standard error closed", status == was, (status, was))
+    os.mkfifo("pipe")
+    with subprocess.Popen(["sh", "-c", "exec cat broken.raire > pipe"]):
+        status, out, err = tried.ran(["tabulate", "pipe"], timeout=60)
+    tried.see("a pipe isn't read again", status == 2 and err.count("\n") == 1, err)
+
+
+def cards_are_counted(tried):
+    """./boxes counts cards and records, and points at batches that no record names."""
+    given = {**os.environ, "RAIRE": tried.program}
+
+    def boxes(*words):
+        return tried.ran(words, os.path.join(TOP, "boxes"), env=given)
+
+    write("total.csv", MANIFEST + "c,2\nTotal,6\n")
+    write("batches.csv", MANIFEST)
+    wanted = "contest 9\ncards 4\nrecords 3\ncards without a record 1: b_4\n"
+    tried.see("a card without a record is counted", boxes("ballots.raire", "batches.csv") == (0, wanted.encode(), ""), boxes("ballots.raire", "batches.csv"))
+    status, out, err = boxes("ballots.raire", "total.csv")
+    wanted = "batch c: 2 cards, and no record names one\nbatch Total: 6 cards, and no record names one\n"
+    tried.see("a batch that no record names is pointed at", (status, err) == (0, "") and out.decode().endswith(wanted), (out, err))
+    tried.see("and is counted", b"\ncards 12\n" in out and b"\ncards without a record 9: b_4 c_1 c_2 Total_1" in out, out)
+    write("broken.csv", "batch,cards\nb,x\n")
+    tried.see("what the program refuses is refused", boxes("ballots.raire", "broken.csv") == (2, b"", "raire: broken.csv: M3 at 2\n"))
+    write("far.raire", HEAD + "9,c_1,Ann\n")
+    got = boxes("far.raire", "batches.csv")
+    tried.see("a record without a card is refused", (got[0], got[1]) == (2, b"") and got[2].startswith("raire: far.raire: M7 at 3\n"), got)
+    told = "boxes: the following arguments are required: manifest; ./raire help boxes tells its words\n"
+    tried.see("two files are wanted", boxes("ballots.raire") == (1, b"", told), boxes("ballots.raire"))
+    with open(os.path.join(TOP, "docs", "help", "boxes.txt"), "rb") as file:
+        tried.see("help is the page", boxes("--help") == (0, file.read(), ""))
+    got = tried.ran(["ballots.raire", "batches.csv"], os.path.join(TOP, "boxes"), env={**os.environ, "RAIRE": "/none"})
+    tried.see("a program is needed", got == (1, b"", "boxes: RAIRE names no program: /none\n"), got)
+    got = tried.ran(["ballots.raire", "batches.csv"], os.path.join(TOP, "boxes"), env={**os.environ, "RAIRE": "/bin/true"})
+    tried.see("and one that answers", got == (1, b"", "boxes: /bin/true gave no answer\n"), got)
+    got = tried.ran(["ballots.raire", "batches.csv", "--contest=x"], os.path.join(TOP, "boxes"), env={**os.environ, "RAIRE": tried.script})
+    told = f'raire: ballots.raire: B5 at 1\nraire: B5: {table.causes()["B5"]}. The file has the contests "9". "x" is none of them. {END}\n'
+    tried.see("the line that ./raire adds is passed on", got == (2, b"", told), got)
+    for to in (">/dev/full", ">&-"):
+        line = ["bash", "-c", f'"$0" "$@" {to}', os.path.join(TOP, "boxes"), "ballots.raire", "batches.csv"]
+        ran = subprocess.run(line, capture_output=True, text=True, env=given)
+        tried.see(f"boxes {to}", (ran.returncode, ran.stderr) == (8, "boxes: the output could not be written\n"), ran)
+
+
+def main():
+    program = os.path.abspath(sys.argv[1])
+    folder = tempfile.mkdtemp()
+    os.chdir(folder)
+    tried = Tried(program, folder)
+    for cases in (rules_are_told, files_are_told, audits_are_told, words_are_told, answers_are_left, cards_are_counted):
+        cases(tried)
+    os.chdir("/")
+    shutil.rmtree(folder)
+    print(f"{tried.count - tried.failed} refusals and counts are told as they should be, {tried.failed} aren't")
+    sys.exit(1 if tried.failed else 0)
+
+
+if __name__ == "__main__":
+    main()

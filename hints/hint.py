@@ -1,0 +1,136 @@
+#!/usr/bin/env python3
+"""Says in one line what a refusal of the program means, which record it is about, and what is nearly right.
+
+hints/hint.py PROGRAM STATUS WORDS.. is what ./raire asks behind a refusal. It runs the program once more, for the line that the refusal
+had, and looks into the files that the words name. It prints nothing where the program answers otherwise now, or where a file is none that
+can be read twice. What a rule means stands in docs/faults.md.
+"""
+import os
+import stat
+import subprocess
+import sys
+
+sys.dont_write_bytecode = True
+
+import rules  # noqa: E402
+import table  # noqa: E402
+import words  # noqa: E402
+
+POINTER = "./raire help tells the commands, ./raire help COMMAND the files and options of one"
+OF_BALLOTS = {
+    "B2": rules.contest_record, "B3": rules.number_of_candidates, "B4": rules.wrong_id, "B6": rules.short_ballot, "B7": rules.other_contest,
+    "B8": rules.ranked_nobody, "B9": rules.recorded_twice, "B10": rules.too_many,
+}
+OF_MANIFEST = {"M2": rules.batch_fields, "M3": rules.batch_cards, "M4": rules.batch_id, "M5": rules.too_many}
+
+
+def is_read_again(path):
+    """A file, a folder, or nothing: no pipe, which has been read to its end."""
+    try:
+        mode = os.stat(path).st_mode
+    except OSError:
+        return True
+    return stat.S_ISREG(mode) or stat.S_ISDIR(mode)
+
+
+def told_by(program, line, status):
+    """What the program says of these words now, if it refuses them as it did."""
+    ran = subprocess.run([program, *line], stdin=subprocess.DEVNULL, stdout=subprocess.DEVNULL, stderr=subprocess.PIPE)
+    return ran.stderr.decode() if ran.returncode == status else None
+
+
+def refusal_in(text, call):
+    """The file that a line names, and what it says of it."""
+    for path in sorted(set(call.files.values()), key=len, reverse=True):
+        if text.startswith(f"raire: {path}: "):
+            return path, text[len(f"raire: {path}: ") :].rstrip("\n")
+    return None, ""
+
+
+def found(call, path, said):
+    """The sentences about the place that the refusal told."""
+    rule, *rest = said.split()
+    at = int(rest[-1]) if rest and rest[-1].isdigit() else 0
+    data = rules.data_of(path)
+    files = call.files
+    if rule in OF_BALLOTS:
+        return OF_BALLOTS[rule](data, at)
+    if rule in OF_MANIFEST:
+        return OF_MANIFEST[rule](data, at)
+    if rule in ("B1", "M1"):
+        return [rules.begins(data, "a ballot file" if rule == "B1" else "a manifest")]
+    if rule == "B5":
+        return rules.contest_asked_for(data, contest_of(call))
+    if rule == "M7":
+        record = rules.record_at(data, at)
+        return [rules.no_card(record.fields[1], rules.batches_of(rules.data_of(files["MANIFEST"]))), rules.where(record)]
+    if rule[0] == "V":
+        return found_of_seen(call, data, rule, at)
+    if rule[0] == "F":
+        return rules.no_json(data, "an assertion file") if rule == "F1" else found_of_assertions(call, data, rule, at)
+    if rule == "S1":
+        return rules.no_session(data)
+    if rule == "S2":
+        return rules.other_bytes(rest[1], [files[name] for name in files if name != "SESSION"])
+    return []
+
+
+def found_of_assertions(call, data, rule, at):
+    return rules.too_few_cards(data, rules.data_of(call.files["MANIFEST"])) if rule == "F7" else rules.assertion(data, rule, at)
+
+
+def found_of_seen(call, data, rule, at):
+    files = call.files
+    if rule == "V1":
+        return rules.seen_record(data, at)
+    if rule == "V3":
+        return rules.stood_before(data, at, 1)
+    if rule == "V4":
+        return rules.unread(rules.data_of(files["SESSION"]), rules.data_of(files["MANIFEST"]), data, int(call.options["draws"]))
+    record = rules.record_at(data, at)
+    if rule == "V2":
+        return [rules.no_card(record.fields[0], rules.batches_of(rules.data_of(files["MANIFEST"]))), rules.where(record)]
+    return rules.no_candidate(record, record.fields[2:], rules.heads_of(rules.data_of(files["BALLOTS"]))[contest_of(call)][0])
+
+
+def contest_of(call):
+    """The contest that is meant: of an audit that of its session."""
+    if call.command == "audit":
+        return rules.json_members(rules.data_of(call.files["SESSION"]))["contest"]
+    return call.options.get("contest")
+
+
+FOUND = {"no such file": rules.no_such_file, "too long": rules.size, "read fault": rules.unreadable}
+
+
+def sentences(program, status, line):
+    """What is said of a refusal, a sentence each; none where nothing can be."""
+    if status == 1:
+        try:
+            words.call_of(line)
+        except words.Wrong as wrong:
+            return [str(wrong), POINTER]
+        return [POINTER]
+    call = words.call_of(line)
+    if not all(map(is_read_again, call.files.values())):
+        return []
+    path, said = refusal_in(told_by(program, line, status) or "", call)
+    if path is None:
+        return []
+    key = said if said in FOUND else said.split()[0]
+    head = f"{key}: {table.causes()[key]}"
+    try:
+        return [head, *(FOUND[key](path) if key in FOUND else found(call, path, said)), "What to do: docs/faults.md"]
+    except (LookupError, TypeError, ValueError, AttributeError, StopIteration, OSError):
+        return [head, "What to do: docs/faults.md"]
+
+
+def main():
+    sys.stdout.reconfigure(errors="backslashreplace")
+    told = ". ".join(sentences(sys.argv[1], int(sys.argv[2]), sys.argv[3:]))
+    if told:
+        print(told)
+
+
+if __name__ == "__main__":
+    main()

@@ -1,0 +1,418 @@
+"""What is found where a rule is broken: the record and its line, the word that is wrong, and what is nearly right.
+
+It judges no file: that a rule is broken, and where, the program has said. Each function answers some sentences, of the files that
+the call names and the place that the program told.
+"""
+import hashlib
+import json
+import os
+import re
+import sys
+
+from near import is_id, nearest, why_no_id
+from records import listed, quoted, record_at, records, shown
+from table import limits
+
+MOST_UNREAD = 1_000
+
+
+def data_of(path):
+    with open(path, "rb") as file:
+        return file.read()
+
+
+def where(record):
+    return f"Record {record.number}, line {record.line}: {shown(record.text)}"
+
+
+def looks_like(data):
+    """What a file seems to be, to say that it was given in another one's place."""
+    first = record_at(data[:65_536], 1)
+    if data.lstrip()[:1] in (b"{", b"["):
+        members = json_members(data)
+        return "a session" if {"rounds", "seed"} & set(members) else "an assertion file"
+    if first is None:
+        return None
+    if first.fields == ["batch", "cards"]:
+        return "a manifest"
+    if len(first.fields) > 1 and first.fields[1] in ("ballot", "missing"):
+        return "a file of seen cards"
+    second = record_at(data[:65_536], 2)
+    return "a ballot file" if second and second.fields[0] == "Contest" else None
+
+
+def begins(data, wanted):
+    """How a file begins that isn't of the kind that is wanted."""
+    if not data.strip():
+        return "The file is empty; a > behind the command empties its file first"
+    kind = looks_like(data)
+    first = record_at(data[:65_536], 1)
+    told = f"It begins with {quoted(first.text if first else data[:60].decode('latin-1'))}"
+    return told + (f", as {kind} does" if kind and kind != wanted else "" if kind else semicolons(first))
+
+
+def semicolons(record):
+    """Where a record has semicolons and no comma, that these stand where commas have to."""
+    return "; its semicolons have to be commas" if record and ";" in record.text and "," not in record.text else ""
+
+
+def json_members(data):
+    try:
+        value = json.loads(data)
+    except (ValueError, RecursionError):
+        return {}
+    return value if isinstance(value, dict) else {}
+
+
+def plural(number, one):
+    return f"{number:,} {one}{'s' * (number != 1)}"
+
+
+def is_number(text, low, most):
+    return re.fullmatch("[0-9]{1,10}", text) is not None and low <= int(text) <= most
+
+
+# ---- ballot files
+
+def heads_of(data):
+    """Of each contest at the head of a ballot file its candidates and its record."""
+    found, count = {}, None
+    for record in records(data):
+        fields = record.fields
+        if count is None:
+            if not is_number(fields[0], 1, 10**9):
+                break
+            count = int(fields[0])
+        elif record.number > count + 1 or len(fields) < 3 or fields[0] != "Contest":
+            break
+        else:
+            size = int(fields[2]) if is_number(fields[2], 1, 10**9) else 0
+            found.setdefault(fields[1], (fields[3 : 3 + size], record))
+    return found
+
+
+def contest_record(data, at):
+    """B2: what a contest's record has to begin with."""
+    record = record_at(data, at)
+    if record is None:
+        return [f"The file ends before record {at}"]
+    fields = record.fields
+    if fields[0] != "Contest":
+        told = f'{quoted(fields[0])} stands where "Contest" has to' + semicolons(record)
+    elif len(fields) < 3:
+        told = f"It has {len(fields)} fields, and 3 are wanted at least"
+    else:
+        told = f"{quoted(fields[1])} stood before"
+    return [told, where(record)]
+
+
+def number_of_candidates(data, at):
+    """B3"""
+    record = record_at(data, at)
+    fields = record.fields
+    if not is_number(fields[2], 1, 10**9):
+        told = f"{quoted(fields[2])} is no number of candidates"
+    elif len(fields) - 3 < int(fields[2]):
+        told = f"It says {plural(int(fields[2]), 'candidate')}, and {plural(len(fields) - 3, 'id')} follow{'s' * (len(fields) == 4)}"
+    else:
+        told = f"It says {plural(int(fields[2]), 'candidate')}"
+    return [told, where(record)]
+
+
+def wrong_id(data, at):
+    """B4: of a contest's record any of its ids, of a ballot its own."""
+    record = record_at(data, at)
+    fields = record.fields
+    ids = fields[1:2]
+    if fields[0] == "Contest" and at - 2 < int(record_at(data, 1).fields[0]):
+        ids += fields[3 : 3 + int(fields[2])]
+    wrong = next((text for text in ids if not is_id(text)), None)
+    told = f"{quoted(next((text for text in ids[1:] if ids[1:].count(text) > 1), ''))} stands twice" if wrong is None else why_no_id(wrong)
+    return [told, where(record)]
+
+
+def contest_asked_for(data, asked):
+    """B5"""
+    heads = heads_of(data)
+    told = f"The file has the contests {listed(list(heads))}"
+    if asked is None:
+        return [told, "--contest says which is meant"]
+    near = nearest(asked, heads)
+    return [told, f"{quoted(asked)} is none of them" + (f"; nearly right is {quoted(near)}" if near else "")]
+
+
+def short_ballot(data, at):
+    """B6"""
+    return [where(record_at(data, at))]
+
+
+def other_contest(data, at):
+    """B7"""
+    record = record_at(data, at)
+    return [is_none("contest", record.fields[0], heads_of(data), "the file has"), where(record)]
+
+
+def is_none(what, text, names, who_has):
+    near = nearest(text, names)
+    return f"{quoted(text)} is no {what}; {who_has} " + (quoted(near) if near else listed(list(names)))
+
+
+def no_candidate(record, preferences, ids):
+    """B8 and V5: the first preference that is nobody's id."""
+    wrong = next(text for text in preferences if text and text not in ids)
+    return [is_none("candidate", wrong, ids, "the contest has"), where(record)]
+
+
+def ranked_nobody(data, at):
+    """B8"""
+    record = record_at(data, at)
+    return no_candidate(record, record.fields[2:], heads_of(data)[record.fields[0]][0])
+
+
+def stood_before(data, at, fields):
+    """B9 and V3: the record that had these fields first."""
+    record = record_at(data, at)
+    had = next(had for had in records(data) if had.fields[:fields] == record.fields[:fields] and had.number > number_of_heads(data, fields))
+    return [f"{quoted(record.fields[fields - 1])} stood in record {had.number}, line {had.line}", where(record)]
+
+
+def number_of_heads(data, fields):
+    return 0 if fields == 1 else int(record_at(data, 1).fields[0]) + 1
+
+
+def recorded_twice(data, at):
+    """B9"""
+    return stood_before(data, at, 2)
+
+
+def too_many(data, at):
+    """B10 and M5"""
+    return [where(record_at(data, at))]
+
+
+# ---- manifests, and ids of cards
+
+def batch_fields(data, at):
+    """M2"""
+    record = record_at(data, at)
+    parts = record.fields[1:]
+    grouped = len(parts) > 1 and all(map(str.isdigit, parts)) and len(set(map(len, parts[1:]))) == 1
+    told = f"It has {plural(len(record.fields), 'field')}"
+    return [told + (f"; without commas the number would be {''.join(parts)}" if grouped else semicolons(record)), where(record)]
+
+
+def batch_cards(data, at):
+    """M3"""
+    record = record_at(data, at)
+    plain = re.sub("[^0-9]", "", record.fields[1])
+    near = plain and plain != record.fields[1] and is_number(plain, 1, 10**9)
+    told = f"{quoted(record.fields[1])} is no number of cards" + (f"; {plain} would be one" if near else "")
+    return [told, where(record)]
+
+
+def batch_id(data, at):
+    """M4"""
+    record = record_at(data, at)
+    name = record.fields[0]
+    had = next(had for had in records(data) if had.fields[0] == name and had.number > 1)
+    if had.number < at:
+        return [f"{quoted(name)} stood in record {had.number}, line {had.line}", where(record)]
+    return [f"{quoted(name)} has {len(name)} bytes" if is_id(name) else why_no_id(name), where(record)]
+
+
+def batches_of(data):
+    """The number of cards of each batch."""
+    return {record.fields[0]: int(record.fields[1]) for record in records(data) if record.number > 1}
+
+
+def no_card(name, batches):
+    """Why no card of these batches has this id: M7 and V2."""
+    batch, _, number = name.rpartition("_")
+    if not batch:
+        return f"{quoted(name)} is no id of a card: that is batch, _ and number"
+    if batch not in batches:
+        return is_none("batch", batch, batches, "the manifest has")
+    plain = number.lstrip("0")
+    if plain != number and is_number(plain, 1, batches[batch]):
+        return f"{quoted(name)} has a zero in front of its number; there is {quoted(f'{batch}_{plain}')}"
+    many = "s, and {} is none of their numbers" if batches[batch] > 1 else ", and {} isn't its number"
+    return f"{quoted(batch)} has {batches[batch]} card" + many.format(quoted(number))
+
+
+# ---- seen cards
+
+def seen_record(data, at):
+    """V1"""
+    record = record_at(data, at)
+    fields = record.fields
+    if at == 1 and looks_like(data) not in (None, "a file of seen cards"):
+        return [begins(data, "a file of seen cards")]
+    if len(fields) < 2:
+        told = f"It has {len(fields)} field" + semicolons(record)
+    elif fields[1] not in ("ballot", "missing"):
+        told = is_none("word of a seen card", fields[1], ["ballot", "missing"], "nearly right is")
+    else:
+        told = f"{quoted(next(text for text in fields[2:] if text))} stands behind missing"
+    return [told, where(record)]
+
+
+def unread(session, manifest, seen, draws):
+    """V4: all drawn cards that have no record, in the order of their first draws."""
+    sys.path.append(os.path.join(os.path.dirname(os.path.dirname(os.path.abspath(__file__))), "acceptance"))
+    import plain_audit
+
+    cards, seed = plain_audit.Manifest(batches_of(manifest)), json_members(session)["seed"]
+    read = {record.fields[0] for record in records(seen)}
+    drawn = dict.fromkeys(cards.card(plain_audit.drawn(seed, k, cards.cards)) for k in range(1, draws + 1))
+    left = [card for card in drawn if card not in read]
+    more = f" and {len(left) - MOST_UNREAD} more" if len(left) > MOST_UNREAD else ""
+    return [f"Not read yet ({len(left)} of the {len(drawn)} cards that are drawn): {' '.join(left[:MOST_UNREAD])}{more}"]
+
+
+# ---- assertion files and sessions
+
+MEMBERS = ("assertions", "candidates", "contest", "margin", "order", "records", "version", "winner")
+OF_ASSERTION = ("kind", "loser", "margin", "winner")
+OF_SESSION = ("assertions", "ballots", "cards", "contest", "gamma", "limit", "manifest", "margins", "rounds", "seed", "signed_off", "version")
+
+
+def no_json(data, wanted):
+    """F1, and S1 of what is no JSON."""
+    if not data.strip() or looks_like(data) not in (None, "an assertion file", "a session"):
+        return [begins(data, wanted)]
+    try:
+        json.loads(data.decode("utf-8"))
+    except UnicodeDecodeError as fault:
+        return [f"Byte {fault.start + 1} isn't UTF-8"]
+    except json.JSONDecodeError as fault:
+        cut = fault.pos >= len(data.decode("utf-8").rstrip())
+        return ["The file ends before the object does" if cut else f"It is no JSON from line {fault.lineno}, character {fault.colno} on"]
+    except RecursionError:
+        pass
+    return []
+
+
+def missing(value, members):
+    lacks = [name for name in members if not isinstance(value, dict) or name not in value]
+    return f"It lacks {listed(lacks)}" if lacks else None
+
+
+def assertion(data, rule, at):
+    """F2 to F6: what is wrong with the file's own members, or with one assertion."""
+    file = json_members(data)
+    if at == 0:
+        return [part for part in ["It is a session" if looks_like(data) == "a session" else OF_HEAD[rule](file)] if part]
+    one = file["assertions"][at - 1]
+    told = OF_ONE[rule](file, one)
+    return [part for part in (told, f"Assertion {at}: {shown(json.dumps(one, separators=(',', ':')).encode().decode('latin-1'))}") if part]
+
+
+def twice(names):
+    return next((name for name in names if names.count(name) > 1), None)
+
+
+def wrong_list(file):
+    """F4 at 0"""
+    ids = file["candidates"]
+    wrong = next((name for name in [file["contest"], *ids] if not is_id(name)), None)
+    if wrong is not None:
+        return why_no_id(wrong)
+    if not int(limits()["FEWEST_CANDIDATES"]) <= len(ids) <= int(limits()["MOST_CANDIDATES"]):
+        return f"It has {plural(len(ids), 'candidate')}"
+    if twice(ids) is not None:
+        return f"{quoted(twice(ids))} stands twice among the candidates"
+    return wrong_candidate(file, [file["winner"], *file["order"]])
+
+
+def wrong_order(names, wanted, what):
+    """F5: who stands twice in the order or the rest, or is lacking there."""
+    if twice(names) is not None:
+        return f"{quoted(twice(names))} stands twice in the {what}"
+    lacks = [name for name in wanted if name not in names]
+    return f"The {what} lacks {listed(lacks)}" if lacks else None
+
+
+def wrong_margin(file, margin):
+    """F6"""
+    most = int(limits()["MOST_RECORDS"].replace(",", ""))
+    if not 1 <= file["records"] <= most:
+        return f"It says {plural(file['records'], 'record')}"
+    return f"Its margin {margin:,} is above the {plural(file['records'], 'record')}" if margin else "Its margin is 0"
+
+
+def wrong_name(file, one):
+    """F4 of an assertion"""
+    told = wrong_candidate(file, [one["winner"], one["loser"], *(one.get("rest") or [])])
+    return told or f"{quoted(one['winner'])} is its winner and its loser"
+
+
+OF_HEAD = {
+    "F2": lambda file: missing(file, MEMBERS), "F3": lambda file: f"It says version {file['version']}", "F4": wrong_list,
+    "F5": lambda file: wrong_order(file["order"], file["candidates"], "order"), "F6": lambda file: wrong_margin(file, file["margin"]),
+}
+OF_ONE = {
+    "F2": lambda file, one: missing(one, OF_ASSERTION + ("rest",) * (isinstance(one, dict) and one.get("kind") == "NEN")), "F4": wrong_name,
+    "F5": lambda file, one: wrong_order(one["rest"], [one["winner"], one["loser"]], "rest"), "F6": lambda file, one: wrong_margin(file, one["margin"]),
+}
+
+
+def wrong_candidate(file, named):
+    ids = file["candidates"]
+    wrong = next((name for name in named if name not in ids), None)
+    return None if wrong is None else is_none("candidate", str(wrong), ids, "the file has")
+
+
+def too_few_cards(data, manifest):
+    """F7"""
+    return [f"The assertions are about {json_members(data)['records']} ballots, and the manifest has {sum(batches_of(manifest).values())} cards"]
+
+
+def no_session(data):
+    """S1"""
+    members = json_members(data)
+    if not members:
+        return no_json(data, "a session")
+    if "rounds" not in members and "order" in members:
+        return ["It is an assertion file"]
+    told = missing(members, OF_SESSION)
+    return [told] if told else []
+
+
+def other_bytes(expected, paths):
+    """S2: which file of the call has the digest of the session."""
+    named = [path for path in paths if hashlib.sha256(data_of(path)).hexdigest() == expected]
+    return [f"{quoted(named[0])} has the first digest; see the order of the files"] if named else []
+
+
+# ---- files that can't be read
+
+def no_such_file(path):
+    folder = os.path.dirname(path) or "."
+    if not os.path.isdir(folder):
+        return [f"There is no folder {quoted(folder)}"]
+    near = nearest(os.path.basename(path), sorted(os.listdir(folder)))
+    return [f"Nearly right is {quoted(os.path.join(os.path.dirname(path), near))}"] if near else []
+
+
+def unreadable(path):
+    if os.path.isdir(path):
+        return ["It is a folder"]
+    try:
+        os.stat(path)
+    except NotADirectoryError:
+        return [f"{quoted(file_before(path))} is a file, and no folder"]
+    except OSError:
+        pass
+    return [] if os.access(path, os.R_OK) else ["You have no right to read it"]
+
+
+def file_before(path):
+    """The part of a path that goes through a file as if it were a folder."""
+    parent = os.path.dirname(path)
+    while parent and not os.path.exists(parent):
+        path, parent = parent, os.path.dirname(parent)
+    return parent
+
+
+def size(path):
+    return [f"It has {os.path.getsize(path):,} bytes, and {limits()['MOST_FILE_BYTES']} are the most"]

@@ -1,0 +1,41 @@
+"""What a line of a refusal means: the tables of docs/faults.md, with the limits of docs/formats.md in place of their names."""
+import os
+import re
+
+DOCS = os.path.join(os.path.dirname(os.path.dirname(os.path.abspath(__file__))), "docs")
+# What the program says, and none of the tools beside it: a line of theirs begins with their name.
+KEYS = re.compile(r"`(?:raire: (?:<[a-z]+>: )?)?([BFMSV][0-9]+|bad words|no such file|too long|read fault)\b")
+
+
+def rows(page):
+    """The cells of each row of a page's tables."""
+    with open(os.path.join(DOCS, page), encoding="utf-8") as file:
+        for line in file:
+            if line.startswith("| "):
+                yield [cell.strip() for cell in line.strip().strip("|").split("|")]
+
+
+def limits():
+    """The number of each limit that formats.md tells, as it is written there."""
+    found = {}
+    for cells in rows("formats.md"):
+        if len(cells) == 4:
+            names, numbers = re.findall("`([A-Z_]+)`", cells[1]), re.findall("[0-9]+(?:,[0-9]{3})*", cells[2])
+            if len(names) == len(numbers):
+                found.update(zip(names, numbers))
+    return found
+
+
+def in_words(cell, numbers):
+    """A cell without its marks, and with the number of each limit."""
+    text = re.sub(r"\[([^\]]*)\]\([^)]*\)", r"\1", cell)
+    return re.sub("`([^`]*)`", lambda quoted: numbers.get(quoted[1], quoted[1]), text)
+
+
+def causes():
+    """Of each rule, and of each line that names none, the cause. The first row that has it counts."""
+    found, numbers = {}, limits()
+    for cells in rows("faults.md"):
+        if len(cells) == 4 and cells[0].isdigit() and (key := KEYS.match(cells[1])):
+            found.setdefault(key[1], in_words(cells[2], numbers))
+    return found

@@ -1,0 +1,137 @@
+"""The words of a command line, by the first line of each page of docs/help: what they ask for, or which of them is wrong."""
+import os
+import re
+from typing import NamedTuple
+
+from near import is_id, nearest
+from records import quoted
+from table import DOCS
+
+
+class Wrong(Exception):
+    """The words are no command line; the text says which of them is wrong."""
+
+
+class Option(NamedTuple):
+    has_to_be_given: bool
+    low: int
+    high: int
+
+
+class Form(NamedTuple):
+    files: list
+    options: dict
+
+
+class Call(NamedTuple):
+    command: str
+    files: dict  # the names by what the help calls them, such as BALLOTS
+    options: dict
+
+
+def pages():
+    """The name, the first line and the text of each page but the one of all commands."""
+    for page in sorted(os.listdir(os.path.join(DOCS, "help"))):
+        if page != "raire.txt":
+            with open(os.path.join(DOCS, "help", page), encoding="utf-8") as file:
+                text = file.read()
+            yield page.removesuffix(".txt"), text.partition("\n")[0], text
+
+
+def forms():
+    """The files and options of each command."""
+    found = {}
+    for name, head, text in pages():
+        if head.startswith("./raire "):
+            files = re.findall("[A-Z]+", re.sub(r"--\w+ [A-Z]+", "", head))
+            found[name] = Form(files, dict(options_of(head, text)))
+    return found
+
+
+def scripts():
+    """What has a page and is no command: the scripts beside ./raire."""
+    return [name for name, head, _ in pages() if head.startswith(f"./{name} ")]
+
+
+def options_of(head, text):
+    for bracket, name in re.findall(r"(\[?)--(\w+) [A-Z]+", head):
+        told = re.search(rf"^  --{name} .*\n(?: {{8,}}.*\n)*", text, re.MULTILINE)
+        span = re.search("([0-9]+) to ([0-9]+)", told[0] if told else "")
+        low, high = map(int, span.groups()) if span else (1, 64)
+        yield name, Option(not bracket, low, high)
+
+
+def is_value(name, option, text):
+    if name == "contest":
+        return is_id(text)
+    if name == "seed":
+        return option.low <= len(text) <= option.high and all(" " <= c <= "~" for c in text)
+    return re.fullmatch("[0-9]{1,10}", text) is not None and option.low <= int(text) <= option.high
+
+
+def meant(text, names, else_told, dashes=""):
+    near = nearest(text, names)
+    return f"nearly right is {quoted(dashes + near)}" if near else else_told
+
+
+def call_of(words):
+    """What the words ask for. The first word that is wrong is told."""
+    commands = forms()
+    if words and words[0] in scripts():
+        raise Wrong(f"{quoted(words[0])} is no command; it is a script of its own: ./{words[0]}")
+    if not words or words[0] not in commands:
+        told = quoted(words[0]) if words else "nothing"
+        raise Wrong(f"{told} is no command; " + meant(words[0] if words else "", commands, "they are " + ", ".join(commands)))
+    command, form = words[0], commands[words[0]]
+    files, options = [], {}
+    rest = list(words[1:])
+    while rest:
+        word = rest.pop(0)
+        if word == "--":
+            files, rest = files + rest, []
+        elif word.startswith("-"):
+            name, text = option_in(word, rest, command, form)
+            if name in options:
+                raise Wrong(f"--{name} stands twice")
+            options[name] = text
+        else:
+            files.append(word)
+    judge_files(files, command, form, options)
+    for name, option in form.options.items():
+        if option.has_to_be_given and name not in options:
+            raise Wrong(f"{command} wants --{name}")
+    return Call(command, dict(zip(form.files, files)), options)
+
+
+def option_in(word, rest, command, form):
+    """The option of this word with its value, which may be the next word."""
+    name, has_value, text = word[2:].partition("=")
+    if not word.startswith("--") or name not in form.options:
+        all_told = "it has " + (", ".join(f"--{name}" for name in form.options) or "none")
+        told = meant(name.strip("-"), form.options, all_told, "--")
+        raise Wrong(f"{quoted(word)} is no option of {command}; {told}")
+    option = form.options[name]
+    if not has_value:
+        if not rest or rest[0].startswith("-"):
+            raise Wrong(f"--{name} has no value" + (f"; {quoted(rest[0])} begins with -, so it is written behind --{name}=" if rest else ""))
+        text = rest.pop(0)
+    if not is_value(name, option, text):
+        span = {"contest": "an id", "seed": f"{option.low} to {option.high} characters from space to ~"}
+        raise Wrong(f"{quoted(text)} is no value of --{name}, which is {span.get(name, f'{option.low} to {option.high}')}")
+    return name, text
+
+
+def judge_files(files, command, form, options):
+    if "" in files:
+        raise Wrong("a file has no name")
+    if len(files) > len(form.files):
+        more = files[len(form.files)]
+        quotes = '; a seed of several words wants quotes, as in --seed "2 6 1 4"' if "seed" in options else ""
+        raise Wrong(f"{quoted(more)} is a word too many: {command} takes {told_files(form)}{quotes}")
+    if len(files) < len(form.files):
+        few = f"{len(files)} of these stand{'s' * (len(files) == 1)}" if files else "none of these stands"
+        raise Wrong(f"{command} takes {told_files(form)}, and {few} here")
+
+
+def told_files(form):
+    return " ".join(form.files) or "no file"

@@ -1,0 +1,164 @@
+#!/usr/bin/env python3
+"""Tries ./release: made twice it has the same bytes, and README's walk runs in what it unpacks to, on a path without `rt`.
+
+acceptance/release.py PROGRAM makes a release of this clone's commit with PROGRAM in it. The last line says how many things were as they should be.
+"""
+import hashlib
+import os
+import re
+import shutil
+import stat
+import subprocess
+import sys
+import tarfile
+import tempfile
+
+import walk
+
+TOP = os.path.dirname(os.path.dirname(os.path.abspath(__file__)))
+sys.dont_write_bytecode = True
+sys.path.insert(0, os.path.join(TOP, "office"))
+
+import release  # noqa: E402 (that of office/)
+from ask import Refusal  # noqa: E402
+
+PATH = "/usr/bin:/bin"
+KIT = "a kit of that time"
+
+
+def ran(folder, *words):
+    given = {name: value for name, value in os.environ.items() if name != "RAIRE"}
+    done = subprocess.run(words, cwd=folder, capture_output=True, text=True, env={**given, "PATH": PATH})
+    return done.returncode, done.stdout, done.stderr
+
+
+def made(program):
+    with open(program, "rb") as file:
+        return release.made(release.Commit(), file.read(), KIT)
+
+
+def as_packed(name, data):
+    """Names, times and modes in the archive depend on the commit alone."""
+    commit, folder = release.Commit(), name.removesuffix(".tar.gz")
+    yield "its name has the commit", name == f"raire-{commit.name[:12]}-x86_64.tar.gz"
+    with tempfile.NamedTemporaryFile(suffix=".tar.gz") as file:
+        file.write(data)
+        file.flush()
+        with tarfile.open(file.name) as tar:
+            entries = tar.getmembers()
+    yield "everything lies in one folder", all(each.name.startswith(f"{folder}/") for each in entries)
+    yield "names are sorted, and none stands twice", [each.name for each in entries] == sorted({each.name for each in entries})
+    yield "times are the commit's", {each.mtime for each in entries} == {int(commit.time)}
+    yield "nobody owns a file", {(each.uid, each.gid, each.uname, each.gname) for each in entries} == {(0, 0, "", "")}
+    yield "files are files", all(each.isfile() and stat.S_IMODE(each.mode) in (0o644, 0o755) for each in entries)
+
+
+def as_unpacked(folder, program):
+    yield "the digests are those of the files", ran(folder, "sha256sum", "--check", "--quiet", "SHA256SUMS") == (0, "", "")
+    with open(os.path.join(folder, "SHA256SUMS")) as file:
+        listed = {line.split("  ")[1].rstrip("\n") for line in file}
+    there = {os.path.relpath(os.path.join(place, name), folder) for place, _, names in os.walk(folder) for name in names}
+    yield "each file has its digest", listed == there - {"SHA256SUMS"}
+    with open(program, "rb") as file:
+        digest = hashlib.sha256(file.read()).hexdigest()
+    with open(os.path.join(folder, "RELEASE.md")) as file:
+        page = file.read()
+    yield "the page has commit, kit and digest", all(word in page for word in (release.Commit().name, KIT, digest))
+    yield "there is no rt on the path", shutil.which("rt", path=PATH) is None
+    status, out, err = ran(folder, "./raire", "--version")
+    yield "the version is the release's", (status, out, err) == (0, f"raire {release.Commit().short}, released; {KIT}\n", "")
+    yield "nothing is built", ran(folder, "./raire", "--build") == (0, "", "")
+    for name in sorted(os.listdir(os.path.join(folder, "docs", "help"))):
+        status, out, err = ran(folder, "./raire", "help", name.removesuffix(".txt"))
+        yield f"help: {name}", status == 0 and bool(out) and err == ""
+
+
+def walks(folder):
+    """The commands of README, in the folder that was unpacked."""
+    with open(os.path.join(folder, "README.md")) as file:
+        shown = list(walk.shown(file.read()))
+    given = {name: value for name, value in os.environ.items() if name != "RAIRE"}
+    printed = walk.printed_by([command for command, _ in shown], folder, {**given, "PATH": PATH})
+    for (command, wanted), got in zip(shown, printed):
+        yield f"README: {command}\nwanted {wanted}got {got}", walk.is_as_shown(got, wanted)
+    yield "README: all were run", 0 < len(shown) <= len(printed)
+
+
+def scripts(folder):
+    """Each script at the top of the release tells its help, which is that of ./raire help."""
+    for name in sorted(os.listdir(folder)):
+        path = os.path.join(folder, name)
+        if os.path.isfile(path) and os.access(path, os.X_OK) and name != "raire":
+            status, out, err = ran(folder, f"./{name}", "--help")
+            is_there = (status, out) == (0, ran(folder, "./raire", "help", name)[1])
+            yield f"./{name} --help: {err}", is_there or re.search("(templates|library) (are|is) missing", err)
+
+
+def by_the_script(folder):
+    """./release of a clone: what it refuses without a kit on the path, and of a folder that was changed."""
+    clone = os.path.join(folder, "clone")
+    yield "the clone is there", ran(folder, "git", "clone", "-q", TOP, clone)[0] == 0
+    status, out, err = ran(clone, "./release")
+    yield "without a program nothing is released", (status, out) == (70, "") and err.endswith("release: there is no program to release\n")
+    with open(os.path.join(clone, "another"), "w") as file:
+        file.write("1\n")
+    told = "release: a file of the folder is new or another one than in the commit: git status tells which\n"
+    yield "a folder that was changed isn't released", ran(clone, "./release") == (1, "", told)
+    status, out, err = ran(clone, "./release", "a", "b")
+    yield "two folders are no words", (status, out) == (1, "") and err.startswith("release: ")
+    yield "nothing was written", not [name for name in os.listdir(clone) if name.endswith(".gz")]
+
+
+def by_the_built_program(program, folder):
+    """Where the program is this clone's own, and nothing was changed: ./release twice."""
+    if not os.path.exists(walk.OWN) or not os.path.samefile(program, walk.OWN) or release.Commit().is_changed() or not shutil.which("rt"):
+        return
+    texts = []
+    for name in ("one", "two"):
+        os.mkdir(os.path.join(folder, name))
+        done = subprocess.run([os.path.join(TOP, "release"), os.path.join(folder, name)], capture_output=True, text=True)
+        yield f"./release: {done.stderr}", done.returncode == 0
+        (made_file,) = os.listdir(os.path.join(folder, name))
+        with open(os.path.join(folder, name, made_file), "rb") as file:
+            texts.append((made_file, file.read()))
+        digest = hashlib.sha256(texts[-1][1]).hexdigest()
+        yield "its digest is told", done.stdout == f"{digest}  {os.path.join(folder, name, made_file)}\n"
+    yield "./release twice: the same bytes", texts[0] == texts[1]
+
+
+def cases(program, folder):
+    name, data = made(program)
+    yield "made twice it has the same bytes", (name, data) == made(program)
+    yield from as_packed(name, data)
+    with open(os.path.join(folder, name), "wb") as file:
+        file.write(data)
+    yield "it is unpacked", ran(folder, "tar", "-xzf", name)[0] == 0
+    os.remove(os.path.join(folder, name))
+    there = os.path.join(folder, name.removesuffix(".tar.gz"))
+    yield from as_unpacked(there, program)
+    yield from walks(there)
+    yield from scripts(there)
+    yield from by_the_script(folder)
+    yield from by_the_built_program(program, folder)
+
+
+def main():
+    program = os.path.abspath(sys.argv[1])
+    try:
+        release.Commit()
+    except Refusal as refusal:
+        print(f"acceptance/release.py: NOT TRIED: {refusal.text}", end="")
+        return
+    tried = failed = 0
+    with tempfile.TemporaryDirectory() as folder:
+        for shows, holds in cases(program, folder):
+            tried += 1
+            if not holds:
+                failed += 1
+                print(f"./release: {shows}: not so")
+    print(f"{tried - failed} things of a release as they should be, {failed} not")
+    sys.exit(1 if failed else 0)
+
+
+if __name__ == "__main__":
+    main()

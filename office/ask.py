@@ -1,0 +1,63 @@
+"""Asks the program, and passes on what it refuses."""
+import os
+import shutil
+import subprocess
+
+TOP = os.path.dirname(os.path.dirname(os.path.abspath(__file__)))
+MOST_FILE_BYTES = 67_108_864  # of a file that the program reads
+
+
+class Refusal(Exception):
+    """Nothing is answered: the status, and what is told."""
+
+    def __init__(self, status, text):
+        super().__init__(text)
+        self.status, self.text = status, text
+
+
+def path_of_program(name):
+    """./raire of this clone, or what RAIRE names in the environment; `name` is the command that asks."""
+    given, own = os.environ.get("RAIRE"), os.path.join(TOP, "raire")
+    if not given:
+        build(name, own)
+        return own
+    path = shutil.which(given)
+    if path is None:
+        raise Refusal(1, f"{name}: RAIRE names no program: {given}\n")
+    return path
+
+
+def build(name, own):
+    """Where there is no program yet, ./raire tells how far it is, on standard error."""
+    built = subprocess.run([own, "--build"], stdin=subprocess.DEVNULL, stdout=subprocess.DEVNULL)
+    if built.returncode:
+        raise Refusal(built.returncode, f"{name}: there is no program to ask\n")
+
+
+def ask(name, command, files, *options):
+    """The text of an answer with status 0. Any other one is a refusal with the program's own lines."""
+    words = [path_of_program(name), command, *options, "--", *files]
+    try:
+        ran = subprocess.run(words, stdin=subprocess.DEVNULL, capture_output=True)
+    except OSError as fault:
+        raise Refusal(1, f"{name}: {words[0]} doesn't run: {fault.strerror}\n") from None
+    if ran.returncode:
+        told = (ran.stdout + ran.stderr).decode(errors="replace")
+        raise Refusal(max(ran.returncode, 1), told or f"{name}: {words[0]} ended with status {ran.returncode}\n")
+    if not ran.stdout:
+        raise Refusal(1, f"{name}: {words[0]} gave no answer\n")
+    return ran.stdout.decode()
+
+
+def read(name, path):
+    """The bytes of a file, with the statuses that the program has for one that can't be read."""
+    try:
+        with open(path, "rb") as file:
+            data = file.read(MOST_FILE_BYTES + 1)
+    except FileNotFoundError:
+        raise Refusal(12, f"{name}: {path}: no such file\n") from None
+    except OSError:
+        raise Refusal(7, f"{name}: {path}: read fault\n") from None
+    if len(data) > MOST_FILE_BYTES:
+        raise Refusal(11, f"{name}: {path}: too long\n")
+    return data

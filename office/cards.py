@@ -1,0 +1,219 @@
+"""What is fetched for the draws of a seed: as a table, a page with slips, a sheet to fill in, or a page to type readings into."""
+import collections
+import hashlib
+import json
+import os
+import shlex
+
+import records
+from ask import ask, read, Refusal, TOP
+from words import see_output, Words
+
+NAME = "cards"
+FORMS = ("page", "sheet", "entry")
+PAGES = os.path.join(TOP, "office")
+
+Card = collections.namedtuple("Card", "id batch number draws place")
+
+
+def told(text):
+    return Refusal(1, f"{NAME}: {text}\n")
+
+
+def words_of(words):
+    parser = Words(NAME)
+    parser.add_argument("manifest")
+    parser.option("--seed", "--draws", required=True)
+    parser.option("--after", "--places", "--ballots", "--contest", "--names")
+    for form in FORMS:
+        parser.add_argument(f"--{form}", action="store_true")
+    given = parser.parse_args(words)
+    if sum(getattr(given, form) for form in FORMS) > 1:
+        parser.error("--page, --sheet and --entry are asked for one at a time")
+    if given.entry != (given.ballots is not None or given.names is not None):
+        parser.error("--entry wants the candidates: --ballots or --names" if given.entry else "--ballots and --names are for --entry")
+    if given.contest is not None and not given.entry:
+        parser.error("--contest is for --entry")
+    return given
+
+
+# ---- what is drawn
+
+def drawn(given):
+    """The draws of each card by its number, as the program tells them."""
+    lines = ask(NAME, "sample", [given.manifest], f"--seed={given.seed}", f"--draws={given.draws}")
+    draws = {}
+    for _, (draw, number, card) in records.rows_of(lines.encode()):
+        draws.setdefault((int(number), card), []).append(int(draw))
+    return draws
+
+
+def before(given):
+    """How many draws were fetched before."""
+    draws, text = int(given.draws), "0" if given.after is None else given.after
+    if not (text.isascii() and text.isdigit() and int(text) < draws):
+        raise told(f"--after wants fewer draws than --draws, which are {draws}")
+    return int(text)
+
+
+def fetched(given):
+    """The cards that no draw took before, by batch and then by number, and those that are drawn again."""
+    draws = drawn(given)
+    after, places = before(given), places_of(given)
+    cards, again = [], []
+    for (_, card), of_card in sorted(draws.items()):
+        batch, number = records.batch_of(card)
+        if of_card[0] > after:
+            cards.append(Card(card, batch, number, of_card, place_of(places, batch, given)))
+        elif of_card[-1] > after:
+            again.append(card)
+    return cards, again
+
+
+def places_of(given):
+    """Where each batch is kept, by a file with a record a batch."""
+    if given.places is None:
+        return None
+    batches = records.batches_of(read(NAME, given.manifest))
+    places = {}
+    for at, row in records.rows_of(read(NAME, given.places)):
+        if at == 1 and row == ["batch", "place"]:
+            continue
+        if len(row) != 2 or not all(row):
+            raise broken(given.places, at, "is no batch with its place")
+        if row[0] not in batches:
+            raise broken(given.places, at, f"is about {row[0]}, and {given.manifest} has no such batch")
+        if row[0] in places:
+            raise broken(given.places, at, f"is about {row[0]}, which stood before")
+        places[row[0]] = row[1]
+    return places
+
+
+def place_of(places, batch, given):
+    if places is not None and batch not in places:
+        raise Refusal(2, f"{NAME}: {given.places}: there is no place of {batch}, of which a card is drawn\n")
+    return None if places is None else places[batch]
+
+
+def broken(path, at, what):
+    return Refusal(2, f"{NAME}: {path}: record {at} {what}\n")
+
+
+# ---- candidates
+
+def names_of(given, contest):
+    """The names of candidates by their ids, of a file with a record each; of several contests those of the one that is meant."""
+    if given.names is None:
+        return {}
+    head, names = ["id", "name"], {}
+    for at, row in records.rows_of(read(NAME, given.names)):
+        if at == 1 and row[-2:] == head:
+            head = row
+            continue
+        if len(row) != len(head) or not all(row):
+            raise broken(given.names, at, f"isn't {','.join(head)} of a candidate")
+        *of, candidate, name = row
+        if of and contest is None:
+            raise Refusal(2, f"{NAME}: {given.names} has several contests; --contest says which is meant\n")
+        if of in ([], [contest]):
+            if candidate in names:
+                raise broken(given.names, at, f"is about {candidate}, who stood before")
+            names[candidate] = name
+    return names
+
+
+def candidates_of(given):
+    """The contest, where it is told, and the ids of its candidates with what they are called."""
+    contest = given.contest if given.ballots is None else contest_of(given)
+    names = names_of(given, contest)
+    ids = names if given.ballots is None else records.contests_of(read(NAME, given.ballots))[contest]
+    if not ids:
+        raise Refusal(2, f"{NAME}: {given.names} has no candidates{'' if contest is None else f' of contest {contest}'}\n")
+    return contest, [{"id": each, "name": names.get(each, each)} for each in ids]
+
+
+def contest_of(given):
+    """The id of the contest that is meant. The program judges the file; a tie is no fault of it."""
+    options = [] if given.contest is None else [f"--contest={given.contest}"]
+    try:
+        ask(NAME, "tabulate", [given.ballots], *options)
+    except Refusal as refusal:
+        if refusal.status != 3:
+            raise
+    return given.contest or next(iter(records.contests_of(read(NAME, given.ballots))))
+
+
+# ---- the forms
+
+def table(given, cards):
+    has_place = given.places is not None
+    head = ["batch", "number", "card", "draws"] + ["place"] * has_place
+    rows = [[card.batch, card.number, card.id, " ".join(map(str, card.draws))] + [card.place] * has_place for card in cards]
+    return records.text_of([head, *rows])
+
+
+def sheet(cards):
+    return records.text_of([card.id, ""] for card in cards)
+
+
+def by_batch(cards):
+    """The cards of each batch."""
+    found = {}
+    for card in cards:
+        found.setdefault(card.batch, []).append(card)
+    return found
+
+
+def filled(template, **parts):
+    try:
+        import jinja2
+    except ImportError:
+        raise told("templates are missing: apt-get install python3-jinja2") from None
+    made = jinja2.Environment(loader=jinja2.FileSystemLoader(PAGES), autoescape=True, trim_blocks=True, lstrip_blocks=True)
+    made.filters["plural"] = plural
+    return made.get_template(template).render(parts)
+
+
+def plural(number, one, more=None):
+    return f"{number:,} {one if number == 1 else more or one + 's'}"
+
+
+def was(cards):
+    return "was" if len(cards) == 1 else "were"
+
+
+def page(given, cards, again):
+    asked = shlex.join(["./raire", "sample", given.manifest, f"--seed={given.seed}", f"--draws={given.draws}"])
+    digest = hashlib.sha256(read(NAME, given.manifest)).hexdigest()
+    return filled(
+        "cards.html.j2", given=given, after=before(given), cards=cards, batches=by_batch(cards), again=again, asked=asked, digest=digest,
+    )
+
+
+def entry(given, cards):
+    if not cards:
+        raise told(f"there is no card to read: {plural(before(given), 'draw')} took all of them")
+    contest, candidates = candidates_of(given)
+    data = {"contest": contest, "candidates": candidates, "cards": [card._asdict() for card in cards]}
+    key = hashlib.sha256(json.dumps(data, sort_keys=True).encode()).hexdigest()
+    return filled("entry.html.j2", data={**data, "key": key}, contest=contest, count=len(cards))
+
+
+def account(given, cards, again):
+    """What is told beside the answer."""
+    if not before(given):
+        return ""
+    lines = [f"{plural(len(cards), 'card')} of draws {before(given) + 1} to {int(given.draws)} {was(cards)} not drawn before"]
+    if again:
+        as_seen = "counts again as it was seen" if len(again) == 1 else "count again as they were seen"
+        lines.append(f"{plural(len(again), 'card')} {was(again)}, and {as_seen}: {', '.join(again)}")
+    return "".join(f"{NAME}: {line}\n" for line in lines)
+
+
+def answer(words):
+    given = words_of(words)
+    see_output(NAME, filter(None, [given.manifest, given.places, given.ballots, given.names]))
+    cards, again = fetched(given)
+    forms = {"page": lambda: page(given, cards, again), "sheet": lambda: sheet(cards), "entry": lambda: entry(given, cards)}
+    form = next((form for form in FORMS if getattr(given, form)), None)
+    return forms[form]() if form else table(given, cards), account(given, cards, again)

@@ -1,0 +1,59 @@
+"""The account of a conversion: what was read and written, and what was done with each kind of mark."""
+from convert_rules import RULES
+from limits import FEWEST_CANDIDATES, MOST_CANDIDATES
+
+# What is counted of each contest, and the rule that says what was done with it.
+FOUND = {
+    "overvoted ranks": "overvotes", "skipped ranks": "skips", "ended by skipped ranks": None, "repeated candidates": "repeats",
+    "write-ins": "write_ins", "ranks behind the end": None, "marks that aren't taken": "marks",
+}
+
+
+def meaning(rules, rule):
+    """What the word says that was given for a rule."""
+    return RULES[rule][getattr(rules, rule)]
+
+
+def account(call, export, book, asked, rules):
+    """The text of it. `rules` are those that have a meaning for this form."""
+    lines = [call, *(f"rule: --{rule.replace('_', '-')} {getattr(book.rules, rule)}: {meaning(book.rules, rule)}" for rule in rules)]
+    lines += [f"read: {path}: {number} cards" for path, number in book.read.items()]
+    records = sum(book.counts[number]["records"] for number in book.kept)
+    lines.append(f"written: {records} records of {len(book.stood)} cards, of {len(book.kept)} contest{'s' * (len(book.kept) != 1)}")
+    lines.append(f"ids of cards: {export.made_of}, as in {book.first_id()}")
+    if book.unplaced:
+        why = "aren't a batch, an underscore and a number, so no manifest has these cards: open would refuse them (M7)"
+        lines.append(f"warning: {book.unplaced} ids {why}")
+    lines += [note if number is None else f"{note}: {number}" for note, number in export.notes.items()]
+    for number in book.kept:
+        lines += of_contest(book, number)
+    lines += left_out(export, book, asked)
+    return "".join(f"{line}\n" for line in lines)
+
+
+def of_contest(book, number):
+    contest, counts, listed, name = book.contests[number], book.counts[number], book.listed[number], book.ids[number]
+    yield f"contest {name}: {contest.name}" + (f" (its id is made of {contest.key})" if name != contest.key else "")
+    nothing, nobody = counts["nothing marked"], counts["without a preference"]
+    yield f"  records: {counts['records']}, of them with nothing marked {nothing}, without a preference {nobody}"
+    for what, rule in FOUND.items():
+        if what != "ended by skipped ranks" or book.rules.skips != "pass":
+            yield f"  {what}: {counts[what]}" + (f" ({meaning(book.rules, rule)})" if counts[what] and rule else "")
+    for each, called in listed.values():
+        yield f"  candidate {each}" + (f": {called}" if each != called else "")
+    left = [each.name for place, each in enumerate(contest.candidates) if each.is_disabled and place not in listed and not each.is_write_in]
+    if left:
+        yield f"  left out, since disabled and nowhere ranked: {', '.join(left)}"
+    if not FEWEST_CANDIDATES <= len(listed) <= MOST_CANDIDATES:
+        yield f"  warning: {len(listed)} candidates, and search takes {FEWEST_CANDIDATES} to {MOST_CANDIDATES} (B3)"
+    if any(each.is_write_in for each in contest.candidates) and book.rules.write_ins == "drop":
+        yield "  warning: write-ins are no candidate here, so that an audit can't find that one of them won"
+
+
+def left_out(export, book, asked):
+    """The contests that aren't written, and why."""
+    if not asked:
+        yield from (f"left out: contest {contest}: {contest.why_not}" for contest in export.contests.values() if contest.why_not)
+    for number, contest in enumerate(book.contests):
+        if number not in book.kept:
+            yield f"left out: contest {contest}: " + ("no card ranks anybody" if number in book.listed else "no card has it")

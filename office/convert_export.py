@@ -1,0 +1,105 @@
+"""What every form of export comes to: contests, cards with marks by rank, and the place of whatever can't be read."""
+import collections
+
+from ask import Refusal
+
+NAME = "convert"
+WRITE_IN = -1  # the candidate that all write-ins together are
+OVERVOTED = "overvoted"  # what stands at a rank that an export only calls overvoted
+
+Candidate = collections.namedtuple("Candidate", "key name is_write_in is_disabled", defaults=(False, False))
+
+# A mark is the number of a candidate, a WriteIn, or OVERVOTED. `marks` has the set of those at each rank.
+WriteIn = collections.namedtuple("WriteIn", "number index")
+Vote = collections.namedtuple("Vote", "contest marks uncounted", defaults=(0,))
+Card = collections.namedtuple("Card", "place id votes")
+
+
+class Place(collections.namedtuple("Place", "path kind number part", defaults=(None, None, ""))):
+    """Where something stands: a file, and in it a record."""
+
+    def __str__(self):
+        record = f": {self.kind} {self.number}" if self.kind else ""
+        return f"{self.path}{record}{self.part and ': ' + self.part}"
+
+    def at(self, part):
+        return self._replace(part=f"{self.part}, {part}" if self.part else part)
+
+
+def refused(place, text):
+    return Refusal(2, f"{NAME}: {place}: {text}\n")
+
+
+def told(text):
+    return Refusal(1, f"{NAME}: {text}\n")
+
+
+class Contest:
+    """A contest of an export. Its candidates are those that the export lists, or those that stood on its records so far."""
+
+    def __init__(self, key, name, candidates=(), most_rank=None, why_not=None):
+        self.key, self.name, self.why_not = key, name, why_not
+        self.most_rank = most_rank  # the highest rank that a mark may have; None where just the candidates tell it
+        self.is_open = False  # candidates are found on the way
+        self.candidates, self.numbers = [], {}
+        for candidate in candidates:
+            self.add(candidate)
+
+    def __str__(self):
+        return self.key if self.name == self.key else f"{self.key} ({self.name})"
+
+    def add(self, candidate):
+        number = self.numbers.setdefault(candidate.key, len(self.candidates))
+        if number == len(self.candidates):
+            self.candidates.append(candidate)
+        return number
+
+    def mark(self, number, index=None):
+        """The mark for a candidate, or for the write-in that stands in this field."""
+        return WriteIn(number, index) if self.candidates[number].is_write_in else number
+
+
+def add_mark(marks, rank, mark):
+    marks.setdefault(rank, set()).add(mark)
+
+
+def member(value, name, kind, place):
+    """The member of an object of JSON, which has to be there and of this kind."""
+    found = value.get(name) if type(value) is dict else None
+    if type(found) is not kind:
+        had = "has no" if found is None else "has another kind of"
+        raise refused(place, f"{had} {name}, where {KINDS[kind]} was looked for")
+    return found
+
+
+def option(value, name, kind, place, otherwise=None):
+    """A member that may be missing, or null."""
+    return otherwise if value.get(name) is None else member(value, name, kind, place)
+
+
+KINDS = {str: "a text", int: "a whole number", bool: "true or false", list: "a list", dict: "an object"}
+
+
+def chosen(contests, asked, path):
+    """The contests that are converted: those asked for by name or id, or all that are ranked; and those that aren't."""
+    if not asked:
+        taken = [contest for contest in contests if contest.why_not is None]
+        if not taken:
+            listed = "; ".join(f"{contest}: {contest.why_not}" for contest in contests)
+            raise refused(path, f"no contest to convert; --contest names one of: {listed or 'none'}")
+        return taken
+    return list(dict.fromkeys(named(contests, word, path) for word in asked))
+
+
+def see_winners(contest, number, member_name, path):
+    if number != 1:
+        raise refused(path, f"contest {contest} elects {number} ({member_name}), so it is no contest of instant runoff")
+
+
+def named(contests, word, path):
+    found = [contest for contest in contests if contest.key == word] or [contest for contest in contests if contest.name == word]
+    if not found:
+        raise refused(path, f"no contest has the name or id {word}; there are: {'; '.join(map(str, contests))}")
+    if len(found) > 1:
+        raise refused(path, f"several contests are called {word}; name one by its id: {', '.join(contest.key for contest in found)}")
+    return found[0]

@@ -1,0 +1,57 @@
+"""What is made of the marks of a ballot, by the rules in which jurisdictions differ."""
+import collections
+
+from convert_export import OVERVOTED, WRITE_IN, WriteIn
+
+# Each rule with its words, the first of which is the default, and what they say in the account.
+RULES = {
+    "overvotes": {"end": "a rank with several candidates ends the ballot", "pass": "a rank with several candidates is passed over"},
+    "skips": {
+        "pass": "ranks that are skipped are passed over", "one": "a skipped rank ends the ballot",
+        "two": "two skipped ranks in a row end the ballot; one is passed over",
+    },
+    "repeats": {"pass": "a candidate ranked again is passed over", "end": "a candidate ranked again ends the ballot"},
+    "write_ins": {"merge": "all write-ins are one candidate", "drop": "a rank with a write-in is passed over"},
+    "marks": {
+        "counted": "marks are taken that the export counts as votes",
+        "made": "marks are taken that were made, also where the export doesn't count them",
+    },
+}
+
+Rules = collections.namedtuple("Rules", RULES)
+MOST_SKIPPED = {"pass": float("inf"), "one": 0, "two": 1}
+
+
+def ranking_of(marks, rules, counts):
+    """The candidates that a ballot ranks; what is come upon until the ballot ends is counted."""
+    ranking, last = [], 0
+    for rank in sorted(marks):
+        skipped, last = rank - last - 1, rank
+        counts["skipped ranks"] += skipped
+        if skipped > MOST_SKIPPED[rules.skips]:
+            counts["ended by skipped ranks"] += 1
+        elif not takes(ranking, marks[rank], rules, counts):
+            rank += 1
+        else:
+            continue
+        counts["ranks behind the end"] += sum(later >= rank for later in marks)
+        break
+    return ranking
+
+
+def takes(ranking, choices, rules, counts):
+    """Adds the choice of one rank, if it is one to be added. False where the ballot ends at this rank."""
+    if len(choices) > 1 or OVERVOTED in choices:
+        counts["overvoted ranks"] += 1
+        return rules.overvotes == "pass"
+    (choice,) = choices
+    is_write_in = isinstance(choice, WriteIn)
+    counts["write-ins"] += is_write_in
+    if is_write_in and rules.write_ins == "drop":
+        return True
+    candidate = WRITE_IN if is_write_in else choice
+    if candidate in ranking:
+        counts["repeated candidates"] += 1
+        return rules.repeats == "pass"
+    ranking.append(candidate)
+    return True

@@ -1,0 +1,246 @@
+"""A sheet with a record a row and a column a rank: ES&S's form, and the plain one (id, 1st, 2nd, ..); CSV, or a workbook (.xlsx)."""
+import csv
+import datetime
+import os
+import re
+import xml.etree.ElementTree as tree
+import zipfile
+
+import convert_files
+from convert_export import add_mark, Candidate, Card, Contest, OVERVOTED, Place, refused, told, Vote
+
+ESS_CHOICE = re.compile(r"(.*?)\s*\b(?:choice\s+(\d+)\s+of\s+\d+|(\d+)(?:st|nd|rd|th)\s+choice)\b\s*(.*)", re.IGNORECASE)
+PLAIN_CHOICE = re.compile(r"(?:rank|choice)?\s*0*(\d+)(?:st|nd|rd|th)?(?:\s+(?:rank|choice))?", re.IGNORECASE)
+ESS_ID, PLAIN_ID = "cast vote record", "id"
+WORDS = {
+    "overvote": "overvote", "undervote": "undervote", "skipped": "undervote", "write-in": "write-in", "writein": "write-in", "write in": "write-in",
+    "uwi": "write-in", "undeclared write-ins": "write-in",
+}
+WRITE_IN = Candidate("Write-in", "Write-in", True)
+WORKBOOKS = (".xlsx", ".xlsm")
+
+
+# ---- rows
+
+def rows_of(source, options):
+    """The rows of a sheet that aren't blank, numbered as a reader of it sees them."""
+    if source.name.lower().endswith(WORKBOOKS):
+        return rows_of_workbook(source, options.sheet)
+    if options.sheet is not None:
+        raise told("--sheet is for workbooks")
+    return rows_of_csv(source)
+
+
+def rows_of_csv(source):
+    reader = csv.reader((line + "\n" for _, line in source.lines()), strict=True)
+    width = None
+    try:
+        for row in reader:
+            place = Place(source, "line", reader.line_num)
+            width = len(row) if width is None else width
+            if len(row) not in (0, width):
+                raise refused(place, f"has {len(row)} fields, and the first line has {width}")
+            if any(map(str.strip, row)):
+                yield place, [cell.strip() for cell in row]
+    except csv.Error as fault:
+        raise refused(Place(source, "line", reader.line_num), f"no comma-separated line, or cut off: {fault}") from None
+
+
+def rows_of_workbook(source, sheet):
+    try:
+        import openpyxl
+    except ImportError:
+        raise told("workbooks want openpyxl: apt-get install python3-openpyxl; or save the sheet as CSV (UTF-8)") from None
+    with convert_files.faults(source):
+        see_unmerged(source)
+        try:
+            book = openpyxl.load_workbook(source.outer, read_only=True)
+        except (KeyError, ValueError, TypeError, SyntaxError) as fault:
+            raise refused(source, f"no workbook: {convert_files.first_line(fault)}") from None
+        names = [each.title for each in book.worksheets]
+        if sheet is None and len(names) != 1 or sheet is not None and sheet not in names:
+            why = "has several sheets" if sheet is None else f"no sheet is called {sheet}"
+            raise refused(source, f"{why}; --sheet names one of: {', '.join(names)}")
+        page = book[sheet or names[0]]
+        page.reset_dimensions()
+        yield from texts_of(source, page)
+
+
+def texts_of(source, page):
+    try:
+        for number, row in enumerate(page.iter_rows(), 1):
+            place = Place(source, f"sheet {page.title}, row", number)
+            cells = [text_of(cell, place) for cell in row]
+            if any(cells):
+                yield place, cells
+    except (KeyError, ValueError, TypeError, IndexError, SyntaxError) as fault:
+        raise refused(source, f"no workbook: {convert_files.first_line(fault)}") from None
+
+
+def text_of(cell, place):
+    value = cell.value
+    if value is None:
+        return ""
+    here = place.at(f"cell {cell.coordinate}")
+    if cell.data_type in ("f", "e") or isinstance(value, (bool, datetime.date, datetime.time, datetime.timedelta)):
+        raise refused(here, f"is {value}, and a text or a number was looked for")
+    if isinstance(value, float):
+        if not value.is_integer():
+            raise refused(here, f"is {value}, and a whole number or a text was looked for")
+        value = int(value)
+    return str(value).strip()
+
+
+def see_unmerged(source):
+    """Cells that are merged have one value and stand for several, so that no row can be told."""
+    archive = zipfile.ZipFile(source.outer)
+    for name in archive.namelist():
+        if re.fullmatch(r"xl/worksheets/[^/]+\.xml", name):
+            with archive.open(name) as file:
+                see_part(source, os.path.basename(name), file)
+
+
+def see_part(source, part, file):
+    try:
+        for _, element in tree.iterparse(file):
+            if element.tag.endswith("}mergeCell"):
+                cells = element.get("ref")
+                raise refused(f"{source}: {part}", f"cells {cells} are merged; part them, or save the sheet of the records as CSV (UTF-8)")
+            if element.tag.endswith("}row"):
+                element.clear()
+    except tree.ParseError as fault:
+        raise refused(f"{source}: {part}", f"no workbook: {fault}") from None
+
+
+# ---- what the columns are
+
+class Export:
+    """The head of the first sheet tells the contests; further sheets have to have the same head."""
+
+    def __init__(self, paths, options):
+        self.paths, self.options, self.notes = paths, options, {}
+        self.sources = [convert_files.Source(path) for path in paths]
+        self.head = None
+        for source in self.sources:
+            place, head = next(rows_of(source, options), (Place(source), None))
+            if head is None:
+                raise refused(source, "is empty")
+            if self.head is None:
+                self.read_head(place, head)
+            elif head != self.head:
+                raise refused(place, "has another head than the first file")
+
+    def read_head(self, place, head):
+        self.head = head
+        lower = [cell.lower() for cell in head]
+        repeated = {cell for cell in lower if cell and lower.count(cell) > 1}
+        if repeated:
+            raise refused(place, f"several columns are called {sorted(repeated)[0]}")
+        if any("\t" in cell or ";" in cell for cell in head) and len(head) == 1:
+            raise refused(place, "has no commas; a comma-separated file was looked for")
+        self.read_ranks(place, head)
+        wanted = self.options.id or [self.own_id]
+        missing = [name for name in wanted if name.lower() not in lower]
+        if missing:
+            raise refused(place, f"no column is called {missing[0]}; --id says which the card's id is made of")
+        self.id_columns = [lower.index(name.lower()) for name in wanted]
+        self.made_of = "_".join(head[column] for column in self.id_columns)
+        read = {*self.id_columns, *(column for ranks in self.columns.values() for column in ranks)}
+        unread = [cell for column, cell in enumerate(head) if column not in read and cell]
+        if unread:
+            self.notes[f"columns that aren't read: {', '.join(unread)}"] = None
+
+    def add_columns(self, place, columns):
+        """The contests, by the columns of their ranks."""
+        self.columns, self.contests = {}, {}
+        for name, ranks in columns.items():
+            if sorted(ranks) != list(range(1, len(ranks) + 1)):
+                had = ", ".join(map(str, sorted(ranks)))
+                raise refused(place, f"the columns of {name} have the ranks {had}; 1 to {len(ranks)}, each once, was looked for")
+            self.columns[name] = [ranks[rank] for rank in sorted(ranks)]
+            self.contests[name] = Contest(name, name)
+            self.contests[name].is_open = True
+
+    def see_chosen(self, contests):
+        if self.options.candidates is None:
+            return
+        if len(contests) != 1:
+            raise told("--candidates is the list of one contest: name it with --contest")
+        contests[0].is_open = False
+        for number, line in convert_files.Source(self.options.candidates).lines():
+            name = line.strip()
+            if name in contests[0].numbers:
+                raise refused(f"{self.options.candidates}: line {number}", f"{name} stands twice")
+            if name:
+                contests[0].add(WRITE_IN if WORDS.get(name.lower()) == "write-in" else Candidate(name, name))
+
+    def cards(self, contests):
+        for source in self.sources:
+            rows, number = rows_of(source, self.options), 0
+            next(rows)
+            for number, (place, cells) in enumerate(rows, 1):
+                cells += [""] * (len(self.head) - len(cells))
+                votes = [vote for vote in (self.vote(contest, cells, place) for contest in contests) if vote is not None]
+                yield Card(place, "_".join(cells[column] for column in self.id_columns) if votes else None, votes)
+            if number == 0:
+                raise refused(source, "has no records behind its head")
+
+    def vote(self, contest, cells, place):
+        cells = [cells[column] for column in self.columns[contest.key]]
+        if self.is_blank_elsewhere and not any(cells):
+            return None
+        marks = {}
+        for rank, cell in enumerate(cells, 1):
+            word = WORDS.get(cell.lower(), "name") if cell else "undervote"
+            if word == "overvote":
+                add_mark(marks, rank, OVERVOTED)
+            elif word == "write-in":
+                add_mark(marks, rank, contest.mark(contest.add(WRITE_IN), rank))
+            elif word == "name":
+                if not contest.is_open and cell not in contest.numbers:
+                    raise refused(place.at(f"rank {rank}"), f"{cell} isn't in {self.options.candidates}")
+                add_mark(marks, rank, contest.add(Candidate(cell, cell)))
+        return Vote(contest, marks)
+
+
+class Ess(Export):
+    """ES&S's export: a column for each choice of each contest. Where all of a contest are blank, the card doesn't have it."""
+
+    own_id, is_blank_elsewhere = ESS_ID, True
+
+    def read_ranks(self, place, head):
+        columns = {}
+        for column, cell in enumerate(head):
+            found = ESS_CHOICE.fullmatch(cell)
+            if found:
+                name = " ".join(f"{found[1]} {found[4]}".split()) or "contest"
+                ranks, rank = columns.setdefault(name, {}), int(found[2] or found[3])
+                if rank in ranks:
+                    raise refused(place, f"several columns are rank {rank} of {name}")
+                ranks[rank] = column
+        if not columns:
+            raise refused(place, "no column has 'Choice 1 of 5' or '1st Choice' in its name, which were looked for (ES&S's form)")
+        self.add_columns(place, columns)
+
+
+class Plain(Export):
+    """The plain form: an id and a column a rank, of one contest, which each card has."""
+
+    own_id, is_blank_elsewhere = PLAIN_ID, False
+
+    def read_ranks(self, place, head):
+        ranks = {}
+        for column, cell in enumerate(head):
+            found = PLAIN_CHOICE.fullmatch(cell)
+            if found:
+                if int(found[1]) in ranks:
+                    raise refused(place, f"several columns are rank {found[1]}")
+                ranks[int(found[1])] = column
+        if not ranks:
+            raise refused(place, "no column is called 1st or 1, 2nd or 2, .., which were looked for (the plain form: id, 1st, 2nd, ..)")
+        self.add_columns(place, {title_of(self.sources[0], self.options): ranks})
+
+
+def title_of(source, options):
+    """What a contest is called whose file doesn't tell: --title, or the file's name."""
+    return options.title or os.path.splitext(source.name)[0]

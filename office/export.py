@@ -1,0 +1,62 @@
+"""The assertions of a contest in the JSON that SHANGRLA's notebooks read."""
+import json
+
+from ask import ask, read, Refusal
+from words import see_output, Words
+
+NAME = "export"
+FORMS = ("shangrla",)
+
+
+def words_of(words):
+    parser = Words(NAME)
+    parser.add_argument("form", choices=FORMS)
+    parser.add_argument("ballots")
+    parser.add_argument("assertions")
+    parser.option("--contest", "--nodes")
+    return parser.parse_args(words)
+
+
+def accepted(given):
+    """The assertion file, of which the program has said that it holds of the ballots."""
+    options = [f"--{name}={value}" for name, value in (("contest", given.contest), ("nodes", given.nodes)) if value is not None]
+    ask(NAME, "check", [given.ballots, given.assertions], *options)
+    return json.loads(read(NAME, given.assertions))
+
+
+def eliminated(given, contest):
+    """The candidates in the order of their elimination, as the program tabulates them."""
+    lines = ask(NAME, "tabulate", [given.ballots], f"--contest={contest}").splitlines()
+    return [line.removeprefix("eliminated ") for line in lines if line.startswith("eliminated ")]
+
+
+def entry(assertion, candidates):
+    """NEB is what SHANGRLA calls WINNER_ONLY; a NEN tells who is out in place of who is left."""
+    winner, loser = assertion["winner"], assertion["loser"]
+    if assertion["kind"] == "NEB":
+        told = f"Rules out that {winner} is eliminated before {loser}"
+        return {"winner": winner, "loser": loser, "already_eliminated": [], "assertion_type": "WINNER_ONLY", "explanation": told}
+    if assertion["kind"] != "NEN":
+        raise Refusal(1, f"{NAME}: no notebook of SHANGRLA reads an assertion of kind {assertion['kind']}\n")
+    rest = set(assertion["rest"])
+    out = [each for each in candidates if each not in rest]
+    left = ", ".join(each for each in candidates if each in rest)
+    told = f"Rules out that {winner} is eliminated next where just {left} are left"
+    return {"winner": winner, "loser": loser, "already_eliminated": out, "assertion_type": "IRV_ELIMINATION", "explanation": told}
+
+
+def shangrla(file, order):
+    audit = {
+        "contest": file["contest"], "winner": file["winner"], "eliminated": order, "candidates": file["candidates"],
+        "assertions": [entry(assertion, file["candidates"]) for assertion in file["assertions"]],
+    }
+    return {"Ballots involved in audit (#)": str(file["records"]), "audits": [audit]}
+
+
+def answer(words):
+    given = words_of(words)
+    see_output(NAME, [given.ballots, given.assertions])
+    file = accepted(given)
+    made = shangrla(file, eliminated(given, file["contest"]))
+    told = f"{len(file['assertions'])} assertions of contest {file['contest']}, which ./raire check accepts"
+    return json.dumps(made, indent=1) + "\n", f"{NAME}: {told}\n"

@@ -1,0 +1,104 @@
+"""The records of ballot files, manifests and seen files, read by `csv` as docs/formats.md says.
+
+Ballot files and manifests are judged by the program (office/ask.py); what it has accepted is read here. A seen file on its
+own no command of the program judges, so its own rules are judged here.
+"""
+import csv
+import io
+import itertools
+
+MARK = b"\xef\xbb\xbf"
+MISSING = "missing"
+
+csv.field_size_limit(2**31 - 1)
+
+
+class Broken(Exception):
+    """A file breaks a rule at a record; `why` says how, for people."""
+
+    def __init__(self, rule, at, why):
+        super().__init__(f"{rule} at {at}: {why}")
+        self.rule, self.at, self.why = rule, at, why
+
+
+def rows(text):
+    """The numbered records of a text stream that was opened with newline="", blanks taken off round their fields."""
+    count = 0
+    for row in csv.reader(text):
+        fields = [field.strip(" \t") for field in row]
+        if fields not in ([], [""]):
+            count += 1
+            yield count, fields
+
+
+def rows_of(data):
+    """The numbered records of bytes. A byte order mark at the start is taken off, and a second one behind it."""
+    data = data.removeprefix(MARK).removeprefix(MARK)
+    return rows(io.StringIO(data.decode(errors="surrogateescape"), newline=""))
+
+
+def text_of(written):
+    """Records as a text, a line each."""
+    text = io.StringIO(newline="")
+    csv.writer(text, lineterminator="\n").writerows(written)
+    return text.getvalue()
+
+
+# ---- ballot files that the program has accepted
+
+def contests_of(data):
+    """The candidates of each contest, by the head of a ballot file."""
+    numbered = rows_of(data)
+    _, (count, *_) = next(numbered)
+    head = itertools.islice(numbered, int(count))
+    return {name: rest[:int(size)] for _, (_, name, size, *rest) in head}
+
+
+def ballots_of(data, contest):
+    """The id of each ballot of a contest, and the candidates that it ranks, each at its first place."""
+    numbered = rows_of(data)
+    _, (count, *_) = next(numbered)
+    for _, (name, ballot, *preferences) in itertools.islice(numbered, int(count), None):
+        if name == contest:
+            yield ballot, ranking_of(preferences)
+
+
+def ranking_of(preferences):
+    return tuple(dict.fromkeys(filter(None, preferences)))
+
+
+# ---- manifests that the program has accepted
+
+def batches_of(data):
+    """The number of cards of each batch, in the order of a manifest."""
+    return {batch: int(cards) for _, (batch, cards) in itertools.islice(rows_of(data), 1, None)}
+
+
+def batch_of(card):
+    """The batch of a card, and its number in the batch, by the card's id."""
+    batch, _, number = card.rpartition("_")
+    return batch, int(number)
+
+
+# ---- seen files, which are judged here
+
+def seen_of(data):
+    """What was seen of each card, in the file's order: who is ranked, or MISSING."""
+    seen, places = {}, {}
+    for at, (card, *reading) in rows_of(data):
+        if not any(reading):
+            raise Broken("V1", at, f"the card {card} has no reading")
+        if reading[0] not in ("ballot", MISSING):
+            raise Broken("V1", at, f"the card {card} has neither ballot nor missing behind it, but {reading[0] or 'nothing'}")
+        if reading[0] == MISSING and any(reading[1:]):
+            raise Broken("V1", at, f"the card {card} is missing, and something stands behind that")
+        if card in seen:
+            raise Broken("V3", at, f"the card {card} stood before, in record {places[card]}")
+        seen[card] = MISSING if reading[0] == MISSING else ranking_of(reading[1:])
+        places[card] = at
+    return seen
+
+
+def seen_text(seen):
+    """The text of a seen file."""
+    return text_of([card, MISSING] if reading == MISSING else [card, "ballot", *reading] for card, reading in seen.items())

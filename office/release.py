@@ -1,0 +1,150 @@
+"""A release: the program that was proved and built, with all that an office needs beside it, as one file."""
+import collections
+import gzip
+import hashlib
+import io
+import os
+import subprocess
+import sys
+import tarfile
+
+from ask import Refusal, TOP
+from words import help_of, put, Words
+
+NAME = "release"
+PROGRAM = "crates/raire/out/raire"
+PARTS = ["README.md", "docs", "examples", "page", "hints", "office", "acceptance/plain.py", "acceptance/plain_audit.py", "acceptance/limits.py"]
+MACHINE = "x86_64"
+
+File = collections.namedtuple("File", "data mode")
+
+PAGE = """\
+# A release of the RAIRE audit suite
+
+| | |
+|---|---|
+| commit | {commit} |
+| kit with which it was proved and built | {kit} |
+| SHA-256 of the program, `{program}` | {digest} |
+| runs on | x86-64 Linux with glibc; the prover isn't needed |
+
+Unpack it anywhere, and begin with README.md, in this folder: `./raire help`. What wants Python says so itself, and tells the package that is missing.
+README's first use, which proves and builds, is over and done with here: the program is the one that was built then. Links of the pages to `crates/`
+and CONTRIBUTING.md lead to the repository, since the sources aren't in this file.
+
+## Is it what was released?
+
+    sha256sum --check --quiet SHA256SUMS      # each file is the one that was put in
+    ./raire --version                         # the commit and the kit
+
+Whoever published this file has to publish its own SHA-256 too, on another way: `SHA256SUMS` only shows that nothing was damaged.
+
+## Proving it anew
+
+With the kit named above, on any machine:
+
+    git clone <the repository> raire && cd raire
+    git checkout {commit}
+    rt version          # {kit}
+    rt ci --anew        # every proof from nothing, every wrong body refused, every test
+    ./raire --build
+    sha256sum {program}
+
+docs/trust.md says what each step shows, and what has to be believed. The program is what the kit's compiler makes of the proved code; that is proved by
+nobody, and that another machine gets the same bytes isn't claimed: run what you built yourself where that matters. All else in this file is text that
+can be compared with the commit: `./release` takes it from there. From one commit and one program `./release` makes the same bytes each time.
+"""
+
+
+def told(text):
+    return Refusal(1, f"{NAME}: {text}\n")
+
+
+def git(*words, top=TOP):
+    try:
+        ran = subprocess.run(["git", "-C", top, *words], capture_output=True)
+    except OSError as fault:
+        raise told(f"git doesn't run: {fault.strerror}") from None
+    if ran.returncode:
+        raise told(f"git {words[0]} ended with status {ran.returncode}: {ran.stderr.decode(errors='replace').strip()}")
+    return ran.stdout
+
+
+class Commit:
+    def __init__(self, top=TOP):
+        self.top = top
+        self.name, self.time = git("log", "-1", "--format=%H %ct", top=top).decode().split()
+        self.short = self.name[:12]
+
+    def is_changed(self):
+        return bool(git("status", "--porcelain", top=self.top))
+
+    def files(self):
+        """The files of a release that the commit has, and the scripts beside them."""
+        listed = git("ls-tree", "HEAD", top=self.top).decode().splitlines()
+        scripts = [line.split("\t")[1] for line in listed if line.startswith("100755 ")]
+        archive = io.BytesIO(git("archive", "--format=tar", "HEAD", *PARTS, *(name for name in scripts if name != NAME), top=self.top))
+        with tarfile.open(fileobj=archive) as tar:
+            return {each.name: File(tar.extractfile(each).read(), 0o755 if each.mode & 0o100 else 0o644) for each in tar if each.isfile()}
+
+
+def made(commit, program, kit):
+    """The name and the bytes of a release."""
+    files = commit.files()
+    digest = hashlib.sha256(program).hexdigest()
+    files[PROGRAM] = File(program, 0o755)
+    files["RELEASE.md"] = File(PAGE.format(commit=commit.name, kit=kit, digest=digest, program=PROGRAM).encode(), 0o644)
+    files["RELEASE"] = File(f"raire {commit.short}, released; {kit}\n".encode(), 0o644)
+    sums = "".join(f"{hashlib.sha256(files[name].data).hexdigest()}  {name}\n" for name in sorted(files))
+    files["SHA256SUMS"] = File(sums.encode(), 0o644)
+    folder = f"raire-{commit.short}-{MACHINE}"
+    return f"{folder}.tar.gz", packed(folder, files, int(commit.time))
+
+
+def packed(folder, files, time):
+    """An archive whose bytes depend on nothing but these."""
+    out = io.BytesIO()
+    with gzip.GzipFile(filename="", mode="wb", fileobj=out, compresslevel=9, mtime=0) as zipped:
+        with tarfile.open(fileobj=zipped, mode="w", format=tarfile.USTAR_FORMAT) as tar:
+            for name in sorted(files):
+                entry = tarfile.TarInfo(f"{folder}/{name}")
+                entry.size, entry.mode, entry.mtime = len(files[name].data), files[name].mode, time
+                tar.addfile(entry, io.BytesIO(files[name].data))
+    return out.getvalue()
+
+
+def built():
+    """The program of this clone, and the kit with which it was built."""
+    script = os.path.join(TOP, "raire")
+    if subprocess.run([script, "--build"], stdout=subprocess.DEVNULL).returncode:
+        raise Refusal(70, f"{NAME}: there is no program to release\n")
+    _, _, kit = subprocess.run([script, "--version"], capture_output=True, text=True).stdout.strip().partition("; ")
+    if not kit or kit == "no kit on the path":
+        raise told("no kit is on the path, so that nobody could say with which one the program was proved")
+    with open(os.path.join(TOP, PROGRAM), "rb") as file:
+        return file.read(), kit
+
+
+def main(words):
+    try:
+        if words[:1] in (["--help"], ["-h"], ["help"]):
+            put(NAME, help_of(NAME))
+            return 0
+        parser = Words(NAME)
+        parser.add_argument("folder", nargs="?", default=".")
+        folder = parser.parse_args(words).folder
+        commit = Commit()
+        if commit.is_changed():
+            raise told("a file of the folder is new or another one than in the commit: git status tells which")
+        name, data = made(commit, *built())
+        path = os.path.join(folder, name)
+        try:
+            with open(path, "wb") as file:
+                file.write(data)
+        except OSError as fault:
+            raise Refusal(8, f"{NAME}: {path}: {fault.strerror}\n") from None
+        put(NAME, f"{hashlib.sha256(data).hexdigest()}  {path}\n")
+    except Refusal as refusal:
+        sys.stderr.write(refusal.text)
+        return refusal.status
+    return 0

@@ -129,6 +129,26 @@ def builds(copy):
     yield "a newer source builds again", copy.run("--build")[:2] == (0, "") and os.path.exists(copy.notes)
 
 
+def places_of(path):
+    """The places of a page that a link can lead to, by its headings."""
+    with open(path) as file:
+        headings = re.findall("^#+ (.*)$", file.read(), re.MULTILINE)
+    return {re.sub(r"[^\w -]", "", heading.lower()).replace(" ", "-") for heading in headings}
+
+
+def is_ignored(name):
+    """Whether a file of this name, made in the folder, leaves `git status` as it was; so `--version` doesn't say `changed`."""
+    return not os.path.exists(os.path.join(TOP, ".git")) or subprocess.run(["git", "check-ignore", "-q", name], cwd=TOP).returncode == 0
+
+
+def pictures_are_drawn():
+    """What a script of docs/ writes into a page is what stands there."""
+    for name in sorted(os.listdir(os.path.join(TOP, "docs"))):
+        if name.endswith(".py"):
+            ran = subprocess.run([os.path.join(TOP, "docs", name), "--check"], capture_output=True, text=True)
+            yield f"docs/{name}: {ran.stderr}", ran.returncode == 0
+
+
 def pages_are_true():
     """Each command that README and docs/ show works where it is typed, and each link leads somewhere. Paths that are gone are told."""
     pages = ["README.md", "CONTRIBUTING.md"] + [os.path.join("docs", name) for name in sorted(os.listdir(os.path.join(TOP, "docs")))]
@@ -137,15 +157,20 @@ def pages_are_true():
             continue
         with open(os.path.join(TOP, page)) as file:
             text = file.read()
-        for link in re.findall(r"\]\(([^)#:]+)\)", text):
-            yield f"{page}: {link} is there", os.path.exists(os.path.join(TOP, os.path.dirname(page), link))
+        for link, _, place in re.findall(r"\]\(([^)#:]*)(#([^)]+))?\)", text):
+            path = os.path.join(TOP, os.path.dirname(page), link) if link else os.path.join(TOP, page)
+            yield f"{page}: {link} is there", os.path.exists(path)
+            yield f"{page}: {link} has {place}", not place or place in places_of(path)
+        for made in sorted(set(re.findall(r'(?m)^    .*? >{1,2} ?"?([\w./]+)', text)) - {"/dev/null"}):
+            yield f"{page}: {made} isn't tracked", is_ignored(made)
         for path in sorted(set(re.findall(r"`((?:crates/)?[a-z_]+/(?:src|specs|proofs)/[\w/]+\.\w+)`", text))):
             if not os.path.exists(os.path.join(TOP, "crates", path.removeprefix("crates/"))):
                 print(f"{page} names {path}, which isn't there")
         with tempfile.TemporaryDirectory() as folder:
-            for name in ("raire", "show", "examples", "acceptance"):
+            for name in ("raire", "show", "boxes", "cards", "agree", "batches", "examples", "acceptance"):
                 os.symlink(os.path.join(TOP, name), os.path.join(folder, name))
-            for line in re.findall(r"^    (\./(?:raire|show|acceptance)\S* .*)$", text, re.MULTILINE):
+            os.mkdir(os.path.join(folder, "made"))
+            for line in re.findall(r"^    (\./(?:raire|show|boxes|acceptance)\S* .*)$", text, re.MULTILINE):
                 ran = subprocess.run(["bash", "-c", line], capture_output=True, cwd=folder)
                 told = b"templates are missing" in ran.stderr
                 yield f"{page}: {line}: {ran.stderr}", ran.returncode in (0, 3, 4, 5, 6, 10) or told
@@ -173,7 +198,7 @@ def main():
     failed = tried = 0
     with tempfile.TemporaryDirectory() as folder:
         copy = Copy(folder)
-        for cases in (helps(copy), builds(copy), options_are_told(sys.argv[1]), pages_are_true()):
+        for cases in (helps(copy), builds(copy), options_are_told(sys.argv[1]), pictures_are_drawn(), pages_are_true()):
             for shows, holds in cases:
                 tried += 1
                 if not holds:

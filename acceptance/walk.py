@@ -7,6 +7,7 @@ after the other by one bash, in a folder that begins with the repository's examp
 """
 import os
 import re
+import shlex
 import subprocess
 import sys
 import tempfile
@@ -14,7 +15,7 @@ import tempfile
 TOP = os.path.dirname(os.path.dirname(os.path.abspath(__file__)))
 OWN = os.path.join(TOP, "crates", "raire", "out", "raire")
 MARK = "that was printed by the line above"
-UNTRIED = ("templates are missing", "bc: command not found")  # what isn't here can't be tried
+UNTRIED = ("templates are missing", "a library is missing", "bc: command not found")  # what isn't here can't be tried
 
 
 def blocks_of(text):
@@ -48,17 +49,30 @@ def printed_by(commands, folder, given):
     return ran.stdout.decode(errors="replace").split(f"\n{MARK}\n")
 
 
+def write_stand_in(program, script):
+    """A ./raire of another program than the clone's own, which isn't built: the end of the script, from where the program is run."""
+    with open(os.path.join(TOP, "raire")) as file:
+        _, mark, end = file.read().partition("# Says what a refusal means")
+    head = ["#!/usr/bin/env bash", "set -euo pipefail", f"top={shlex.quote(TOP)}", f"program={shlex.quote(program)}", 'say() { echo "raire: $*" >&2; }']
+    with open(script, "w") as file:
+        file.write("\n".join([*head, mark + end]))
+    os.chmod(script, 0o755)
+
+
+def scripts():
+    """The scripts at the top, such as ./show, save ./raire itself."""
+    return [name for name in os.listdir(TOP) if os.path.isfile(os.path.join(TOP, name)) and os.access(os.path.join(TOP, name), os.X_OK) and name != "raire"]
+
+
 def put_repository(program, folder):
     """The names that a page uses. Another program than the clone's own stands in for ./raire, and ./show asks it."""
-    for name in ("show", "examples", "acceptance", "docs"):
+    for name in ("examples", "acceptance", "docs", *scripts()):
         os.symlink(os.path.join(TOP, name), os.path.join(folder, name))
     script = os.path.join(folder, "raire")
     if os.path.exists(OWN) and os.path.samefile(program, OWN):
         os.symlink(os.path.join(TOP, "raire"), script)
         return dict(os.environ)
-    with open(script, "w") as file:
-        file.write(f'#!/usr/bin/env bash\nexec "{program}" "$@"\n')
-    os.chmod(script, 0o755)
+    write_stand_in(program, script)
     return {**os.environ, "RAIRE": script}
 
 

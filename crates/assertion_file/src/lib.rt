@@ -15,5 +15,6 @@ mod read;
 pub use fault::{FRule, FileFault};
 pub use file::AssertionFile;
 pub use ids::id_of;
+pub use members::{list_in, number, number_in, text_in};
 pub use print::{VERSION, print_file};
 pub use read::read_file;

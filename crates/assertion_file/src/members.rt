@@ -2,7 +2,7 @@
 ghost use Rattle.std.specs.Prelude.{◌≡◌, map, option_map};
 ghost use Rattle.std.specs.List.{list_all};
 ghost use Rattle.serde_json.specs.View.{view};
-ghost use Rattle.assertion_file.specs.Stated.{heading_in, entry_in, is_text, list_in, number_in, rest_in, text_in, text_of, texts_in};
+ghost use Rattle.assertion_file.specs.Stated.{heading_in, entry_in, is_text, list_in, number, number_in, rest_in, text_in, text_of, texts_in};
 ghost use Rattle.assertion_file.specs.Views.{stated_ids, stated_heading, stated_entry};
 
 use serde_json::Value;
@@ -51,23 +51,33 @@ pub fn text_of(value: &Value) -> &str
     value.as_str().unwrap_or("")
 }
 
-fn text_in<'a>(value: &'a Value, name: &str) -> Option<&'a str>
+/// The text that the member of this name is.
+pub fn text_in<'a>(value: &'a Value, name: &str) -> Option<&'a str>
     ensures { option_map (λ text. text.now) result ≡ text_in name.now (view value.now) }
 {
     value.get(name)?.as_str()
 }
 
-fn number_in(value: &Value, name: &str) -> Option<u32>
-    ensures { result ≡ number_in name.now (view value.now) }
+/// The whole number that the value is, if it is one of 32 bits.
+pub fn number(value: &Value) -> Option<u32>
+    ensures { result ≡ number (view value.now) }
 {
-    let n = value.get(name)?.as_u64()?;
+    let n = value.as_u64()?;
     if n > u64::from(MOST_NUMBER) {
         return None;
     }
     Some(n as u32)
 }
 
-fn list_in<'a>(value: &'a Value, name: &str) -> Option<&'a [Value]>
+/// The whole number that the member of this name is, if it is one of 32 bits.
+pub fn number_in(value: &Value, name: &str) -> Option<u32>
+    ensures { result ≡ number_in name.now (view value.now) }
+{
+    number(value.get(name)?)
+}
+
+/// The elements of the list that the member of this name is.
+pub fn list_in<'a>(value: &'a Value, name: &str) -> Option<&'a [Value]>
     ensures { option_map (λ values. map view values.now) result ≡
         list_in name.now (view value.now) }
 {

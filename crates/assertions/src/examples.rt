@@ -1,11 +1,11 @@
 //! Worked examples: the definitions at small contests, computed by the checker.
-ghost use Rattle.std.specs.Prelude.{◌≡◌, [], ◌∷◌, Some, None, IsTrue};
+ghost use Rattle.std.specs.Prelude.{◌≡◌, [], ◌∷◌, Some, IsTrue};
 ghost use Rattle.irv_base.specs.Tabulation.{is_tabulated, is_possible};
 ghost use Rattle.assertions.specs.Contests as contests;
 ghost use Rattle.assertions.specs.Refutation.{covers};
 ghost use Rattle.assertions.specs.Hardness.{low, best_margin, start_order};
 ghost use Rattle.assertions.specs.Certificate.{certificate_assertions, certificate_claims, certificate_order, cover_count, order_count};
-ghost use Rattle.assertions.specs.Assorter.{discrepancy};
+ghost use Rattle.assertions.specs.Assorter.{assorter_value};
 
 use crate::Assertion;
 
@@ -50,11 +50,12 @@ pub fn county_contest()
         ∷ [] }
 {}
 
-/// NEB(1,2) at cards that are lost, have no record, agree with it, or were recorded the other way round.
-pub fn discrepancies()
-    ensures lost { discrepancy (Assertion.Neb 1 2) (Some (1 ∷ 2 ∷ [])) None ≡ 0 }
-    ensures unrecorded { discrepancy (Assertion.Neb 1 2) None None ≡ 1 }
-    ensures alike { discrepancy (Assertion.Neb 1 2) (Some (1 ∷ 2 ∷ [])) (Some (1 ∷ 2 ∷ [])) ≡ 2 }
-    ensures understated { discrepancy (Assertion.Neb 1 2) (Some (2 ∷ 1 ∷ [])) (Some (1 ∷ 2 ∷ []))
-        ≡ 4 }
+/// NEB(1,2) and NEN(1,2,{1,2}) at ballots for the winner, for the loser, and for neither.
+pub fn assorter_values()
+    ensures winner_first { assorter_value (Assertion.Neb 1 2) (1 ∷ 2 ∷ []) ≡ 2 }
+    ensures winner_later { assorter_value (Assertion.Neb 1 2) (0 ∷ 1 ∷ 2 ∷ []) ≡ 1 }
+    ensures loser_ahead { assorter_value (Assertion.Neb 1 2) (0 ∷ 2 ∷ 1 ∷ []) ≡ 0 }
+    ensures top_of_rest { assorter_value (Assertion.Nen 1 2 6) (0 ∷ 1 ∷ 2 ∷ []) ≡ 2 }
+    ensures loser_of_rest { assorter_value (Assertion.Nen 1 2 6) (2 ∷ []) ≡ 0 }
+    ensures none_of_rest { assorter_value (Assertion.Nen 1 2 6) (0 ∷ []) ≡ 1 }
 {}

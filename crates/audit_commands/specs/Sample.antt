@@ -1,21 +1,24 @@
 -- `sample MANIFEST`: the cards that a seed draws.
-use Rattle.std.specs.Prelude.{◌≡◌, ℕ, List, Result, Ok, Err}
+use Rattle.std.specs.Prelude.{List, [], ◌∷◌}
 use Rattle.manifest.specs.Cards.{Batches}
-use Rattle.manifest.specs.Manifest.{Refusal, manifest_of}
+use Rattle.manifest.specs.Manifest.{manifest_of}
 use Rattle.audit_report.specs.Sample.{sample_table}
 use Rattle.cli_base.specs.Outcome.{Verdict, Answered}
 use Rattle.cli_base.specs.declared.outcome.AnswerKind.{AnswerKind}
 use Rattle.cli_base.specs.declared.outcome.AnswerKind.TheVariants.{Done}
 use Rattle.cli_base.specs.Script.{Script, Read, ends}
-use Rattle.audit_commands.specs.Files.{refused}
+use Rattle.command.specs.declared.sample.SampleTask.{SampleTask}
+use Rattle.input_files.specs.Judged.{told, go_on}
+use Rattle.input_files.specs.Refusals.{refused_manifest}
 
-abbrev pub sample_of : List ℕ → List ℕ → ℕ → Result Batches Refusal → Verdict
-sample_of name seed draws (Err refusal) = refused name refusal
-sample_of name seed draws (Ok batches) = Answered Done (sample_table batches seed draws)
+abbrev pub sample_of : SampleTask → Batches → Verdict
+sample_of task batches = Answered Done (sample_table batches task.seed task.draws)
 
-abbrev pub script : List ℕ → List ℕ → ℕ → Script
-script name seed draws = Read name (λ bytes. ends (sample_of name seed draws (manifest_of bytes)))
+abbrev pub script : SampleTask → Script
+script task = Read task.manifest (λ bytes.
+    go_on (told (refused_manifest task.manifest) (manifest_of bytes)) (λ batches.
+    ends (sample_of task batches)))
 
 -- the kind of its answer
-abbrev pub Kinds : AnswerKind → Type 0
-Kinds kind = kind ≡ Done
+abbrev pub kinds : List AnswerKind
+kinds = Done ∷ []

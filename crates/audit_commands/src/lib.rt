@@ -2,8 +2,5 @@
 //! and answers or refuses.
 #![tactic(auto)]
 
-mod files;
 pub mod plan;
 pub mod sample;
-
-pub use files::manifest_in;

@@ -5,85 +5,69 @@ ghost use Rattle.irv_base.specs.declared.limits.TheConstants.{MOST_CARDS};
 ghost use Rattle.cli_base.specs.Accounts.{IsAccountedFor};
 ghost use Rattle.cli_base.specs.Due.{due, IsOneOrMemory};
 ghost use Rattle.cli_base.specs.Script.{ByDesk, MayOrMemory};
-ghost use Rattle.audit_commands.specs.Plan.{IsWithinLimits, plan_of as script_of_cards, plan_over, script};
+ghost use Rattle.command.specs.Plan.{IsWithinLimits};
+ghost use Rattle.audit_commands.specs.Plan.{after_manifest, plan_over, script};
 
-use crate::files::{assertions_in, manifest_in};
 use assertion_file::AssertionFile;
 use audit_report::plan_table;
-use cli_base::{Answer, AnswerKind, Refusal, read_file, refuse_at};
+use cli_base::{Answer, AnswerKind, Refusal, refuse_at};
+use command::PlanTask;
 use desk::Desk;
+use input_files::{assertions_in, bytes_of, manifest_in};
 use std::alloc::Global;
 
-/// What a plan is made for.
-#[derive(Clone, Copy)]
-pub struct Setting {
-    /// The risk limit, in millionths.
-    pub limit: u32,
-    /// Gamma, in thousandths: the greater it is, the less a card costs that is seen otherwise.
-    pub gamma: u32,
-}
-
 /// The draws that a clean audit of the assertions takes.
-pub fn answer<D: Desk>(
-    alloc: Global,
-    desk: &mut D,
-    manifest: &str,
-    assertions: &str,
-    setting: Setting,
-) -> Result<Answer, Refusal>
-    requires { IsWithinLimits setting }
+pub fn answer<D: Desk>(alloc: Global, desk: &mut D, task: &PlanTask) -> Result<Answer, Refusal>
+    requires { IsWithinLimits task.now }
     ensures held { D.held desk.new ≡ D.held desk.old }
     ensures later { D.faults desk.old ≤ D.faults desk.new }
     ensures due { MayOrMemory
         (ByDesk (D.held desk.old) (Rose (D.faults desk.old) (D.faults desk.new)))
-        (script manifest.now assertions.now setting) (due result) }
+        (script task.now) (due result) }
     ensures served { IsAccountedFor 2 (D.served desk.old) (D.served desk.new) (due result).status }
 {
-    let bytes = read_file(alloc, desk, manifest)?;
-    let batches = manifest_in(alloc, manifest, &bytes)?;
-    plan_of(alloc, desk, batches.cards(), assertions, setting)
+    let bytes = bytes_of(alloc, desk, &task.manifest)?;
+    let batches = manifest_in(alloc, &task.manifest, &bytes)?;
+    after_manifest(alloc, desk, task, batches.cards())
 }
 
-// A plan over so many cards.
-fn plan_of<D: Desk>(
+// The assertions are read, for a plan over so many cards.
+fn after_manifest<D: Desk>(
     alloc: Global,
     desk: &mut D,
+    task: &PlanTask,
     cards: u32,
-    assertions: &str,
-    setting: Setting,
 ) -> Result<Answer, Refusal>
-    requires limits { IsWithinLimits setting }
+    requires limits { IsWithinLimits task.now }
     requires cards { cards ≤ MOST_CARDS }
     ensures held { D.held desk.new ≡ D.held desk.old }
     ensures later { D.faults desk.old ≤ D.faults desk.new }
     ensures due { MayOrMemory
         (ByDesk (D.held desk.old) (Rose (D.faults desk.old) (D.faults desk.new)))
-        (script_of_cards setting cards assertions.now) (due result) }
+        (after_manifest task.now cards) (due result) }
     ensures served { IsAccountedFor 1 (D.served desk.old) (D.served desk.new) (due result).status }
 {
-    let bytes = read_file(alloc, desk, assertions)?;
-    let file = assertions_in(alloc, assertions, &bytes)?;
-    plan_over(alloc, cards, assertions, &file, setting)
+    let bytes = bytes_of(alloc, desk, &task.assertions)?;
+    let file = assertions_in(alloc, &task.assertions, &bytes)?;
+    plan_over(alloc, task, cards, &file)
 }
 
-// The plan for the assertions of the file with this name, unless they are of more records than there are cards.
+// The plan for these assertions, unless they are of more records than there are cards.
 fn plan_over(
     alloc: Global,
+    task: &PlanTask,
     cards: u32,
-    file: &str,
-    assertions: &AssertionFile,
-    setting: Setting,
+    file: &AssertionFile,
 ) -> Result<Answer, Refusal>
-    requires limits { IsWithinLimits setting }
+    requires limits { IsWithinLimits task.now }
     requires cards { cards ≤ MOST_CARDS }
-    ensures { IsOneOrMemory (λ verdict.
-        verdict ≡ plan_over setting cards file.now assertions.now) (due result) }
+    ensures { IsOneOrMemory (λ verdict. verdict ≡ plan_over task.now cards file.now) (due result) }
 {
-    if assertions.records() > cards {
-        return Err(refuse_at(alloc, file, "F7", 0));
+    if file.records() > cards {
+        return Err(refuse_at(alloc, task.assertions.as_str(), "F7", 0));
     }
     Ok(Answer {
         kind: AnswerKind::Done,
-        text: plan_table(alloc, assertions, cards, setting.gamma, setting.limit)?,
+        text: plan_table(alloc, file, cards, task.gamma, task.limit)?,
     })
 }

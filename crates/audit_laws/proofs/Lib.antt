@@ -1,8 +1,5 @@
 pub mod FalseClaims
 pub mod Published
-pub mod DrawnAlone
-pub mod Advanced
+pub mod Possible
 pub mod CleanDraws
 pub mod TwoCards
-pub mod Possible
-pub mod OneCard

@@ -13,11 +13,12 @@ use Rattle.cover_checker.specs.declared.checked.Checked.TheVariants.{Accepted}
 use Rattle.manifest.specs.Cards.{AreBatches}
 use Rattle.km_risk.specs.Printed.{printed_risk}
 use Rattle.km_risk.specs.Reach.{IsSequence, sequences}
-use Rattle.audit_rounds.specs.Draws.{AreRoundEnds, is_signed_off_on, session_to}
-use Rattle.audit_session.specs.Going.{audited}
+use Rattle.session_state.specs.Draws.{AreRoundEnds, is_signed_off_on, session_to}
+use Rattle.session_state.specs.Claims.{audited}
+use Rattle.session_state.specs.RiskOfValues.{AreTerms, MayBeSignedOff, AreSignedOff}
 use Rattle.audit_laws.specs.CleanDraws.{IsRival}
-use Rattle.audit_laws.specs.RiskLimit.{ArePublished, AreTerms, MayElectAnother, MayBeSignedOff, AreSignedOff}
-use Rattle.audit_laws.specs.Examples.{lead_of_two, two_records, two_actual, two_seen, two_batches, two_ballots, two_file, other_proof}
+use Rattle.audit_laws.specs.RiskLimit.{ArePublished, MayElectAnother}
+use Rattle.audit_laws.specs.Examples.{two_records, two_actual, two_seen, two_batches, two_ballots, two_file, other_proof}
 
 -- ---- the files
 won : IsWinner 2 two_ballots.rankings 0
@@ -89,12 +90,12 @@ one_round = record {
   drawn = All-cons (λ e. e ≤ 1) 1 [] (omega arith) (All-nil (λ e. e ≤ 1));
 }
 
-may_be_signed_off : MayBeSignedOff 700000 500 lead_of_two two_records two_actual (1 ∷ [])
+may_be_signed_off : MayBeSignedOff 700000 500 (audited two_file) two_records two_actual (1 ∷ [])
 unfolding printed_risk
 may_be_signed_off = record {
   seen = two_seen;
   readings = (refl, (refl, tt));
-  session = session_to 700000 500 (audited lead_of_two) two_records two_seen (1 ∷ []) (1 ∷ []);
+  session = session_to 700000 500 (audited two_file) two_records two_seen (1 ∷ []) (1 ∷ []);
   drawn = record { ends = 1 ∷ []; are = one_round; is = refl };
   signed_off = refl;
 }
@@ -106,16 +107,16 @@ one_drawn = record {
   within = All-cons (λ e. e ≤ 2) 1 [] (omega arith) (All-nil (λ e. e ≤ 2));
 }
 
-pub signed_off : AreSignedOff 700000 500 lead_of_two two_records two_actual 1 ((1 ∷ []) ∷ [])
+pub signed_off : AreSignedOff 700000 500 (audited two_file) two_records two_actual 1 ((1 ∷ []) ∷ [])
 signed_off = record {
   drawn = All-cons (IsSequence 2 1) (1 ∷ []) [] one_drawn (All-nil (IsSequence 2 1));
   differ = λ i j d before within. absurd (omega arith);
   each =
-      All-cons (MayBeSignedOff 700000 500 lead_of_two two_records two_actual) (1 ∷ []) [] may_be_signed_off
-      (All-nil (MayBeSignedOff 700000 500 lead_of_two two_records two_actual));
+      All-cons (MayBeSignedOff 700000 500 (audited two_file) two_records two_actual) (1 ∷ []) [] may_be_signed_off
+      (All-nil (MayBeSignedOff 700000 500 (audited two_file) two_records two_actual));
 }
 
-pub counted : count_by (is_signed_off_on 700000 500 (audited lead_of_two) two_records two_seen) (sequences (range_with_len 1 2) 1) ≡ 1
+pub counted : count_by (is_signed_off_on 700000 500 (audited two_file) two_records two_seen) (sequences (range_with_len 1 2) 1) ≡ 1
 unfolding printed_risk
 counted = refl
 

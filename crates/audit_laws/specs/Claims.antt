@@ -1,21 +1,23 @@
--- What the risk limit asks of claims: they prove the winner where they are true, and have their margins over the linked records.
-use Rattle.std.specs.Prelude.{◌≡◌, ℕ, ◌<◌, ◌≤◌, List, map, All, pos, IsTrue}
+-- What the risk limit asks of assertions: they prove the winner where they are true, and have their margins over the linked records.
+use Rattle.std.specs.Prelude.{ℕ, ◌<◌, List, map, IsTrue}
 use Rattle.std.specs.List.{list_all}
 use Rattle.assertions.specs.declared.assertion.Assertion.{Assertion}
-use Rattle.assertions.specs.declared.assertion.Claim.{Claim}
 use Rattle.assertions.specs.Assertions.{is_proper}
-use Rattle.assertions.specs.Assorter.{assorter_value}
 use Rattle.assertions.specs.Refutation.{covers}
+use Rattle.assertion_file.specs.Content.{Content, candidate_count}
 use Rattle.manifest.specs.declared.recorded.Recorded.{Recorded}
-use Rattle.assorters.specs.Cards.{margin_over}
+use Rattle.session_state.specs.Claims.{audited}
+use Rattle.session_state.specs.RiskOfValues.{AreClaims}
 
-abbrev pub claimed : List Claim → List Assertion
-claimed claims = map (λ claim. claim.assertion) claims
-
-pub record AreAuditable (n winner : ℕ) (claims : List Claim)
-    (recorded : List Recorded) : Type 0 where
+-- the assertions refute each order of n candidates that elects another one
+pub record Cover (n winner : ℕ) (assertions : List Assertion) : Type 0 where
   pub winner_below : winner < n
-  pub proper : IsTrue (list_all (is_proper n) (claimed claims))
-  pub covering : IsTrue (covers n winner (claimed claims))
-  pub margins : All (λ claim. pos claim.margin ≡ margin_over (assorter_value claim.assertion) recorded) claims
-  pub positive : All (λ claim. 1 ≤ claim.margin) claims
+  pub proper : IsTrue (list_all (is_proper n) assertions)
+  pub covering : IsTrue (covers n winner assertions)
+
+abbrev pub claimed : Content → List Assertion
+claimed file = map (λ claim. claim.assertion) file.claims
+
+pub record AreAuditable (file : Content) (recorded : List Recorded) : Type 0 where
+  pub cover : Cover (candidate_count file) file.winner (claimed file)
+  pub claims : AreClaims (audited file) recorded

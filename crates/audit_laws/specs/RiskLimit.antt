@@ -1,4 +1,5 @@
--- The risk limit of an audit, on one page: `RiskLimit`, at the end, is what is promised; the records before it are the premises.
+-- The risk limit of an audit: `RiskLimit`, at the end, is what is promised; the records before it are the premises. What the terms
+-- are (`AreTerms`) and what is counted (`AreSignedOff`) stands in `session_state/specs/RiskOfValues.antt`, for claims of any kind.
 --
 -- Ballots, a manifest of the cards and an assertion file are published. Cards are drawn by their numbers, each time from all of
 -- them; a drawn card is looked for, its ranking is read by hand, and it is compared with its record. At the end of a round the
@@ -12,24 +13,18 @@
 -- rounds end may be left open.
 --
 -- It is a count, and speaks of no chance: that one sequence is drawn as easily as another is up to the seed.
-use Rattle.std.specs.Prelude.{◌≢◌, ◌≡◌, ℕ, ◌*◌, ◌^◌, ◌<◌, ◌≤◌, List, length, All, AllPairs, None, Ok, IsTrue}
+use Rattle.std.specs.Prelude.{◌≢◌, ◌≡◌, ℕ, ◌*◌, ◌^◌, ◌≤◌, List, length, None, Ok, IsTrue}
 use Rattle.irv_base.specs.Orders.{is_order, Elects}
 use Rattle.irv_base.specs.Tabulation.{is_possible}
-use Rattle.assertions.specs.declared.assertion.Claim.{Claim}
 use Rattle.ballot_reader.specs.Ballots.{BallotFile, IsSound as AreSound}
 use Rattle.assertion_file.specs.Content.{Content, IsSound, candidate_count}
 use Rattle.cover_checker.specs.Checks.{IsAnswer}
 use Rattle.cover_checker.specs.declared.checked.Checked.TheVariants.{Accepted}
 use Rattle.manifest.specs.Cards.{Batches, AreBatches, cards_of}
 use Rattle.manifest.specs.Linked.{linked_of, first_without_card}
-use Rattle.manifest.specs.declared.recorded.Recorded.{Recorded}
 use Rattle.km_risk.specs.Exact.{millionths_in_one}
-use Rattle.km_risk.specs.Reach.{IsSequence}
-use Rattle.assorters.specs.declared.seen.Seen.{Seen}
-use Rattle.audit_rounds.specs.Readings.{AreReadings}
-use Rattle.audit_rounds.specs.Sessions.{Session, is_signed_off}
-use Rattle.audit_rounds.specs.Draws.{IsSessionOf}
-use Rattle.audit_session.specs.Going.{audited}
+use Rattle.session_state.specs.Claims.{audited}
+use Rattle.session_state.specs.RiskOfValues.{AreTerms, AreSignedOff}
 
 -- ---- what is given
 
@@ -45,11 +40,6 @@ pub record ArePublished (nodes : ℕ) (batches : Batches) (ballots : BallotFile)
   -- the check of the assertion file says yes
   pub accepted : IsAnswer nodes ballots file (Ok Accepted)
 
--- the risk limit in millionths, and gamma in thousandths
-pub record AreTerms (limit gamma : ℕ) : Type 0 where
-  pub below_one : limit < millionths_in_one
-  pub positive : 1 ≤ gamma
-
 -- the actual rankings of the cards, whatever they are: some way of breaking their ties elects another candidate
 pub record MayElectAnother (n winner cards : ℕ) (actual : List (List ℕ)) : Type 0 where
   pub one_each : length actual ≡ cards
@@ -60,28 +50,9 @@ pub record MayElectAnother (n winner cards : ℕ) (actual : List (List ℕ)) : T
   pub differs : other ≢ winner
   pub elects : Elects order other
 
--- ---- what is counted
-
-module _ (limit gamma : ℕ) (claims : List Claim) (recorded : List Recorded)
-    (actual : List (List ℕ)) where
-  -- the audit can be signed off on these draws: some cards may be missing, and the others are read as they are; the rounds end
-  -- where one likes, also by a look at the draws; and the session of the draws is signed off at its last round
-  pub record MayBeSignedOff (draws : List ℕ) : Type 0 where
-    pub seen : List Seen
-    pub readings : AreReadings actual seen
-    pub session : Session
-    pub drawn : IsSessionOf limit gamma (audited claims) recorded seen draws session
-    pub signed_off : IsTrue (is_signed_off session)
-
-  -- a session may be signed off on each of these sequences of n cards, no two of which are the same
-  pub record AreSignedOff (n : ℕ) (sequences : List (List ℕ)) : Type 0 where
-    pub drawn : All (IsSequence (length recorded) n) sequences
-    pub differ : AllPairs ◌≢◌ sequences
-    pub each : All MayBeSignedOff sequences
-
 -- ---- what is promised
 
--- of all cards ^ n sequences, they are at most limit millionths
+-- of all cards ^ n sequences, those are at most limit millionths on which a session of the file's claims may be signed off
 abbrev pub RiskLimit : Type 0
 RiskLimit =
     (nodes limit gamma n : ℕ) (batches : Batches) (ballots : BallotFile) (file : Content)
@@ -89,5 +60,5 @@ RiskLimit =
     ArePublished nodes batches ballots file →
     AreTerms limit gamma →
     MayElectAnother (candidate_count file) file.winner (length (cards_of batches)) actual →
-    AreSignedOff limit gamma file.claims (linked_of batches ballots) actual n sequences →
+    AreSignedOff limit gamma (audited file) (linked_of batches ballots) actual n sequences →
     length sequences * millionths_in_one ≤ limit * length (cards_of batches) ^ n

@@ -1,6 +1,5 @@
-//! Worked examples: a wrong winner that meets all that the risk limit asks, a session that goes on and is counted, and a set
-//! of assertions beside that of a file.
-ghost use Rattle.std.specs.Prelude.{◌≡◌, ◌<◌, ◌*◌, [], ◌∷◌, ℕ, List, count_by, None, Some, IsTrue};
+//! Worked examples: a wrong winner that meets all that the risk limit asks, and a set of assertions beside that of a file.
+ghost use Rattle.std.specs.Prelude.{◌≡◌, ◌<◌, ◌*◌, [], ◌∷◌, count_by, None, Some};
 ghost use Rattle.std.specs.List.{range_with_len};
 ghost use Rattle.km_risk.specs.declared.limits.TheConstants.{MILLIONTH};
 ghost use Rattle.km_risk.specs.Clean.{clean_draws};
@@ -8,13 +7,11 @@ ghost use Rattle.km_risk.specs.Counts.{clean};
 ghost use Rattle.km_risk.specs.Printed.{printed_risk};
 ghost use Rattle.km_risk.specs.Reach.{sequences};
 ghost use Rattle.manifest.specs.Linked.{linked_of};
-ghost use Rattle.audit_rounds.specs.Draws.{is_signed_off_on};
-ghost use Rattle.audit_rounds.specs.Sessions.{is_signed_off};
-ghost use Rattle.audit_rounds.specs.declared.digests.Digests.{Digests};
-ghost use Rattle.audit_session.specs.Going.{audited, drawn_cards};
+ghost use Rattle.session_state.specs.Draws.{is_signed_off_on};
+ghost use Rattle.session_state.specs.Claims.{audited};
+ghost use Rattle.session_state.specs.RiskOfValues.{AreSignedOff, AreTerms};
 ghost use Rattle.audit_laws.specs.CleanDraws.{AreEnough, IsRival};
-ghost use Rattle.audit_laws.specs.Laws.{AreTrueEntries, GoesOn, next_session};
-ghost use Rattle.audit_laws.specs.RiskLimit.{ArePublished, AreSignedOff, AreTerms, MayElectAnother};
+ghost use Rattle.audit_laws.specs.RiskLimit.{ArePublished, MayElectAnother};
 ghost use Rattle.audit_laws.specs.Examples as examples;
 
 /// Two cards are recorded for candidate 0, and in truth there is a tie. At a limit of 0.7 a draw of the first card is
@@ -25,22 +22,10 @@ pub fn wrong_winner()
     ensures terms { AreTerms 700000 500 }
     ensures wrong { MayElectAnother 2 0 2 examples.two_actual }
     ensures linked { linked_of examples.two_batches examples.two_ballots ≡ examples.two_records }
-    ensures signed_off { AreSignedOff 700000 500 examples.lead_of_two examples.two_records
+    ensures signed_off { AreSignedOff 700000 500 (audited examples.two_file) examples.two_records
         examples.two_actual 1 ((1 ∷ []) ∷ []) }
-    ensures counted { count_by (is_signed_off_on 700000 500 (audited examples.lead_of_two)
+    ensures counted { count_by (is_signed_off_on 700000 500 (audited examples.two_file)
         examples.two_records examples.two_seen) (sequences (range_with_len 1 2) 1) ≡ 1 }
-{}
-
-/// One card, which is drawn again and again whatever the seed: the session goes on with five draws, and is signed off.
-pub fn one_card()
-    ensures seen { (seed : List ℕ) →
-        AreTrueEntries examples.one_actual examples.one_entry (drawn_cards seed 1 5) }
-    ensures goes_on { (contest seed : List ℕ) (digests : Digests) →
-        GoesOn (examples.one_begun contest seed digests) examples.lead_of_one
-        examples.one_record examples.one_entry 5 }
-    ensures signed_off { (contest seed : List ℕ) (digests : Digests) →
-        IsTrue (is_signed_off (next_session (examples.one_begun contest seed digests)
-        examples.lead_of_one examples.one_record examples.one_entry 5)) }
 {}
 
 /// Two assertions of margin 2 that each prove the winner: two clean draws are enough for both at a limit of 0.5. With a

@@ -1,8 +1,7 @@
 //! What an audit promises: each law holds of every value that it names, and has no code.
 ghost use Rattle.audit_laws.specs.CleanDraws.{FewestCleanDraws, NeedsNoMore};
-ghost use Rattle.audit_laws.specs.Laws.{AdvancedIsCounted, ClaimsRiskLimit, CountedRiskLimit};
-ghost use Rattle.audit_laws.specs.Laws.{EachElectsAnother, HeldIsAuditable, HeldRiskLimit};
-ghost use Rattle.audit_laws.specs.Laws.{NextIsCounted, OtherWinnerIsWrong};
+ghost use Rattle.audit_laws.specs.Laws.{ClaimsRiskLimit, CountedRiskLimit, EachElectsAnother};
+ghost use Rattle.audit_laws.specs.Laws.{HeldIsAuditable, HeldRiskLimit, OtherWinnerIsWrong, SomeIsUntrue};
 ghost use Rattle.audit_laws.specs.RiskLimit.{RiskLimit};
 
 /// Where the actual rankings of the cards may elect another candidate than the published file says, the audit can be signed
@@ -19,6 +18,11 @@ pub fn held_risk_limit()
 /// The claims of a file that holds prove the winner where they are true, and have their margins over the linked records.
 pub fn held_is_auditable()
     ensures { HeldIsAuditable }
+{}
+
+/// Where the actual rankings may elect another candidate, some assertion of each cover isn't true of them.
+pub fn some_is_untrue()
+    ensures { SomeIsUntrue }
 {}
 
 /// The risk limit of such claims, whoever made them.
@@ -39,16 +43,6 @@ pub fn other_winner_is_wrong()
 /// So are actual rankings each of whose possible orders elects another candidate: there is always a possible order.
 pub fn each_elects_another()
     ensures { EachElectsAnother }
-{}
-
-/// A session that `advance` made, and that is signed off, is one that the risk limit counts.
-pub fn advanced_is_counted()
-    ensures { AdvancedIsCounted }
-{}
-
-/// So is a session that goes on by a round, isn't refused, and is signed off, whatever its earlier rounds say.
-pub fn next_is_counted()
-    ensures { NextIsCounted }
 {}
 
 /// Clean draws that are enough for some true set of assertions which proves the winner are enough for the accepted file.

@@ -3,7 +3,7 @@ use Rattle.std.proofs.Common.{◌≡◌, ◌||◌, ℕ, ◌+◌, ◌<◌, Bool, 
 use Rattle.std.specs.List.{list_any}
 use Rattle.std.proofs.lemmas.List.{take_more}
 use Rattle.std.proofs.lemmas.List.Folds.{list_any-append}
-use Rattle.audit_rounds.specs.Sessions.{Round, Session, is_confirmed_at, meets}
+use Rattle.session_state.specs.Sessions.{Round, Session, is_confirmed_at, meets}
 
 or_false : (a : Bool) → (a || false) ≡ a
 or_false true = refl

@@ -1,6 +1,5 @@
 pub mod Lines
 pub mod Cards
-pub mod Digits
 pub mod Marks
 pub mod Confirmed
 pub mod Rounds

@@ -1,6 +1,6 @@
 -- The claims that are marked as confirmed.
 use Rattle.std.proofs.Common.{◌≡◌, ◌||◌, ◌≤◌, ◌<◌, ℕ, Bool, false, List, length, get_or}
-use Rattle.audit_rounds.specs.Sessions.{Round, meets}
+use Rattle.session_state.specs.Sessions.{Round, meets}
 
 -- those before place k are marked by the risks of this round
 pub record AreMarked (limit : ℕ) (round : Round) (before after : List Bool) (k : ℕ) : Type 0 where

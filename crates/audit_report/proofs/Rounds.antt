@@ -6,7 +6,7 @@ use Rattle.std.proofs.lemmas.List.{drop_more, length-map}
 use Rattle.std.proofs.lemmas.Slice.Zip.{length-zip}
 use Rattle.km_risk.specs.Counts.{clean}
 use Rattle.km_risk.specs.Printed.{printed_risk}
-use Rattle.audit_rounds.specs.Sessions.{Round, Session, IsRound, IsSession, is_confirmed_at}
+use Rattle.session_state.specs.Sessions.{Round, Session, IsRound, IsSession, is_confirmed_at}
 use Rattle.audit_report.specs.Session.{claim_in, claim_line, draws_line, rounds_from}
 use Rattle.audit_report.proofs.Lines.{same_lines}
 

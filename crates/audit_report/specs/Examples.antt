@@ -3,8 +3,8 @@ use Rattle.std.specs.Prelude.{ℕ, List, [], ◌∷◌, replicate, codes}
 use Rattle.assertions.specs.declared.assertion.Assertion.TheVariants.{Neb}
 use Rattle.assertions.specs.declared.assertion.Claim.{Claim}
 use Rattle.assertion_file.specs.Content.{Content as FileContent}
-use Rattle.audit_rounds.specs.Content.{Content}
-use Rattle.audit_rounds.specs.Sessions.{Round}
+use Rattle.session_state.specs.Content.{Content}
+use Rattle.session_state.specs.Sessions.{Round}
 use Rattle.km_risk.specs.Counts.{clean}
 
 -- A before B, by this margin

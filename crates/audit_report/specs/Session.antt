@@ -1,35 +1,15 @@
 -- What a session tells: its values, and its rounds with the counts and the risk of each claim.
-use Rattle.std.specs.Prelude.{ℕ, ◌+◌, ◌-◌, ◌/◌, ◌%◌, Bool, true, false, List, [], ◌∷◌, ◌++◌, length, flat_map, replicate, slice_index, slice_index_or, codes}
+use Rattle.std.specs.Prelude.{ℕ, ◌+◌, Bool, true, false, List, [], ◌∷◌, ◌++◌, length, flat_map, slice_index, slice_index_or, codes}
 use Rattle.std.specs.Fmt.{decimal}
 use Rattle.std.specs.List.{range_with_len}
 use Rattle.irv_base.specs.Names.{Id}
-use Rattle.km_risk.specs.declared.limits.TheConstants.{ONE}
 use Rattle.km_risk.specs.declared.draws.Counts.{Counts}
 use Rattle.km_risk.specs.Counts.{clean}
-use Rattle.audit_rounds.specs.Content.{Content}
-use Rattle.audit_rounds.specs.Sessions.{Round, Session, is_confirmed_at, is_signed_off}
+use Rattle.report.specs.Risks.{counts_text, risk_text, state_text}
+use Rattle.session_state.specs.Content.{Content}
+use Rattle.session_state.specs.Sessions.{Round, Session, is_confirmed_at, is_signed_off}
 
 -- ---- a claim
-
-abbrev pub zero_digit : ℕ
-zero_digit = 0x30
-
--- a number in so many digits, with zeros in front
-abbrev pub in_digits : ℕ → ℕ → List ℕ
-in_digits digits n = replicate (digits - length (decimal n)) zero_digit ++ decimal n
-
--- the units of a risk, divided by those of one: 18 digits stand after the point
-abbrev pub risk_text : ℕ → List ℕ
-risk_text units = decimal (units / ONE) ++ codes "." ++ in_digits 18 (units % ONE)
-
-abbrev pub counts_text : Counts → List ℕ
-counts_text counts =
-    decimal counts.n0 ++ codes " " ++ decimal counts.n1 ++ codes " " ++ decimal counts.n2
-    ++ codes " " ++ decimal counts.n3 ++ codes " " ++ decimal counts.n4
-
-abbrev pub state_text : Bool → List ℕ
-state_text true = codes "confirmed"
-state_text false = codes "unconfirmed"
 
 -- claim number j, from 1
 abbrev pub claim_line : ℕ → ℕ → Counts → ℕ → Bool → List ℕ

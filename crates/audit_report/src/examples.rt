@@ -1,9 +1,8 @@
 //! Worked examples: the texts of small audits, computed by the checker.
 ghost use Rattle.std.specs.Prelude.{◌≡◌, ◌∷◌, ◌++◌, [], codes};
-ghost use Rattle.km_risk.specs.declared.limits.TheConstants.{ONE};
 ghost use Rattle.audit_report.specs.Examples as examples;
 ghost use Rattle.audit_report.specs.Plan.{plan_table};
-ghost use Rattle.audit_report.specs.Session.{risk_text, session_table};
+ghost use Rattle.audit_report.specs.Session.{session_table};
 
 /// One card and one claim: four draws aren't enough for a limit of 0.05, and five are.
 pub fn one_card()
@@ -13,14 +12,6 @@ pub fn one_card()
         codes "round 2 draws 5\n" ++
         codes "assertion 1 margin 1 counts 0 0 5 0 0 risk 0.048282842081079907 confirmed\n" ++
         codes "signed off yes\n" }
-{}
-
-/// The greatest risk, and small ones.
-pub fn risks()
-    ensures one { risk_text ONE ≡ codes "1.000000000000000000" }
-    ensures below { risk_text 999999999999999999 ≡ codes "0.999999999999999999" }
-    ensures unit { risk_text 1 ≡ codes "0.000000000000000001" }
-    ensures none { risk_text 0 ≡ codes "0.000000000000000000" }
 {}
 
 /// Plans over twelve cards, at a limit of 0.2 and gamma 0.1: a margin of six votes needs seven draws, and one of twelve three.

@@ -3,40 +3,15 @@ ghost use Rattle.std.specs.Prelude.{◌≡◌, ◌≤◌, ◌<◌, ◌+◌, ◌+
 ghost use Rattle.std.specs.Fmt.{decimal};
 ghost use Rattle.std.specs.List.{range_with_len};
 ghost use Rattle.irv_base.specs.declared.limits.TheConstants.{GREATEST_LIMIT};
-ghost use Rattle.audit_rounds.specs.Sessions.{IsSession, meets};
-ghost use Rattle.audit_report.specs.Session.{claim_in, claim_line, counts_text, draws_line, head_lines, last_line, risk_text, rounds_from, session_table, state_text, yes_or_no};
+ghost use Rattle.session_state.specs.Sessions.{IsSession, meets};
+ghost use Rattle.report.specs.Risks.{state_text};
+ghost use Rattle.audit_report.specs.Session.{claim_in, claim_line, draws_line, head_lines, last_line, rounds_from, session_table, yes_or_no};
 
-use audit_rounds::{DoneRound, Session, signed_off};
 use irv_base::Memory;
-use km_risk::{Counts, ONE, is_confirmed};
+use km_risk::{Counts, is_confirmed};
+use report::{add_counts, add_risk, state_text};
+use session_state::{DoneRound, Session, signed_off};
 use std::alloc::{AllocError, Global};
-
-// The units of a risk, as a number with 18 digits after its point.
-fn add_risk(text: &mut String, units: u64) -> Result<(), AllocError>
-    ensures { IfOk result (λ _. string_bytes text.new ≡ string_bytes text.old ++ risk_text units) }
-{
-    let ones = units / ONE;
-    let rest = units % ONE;
-    write!(text, "{ones}.{rest:018}")
-}
-
-fn add_counts(text: &mut String, counts: &Counts) -> Result<(), AllocError>
-    ensures { IfOk result (λ _. string_bytes text.new ≡
-        string_bytes text.old ++ counts_text counts.now) }
-{
-    let Counts { n0, n1, n2, n3, n4 } = *counts;
-    write!(text, "{n0} {n1} {n2} {n3} {n4}")
-}
-
-fn state_text(confirmed: bool) -> &'static str
-    ensures { result.now ≡ state_text confirmed }
-{
-    if confirmed {
-        "confirmed"
-    } else {
-        "unconfirmed"
-    }
-}
 
 fn add_margin(text: &mut String, j: usize, margin: u32) -> Result<(), AllocError>
     ensures { IfOk result (λ _. string_bytes text.new ≡ string_bytes text.old

@@ -4,43 +4,44 @@ use Rattle.std.specs.Prelude.{if◌then◌else◌}
 use Rattle.std.proofs.lemmas.Bool.{leb-false, lt-leb}
 use Rattle.std.proofs.Math.Seq.{get_or-append_seam}
 use Rattle.std.proofs.lemmas.List.{get_or-map, length-map, map-append, take-map}
-use Rattle.std.proofs.lemmas.List.Elements.{All-nil, All-cons, All-append, All-map, All-weaker}
+use Rattle.std.proofs.lemmas.List.Elements.{All-nil, All-cons, All-append, All-weaker}
 use Rattle.std.proofs.lemmas.List.FromFn.{length-map-range_with_len}
 use Rattle.std.proofs.lemmas.List.Quantifiers.{all_pairs_push}
 use Rattle.std.proofs.lemmas.Simd.{map-map}
-use Rattle.assertions.specs.declared.assertion.Assertion.{Assertion}
-use Rattle.assertions.specs.declared.assertion.Claim.{Claim}
-use Rattle.assertions.specs.Assorter.{assorter_value}
 use Rattle.manifest.specs.declared.recorded.Recorded.{Recorded}
 use Rattle.assorters.specs.declared.seen.Seen.{Seen}
 use Rattle.assorters.specs.Cards.{IsAssorter}
 use Rattle.km_risk.specs.Counts.{counts_of}
 use Rattle.sampler.specs.Draws.{drawn_card}
-use Rattle.audit_rounds.specs.Content.{Content, IsSound, with_round}
-use Rattle.audit_rounds.specs.Draws.{Agrees, IsSessionOf, counts_after, round_to, session_to}
-use Rattle.audit_rounds.specs.Sessions.{Round, Session, IsRound}
-use Rattle.audit_rounds.proofs.Replayed.{session_law}
+use Rattle.session_state.specs.Claims.{audited_by}
+use Rattle.session_state.specs.Content.{Content, IsSound, with_round}
+use Rattle.session_state.specs.Draws.{Agrees, Audited, IsSessionOf, counts_after, round_to, session_to}
+use Rattle.session_state.specs.Sessions.{Round, Session, IsRound}
+use Rattle.session_state.proofs.Claims.{each-assorter, same-margins}
+use Rattle.session_state.proofs.Replayed.{session_law}
 use Rattle.seen_file.specs.Seen.{Entry}
 use Rattle.audit_session.specs.declared.compared.Drawn.{Drawn}
 use Rattle.audit_session.specs.declared.fault.AdvanceFault.TheVariants.{Smaller}
-use Rattle.audit_session.specs.Going.{all_counts, all_seen, audited, audited_claim, compared, counts_over, drawn_at, drawn_cards}
+use Rattle.audit_session.specs.Going.{all_counts, all_seen, compared, counts_over, drawn_at, drawn_cards}
 use Rattle.audit_session.specs.Refusals.{changed_from, first_of, last_draws, refusal, smaller, without_record}
-use Rattle.audit_session.proofs.Values.{assorter-is}
 use Rattle.audit_session.proofs.Changed.{before-last, first-none, unchanged-from}
 
 -- ---- the counts over drawn cards are those after the draws
-over-is : (assertion : Assertion) (recorded : List Recorded) (seen : List Seen) (ds : List ℕ) (k : ℕ) →
-    counts_over assertion (take k (map (drawn_at recorded seen) ds)) ≡ counts_after (assorter_value assertion) recorded seen ds k
-over-is assertion recorded seen ds k =
-    ap (λ drawn. counts_of (map (compared assertion) drawn)) (take-map (drawn_at recorded seen) k ds)
-    ∙ ap counts_of (map-map (compared assertion) (drawn_at recorded seen) (take k ds))
+over-is : (value : List ℕ → ℕ) (recorded : List Recorded) (seen : List Seen) (ds : List ℕ) (k : ℕ) →
+    counts_over value (take k (map (drawn_at recorded seen) ds)) ≡ counts_after value recorded seen ds k
+over-is value recorded seen ds k =
+    ap (λ drawn. counts_of (map (compared value) drawn)) (take-map (drawn_at recorded seen) k ds)
+    ∙ ap counts_of (map-map (compared value) (drawn_at recorded seen) (take k ds))
 
-pub counts-are : (claims : List Claim) (recorded : List Recorded) (seen : List Seen) (ds : List ℕ) (k : ℕ) →
-    all_counts claims (take k (map (drawn_at recorded seen) ds)) ≡ map (λ claim. counts_after claim.value recorded seen ds k) (audited claims)
-counts-are [] recorded seen ds k = refl
-counts-are (claim ∷ claims) recorded seen ds k =
-    let first = over-is claim.assertion recorded seen ds k in
-    let rest = counts-are claims recorded seen ds k in
+pub counts-are : (values : List (List ℕ → ℕ)) (margins : List ℕ) → length margins ≡ length values →
+    (recorded : List Recorded) (seen : List Seen) (ds : List ℕ) (k : ℕ) →
+    all_counts values (take k (map (drawn_at recorded seen) ds)) ≡ map (λ claim. counts_after claim.value recorded seen ds k) (audited_by values margins)
+counts-are [] [] each recorded seen ds k = refl
+counts-are [] (margin ∷ margins) each recorded seen ds k = absurd (omega arith)
+counts-are (value ∷ values) [] each recorded seen ds k = absurd (omega arith)
+counts-are (value ∷ values) (margin ∷ margins) each recorded seen ds k =
+    let first = over-is value recorded seen ds k in
+    let rest = counts-are values margins (omega arith) recorded seen ds k in
     λ i. first i ∷ rest i
 
 pub long-drawn : (recorded : List Recorded) (seen : List Seen) (seed : List ℕ) (n draws : ℕ) →
@@ -49,22 +50,22 @@ long-drawn recorded seen seed n draws =
     length-map (drawn_cards seed n draws) (drawn_at recorded seen) ∙ length-map-range_with_len (λ k. drawn_card seed k n) 1 draws
 
 -- where there are more draws, and each has its record, what is left to judge are the earlier rounds
-pub refusal-is : (content : Content) (claims : List Claim) (recorded : List Recorded) (entries : List Entry) (draws : ℕ) →
+pub refusal-is : (content : Content) (values : List (List ℕ → ℕ)) (recorded : List Recorded) (entries : List Entry) (draws : ℕ) →
     last_draws content.session.rounds < draws → without_record content.seed (length recorded) entries draws ≡ None →
-    refusal content claims recorded entries draws
-    ≡ changed_from claims (map (drawn_at recorded (all_seen entries (length recorded))) (drawn_cards content.seed (length recorded) draws)) 1
+    refusal content values recorded entries draws
+    ≡ changed_from values (map (drawn_at recorded (all_seen entries (length recorded))) (drawn_cards content.seed (length recorded) draws)) 1
     content.session.rounds
-refusal-is content claims recorded entries draws more none =
-    let changed = changed_from claims (map (drawn_at recorded (all_seen entries (length recorded))) (drawn_cards content.seed (length recorded) draws)) 1
+refusal-is content values recorded entries draws more none =
+    let changed = changed_from values (map (drawn_at recorded (all_seen entries (length recorded))) (drawn_cards content.seed (length recorded) draws)) 1
     content.session.rounds in
     let last = last_draws content.session.rounds in
     ap (λ b. first_of (if b then Some (Smaller last) else None) (first_of (without_record content.seed (length recorded) entries draws) changed))
     (lt-leb draws last more)
     ∙ ap (λ o. first_of o changed) none
 
-module _ (content : Content) (claims : List Claim) (recorded : List Recorded) (entries : List Entry) (draws : ℕ)
-    (cards : content.session.cards ≡ length recorded) (margins : content.session.margins ≡ map (λ claim. claim.margin) claims)
-    (sound : IsSound content) (some : 1 ≤ draws) where
+module _ (content : Content) (values : List (List ℕ → ℕ)) (recorded : List Recorded) (entries : List Entry) (draws : ℕ)
+    (cards : content.session.cards ≡ length recorded) (each : length content.session.margins ≡ length values)
+    (of-values : All IsAssorter values) (sound : IsSound content) (some : 1 ≤ draws) where
   abbrev ds : List ℕ
   ds = drawn_cards content.seed (length recorded) draws
 
@@ -77,8 +78,11 @@ module _ (content : Content) (claims : List Claim) (recorded : List Recorded) (e
   abbrev session : Session
   session = content.session
 
+  abbrev claims : List Audited
+  claims = audited_by values session.margins
+
   abbrev pub next : Round
-  next = round_to session.gamma (audited claims) recorded seen ds draws
+  next = round_to session.gamma claims recorded seen ds draws
 
   long : length ds ≡ draws
   long = length-map-range_with_len _ 1 draws
@@ -89,31 +93,31 @@ module _ (content : Content) (claims : List Claim) (recorded : List Recorded) (e
       All-weaker (λ r. r.draws ≤ last_draws session.rounds) (λ r. r.draws < draws) (λ r most. omega arith) session.rounds
       (before-last session.rounds (λ k d below. (sound.session.rounds k d below).some) sound.session.rising)
 
-  margins-are : session.margins ≡ map (λ claim. claim.margin) (audited claims)
-  margins-are = margins ∙ sym (map-map (λ claim. claim.margin) audited_claim claims)
+  margins-are : session.margins ≡ map (λ claim. claim.margin) claims
+  margins-are = sym (same-margins values session.margins each)
 
-  each-long : All (λ round. length round.counts ≡ length claims) session.rounds
-  each-long = λ k d below. (sound.session.rounds k d below).each ∙ ap length margins ∙ length-map claims (λ claim. claim.margin)
+  each-long : All (λ round. length round.counts ≡ length values) session.rounds
+  each-long = λ k d below. (sound.session.rounds k d below).each ∙ each
 
-  some-claim : 1 ≤ length (audited claims)
-  some-claim = let n = sound.session.some in let a = ap length margins-are ∙ length-map (audited claims) (λ claim. claim.margin) in omega (arith, n, a)
+  some-claim : 1 ≤ length claims
+  some-claim = let n = sound.session.some in let a = ap length margins-are ∙ length-map claims (λ claim. claim.margin) in omega (arith, n, a)
 
-  within : All (λ claim. (1 ≤ claim.margin) × (claim.margin ≤ length recorded)) (audited claims)
+  within : All (λ claim. (1 ≤ claim.margin) × (claim.margin ≤ length recorded)) claims
   within = λ k d below.
-      let at = get_or-map (λ claim. claim.margin) (audited claims) k d 0 below in
-      let here = sound.session.margins k 0 (rw margins-are (rw (length-map (audited claims) (λ claim. claim.margin)) below)) in
-      let same : get_or session.margins k 0 ≡ (get_or (audited claims) k d).margin = ap (λ ms. get_or ms k 0) margins-are ∙ at in
+      let at = get_or-map (λ (claim : Audited). claim.margin) claims k d 0 below in
+      let here = sound.session.margins k 0 (rw margins-are (rw (length-map claims (λ claim. claim.margin)) below)) in
+      let same : get_or session.margins k 0 ≡ (get_or claims k d).margin = ap (λ ms. get_or ms k 0) margins-are ∙ at in
       (omega (arith, here, same), omega (arith, here, same, cards))
 
-  assorters : All (λ claim. IsAssorter claim.value) (audited claims)
-  assorters = All-map (λ claim. IsAssorter claim.value) audited_claim claims (λ k d below. assorter-is (get_or claims k d).assertion)
+  assorters : All (λ claim. IsAssorter claim.value) claims
+  assorters = each-assorter values session.margins of-values
 
-  module _ (none : refusal content claims recorded entries draws ≡ None) where
+  module _ (none : refusal content values recorded entries draws ≡ None) where
     parts : (smaller session.rounds draws ≡ None) × (without_record content.seed (length recorded) entries draws ≡ None)
-        × (changed_from claims drawn 1 session.rounds ≡ None)
+        × (changed_from values drawn 1 session.rounds ≡ None)
     parts =
         let a = first-none (smaller session.rounds draws) _ none in
-        let b = first-none (without_record content.seed (length recorded) entries draws) (changed_from claims drawn 1 session.rounds) a.1 in
+        let b = first-none (without_record content.seed (length recorded) entries draws) (changed_from values drawn 1 session.rounds) a.1 in
         (a.0, b.0, b.1)
 
     pub more : last_draws session.rounds < draws
@@ -125,7 +129,7 @@ module _ (content : Content) (claims : List Claim) (recorded : List Recorded) (e
           absurd cc
       by false h = leb-false draws (last_draws session.rounds) h
 
-    agrees : Agrees session.limit session.gamma (audited claims) recorded seen ds session
+    agrees : Agrees session.limit session.gamma claims recorded seen ds session
     agrees = record {
       cards = cards;
       margins = margins-are;
@@ -133,17 +137,16 @@ module _ (content : Content) (claims : List Claim) (recorded : List Recorded) (e
       same_gamma = refl;
       drawn = All-weaker (λ r. r.draws < draws) (λ r. r.draws ≤ length ds) (λ r before. omega (arith, long)) session.rounds (earlier more);
       counts = λ k d below.
-          unchanged-from claims drawn 1 session.rounds each-long (λ n. length-map claims (λ claim. counts_over claim.assertion (take n drawn))) parts.2 k d
-          below
-          ∙ counts-are claims recorded seen ds (get_or session.rounds k d).draws;
+          unchanged-from values drawn 1 session.rounds each-long (λ n. length-map values (λ value. counts_over value (take n drawn))) parts.2 k d below
+          ∙ counts-are values session.margins each recorded seen ds (get_or session.rounds k d).draws;
     }
 
     -- with its last round
-    pub of-draws : IsSessionOf session.limit session.gamma (audited claims) recorded seen ds (with_round content next).session
+    pub of-draws : IsSessionOf session.limit session.gamma claims recorded seen ds (with_round content next).session
     of-draws =
-        let old = (session_law session.limit session.gamma (audited claims) recorded seen ds session some-claim assorters within).1 (sound.session, agrees) in
-        let to = session_to session.limit session.gamma (audited claims) recorded seen ds in
-        let round = round_to session.gamma (audited claims) recorded seen ds in
+        let old = (session_law session.limit session.gamma claims recorded seen ds session some-claim assorters within).1 (sound.session, agrees) in
+        let to = session_to session.limit session.gamma claims recorded seen ds in
+        let round = round_to session.gamma claims recorded seen ds in
         let ends : List ℕ = old.ends ++ draws ∷ [] in
         let rounds-are : session.rounds ≡ map round old.ends = ap (λ (s : Session). s.rounds) old.is in
         record {
@@ -167,7 +170,7 @@ module _ (content : Content) (claims : List Claim) (recorded : List Recorded) (e
     -- so the round is one of the session
     pub is-round : IsRound session next
     is-round =
-        let new = (session_law session.limit session.gamma (audited claims) recorded seen ds (with_round content next).session some-claim assorters within).0
+        let new = (session_law session.limit session.gamma claims recorded seen ds (with_round content next).session some-claim assorters within).0
         of-draws in
         let at = length session.rounds in
         let here = new.0.rounds at next (rw (length-append session.rounds (next ∷ [])) (omega arith)) in

@@ -2,9 +2,8 @@
 use Rattle.std.proofs.Common.{◌≡◌, ◌∙◌, ℕ, suc, ◌+◌, ◌<◌, ◌≤◌, ◌&&◌, ◌==◌, Bool, true, false, cond, Option, Some, None, List, [], ◌∷◌, All, AllPairs, length, take, fold, refl, sym, ap, arith, eqb-true}
 use Rattle.std.proofs.lemmas.Bool.{and_parts}
 use Rattle.std.proofs.lemmas.List.Elements.{All-nil, All-cons, All-head, All-tail}
-use Rattle.assertions.specs.declared.assertion.Claim.{Claim}
 use Rattle.km_risk.specs.declared.draws.Counts.{Counts}
-use Rattle.audit_rounds.specs.Sessions.{Round}
+use Rattle.session_state.specs.Sessions.{Round}
 use Rattle.audit_session.specs.declared.compared.Drawn.{Drawn}
 use Rattle.audit_session.specs.declared.fault.AdvanceFault.TheVariants.{Changed}
 use Rattle.audit_session.specs.Going.{all_counts}
@@ -44,17 +43,17 @@ pub first-none : {A : Type 0} (o other : Option A) → first_of o other ≡ None
 first-none None other h = (refl, h)
 first-none (Some x) other h = absurd cc
 
-pub unchanged-from : (claims : List Claim) (drawn : List Drawn) (number : ℕ) (rounds : List Round) → All (λ round. length round.counts ≡ length claims) rounds →
-    ((k : ℕ) → length (all_counts claims (take k drawn)) ≡ length claims) →
-    changed_from claims drawn number rounds ≡ None → All (λ round. round.counts ≡ all_counts claims (take round.draws drawn)) rounds
-unchanged-from claims drawn number [] each long none = All-nil (λ round. round.counts ≡ all_counts claims (take round.draws drawn))
-unchanged-from claims drawn number (round ∷ rounds) each long none =
-    let parts = first-none (changed_in number 1 round.counts (all_counts claims (take round.draws drawn)))
-    (changed_from claims drawn (number + 1) rounds) none in
-    let here = All-head (λ r. length r.counts ≡ length claims) round rounds each in
-    All-cons (λ r. r.counts ≡ all_counts claims (take r.draws drawn)) round rounds
-    (unchanged-in number 1 round.counts (all_counts claims (take round.draws drawn)) (here ∙ sym (long round.draws)) parts.0)
-    (unchanged-from claims drawn (number + 1) rounds (All-tail (λ r. length r.counts ≡ length claims) round rounds each) long parts.1)
+pub unchanged-from : (values : List (List ℕ → ℕ)) (drawn : List Drawn) (number : ℕ) (rounds : List Round) → All (λ round. length round.counts ≡ length values) rounds →
+    ((k : ℕ) → length (all_counts values (take k drawn)) ≡ length values) →
+    changed_from values drawn number rounds ≡ None → All (λ round. round.counts ≡ all_counts values (take round.draws drawn)) rounds
+unchanged-from values drawn number [] each long none = All-nil (λ round. round.counts ≡ all_counts values (take round.draws drawn))
+unchanged-from values drawn number (round ∷ rounds) each long none =
+    let parts = first-none (changed_in number 1 round.counts (all_counts values (take round.draws drawn)))
+    (changed_from values drawn (number + 1) rounds) none in
+    let here = All-head (λ r. length r.counts ≡ length values) round rounds each in
+    All-cons (λ r. r.counts ≡ all_counts values (take r.draws drawn)) round rounds
+    (unchanged-in number 1 round.counts (all_counts values (take round.draws drawn)) (here ∙ sym (long round.draws)) parts.0)
+    (unchanged-from values drawn (number + 1) rounds (All-tail (λ r. length r.counts ≡ length values) round rounds each) long parts.1)
 
 -- ---- the draws of the last round are the most
 abbrev last-from : ℕ → List Round → ℕ

@@ -3,16 +3,13 @@ use Rattle.std.proofs.Common.{◌≡◌, ◌∙◌, ℕ, ◌+◌, ◌==◌, ◌<
 use Rattle.std.proofs.lemmas.List.{take_more, map-append, get_or-map, length-map}
 use Rattle.std.proofs.lemmas.List.Elements.{All-map}
 use Rattle.std.proofs.lemmas.List.Sums.{sum_by-append}
-use Rattle.assertions.specs.declared.assertion.Assertion.{Assertion}
-use Rattle.assertions.specs.declared.assertion.Claim.{Claim}
 use Rattle.km_risk.specs.declared.draws.Counts.{Counts}
 use Rattle.km_risk.specs.Counts.{counts_of, draws_in}
 use Rattle.km_risk.proofs.AllCounted.{all_counted}
-use Rattle.assertions.specs.Assorter.{assorter_value}
+use Rattle.assorters.specs.Cards.{IsAssorter}
 use Rattle.assorters.proofs.Numbered.{discrepancy-within}
-use Rattle.audit_session.proofs.Values.{assorter-is}
 use Rattle.audit_session.specs.declared.compared.Drawn.{Drawn}
-use Rattle.audit_session.specs.Going.{all_counts, compared, counts_over}
+use Rattle.audit_session.specs.Going.{all_counts, compared, counts_over, value_at}
 
 count-push : (k : ℕ) (ds : List ℕ) (d : ℕ) → count_by (λ x. x == k) (ds ++ d ∷ []) ≡ count_by (λ x. x == k) ds + cond (d == k) 1 0
 count-push k ds d = sum_by-append (λ x. cond (x == k) 1 0) ds (d ∷ []) ∙ omega arith
@@ -30,39 +27,46 @@ counts-push counts ds d a0 a1 a2 a3 a4 is e0 e1 e2 e3 e4 =
     λ i. record { n0 = f0 i; n1 = f1 i; n2 = f2 i; n3 = f3 i; n4 = f4 i }
 
 -- one card more is counted
-pub over-more : (assertion : Assertion) (earlier drawn : List Drawn) (i : ℕ) (card : Drawn) → i < length drawn → card ≡ get_or drawn i card →
-    map (compared assertion) (earlier ++ take i drawn) ++ compared assertion card ∷ [] ≡ map (compared assertion) (earlier ++ take (i + 1) drawn)
-over-more assertion earlier drawn i card below is =
-    sym (map-append (compared assertion) (earlier ++ take i drawn) (card ∷ []))
-    ∙ ap (map (compared assertion))
+pub over-more : (value : List ℕ → ℕ) (earlier drawn : List Drawn) (i : ℕ) (card : Drawn) → i < length drawn → card ≡ get_or drawn i card →
+    map (compared value) (earlier ++ take i drawn) ++ compared value card ∷ [] ≡ map (compared value) (earlier ++ take (i + 1) drawn)
+over-more value earlier drawn i card below is =
+    sym (map-append (compared value) (earlier ++ take i drawn) (card ∷ []))
+    ∙ ap (map (compared value))
     (append_assoc earlier (take i drawn) (card ∷ [])
     ∙ ap (λ t. earlier ++ t) (ap (λ x. take i drawn ++ x ∷ []) is ∙ sym (take_more drawn i card below)))
 
 -- ---- of the claims, one after the other
-pub claim-counts : (claims : List Claim) (drawn : List Drawn) (before : List Counts) (j : ℕ) (claim : Claim) (d : Counts) → j < length claims →
-    before ≡ all_counts claims drawn → get_or before j d ≡ counts_over (get_or claims j claim).assertion drawn
-claim-counts claims drawn before j claim d below is =
-    ap (λ all. get_or all j d) is ∙ get_or-map (λ c. counts_over c.assertion drawn) claims j claim d below
+pub claim-counts : (values : List (List ℕ → ℕ)) (drawn : List Drawn) (before : List Counts) (j : ℕ) (d : Counts) → j < length values →
+    before ≡ all_counts values drawn → get_or before j d ≡ counts_over (value_at values j) drawn
+claim-counts values drawn before j d below is =
+    ap (λ all. get_or all j d) is ∙ get_or-map (λ value. counts_over value drawn) values j (λ ranking. 0) d below
 
-pub one-claim-more : (claims : List Claim) (drawn : List Drawn) (all : List Counts) (j : ℕ) (claim : Claim) (counts : Counts) → j < length claims →
-    all ≡ take j (all_counts claims drawn) → claim ≡ get_or claims j claim → counts ≡ counts_over claim.assertion drawn →
-    all ++ counts ∷ [] ≡ take (j + 1) (all_counts claims drawn)
-one-claim-more claims drawn all j claim counts below so-far claim-is counts-is =
-    let list : List Counts = all_counts claims drawn in
-    let within : j < length list = rw (length-map claims (λ c. counts_over c.assertion drawn)) below in
+pub one-claim-more : (values : List (List ℕ → ℕ)) (drawn : List Drawn) (all : List Counts) (j : ℕ) (counts : Counts) → j < length values →
+    all ≡ take j (all_counts values drawn) → counts ≡ counts_over (value_at values j) drawn →
+    all ++ counts ∷ [] ≡ take (j + 1) (all_counts values drawn)
+one-claim-more values drawn all j counts below so-far counts-is =
+    let list : List Counts = all_counts values drawn in
+    let within : j < length list = rw (length-map values (λ value. counts_over value drawn)) below in
     let here : get_or list j counts ≡ counts =
-    get_or-map (λ c. counts_over c.assertion drawn) claims j claim counts below ∙ ap (λ c. counts_over c.assertion drawn) (sym claim-is) ∙ sym counts-is in
+    get_or-map (λ value. counts_over value drawn) values j (λ ranking. 0) counts below ∙ sym counts-is in
     ap (λ xs. xs ++ counts ∷ []) so-far ∙ ap (λ x. take j list ++ x ∷ []) (sym here) ∙ sym (take_more list j counts within)
 
 -- ---- they are of as many draws
-over-draws : (assertion : Assertion) (drawn : List Drawn) → draws_in (counts_over assertion drawn) ≡ length drawn
-over-draws assertion drawn =
-    all_counted (map (compared assertion) drawn)
-    (All-map (λ d. d ≤ 4) (compared assertion) drawn (λ k card below.
-    discrepancy-within (assorter_value assertion) (assorter-is assertion) (get_or drawn k card).recorded (get_or drawn k card).seen))
-    ∙ length-map drawn (compared assertion)
+over-draws : (value : List ℕ → ℕ) → IsAssorter value → (drawn : List Drawn) → draws_in (counts_over value drawn) ≡ length drawn
+over-draws value is drawn =
+    all_counted (map (compared value) drawn)
+    (All-map (λ d. d ≤ 4) (compared value) drawn (λ k card below.
+    discrepancy-within value is (get_or drawn k card).recorded (get_or drawn k card).seen))
+    ∙ length-map drawn (compared value)
 
-pub all-draws : (claims : List Claim) (drawn : List Drawn) → All (λ counts. draws_in counts ≡ length drawn) (all_counts claims drawn)
-all-draws claims drawn =
-    All-map (λ counts. draws_in counts ≡ length drawn) (λ claim. counts_over claim.assertion drawn) claims
-    (λ k claim below. over-draws (get_or claims k claim).assertion drawn)
+pub all-draws : (values : List (List ℕ → ℕ)) → All IsAssorter values → (drawn : List Drawn) →
+    All (λ counts. draws_in counts ≡ length drawn) (all_counts values drawn)
+all-draws values assorters drawn =
+    All-map (λ counts. draws_in counts ≡ length drawn) (λ value. counts_over value drawn) values
+    (λ k value below. over-draws (get_or values k value) (assorters k value below) drawn)
+
+-- of no draws there are no counts, for each claim
+pub none-more : (values : List (List ℕ → ℕ)) (counts : List Counts) (j : ℕ) (none : Counts) → j < length values →
+    none ≡ record { n0 = 0; n1 = 0; n2 = 0; n3 = 0; n4 = 0 } → counts ≡ take j (all_counts values []) →
+    counts ++ none ∷ [] ≡ take (j + 1) (all_counts values [])
+none-more values counts j none below is so-far = one-claim-more values [] counts j none below so-far is

@@ -1,7 +1,9 @@
-pub mod Values
 pub mod Comparing
 pub mod Counted
 pub mod Changed
 pub mod Advanced
-pub mod Risks
+pub mod EachRisk
 pub mod NextRound
+pub mod DrawnAlone
+pub mod IsCounted
+pub mod OneCard

@@ -1,39 +1,61 @@
 -- One round more: its counts are those of all cards that are drawn, and its risks those of these counts.
-use Rattle.std.proofs.Common.{◌≡◌, ◌∙◌, ℕ, ◌++◌, List, length, map, take, sym, ap, arith}
+use Rattle.std.proofs.Common.{◌≡◌, ◌∙◌, ℕ, All, get_or, List, length, map, sym, ap, arith}
 use Rattle.std.proofs.lemmas.List.{take_all}
-use Rattle.std.proofs.lemmas.Simd.{map-map}
-use Rattle.assertions.specs.declared.assertion.Claim.{Claim}
 use Rattle.manifest.specs.declared.recorded.Recorded.{Recorded}
 use Rattle.assorters.specs.declared.seen.Seen.{Seen}
-use Rattle.km_risk.specs.declared.draws.Counts.{Counts}
-use Rattle.audit_rounds.specs.Draws.{counts_after, risk_after, round_to}
-use Rattle.audit_rounds.specs.Sessions.{Session, risks_of}
-use Rattle.audit_rounds.proofs.Replayed.{risks-are}
+use Rattle.km_risk.specs.Factor.{IsSetting}
+use Rattle.session_state.specs.Content.{Content, IsSound}
+use Rattle.session_state.specs.Claims.{audited_by}
+use Rattle.session_state.specs.Draws.{Audited, counts_after, risk_after, round_to}
+use Rattle.session_state.specs.Sessions.{Round, risks_of}
+use Rattle.session_state.proofs.Claims.{same-margins}
+use Rattle.session_state.proofs.Replayed.{risks-are}
 use Rattle.audit_session.specs.declared.compared.Drawn.{Drawn}
-use Rattle.audit_session.specs.Going.{all_counts, audited, audited_claim, drawn_at}
+use Rattle.audit_session.specs.Going.{all_counts, drawn_at}
 use Rattle.audit_session.proofs.Advanced.{counts-are}
 
--- the cards of earlier rounds are counted, and then those behind them
-pub counted-whole : (claims : List Claim) (drawn front rest : List Drawn) (before counts : List Counts) (had : ℕ) →
-    before ≡ all_counts claims (take had drawn) → front ≡ take had drawn → drawn ≡ front ++ rest →
-    ((earlier : List Drawn) → before ≡ all_counts claims earlier → counts ≡ all_counts claims (earlier ++ rest)) → counts ≡ all_counts claims drawn
-counted-whole claims drawn front rest before counts had before-is front-is whole step =
-    step front (before-is ∙ ap (all_counts claims) (sym front-is)) ∙ ap (all_counts claims) (sym whole)
-
-pub round-is : (session : Session) (claims : List Claim) (recorded : List Recorded) (seen : List Seen) (ds : List ℕ) (draws : ℕ) (counts : List Counts)
-    (risks : List ℕ) →
-    session.cards ≡ length recorded → session.margins ≡ map (λ claim. claim.margin) claims → length (map (drawn_at recorded seen) ds) ≡ draws →
-    counts ≡ all_counts claims (map (drawn_at recorded seen) ds) → risks ≡ risks_of session.cards session.gamma session.margins counts →
-    record { draws = draws; counts = counts; risks = risks } ≡ round_to session.gamma (audited claims) recorded seen ds draws
-round-is session claims recorded seen ds draws counts risks cards margins long counts-is risks-is =
+pub round-is : (gamma : ℕ) (values : List (List ℕ → ℕ)) (margins : List ℕ) (recorded : List Recorded) (seen : List Seen) (ds : List ℕ) (draws : ℕ) →
+    length margins ≡ length values → length (map (drawn_at recorded seen) ds) ≡ draws →
+    ◌≡◌ {A = Round} (record {
+      draws = length (map (drawn_at recorded seen) ds);
+      counts = all_counts values (map (drawn_at recorded seen) ds);
+      risks = risks_of (length recorded) gamma margins (all_counts values (map (drawn_at recorded seen) ds));
+    }) (round_to gamma (audited_by values margins) recorded seen ds draws)
+round-is gamma values margins recorded seen ds draws each long =
     let drawn : List Drawn = map (drawn_at recorded seen) ds in
-    let counts-to : counts ≡ map (λ claim. counts_after claim.value recorded seen ds draws) (audited claims) =
-    counts-is ∙ ap (all_counts claims) (sym (take_all draws drawn (omega (arith, long)))) ∙ counts-are claims recorded seen ds draws in
-    let margins-to : session.margins ≡ map (λ claim. claim.margin) (audited claims) = margins ∙ sym (map-map (λ claim. claim.margin) audited_claim claims) in
-    let moved : risks_of session.cards session.gamma session.margins counts
-    ≡ risks_of (length recorded) session.gamma (map (λ claim. claim.margin) (audited claims))
-    (map (λ claim. counts_after claim.value recorded seen ds draws) (audited claims)) =
-    λ i. risks_of (cards i) session.gamma (margins-to i) (counts-to i) in
-    let risks-to : risks ≡ map (risk_after session.gamma (audited claims) recorded seen ds draws) (audited claims) =
-    risks-is ∙ moved ∙ risks-are session.limit session.gamma (audited claims) recorded seen ds (audited claims) draws in
-    λ i. record { draws = draws; counts = counts-to i; risks = risks-to i }
+    let claims : List Audited = audited_by values margins in
+    let counts-to : all_counts values drawn ≡ map (λ claim. counts_after claim.value recorded seen ds draws) claims =
+    ap (all_counts values) (sym (take_all draws drawn (omega (arith, long)))) ∙ counts-are values margins each recorded seen ds draws in
+    let moved : risks_of (length recorded) gamma margins (all_counts values drawn)
+    ≡ risks_of (length recorded) gamma (map (λ claim. claim.margin) claims) (map (λ claim. counts_after claim.value recorded seen ds draws) claims) =
+    λ i. risks_of (length recorded) gamma (sym (same-margins values margins each) i) (counts-to i) in
+    let risks-to : risks_of (length recorded) gamma margins (all_counts values drawn) ≡ map (risk_after gamma claims recorded seen ds draws) claims =
+    moved ∙ risks-are 0 gamma claims recorded seen ds claims draws in
+    λ i. record { draws = long i; counts = counts-to i; risks = risks-to i }
+
+-- the margins of a session are within the limits of the risk
+pub settings : (content : Content) (cards gamma : ℕ) (margins : List ℕ) → IsSound content → cards ≡ content.session.cards → gamma ≡ content.session.gamma →
+    margins ≡ content.session.margins → All (λ margin. IsSetting cards margin gamma) margins
+settings content cards gamma margins sound same-cards same-gamma same k d below =
+    let within = sound.session.margins k d (rw (← same) below) in
+    let at = ap (λ ms. get_or ms k d) same in
+    record {
+      margin_positive = omega (arith, within.0, at);
+      margin_within = omega (arith, within.1, at, same-cards);
+      cards_within = omega (arith, sound.limits.most_cards, same-cards);
+      gamma_positive = omega (arith, sound.limits.some_gamma, same-gamma);
+      gamma_within = omega (arith, sound.limits.most_gamma, same-gamma);
+    }
+
+-- a round over the same cards, by the same margins, is the same
+pub over-same : (values : List (List ℕ → ℕ)) (cards cards' gamma gamma' : ℕ) (margins margins' : List ℕ) (drawn drawn' : List Drawn) →
+    cards ≡ cards' → gamma ≡ gamma' → margins ≡ margins' → drawn ≡ drawn' →
+    ◌≡◌ {A = Round}
+    (record { draws = length drawn; counts = all_counts values drawn; risks = risks_of cards gamma margins (all_counts values drawn) })
+    (record { draws = length drawn'; counts = all_counts values drawn'; risks = risks_of cards' gamma' margins' (all_counts values drawn') })
+over-same values cards cards' gamma gamma' margins margins' drawn drawn' same-cards same-gamma same-margins' same =
+    λ i. record {
+      draws = length (same i);
+      counts = all_counts values (same i);
+      risks = risks_of (same-cards i) (same-gamma i) (same-margins' i) (all_counts values (same i));
+    }

@@ -1,2 +1,4 @@
 pub mod Going
 pub mod Refusals
+pub mod Laws
+pub mod Examples

@@ -1,16 +1,17 @@
 -- Why a session doesn't go on, in the order in which it is judged.
 use Rattle.std.specs.Prelude.{◌≡◌, ℕ, ◌+◌, ◌==◌, ◌&&◌, Bool, nat_le, not, if◌then◌else◌, List, [], ◌∷◌, find, fold, map, take, length, Option, Some, None, is_some, option_map}
 use Rattle.std.specs.List.{range_with_len}
-use Rattle.assertions.specs.declared.assertion.Claim.{Claim}
 use Rattle.km_risk.specs.declared.draws.Counts.{Counts}
 use Rattle.sampler.specs.Draws.{drawn_card}
 use Rattle.manifest.specs.declared.recorded.Recorded.{Recorded}
 use Rattle.assorters.specs.declared.seen.Seen.{Seen}
-use Rattle.audit_rounds.specs.Content.{Content}
-use Rattle.audit_rounds.specs.Sessions.{Round}
+use Rattle.session_state.specs.Content.{Content}
+use Rattle.session_state.specs.Sessions.{Round}
 use Rattle.audit_session.specs.declared.compared.Drawn.{Drawn}
 use Rattle.audit_session.specs.declared.fault.AdvanceFault.{AdvanceFault}
 use Rattle.audit_session.specs.declared.fault.AdvanceFault.TheVariants.{Smaller, NoRecord, Changed, Memory}
+use Rattle.audit_session.specs.declared.seen.Unseen.{Unseen}
+use Rattle.audit_session.specs.declared.seen.Unseen.TheVariants.{NoRecord as NoRecordOf, Memory as WantOfMemory}
 use Rattle.audit_session.specs.Going.{all_counts, all_seen, drawn_at, drawn_cards}
 use Rattle.seen_file.specs.Seen.{Entry, seen_in}
 
@@ -22,12 +23,25 @@ abbrev pub smaller : List Round → ℕ → Option AdvanceFault
 smaller rounds draws =
     if nat_le draws (last_draws rounds) then Some (Smaller (last_draws rounds)) else None
 
--- the first draw whose card has no record
-abbrev pub without_record : List ℕ → ℕ → List Entry → ℕ → Option AdvanceFault
-without_record seed cards entries draws =
-    option_map (λ k. NoRecord (drawn_card seed k cards) k)
-    (find (λ k. not (is_some (seen_in entries (drawn_card seed k cards))))
-    (range_with_len 1 draws))
+module _ (seed : List ℕ) (cards : ℕ) (entries : List Entry) (draws : ℕ) where
+  -- the first draw whose card has no record
+  abbrev pub unseen_draw : Option ℕ
+  unseen_draw =
+      find (λ k. not (is_some (seen_in entries (drawn_card seed k cards))))
+      (range_with_len 1 draws)
+
+  abbrev pub without_record : Option AdvanceFault
+  without_record = option_map (λ k. NoRecord (drawn_card seed k cards) k) unseen_draw
+
+  -- it is told of that draw; memory may always be wanting
+  abbrev pub IsUnseen : Unseen → Type 0
+  IsUnseen (NoRecordOf card k) = (unseen_draw ≡ Some k) × (card ≡ drawn_card seed k cards)
+  IsUnseen WantOfMemory = Unit {0}
+
+-- what a draw without a record is to a round
+abbrev pub as_advance_fault : Unseen → AdvanceFault
+as_advance_fault (NoRecordOf card k) = NoRecord card k
+as_advance_fault WantOfMemory = Memory
 
 -- ---- the first earlier round, and its first claim, whose counts are others
 
@@ -46,22 +60,23 @@ abbrev pub first_of : {A : Type 0} → Option A → Option A → Option A
 first_of None other = other
 first_of (Some x) other = Some x
 
-abbrev pub changed_from : List Claim → List Drawn → ℕ → List Round → Option AdvanceFault
-changed_from claims drawn number [] = None
-changed_from claims drawn number (round ∷ rounds) =
-    first_of (changed_in number 1 round.counts (all_counts claims (take round.draws drawn)))
-    (changed_from claims drawn (number + 1) rounds)
+abbrev pub changed_from :
+    List (List ℕ → ℕ) → List Drawn → ℕ → List Round → Option AdvanceFault
+changed_from values drawn number [] = None
+changed_from values drawn number (round ∷ rounds) =
+    first_of (changed_in number 1 round.counts (all_counts values (take round.draws drawn)))
+    (changed_from values drawn (number + 1) rounds)
 
 -- a round is refused by the draws so far, then by the cards without a record, then by the counts of earlier rounds
 abbrev pub refusal :
-    Content → List Claim → List Recorded → List Entry → ℕ → Option AdvanceFault
-refusal content claims recorded entries draws =
+    Content → List (List ℕ → ℕ) → List Recorded → List Entry → ℕ → Option AdvanceFault
+refusal content values recorded entries draws =
     let cards : ℕ = length recorded in
     let seen : List Seen = all_seen entries cards in
     let drawn : List Drawn = map (drawn_at recorded seen) (drawn_cards content.seed cards draws) in
     first_of (smaller content.session.rounds draws)
     (first_of (without_record content.seed cards entries draws)
-    (changed_from claims drawn 1 content.session.rounds))
+    (changed_from values drawn 1 content.session.rounds))
 
 -- a round is refused for this first reason; memory may always be wanting
 abbrev pub Refuses : Option AdvanceFault → AdvanceFault → Type 0

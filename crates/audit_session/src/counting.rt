@@ -2,21 +2,22 @@
 ghost use Rattle.std.specs.Prelude.{ℕ, ◌≡◌, ◌+◌, ◌<◌, ◌≤◌, ◌^◌, ◌∷◌, ◌++◌, [], All, List, length, IfOk};
 ghost use Rattle.km_risk.specs.Counts.{counts_of, draws_in};
 ghost use Rattle.audit_session.specs.declared.compared.Drawn.{Drawn};
-ghost use Rattle.audit_session.specs.Going.{all_counts, compared, counts_over};
+ghost use Rattle.audit_session.specs.Going.{all_counts, compared, counts_over, value_at};
 
+use crate::claims::Claims;
 use crate::compared::Drawn;
-use assertions::{Assertion, Claim, value_of};
 use assorters::Assorter;
 use irv_base::{Memory, Ranking};
 use km_risk::Counts;
 use std::alloc::Global;
 
-// The discrepancy of a drawn card.
-fn discrepancy(assertion: &Assertion, drawn: &Drawn) -> u8
-    ensures value { result ≡ compared assertion.now drawn.now }
+// The discrepancy of a drawn card for the claim with this index.
+fn discrepancy<T: Claims>(claims: &T, j: u64, drawn: &Drawn) -> u8
+    requires { j < length (T.values claims.now) }
+    ensures value { result ≡ compared (value_at (T.values claims.now) j) drawn.now }
     ensures most { result ≤ 4 }
 {
-    let assorter = Assorter::new(|r: &Ranking| value_of(assertion, r));
+    let assorter = Assorter::new(|r: &Ranking| claims.value(j, r));
     assorter.overstated(&drawn.recorded, &drawn.seen)
 }
 
@@ -37,36 +38,49 @@ fn counted(counts: Counts, d: u8) -> Counts
     }
 }
 
-// The counts of a claim, with these draws behind those that were counted before.
-fn counts_over(before: Counts, assertion: &Assertion, drawn: &[Drawn]) -> Counts
-    requires { draws_in before + length drawn.now < 2 ^ 31 }
-    ensures counts { (earlier : List Drawn) → before ≡ counts_over assertion.now earlier
-        → result ≡ counts_over assertion.now (earlier ++ drawn.now) }
+// The counts of the claim with this index, with these draws behind those that were counted before.
+fn counts_over<T: Claims>(before: Counts, claims: &T, j: u64, drawn: &[Drawn]) -> Counts
+    requires claim { j < length (T.values claims.now) }
+    requires few { draws_in before + length drawn.now < 2 ^ 31 }
+    ensures counts { (earlier : List Drawn)
+        → before ≡ counts_over (value_at (T.values claims.now) j) earlier
+        → result ≡ counts_over (value_at (T.values claims.now) j) (earlier ++ drawn.now) }
     ensures draws { draws_in result ≡ draws_in before + length drawn.now }
 {
     let mut counts = before;
     for i in 0..drawn.len() {
-        counts = counted(counts, discrepancy(assertion, &drawn[i]));
+        counts = counted(counts, discrepancy(claims, j, &drawn[i]));
     }
     counts
 }
 
 /// The counts of each claim, with these draws behind those that were counted before.
-pub fn all_counts(
+pub fn all_counts<T: Claims>(
     alloc: Global,
-    claims: &[Claim],
+    claims: &T,
     before: &[Counts],
     drawn: &[Drawn],
 ) -> Result<Vec<Counts>, Memory>
-    requires each { length before.now ≡ length claims.now }
+    requires each { length before.now ≡ length (T.values claims.now) }
     requires few { All (λ counts. draws_in counts + length drawn.now < 2 ^ 31) before.now }
     ensures { IfOk result (λ all. (earlier : List Drawn)
-        → before.now ≡ all_counts claims.now earlier
-        → all.items ≡ all_counts claims.now (earlier ++ drawn.now)) }
+        → before.now ≡ all_counts (T.values claims.now) earlier
+        → all.items ≡ all_counts (T.values claims.now) (earlier ++ drawn.now)) }
 {
     let mut all = Vec::new(alloc);
-    for j in 0..claims.len() {
-        all.push(counts_over(before[j], &claims[j].assertion, drawn))?;
+    for j in 0..before.len() {
+        all.push(counts_over(before[j], claims, j as u64, drawn))?;
     }
     Ok(all)
+}
+
+/// The counts of no draws, for each claim.
+pub fn none_counted<T: Claims>(alloc: Global, claims: &T) -> Result<Vec<Counts>, Memory>
+    ensures { IfOk result (λ counts. counts.items ≡ all_counts (T.values claims.now) []) }
+{
+    let mut counts = Vec::new(alloc);
+    for _ in 0..claims.count() {
+        counts.push(Counts::default())?;
+    }
+    Ok(counts)
 }

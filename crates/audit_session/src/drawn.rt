@@ -5,8 +5,9 @@ ghost use Rattle.audit_session.specs.Refusals.{Refuses, without_record};
 
 use crate::compared::Drawn;
 use crate::fault::AdvanceFault;
+use crate::seen::drawn_seen;
 use manifest::Linked;
-use sampler::{Seed, draw};
+use sampler::Seed;
 use seen_file::SeenCards;
 use std::alloc::Global;
 
@@ -28,15 +29,14 @@ pub fn drawn_cards(
     ensures refused { IfErr result
         (Refuses (without_record seed.now (length l.now) seen.now draws)) }
 {
+    let seen = drawn_seen(alloc, seed, l.cards(), seen, draws)?;
     let mut all = Vec::new(alloc);
-    for i in 0..draws {
-        let k = i + 1;
-        let card = draw(seed, u64::from(k), l.cards());
-        let Some(of) = seen.get(card) else {
-            return Err(AdvanceFault::NoRecord { card, k });
-        };
-        let recorded = l.recorded(card);
-        all.push(Drawn { recorded, seen: of })?;
+    for i in 0..seen.len() {
+        let one = seen[i];
+        all.push(Drawn {
+            recorded: l.recorded(one.card),
+            seen: one.seen,
+        })?;
     }
     Ok(all)
 }

@@ -1,16 +1,15 @@
 // The counts of earlier rounds, counted again.
-ghost use Rattle.std.specs.Prelude.{◌≡◌, ◌<◌, ◌≤◌, [], None, All, AllPairs, take, length, IfOk, IfErr};
+ghost use Rattle.std.specs.Prelude.{◌≡◌, ◌<◌, ◌≤◌, None, All, AllPairs, take, length, IfOk, IfErr};
 ghost use Rattle.irv_base.specs.declared.limits.TheConstants.{MOST_DRAWS};
 ghost use Rattle.audit_session.specs.Going.{all_counts};
 ghost use Rattle.audit_session.specs.Refusals.{Refuses, changed_from, changed_in, last_draws};
 
+use crate::claims::Claims;
 use crate::compared::Drawn;
-use crate::counting::all_counts;
+use crate::counting::{all_counts, none_counted};
 use crate::fault::AdvanceFault;
-use assertions::Claim;
-use audit_rounds::DoneRound;
-use irv_base::Memory;
 use km_risk::Counts;
+use session_state::DoneRound;
 use std::alloc::Global;
 
 /// How many draws there were at the end of the last round.
@@ -41,32 +40,26 @@ fn first_changed(round: u32, expected: &[Counts], found: &[Counts]) -> Option<Ad
     None
 }
 
-// The counts of no draws, for each claim.
-fn none_counted(alloc: Global, claims: &[Claim]) -> Result<Vec<Counts>, Memory>
-    ensures { IfOk result (λ counts. counts.items ≡ all_counts claims.now []) }
-{
-    let counts = claims.iter().map(|_| Counts::default()).collect(alloc)?;
-    Ok(counts)
-}
-
 /// The counts of all claims at the end of the last round, or the first round and claim whose
 /// counts were others.
-pub fn counts_before(
+pub fn counts_before<T: Claims>(
     alloc: Global,
     rounds: &[DoneRound],
-    claims: &[Claim],
+    claims: &T,
     drawn: &[Drawn],
 ) -> Result<Vec<Counts>, AdvanceFault>
     requires few { length drawn.now ≤ MOST_DRAWS }
     requires rising { AllPairs (λ round later. round.draws < later.draws) rounds.now }
     requires some { All (λ round. 1 ≤ round.draws) rounds.now }
     requires drawn { All (λ round. round.draws ≤ length drawn.now) rounds.now }
-    requires each { All (λ round. length round.counts ≡ length claims.now) rounds.now }
+    requires each { All (λ round. length round.counts ≡ length (T.values claims.now)) rounds.now }
     ensures counts { IfOk result (λ counts. counts.items
-        ≡ all_counts claims.now (take (last_draws rounds.now) drawn.now)) }
-    ensures same { IfOk result (λ _. changed_from claims.now drawn.now 1 rounds.now ≡ None) }
-    ensures refused { IfErr result (Refuses (changed_from claims.now drawn.now 1 rounds.now)) }
+        ≡ all_counts (T.values claims.now) (take (last_draws rounds.now) drawn.now)) }
+    ensures same { IfOk result (λ _. changed_from (T.values claims.now) drawn.now 1 rounds.now ≡ None) }
+    ensures refused { IfErr result (Refuses (changed_from (T.values claims.now) drawn.now 1 rounds.now)) }
 {
+    // Asked for what its contract tells: the values of the claims are 0, 1 and 2.
+    let _count = claims.count();
     let mut counts = none_counted(alloc, claims)?;
     let mut from = 0;
     for i in 0..rounds.len() {

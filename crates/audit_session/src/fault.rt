@@ -1,7 +1,9 @@
 // Why a session doesn't go on.
 ghost use Rattle.std.specs.Prelude.{◌≡◌};
+ghost use Rattle.audit_session.specs.Refusals.{as_advance_fault};
 ghost use Rattle.audit_session.specs.declared.fault.AdvanceFault.TheVariants.{Memory as WantOfMemory};
 
+use crate::seen::Unseen;
 use irv_base::Memory;
 use km_risk::Counts;
 use std::alloc::AllocFailed;
@@ -64,5 +66,16 @@ impl<T: Drop> From<AllocFailed<T>> for AdvanceFault {
 
     fn from(_: AllocFailed<T>) -> Self {
         AdvanceFault::Memory
+    }
+}
+
+impl From<Unseen> for AdvanceFault {
+    ghost from_gives = { λ unseen fault. fault ≡ as_advance_fault unseen };
+
+    fn from(unseen: Unseen) -> Self {
+        match unseen {
+            Unseen::NoRecord { card, k } => AdvanceFault::NoRecord { card, k },
+            Unseen::Memory => AdvanceFault::Memory,
+        }
     }
 }

@@ -5,9 +5,9 @@ use Rattle.irv_base.specs.Names.{Id}
 use Rattle.irv_base.specs.declared.limits.TheConstants.{MOST_DRAWS}
 use Rattle.km_risk.specs.Counts.{draws_in}
 use Rattle.km_risk.specs.Printed.{printed_risk}
-use Rattle.audit_rounds.specs.declared.digests.Digests.{Digests}
-use Rattle.audit_rounds.specs.Content.{IsSound}
-use Rattle.audit_rounds.specs.Sessions.{Round, Session, IsRound}
+use Rattle.session_state.specs.declared.digests.Digests.{Digests}
+use Rattle.session_state.specs.Content.{IsSound}
+use Rattle.session_state.specs.Sessions.{Round, Session, IsRound}
 use Rattle.audit_report.specs.Examples.{clean_round}
 
 session_of : Round → Session

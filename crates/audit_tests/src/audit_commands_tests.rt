@@ -1,8 +1,9 @@
 // Tests of `audit_commands`: what the commands answer to files in memory, and what they refuse.
 use crate::one_card::MANIFEST;
-use crate::reading::desk_of;
+use crate::reading::{desk_of, named};
 use audit_commands::{plan, sample};
 use cli_base::{Answer, AnswerKind, Refusal, RefusalKind};
+use command::{PlanTask, SampleTask};
 use desk::MemoryDesk;
 use sampler::Seed;
 use std::alloc::{AllocError, Global};
@@ -51,7 +52,12 @@ fn sampled(rt: &HostRuntime, manifest: &str) -> Result<Answer, Refusal> {
     let Ok(seed) = Seed::read("2024") else {
         return Err(Refusal::Words);
     };
-    sample::answer(rt.alloc(), &mut desk, "cards.csv", &seed, 3)
+    let task = SampleTask {
+        manifest: named(rt.alloc(), "cards.csv")?,
+        seed,
+        draws: 3,
+    };
+    sample::answer(rt.alloc(), &mut desk, &task)
 }
 
 #[test]
@@ -64,11 +70,13 @@ fn samples(rt: HostRuntime) {
 
 fn planned(rt: &HostRuntime, manifest: &str, assertions: &str) -> Result<Answer, Refusal> {
     let mut desk = desk(rt.alloc(), manifest, assertions)?;
-    let setting = plan::Setting {
+    let task = PlanTask {
+        manifest: named(rt.alloc(), "cards.csv")?,
+        assertions: named(rt.alloc(), "claims.json")?,
         limit: 50_000,
         gamma: 100,
     };
-    plan::answer(rt.alloc(), &mut desk, "cards.csv", "claims.json", setting)
+    plan::answer(rt.alloc(), &mut desk, &task)
 }
 
 #[test]

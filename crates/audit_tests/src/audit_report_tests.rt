@@ -2,11 +2,11 @@
 use crate::one_card::{MANIFEST, some_digests};
 use assertion_file::read_file;
 use audit_report::{plan_table, sample_table, session_table};
-use audit_rounds::{DoneRound, Session};
 use irv_base::{Memory, Name};
 use km_risk::Counts;
 use manifest::read_manifest;
 use sampler::Seed;
+use session_state::{DoneRound, Session};
 use std::alloc::Global;
 use std::test::Fail;
 

@@ -3,6 +3,8 @@
 #![tactic(auto)]
 
 #[cfg(test)]
+mod any_claims_tests;
+#[cfg(test)]
 mod assorters_tests;
 #[cfg(test)]
 mod audit_commands_tests;
@@ -11,9 +13,15 @@ mod audit_report_tests;
 #[cfg(test)]
 mod audit_session_tests;
 #[cfg(test)]
+mod input_files_tests;
+#[cfg(test)]
 mod km_risk_tests;
 #[cfg(test)]
 mod one_card;
+#[cfg(test)]
+mod poll_command_tests;
+#[cfg(test)]
+mod polling_tests;
 #[cfg(test)]
 mod reading;
 #[cfg(test)]

@@ -1,5 +1,5 @@
 // The files of an audit of a single card: its manifest, its ballot, and the only assertion that is to be confirmed.
-use audit_rounds::Digests;
+use session_state::Digests;
 
 /// The manifest of the card.
 pub(crate) const MANIFEST: &str = "batch,cards\nb,1\n";

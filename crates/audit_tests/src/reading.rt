@@ -1,5 +1,8 @@
 // What tests of several crates read: files in memory, and linked cards.
+ghost use Rattle.std.specs.Prelude.{◌≡◌, ◌≤◌, IfOk, length};
+
 use ballot_reader::read_ballots;
+use command::FileName;
 use desk::{MemoryDesk, Named};
 use irv_base::Name;
 use manifest::{Linked, Manifest, link};
@@ -23,4 +26,12 @@ pub(crate) fn linked(alloc: Global, manifest: &Manifest, ballots: &str) -> Optio
         return None;
     };
     link(alloc, manifest, &ballots).ok()
+}
+
+/// The name of a file, as a task has it.
+pub(crate) fn named(alloc: Global, name: &str) -> Result<FileName, AllocError>
+    requires { 1 ≤ length name.now }
+    ensures { IfOk result (λ file. file ≡ name.now) }
+{
+    Ok(FileName::of(String::from_str(alloc, name)?))
 }

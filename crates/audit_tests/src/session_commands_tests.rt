@@ -1,13 +1,15 @@
 // Tests of `session_commands`: the audit of a single card, from its opening on. The digests and the texts are those of Python's
 // hashlib and json.
+ghost use Rattle.std.specs.Prelude.{◌≤◌};
+ghost use Rattle.irv_base.specs.declared.limits.TheConstants.{MOST_DRAWS};
+
 use crate::one_card::{ASSERTIONS, BALLOTS, MANIFEST};
-use crate::reading::desk_of;
+use crate::reading::{desk_of, named};
 use cli_base::{Answer, Refusal};
+use command::{AuditTask, OpenTask, ReportTask};
 use desk::MemoryDesk;
 use sampler::Seed;
-use session_commands::audit::Files;
-use session_commands::open::Terms;
-use session_commands::{audit, open, tell};
+use session_commands::{audit, open, session_report};
 use std::alloc::{AllocError, Global};
 use std::test::Fail;
 use std::thread::Threads;
@@ -74,47 +76,35 @@ fn told_by(alloc: Global, answer: Result<Answer, Refusal>) -> Said {
 
 fn opened<R: AllocGlobal + Threads + Sync>(rt: &R, case: &Case) -> Result<Said, Fail> {
     let alloc = rt.alloc();
-    let terms = Terms {
+    let task = OpenTask {
+        ballots: named(alloc, "ballots")?,
+        manifest: named(alloc, "manifest")?,
+        assertions: named(alloc, "assertions")?,
         seed: Seed::read("2024")?,
+        contest: None,
         limit: 50_000,
         gamma: 100,
         nodes: 100_000,
     };
     let mut desk = desk_for(alloc, case)?;
-    let answer = open::answer(
-        rt,
-        &mut desk,
-        "ballots",
-        "manifest",
-        "assertions",
-        None,
-        &terms,
-    );
-    Ok(told_by(alloc, answer))
+    Ok(told_by(alloc, open::answer(rt, &mut desk, &task)))
 }
 
-fn four<R: AllocGlobal + Threads + Sync>(rt: &R, case: &Case) -> Result<Said, Fail> {
+fn audited<R: AllocGlobal + Threads + Sync>(rt: &R, case: &Case, draws: u32) -> Result<Said, Fail>
+    requires { draws ≤ MOST_DRAWS }
+{
     let alloc = rt.alloc();
+    let task = AuditTask {
+        session: named(alloc, "session")?,
+        ballots: named(alloc, "ballots")?,
+        manifest: named(alloc, "manifest")?,
+        assertions: named(alloc, "assertions")?,
+        seen: named(alloc, "seen")?,
+        draws,
+        nodes: 100_000,
+    };
     let mut desk = desk_for(alloc, case)?;
-    let answer = audit::answer(rt, &mut desk, files(), 4, 100_000);
-    Ok(told_by(alloc, answer))
-}
-
-fn five<R: AllocGlobal + Threads + Sync>(rt: &R, case: &Case) -> Result<Said, Fail> {
-    let alloc = rt.alloc();
-    let mut desk = desk_for(alloc, case)?;
-    let answer = audit::answer(rt, &mut desk, files(), 5, 100_000);
-    Ok(told_by(alloc, answer))
-}
-
-fn files() -> Files<'static> {
-    Files {
-        session: "session",
-        ballots: "ballots",
-        manifest: "manifest",
-        assertions: "assertions",
-        seen: "seen",
-    }
+    Ok(told_by(alloc, audit::answer(rt, &mut desk, &task)))
 }
 
 fn of(session: &'static str, ballots: &'static str, seen: &'static str) -> Case {
@@ -133,12 +123,27 @@ fn is(said: &Said, status: u8, text: &str) -> bool {
 fn five_draws_confirm_a_single_card(rt: HostRuntime) -> Result<(), Fail> {
     let seen = "b_1,ballot,1\n";
     assert!(rt; is(&opened(&rt, &of("", BALLOTS, ""))?, 0, OPENED));
-    assert!(rt; is(&four(&rt, &of(OPENED, BALLOTS, seen))?, 10, FOUR_DRAWS));
-    assert!(rt; is(&five(&rt, &of(FOUR_DRAWS, BALLOTS, seen))?, 0, FIVE_DRAWS));
-    let missing = five(&rt, &of(OPENED, BALLOTS, "b_1,missing\n"))?;
+    assert!(rt;
+        is(
+            &audited(&rt, &of(OPENED, BALLOTS, seen), 4)?,
+            10,
+            FOUR_DRAWS
+        )
+    );
+    assert!(rt;
+        is(
+            &audited(&rt, &of(FOUR_DRAWS, BALLOTS, seen), 5)?,
+            0,
+            FIVE_DRAWS
+        )
+    );
+    let missing = audited(&rt, &of(OPENED, BALLOTS, "b_1,missing\n"), 5)?;
     assert!(rt; is(&missing, 10, MISSING));
     let mut desk = desk_for(rt.alloc(), &of(FIVE_DRAWS, "", ""))?;
-    let told = tell::answer(rt.alloc(), &mut desk, "session");
+    let task = ReportTask {
+        session: named(rt.alloc(), "session")?,
+    };
+    let told = session_report::answer(rt.alloc(), &mut desk, &task);
     assert!(rt; is(&told_by(rt.alloc(), told), 0, TOLD));
     Ok(())
 }
@@ -164,7 +169,7 @@ fn a_round_is_refused(rt: HostRuntime) -> Result<(), Fail> {
         ),
     ] {
         assert!(rt;
-            is(&five(&rt, &of(session, ballots, seen))?, 2, line),
+            is(&audited(&rt, &of(session, ballots, seen), 5)?, 2, line),
             "{line}"
         );
     }

@@ -1,9 +1,9 @@
 -- One ballot more.
-use Rattle.std.proofs.Common.{◌≡◌, ◌≤◌, ◌<◌, ◌+◌, ◌∙◌, ◌++◌, ◌∷◌, [], ℕ, zero, suc, true, false, not, List, Option, Some, None, Err, length, map, set, refl, sym, ap, subst, arith, leb-true, length-append}
-use Rattle.std.specs.Prelude.{All, IfSome, IsTrue, is_some, nat_le, nat_lt, option_map, if◌then◌else◌}
+use Rattle.std.proofs.Common.{◌≡◌, ◌<◌, ◌+◌, ◌∙◌, ◌++◌, ◌∷◌, [], ℕ, zero, suc, true, false, not, List, Option, Some, None, Err, length, map, set, refl, sym, ap, subst, arith, inl, inr, length-append, eqb-true}
+use Rattle.std.specs.Prelude.{All, Bool, IsTrue, is_some, nat_eq, nat_lt, option_map, if◌then◌else◌}
 use Rattle.std.specs.List.{slice_get}
 use Rattle.std.specs.Cmp.Lexicographic.{bytes_decides}
-use Rattle.std.proofs.lemmas.Bool.{and_parts, not-true}
+use Rattle.std.proofs.lemmas.Bool.{and_parts, cases_Bool, eqb-false, not-true}
 use Rattle.std.proofs.lemmas.Cmp.{nat_list_eq_equiv}
 use Rattle.std.proofs.lemmas.List.{append-nil, map-append}
 use Rattle.std.proofs.lemmas.List.Elements.{filter-append, All-push}
@@ -11,18 +11,20 @@ use Rattle.std.proofs.lemmas.Option.{slice_get-map}
 use Rattle.csv_rows.specs.Rows.{Fields}
 use Rattle.irv_base.specs.Candidates.{is_distinct}
 use Rattle.irv_base.specs.Names.{Id, is_among, is_same, all_differ}
-use Rattle.irv_base.specs.declared.limits.TheConstants.{FEWEST_CANDIDATES, MOST_CANDIDATES, MOST_RECORDS}
-use Rattle.ballot_reader.specs.Grammar.{Ballot, Contest, ballot_for, ballot_ids, ballot_in, ballot_of, ballot_with, ballots_in, has_audited_size, ranking_of}
-use Rattle.ballot_reader.specs.Kept.{IsKept, KeptBallots, contest_ids}
+use Rattle.irv_base.specs.declared.limits.TheConstants.{MOST_RECORDS}
+use Rattle.ballot_reader.specs.Grammar.{Ballot, Contest, ballot_for, ballot_ids, ballot_in, ballot_of, ballot_with, ballots_in, ranking_of}
+use Rattle.ballot_reader.specs.Kept.{AreApart, IsKept, KeepsAudited, KeptBallots, KeptPart, WantsAudited, contest_ids, is_wanted, part_of, parts_from, with_ballot}
 use Rattle.ballot_reader.specs.declared.fault.BRule.TheVariants.{B9, B10}
+use Rattle.ballot_reader.specs.declared.wanted.Wanted.{Wanted}
 use Rattle.ballot_reader.proofs.Differing.{differ-push, or-false}
+use Rattle.ballot_reader.proofs.Firsts.{IsRanking}
 
 -- ---- the ballots of a contest, after one more
 
-same-refl : (a : Id) → is_same a a ≡ true
+pub same-refl : (a : Id) → is_same a a ≡ true
 same-refl a = (bytes_decides a a).1 refl
 
-same-comm : (a b : Id) → is_same a b ≡ is_same b a
+pub same-comm : (a b : Id) → is_same a b ≡ is_same b a
 same-comm a b = nat_list_eq_equiv.symm a b
 
 pub pushed-own : (id : Id) (ballots : List Ballot) (b : Ballot) → is_same b.contest id ≡ true →
@@ -48,7 +50,7 @@ abbrev pub noted : List Ballot → List Contest → List (List Id)
 noted ballots contests = map (λ (contest : Contest). ballot_ids contest.id ballots) contests
 
 -- a contest at a place among contests that lack an id
-elsewhere : (contests : List Contest) (id : Id) (k : ℕ) (contest : Contest) → is_among (contest_ids contests) id ≡ false →
+pub elsewhere : (contests : List Contest) (id : Id) (k : ℕ) (contest : Contest) → is_among (contest_ids contests) id ≡ false →
     slice_get contests k ≡ Some contest → is_same contest.id id ≡ false
 elsewhere [] id k contest h g = absurd cc
 elsewhere (c ∷ contests) id zero contest h g =
@@ -56,7 +58,7 @@ elsewhere (c ∷ contests) id zero contest h g =
     ap (λ (x : Contest). is_same x.id id) (sym e) ∙ (or-false (is_same c.id id) (is_among (contest_ids contests) id) h).0
 elsewhere (c ∷ contests) id (suc k) contest h g = elsewhere contests id k contest (or-false (is_same c.id id) (is_among (contest_ids contests) id) h).1 g
 
-apart : (c : Contest) (contests : List Contest) → all_differ (contest_ids (c ∷ contests)) ≡ true →
+pub apart : (c : Contest) (contests : List Contest) → all_differ (contest_ids (c ∷ contests)) ≡ true →
     (is_among (contest_ids contests) c.id ≡ false) × (all_differ (contest_ids contests) ≡ true)
 apart c contests h =
     let (out, rest) = and_parts (not (is_among (contest_ids contests) c.id)) (all_differ (contest_ids contests)) h in
@@ -135,52 +137,127 @@ ranked contests ballots at row k id preferences contest m h o e =
 
 -- ---- what is kept of it
 
-pub kept-other : (contests : List Contest) (chosen : Contest) (ballots : List Ballot) (old new : KeptBallots) (k a : ℕ) (contest : Contest) (b : Ballot)
-    → all_differ (contest_ids contests) ≡ true → IsKept contests chosen ballots old → old.count < MOST_RECORDS
-    → slice_get contests k ≡ Some contest → slice_get contests a ≡ Some chosen → (k ≡ a → ⊥) → b.contest ≡ contest.id
-    → new.ids ≡ set old.ids k (ballot_ids contest.id ballots ++ b.id ∷ []) → new.places ≡ old.places → new.rankings ≡ old.rankings → new.count ≡ old.count + 1
-    → IsKept contests chosen (ballots ++ b ∷ []) new
-kept-other contests chosen ballots old new k a contest b d kept room there audited other of e f g h =
-    let out = ap (λ id. is_same id chosen.id) of ∙ unlike contests k a contest chosen d there audited other in
+pub same_at : {X : Type 0} (xs : List X) (k : ℕ) (x y : X) → slice_get xs k ≡ Some x → slice_get xs k ≡ Some y → x ≡ y
+same_at xs k x y g h = let e = sym g ∙ h in cc
+
+abbrev part_with : List Ballot → KeptPart
+part_with own = record { places = map (λ (x : Ballot). x.at) own; rankings = map (λ (x : Ballot). x.ranking) own }
+
+part-own : (contest : Contest) (ballots : List Ballot) (b : Ballot) → is_same b.contest contest.id ≡ true →
+    part_of (ballots ++ b ∷ []) contest ≡ with_ballot (part_of ballots contest) b.at b.ranking
+part-own contest ballots b h =
+    let own = ballots_in contest.id ballots in
+    ap part_with (pushed-own contest.id ballots b h)
+    ∙ ap (λ ats. record { places = ats; rankings = map (λ (x : Ballot). x.ranking) (own ++ b ∷ []) }) (map-append (λ (x : Ballot). x.at) own (b ∷ []))
+    ∙ ap (λ rs. record { places = map (λ (x : Ballot). x.at) own ++ b.at ∷ []; rankings = rs }) (map-append (λ (x : Ballot). x.ranking) own (b ∷ []))
+
+part-other : (contest : Contest) (ballots : List Ballot) (b : Ballot) → is_same b.contest contest.id ≡ false →
+    part_of (ballots ++ b ∷ []) contest ≡ part_of ballots contest
+part-other contest ballots b h =
+    ap part_with (pushed-other contest.id ballots b h)
+
+abbrev pub wanted_part : ℕ → Wanted → List Ballot → Contest → Option KeptPart
+wanted_part place wanted ballots contest = if is_wanted wanted place then Some (part_of ballots contest) else None
+
+more-wanted : (t : Bool) (old new : KeptPart) (at : ℕ) (ranking : List ℕ) → new ≡ with_ballot old at ranking →
+    option_map (λ (p : KeptPart). with_ballot p at ranking) (if t then Some old else None) ≡ (if t then Some new else None)
+more-wanted true old new at ranking h = ap Some (sym h)
+more-wanted false old new at ranking h = refl
+
+-- contests that lack the ballot's keep what they had
+parts-same : (place : ℕ) (wanted : Wanted) (contests : List Contest) (ballots : List Ballot) (b : Ballot) →
+    is_among (contest_ids contests) b.contest ≡ false → parts_from place wanted ballots contests ≡ parts_from place wanted (ballots ++ b ∷ []) contests
+parts-same place wanted [] ballots b h = refl
+parts-same place wanted (c ∷ contests) ballots b h =
+    let (first, rest) = or-false (is_same c.id b.contest) (is_among (contest_ids contests) b.contest) h in
+    ap (λ part. (if is_wanted wanted place then Some part else None) ∷ parts_from (place + 1) wanted ballots contests)
+    (sym (part-other c ballots b (same-comm b.contest c.id ∙ first)))
+    ∙ ap (λ more. wanted_part place wanted (ballots ++ b ∷ []) c ∷ more) (parts-same (place + 1) wanted contests ballots b rest)
+
+parts-more : (place : ℕ) (wanted : Wanted) (contests : List Contest) (k : ℕ) (contest : Contest) (ballots : List Ballot) (b : Ballot) (part : Option KeptPart) →
+    all_differ (contest_ids contests) ≡ true → slice_get contests k ≡ Some contest → b.contest ≡ contest.id →
+    slice_get (parts_from place wanted ballots contests) k ≡ Some part →
+    set (parts_from place wanted ballots contests) k (option_map (λ (p : KeptPart). with_ballot p b.at b.ranking) part)
+    ≡ parts_from place wanted (ballots ++ b ∷ []) contests
+parts-more place wanted [] k contest ballots b part d g e h = absurd cc
+parts-more place wanted (c ∷ contests) zero contest ballots b part d g e h =
+    let s : c ≡ contest = cc in
+    let stood : wanted_part place wanted ballots c ≡ part = cc in
+    let of : b.contest ≡ c.id = e ∙ ap (λ (x : Contest). x.id) (sym s) in
+    let own = part-own c ballots b (ap (λ id. is_same id c.id) of ∙ same-refl c.id) in
+    ap (λ o. option_map (λ (p : KeptPart). with_ballot p b.at b.ranking) o ∷ parts_from (place + 1) wanted ballots contests) (sym stood)
+    ∙ ap (λ o. o ∷ parts_from (place + 1) wanted ballots contests)
+    (more-wanted (is_wanted wanted place) (part_of ballots c) (part_of (ballots ++ b ∷ []) c) b.at b.ranking own)
+    ∙ ap (λ more. wanted_part place wanted (ballots ++ b ∷ []) c ∷ more)
+    (parts-same (place + 1) wanted contests ballots b (ap (is_among (contest_ids contests)) of ∙ (apart c contests d).0))
+parts-more place wanted (c ∷ contests) (suc k) contest ballots b part d g e h =
+    let other = ap (λ id. is_same id c.id) e ∙ elsewhere contests c.id k contest (apart c contests d).0 g in
+    ap (λ p. (if is_wanted wanted place then Some p else None)
+    ∷ set (parts_from (place + 1) wanted ballots contests) k (option_map (λ (p : KeptPart). with_ballot p b.at b.ranking) part))
+    (sym (part-other c ballots b other))
+    ∙ ap (λ more. wanted_part place wanted (ballots ++ b ∷ []) c ∷ more)
+    (parts-more (place + 1) wanted contests k contest ballots b part (apart c contests d).1 g e h)
+
+apart-own : (contest : Contest) (ballots : List Ballot) (b : Ballot) → is_same b.contest contest.id ≡ true → AreApart ballots contest →
+    is_among (ballot_ids contest.id ballots) b.id ≡ false → IsRanking (length contest.candidates) b.ranking → AreApart (ballots ++ b ∷ []) contest
+apart-own contest ballots b own h fresh valid =
+    let more = ap (λ (p : KeptPart). p.rankings) (part-own contest ballots b own) in
+    let before = (part_of ballots contest).rankings in
     record {
-      noted = e ∙ ap (λ xs. set xs k (ballot_ids contest.id ballots ++ b.id ∷ [])) kept.noted ∙ noted-more contests k contest ballots b d there of;
-      placed = f ∙ kept.placed ∙ ap (map (λ (x : Ballot). x.at)) (sym (pushed-other chosen.id ballots b out));
-      ranked = g ∙ kept.ranked ∙ ap (map (λ (x : Ballot). x.ranking)) (sym (pushed-other chosen.id ballots b out));
-      counted = omega (arith, h, kept.counted, length-append ballots (b ∷ []));
-      most = omega (arith, kept.counted, room, length-append ballots (b ∷ []));
-      differ = ap all_differ (ids-other chosen.id ballots b out) ∙ kept.differ;
-      below = subst (All (λ ranking. All (λ c. c < length chosen.candidates) ranking)) (sym g) kept.below;
-      distinct = subst (All (λ ranking. IsTrue (is_distinct ranking))) (sym g) kept.distinct;
+      differ = ap all_differ (ids-own contest.id ballots b own) ∙ differ-push (ballot_ids contest.id ballots) b.id h.differ fresh;
+      below = subst (All (λ ranking. All (λ c. c < length contest.candidates) ranking)) (sym more)
+          (All-push (λ ranking. All (λ c. c < length contest.candidates) ranking) before b.ranking h.below valid.below);
+      distinct = subst (All (λ ranking. IsTrue (is_distinct ranking))) (sym more)
+          (All-push (λ ranking. IsTrue (is_distinct ranking)) before b.ranking h.distinct valid.distinct);
     }
 
-pub kept-own : (contests : List Contest) (chosen : Contest) (ballots : List Ballot) (old new : KeptBallots) (k : ℕ) (b : Ballot)
-    → all_differ (contest_ids contests) ≡ true → IsKept contests chosen ballots old → old.count < MOST_RECORDS → slice_get contests k ≡ Some chosen
-    → b.contest ≡ chosen.id → is_among (ballot_ids chosen.id ballots) b.id ≡ false → All (λ c. c < length chosen.candidates) b.ranking →
-    IsTrue (is_distinct b.ranking)
-    → new.ids ≡ set old.ids k (ballot_ids chosen.id ballots ++ b.id ∷ []) → new.places ≡ old.places ++ b.at ∷ [] → new.rankings ≡ old.rankings ++ b.ranking ∷ []
-    → new.count ≡ old.count + 1 → IsKept contests chosen (ballots ++ b ∷ []) new
-kept-own contests chosen ballots old new k b d kept room there of fresh below once e f g h =
-    let own = ap (λ id. is_same id chosen.id) of ∙ same-refl chosen.id in
+apart-other : (contest : Contest) (ballots : List Ballot) (b : Ballot) → is_same b.contest contest.id ≡ false → AreApart ballots contest →
+    AreApart (ballots ++ b ∷ []) contest
+apart-other contest ballots b out h =
+    let more = ap (λ (p : KeptPart). p.rankings) (part-other contest ballots b out) in
     record {
-      noted = e ∙ ap (λ xs. set xs k (ballot_ids chosen.id ballots ++ b.id ∷ [])) kept.noted ∙ noted-more contests k chosen ballots b d there of;
-      placed = f ∙ ap (λ xs. xs ++ b.at ∷ []) kept.placed ∙ sym (map-append (λ (x : Ballot). x.at) (ballots_in chosen.id ballots) (b ∷ []))
-          ∙ ap (map (λ (x : Ballot). x.at)) (sym (pushed-own chosen.id ballots b own));
-      ranked = g ∙ ap (λ xs. xs ++ b.ranking ∷ []) kept.ranked ∙ sym (map-append (λ (x : Ballot). x.ranking) (ballots_in chosen.id ballots) (b ∷ []))
-          ∙ ap (map (λ (x : Ballot). x.ranking)) (sym (pushed-own chosen.id ballots b own));
-      counted = omega (arith, h, kept.counted, length-append ballots (b ∷ []));
-      most = omega (arith, kept.counted, room, length-append ballots (b ∷ []));
-      differ = ap all_differ (ids-own chosen.id ballots b own) ∙ differ-push (ballot_ids chosen.id ballots) b.id kept.differ fresh;
-      below = subst (All (λ ranking. All (λ c. c < length chosen.candidates) ranking)) (sym g)
-          (All-push (λ ranking. All (λ c. c < length chosen.candidates) ranking) old.rankings b.ranking kept.below below);
-      distinct = subst (All (λ ranking. IsTrue (is_distinct ranking))) (sym g)
-          (All-push (λ ranking. IsTrue (is_distinct ranking)) old.rankings b.ranking kept.distinct once);
+      differ = ap all_differ (ids-other contest.id ballots b out) ∙ h.differ;
+      below = subst (All (λ ranking. All (λ c. c < length contest.candidates) ranking)) (sym more) h.below;
+      distinct = subst (All (λ ranking. IsTrue (is_distinct ranking))) (sym more) h.distinct;
     }
+
+-- a ballot of the contest at place k, whose id is new there
+pub record IsNew (contests : List Contest) (ballots : List Ballot) (k : ℕ) (contest : Contest) (b : Ballot) : Type 0 where
+  pub there : slice_get contests k ≡ Some contest
+  pub of : b.contest ≡ contest.id
+  pub fresh : is_among (ballot_ids contest.id ballots) b.id ≡ false
+  pub valid : IsRanking (length contest.candidates) b.ranking
+
+pub kept-more : (contests : List Contest) (wanted : Wanted) (ballots : List Ballot) (old new : KeptBallots) (k : ℕ) (contest : Contest) (b : Ballot)
+    (part : Option KeptPart)
+    → all_differ (contest_ids contests) ≡ true → IsKept contests wanted ballots old → old.count < MOST_RECORDS → IsNew contests ballots k contest b
+    → slice_get old.parts k ≡ Some part → new.ids ≡ set old.ids k (ballot_ids contest.id ballots ++ b.id ∷ [])
+    → new.parts ≡ set old.parts k (option_map (λ (p : KeptPart). with_ballot p b.at b.ranking) part) → new.count ≡ old.count + 1
+    → IsKept contests wanted (ballots ++ b ∷ []) new
+kept-more contests wanted ballots old new k contest b part d kept room is stood e f h = record {
+  noted = e ∙ ap (λ xs. set xs k (ballot_ids contest.id ballots ++ b.id ∷ [])) kept.noted ∙ noted-more contests k contest ballots b d is.there is.of;
+  parted = f ∙ ap (λ xs. set xs k (option_map (λ (p : KeptPart). with_ballot p b.at b.ranking) part)) kept.parted
+      ∙ parts-more 0 wanted contests k contest ballots b part d is.there is.of (sym (ap (λ xs. slice_get xs k) kept.parted) ∙ stood);
+  counted = omega (arith, h, kept.counted, length-append ballots (b ∷ []));
+  most = omega (arith, kept.counted, room, length-append ballots (b ∷ []));
+  apart = each;
+} where
+  each : (place : ℕ) (c : Contest) → slice_get contests place ≡ Some c → AreApart (ballots ++ b ∷ []) c
+  each place c g = elim (cases_Bool (nat_eq k place)) [
+    | inl t ↦
+        let same = same_at contests k contest c is.there (ap (slice_get contests) (eqb-true k place t) ∙ g) in
+        subst (AreApart (ballots ++ b ∷ [])) same (apart-own contest ballots b (ap (λ id. is_same id contest.id) is.of ∙ same-refl contest.id)
+        (kept.apart k contest is.there) is.fresh is.valid)
+    | inr f ↦
+        let out = unlike contests k place contest c d is.there g (λ e. eqb-false k place f e) in
+        apart-other c ballots b (ap (λ id. is_same id c.id) is.of ∙ out) (kept.apart place c g)
+  ]
 
 -- ---- from places to values
 
-pub stood : (contests : List Contest) (chosen : Contest) (ballots : List Ballot) (kept : KeptBallots) (k : ℕ) (contest : Contest)
-    → IsKept contests chosen ballots kept → slice_get contests k ≡ Some contest → slice_get kept.ids k ≡ Some (ballot_ids contest.id ballots)
-stood contests chosen ballots kept k contest is there =
+pub stood : (contests : List Contest) (wanted : Wanted) (ballots : List Ballot) (kept : KeptBallots) (k : ℕ) (contest : Contest)
+    → IsKept contests wanted ballots kept → slice_get contests k ≡ Some contest → slice_get kept.ids k ≡ Some (ballot_ids contest.id ballots)
+stood contests wanted ballots kept k contest is there =
     ap (λ xs. slice_get xs k) is.noted ∙ slice_get-map (λ (c : Contest). ballot_ids c.id ballots) contests k
     ∙ ap (option_map (λ (c : Contest). ballot_ids c.id ballots)) there
 
@@ -192,19 +269,32 @@ pub none_of : {X : Type 0} (o : Option X) → is_some o ≡ false → o ≡ None
 none_of None h = refl
 none_of (Some x) h = absurd cc
 
-pub same_at : {X : Type 0} (xs : List X) (k : ℕ) (x y : X) → slice_get xs k ≡ Some x → slice_get xs k ≡ Some y → x ≡ y
-same_at xs k x y g h = let e = sym g ∙ h in cc
+pub length-parts : (place : ℕ) (wanted : Wanted) (ballots : List Ballot) (contests : List Contest) →
+    length (parts_from place wanted ballots contests) ≡ length contests
+length-parts place wanted ballots [] = refl
+length-parts place wanted ballots (c ∷ contests) = ap suc (length-parts (place + 1) wanted ballots contests)
 
-pub audited-size : (contests : List Contest) (a : ℕ) (contest : Contest) → slice_get contests a ≡ Some contest
-    → IfSome (slice_get contests a) (λ chosen. IsTrue (has_audited_size chosen.candidates))
-    → (FEWEST_CANDIDATES ≤ length contest.candidates) × (length contest.candidates ≤ MOST_CANDIDATES)
-audited-size contests a contest there h =
-    let n = length contest.candidates in
-    let sized : IsTrue (has_audited_size contest.candidates) = subst (λ o. IfSome o (λ (c : Contest). IsTrue (has_audited_size c.candidates))) there h in
-    let (few, most) = and_parts (nat_le FEWEST_CANDIDATES n) (nat_le n MOST_CANDIDATES) sized in
-    (leb-true FEWEST_CANDIDATES n few, leb-true n MOST_CANDIDATES most)
+pub part-at : (place : ℕ) (wanted : Wanted) (ballots : List Ballot) (contests : List Contest) (k : ℕ) (contest : Contest) →
+    slice_get contests k ≡ Some contest →
+    slice_get (parts_from place wanted ballots contests) k ≡ Some (wanted_part (place + k) wanted ballots contest)
+part-at place wanted ballots [] k contest g = absurd cc
+part-at place wanted ballots (c ∷ contests) zero contest g =
+    let s : c ≡ contest = cc in
+    let e : place ≡ place + 0 = omega arith in
+    ap (λ (x : Contest). Some (wanted_part place wanted ballots x)) s ∙ ap (λ at. Some (wanted_part at wanted ballots contest)) e
+part-at place wanted ballots (c ∷ contests) (suc k) contest g =
+    let e : (place + 1) + k ≡ place + suc k = omega arith in
+    part-at (place + 1) wanted ballots contests k contest g ∙ ap (λ at. Some (wanted_part at wanted ballots contest)) e
 
-pub sized-at : (contests : List Contest) (k a : ℕ) (contest : Contest) → k ≡ a → slice_get contests k ≡ Some contest →
-    IfSome (slice_get contests a) (λ chosen. IsTrue (has_audited_size chosen.candidates))
-    → length contest.candidates ≤ MOST_CANDIDATES
-sized-at contests k a contest e there h = (audited-size contests a contest (ap (slice_get contests) (sym e) ∙ there) h).1
+-- a part is there only where it is wanted
+pub keeps_audited : (contests : List Contest) (wanted : Wanted) (ballots : List Ballot) (parts : List (Option KeptPart)) → WantsAudited contests wanted →
+    parts ≡ parts_from 0 wanted ballots contests → KeepsAudited contests parts
+keeps_audited contests wanted ballots parts sized e place contest part there h =
+    sized place contest there (by (is_wanted wanted place)
+    (let at : 0 + place ≡ place = omega arith in
+    sym (ap (λ k. wanted_part k wanted ballots contest) at) ∙ same_at parts place (wanted_part (0 + place) wanted ballots contest) (Some part)
+    (ap (λ xs. slice_get xs place) e ∙ part-at 0 wanted ballots contests place contest there) h))
+  where
+    by : (b : Bool) → (if b then Some (part_of ballots contest) else None) ≡ Some part → b ≡ true
+    by true g = refl
+    by false g = absurd cc

@@ -1,21 +1,22 @@
 -- The ballots behind the contests.
-use Rattle.std.proofs.Common.{◌≡◌, ◌+◌, ◌∙◌, ◌++◌, ◌∷◌, [], ℕ, List, Option, Some, Result, Ok, Err, length, drop, sym, ap}
+use Rattle.std.proofs.Common.{◌≡◌, ◌+◌, ◌∙◌, ◌++◌, ◌∷◌, [], ℕ, List, Option, Some, Result, Ok, Err, length, map, drop, sym, ap}
 use Rattle.csv_rows.specs.Rows.{Fields}
 use Rattle.irv_base.specs.Names.{Id}
 use Rattle.ballot_reader.specs.Ballots.{BallotFile}
 use Rattle.ballot_reader.specs.Faults.{Refuses}
-use Rattle.ballot_reader.specs.Grammar.{Ballot, Contest, Refusal, and_then, asked_for, ballot_of, ballots_after, ballots_behind, contests_in, file_of, audited_contest, then_on}
+use Rattle.ballot_reader.specs.Grammar.{Ballot, Contest, Refusal, all_audited, and_then, asked_for, ballot_of, ballots_after, ballots_behind, contests_behind, contests_in, file_of, audited_contest, then_on}
 use Rattle.ballot_reader.specs.Kept.{IsKept, KeptBallots, RefusesRecord}
 use Rattle.ballot_reader.specs.declared.fault.BallotFault.{BallotFault}
 use Rattle.ballot_reader.specs.declared.fault.BallotFault.TheVariants.{Refused, Memory}
+use Rattle.ballot_reader.specs.declared.wanted.Wanted.{Wanted}
 
 -- ---- one ballot after the other
 
 -- the records are these ballots, and then those from number at on; of the ballots this is kept
-pub record BallotsSoFar (contests : List Contest) (chosen : Contest) (rows : List Fields) (ballots : List Ballot) (at : ℕ) (rest : List Fields)
+pub record BallotsSoFar (contests : List Contest) (wanted : Wanted) (rows : List Fields) (ballots : List Ballot) (at : ℕ) (rest : List Fields)
     (kept : KeptBallots) : Type 0 where
   pub split : ballots_after contests [] (2 + length contests) rows ≡ ballots_after contests ballots at rest
-  pub is_kept : IsKept contests chosen ballots kept
+  pub is_kept : IsKept contests wanted ballots kept
   pub numbered : at ≡ 2 + length contests + kept.count
 
 pub ballots-more : (contests : List Contest) (rows : List Fields) (ballots : List Ballot) (at : ℕ) (row : Fields) (rest : List Fields) (ballot : Ballot)
@@ -54,7 +55,7 @@ pub no-contests : (n : ℕ) (asked : Option Id) (rows : List Fields) (fault : Ba
     Refuses (ballots_behind (Some n) asked rows) fault
 no-contests n asked rows fault h = refused-on (contests_in n [] 2 rows) (after_contests asked n rows) fault h
 
-with-contests : (n : ℕ) (asked : Option Id) (rows : List Fields) (contests : List Contest) → contests_in n [] 2 rows ≡ Ok contests →
+pub with-contests : (n : ℕ) (asked : Option Id) (rows : List Fields) (contests : List Contest) → contests_in n [] 2 rows ≡ Ok contests →
     ballots_behind (Some n) asked rows ≡ after_contests asked n rows contests
 with-contests n asked rows contests h = ap (λ r. then_on r (after_contests asked n rows)) h
 
@@ -91,3 +92,44 @@ pub all-read : (n : ℕ) (asked : Option Id) (rows rest : List Fields) (contests
     → ballots_behind (Some n) asked rows ≡ Ok (file_of chosen ballots)
 all-read n asked rows rest contests chosen ballots h s l e r =
     with-audited n asked rows contests chosen h s ∙ ap (λ said. then_on said (λ bs. Ok (file_of chosen bs))) (left n rows rest contests l e ∙ r)
+
+-- ---- the whole of all contests
+
+abbrev pub after_all : ℕ → List Fields → List Contest → List Contest → Result (List BallotFile) Refusal
+after_all n rows contests audited =
+    then_on (ballots_after contests [] (2 + n) (drop n rows)) (λ ballots. Ok (map (λ (c : Contest). file_of c ballots) audited))
+
+abbrev pub after_listed : ℕ → List Fields → List Contest → Result (List BallotFile) Refusal
+after_listed n rows contests = then_on (all_audited contests) (after_all n rows contests)
+
+pub none-listed : (n : ℕ) (rows : List Fields) (fault : BallotFault) → Refuses (contests_in n [] 2 rows) fault →
+    Refuses (contests_behind (Some n) rows) fault
+none-listed n rows fault h = refused-on (contests_in n [] 2 rows) (after_listed n rows) fault h
+
+pub listed : (n : ℕ) (rows : List Fields) (contests : List Contest) → contests_in n [] 2 rows ≡ Ok contests →
+    contests_behind (Some n) rows ≡ after_listed n rows contests
+listed n rows contests h = ap (λ r. then_on r (after_listed n rows)) h
+
+pub one-unsized : (n : ℕ) (rows : List Fields) (contests : List Contest) (fault : BallotFault) → contests_in n [] 2 rows ≡ Ok contests →
+    Refuses (all_audited contests) fault → Refuses (contests_behind (Some n) rows) fault
+one-unsized n rows contests fault h r =
+    same-refusal (contests_behind (Some n) rows) (after_listed n rows contests) fault (listed n rows contests h)
+    (refused-on (all_audited contests) (after_all n rows contests) fault r)
+
+all-sized : (n : ℕ) (rows : List Fields) (contests : List Contest) → contests_in n [] 2 rows ≡ Ok contests → all_audited contests ≡ Ok contests →
+    contests_behind (Some n) rows ≡ after_all n rows contests contests
+all-sized n rows contests h s = listed n rows contests h ∙ ap (λ r. then_on r (after_all n rows contests)) s
+
+pub none-behind : (n : ℕ) (rows rest : List Fields) (contests : List Contest) (fault : BallotFault) → contests_in n [] 2 rows ≡ Ok contests →
+    all_audited contests ≡ Ok contests → length contests ≡ n → rest ≡ drop n rows → Refuses (ballots_after contests [] (2 + length contests) rest) fault →
+    Refuses (contests_behind (Some n) rows) fault
+none-behind n rows rest contests fault h s l e r =
+    same-refusal (contests_behind (Some n) rows) (after_all n rows contests contests) fault (all-sized n rows contests h s)
+    (refused-on (ballots_after contests [] (2 + n) (drop n rows)) (λ ballots. Ok (map (λ (c : Contest). file_of c ballots) contests)) fault
+    (same-refusal _ _ fault (left n rows rest contests l e) r))
+
+pub each-read : (n : ℕ) (rows rest : List Fields) (contests : List Contest) (ballots : List Ballot) → contests_in n [] 2 rows ≡ Ok contests →
+    all_audited contests ≡ Ok contests → length contests ≡ n → rest ≡ drop n rows → ballots_after contests [] (2 + length contests) rest ≡ Ok ballots →
+    contests_behind (Some n) rows ≡ Ok (map (λ (c : Contest). file_of c ballots) contests)
+each-read n rows rest contests ballots h s l e r =
+    all-sized n rows contests h s ∙ ap (λ said. then_on said (λ bs. Ok (map (λ (c : Contest). file_of c bs) contests))) (left n rows rest contests l e ∙ r)

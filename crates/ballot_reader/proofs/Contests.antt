@@ -1,7 +1,7 @@
 -- Contests that are read one record after the other.
-use Rattle.std.proofs.Common.{◌≡◌, ◌<◌, ◌+◌, ◌-◌, ◌∙◌, ◌++◌, ◌∷◌, [], ◌||◌, ℕ, suc, Bool, true, false, not, List, Option, Some, None, Ok, Err, length, drop, refl, sym, ap, arith, length-append, codes}
+use Rattle.std.proofs.Common.{◌≡◌, ◌<◌, ◌+◌, ◌-◌, ◌∙◌, ◌++◌, ◌∷◌, [], ◌||◌, ◌⊎◌, inl, inr, ℕ, zero, suc, Bool, true, false, not, List, Option, Some, None, Result, Ok, Err, length, drop, refl, sym, ap, subst, arith, length-append, codes}
 use Rattle.std.specs.Prelude.{if◌then◌else◌}
-use Rattle.std.specs.List.{list_any}
+use Rattle.std.specs.List.{list_any, slice_get}
 use Rattle.std.proofs.lemmas.List.{map-append}
 use Rattle.csv_rows.specs.Rows.{Fields}
 use Rattle.irv_base.specs.Names.{Id, is_among, is_name, is_same, all_differ}
@@ -25,6 +25,23 @@ with-id at id (Some ids) contest h = by (is_name id) (names_of ids) h where
   by false o g = absurd cc
   by true None g = absurd cc
   by true (Some candidates) g = let s : record { at = at; id = id; candidates = candidates } ≡ contest = cc in ap (λ (c : Contest). c.id) (sym s)
+
+with-place : (at : ℕ) (id : Id) (o : Option (List Id)) (contest : Contest) → contest_with at id o ≡ Ok contest → contest.at ≡ at
+with-place at id None contest h = absurd cc
+with-place at id (Some ids) contest h = by (is_name id) (names_of ids) h where
+  by : (b : Bool) (o : Option (List Id)) → (if b then contest_named at id o else Err B4) ≡ Ok contest → contest.at ≡ at
+  by false o g = absurd cc
+  by true None g = absurd cc
+  by true (Some candidates) g = let s : record { at = at; id = id; candidates = candidates } ≡ contest = cc in ap (λ (c : Contest). c.at) (sym s)
+
+own-place : (earlier : List Contest) (at : ℕ) (row : Fields) (contest : Contest) → contest_of earlier at row ≡ Ok contest → contest.at ≡ at
+own-place earlier at [] contest h = absurd cc
+own-place earlier at (word ∷ []) contest h = absurd cc
+own-place earlier at (word ∷ id ∷ []) contest h = absurd cc
+own-place earlier at (word ∷ id ∷ number ∷ ids) contest h = by (not (is_same word (codes "Contest")) || list_any (has_id id) earlier) h where
+  by : (b : Bool) → (if b then Err B2 else contest_with at id (listed (number_up_to MOST_LISTED number) ids)) ≡ Ok contest → contest.at ≡ at
+  by true g = absurd cc
+  by false g = with-place at id (listed (number_up_to MOST_LISTED number) ids) contest g
 
 new-id : (earlier : List Contest) (at : ℕ) (row : Fields) (contest : Contest) → contest_of earlier at row ≡ Ok contest →
     is_among (contest_ids earlier) contest.id ≡ false
@@ -88,3 +105,53 @@ pub contests-end : (n : ℕ) (rows : List Fields) (contests : List Contest) (res
 contests-end n rows contests rest so_far =
     let z : n - n ≡ 0 = omega arith in
     (so_far.split ∙ ap (λ m. contests_in m contests (2 + n) rest) z, sym (so_far.dropped ∙ ap (λ m. drop m rest) z))
+
+-- ---- what holds of contests that are read
+
+push-cases : {X : Type 0} (xs : List X) (x : X) (k : ℕ) (y : X) → slice_get (xs ++ x ∷ []) k ≡ Some y → (slice_get xs k ≡ Some y) ⊎ ((k ≡ length xs) × (x ≡ y))
+push-cases [] x zero y h = inr (refl, cc)
+push-cases [] x (suc k) y h = absurd cc
+push-cases (z ∷ xs) x zero y h = inl h
+push-cases (z ∷ xs) x (suc k) y h = elim (push-cases xs x k y h) [ inl e ↦ inl e | inr e ↦ inr (ap suc e.0, e.1) ]
+
+-- their ids differ, and they stand in the records from 2 on
+pub record AreListed (contests : List Contest) (next : ℕ) : Type 0 where
+  pub differ : all_differ (contest_ids contests) ≡ true
+  pub numbered : (k : ℕ) (contest : Contest) → slice_get contests k ≡ Some contest → contest.at ≡ 2 + k
+  pub counted : next ≡ 2 + length contests
+
+pub none_listed : AreListed [] 2
+none_listed = record { differ = refl; numbered = λ k contest there. absurd cc; counted = refl }
+
+one_listed : (contests : List Contest) (at : ℕ) (row : Fields) (contest : Contest) → AreListed contests at → contest_of contests at row ≡ Ok contest →
+    AreListed (contests ++ contest ∷ []) (at + 1)
+one_listed contests at row contest are h = record {
+  differ = ap all_differ (map-append (λ (c : Contest). c.id) contests (contest ∷ []))
+      ∙ differ-push (contest_ids contests) contest.id are.differ (new-id contests at row contest h);
+  numbered = λ k c there. elim (push-cases contests contest k c there) [
+    | inl e ↦ are.numbered k c e
+    | inr e ↦
+        let same = ap (λ (x : Contest). x.at) (sym e.1) ∙ own-place contests at row contest h in
+        omega (arith, same, are.counted, e.0)
+  ];
+  counted = omega (arith, are.counted, length-append contests (contest ∷ []));
+}
+
+pub all_listed : (n : ℕ) (earlier : List Contest) (at : ℕ) (rows : List Fields) (contests : List Contest) → AreListed earlier at →
+    contests_in n earlier at rows ≡ Ok contests → AreListed contests (at + n)
+all_listed zero earlier at rows contests are h =
+    let s : earlier ≡ contests = cc in
+    let e : at ≡ at + 0 = omega arith in
+    subst (AreListed contests) e (subst (λ cs. AreListed cs at) s are)
+all_listed (suc n) earlier at [] contests are h = absurd cc
+all_listed (suc n) earlier at (row ∷ rows) contests are h =
+    by (contest_of earlier at row) refl h (λ contest. all_listed n (earlier ++ contest ∷ []) (at + 1) rows contests)
+  where
+    by : (o : Result Contest BRule) → contest_of earlier at row ≡ o →
+        and_then at o (λ (c : Contest). contests_in n (earlier ++ c ∷ []) (at + 1) rows) ≡ Ok contests →
+        ((contest : Contest) → AreListed (earlier ++ contest ∷ []) (at + 1) → contests_in n (earlier ++ contest ∷ []) (at + 1) rows ≡ Ok contests →
+        AreListed contests ((at + 1) + n)) → AreListed contests (at + suc n)
+    by (Err rule) e g more = absurd cc
+    by (Ok contest) e g more =
+        let next : (at + 1) + n ≡ at + suc n = omega arith in
+        subst (AreListed contests) next (more contest (one_listed earlier at row contest are e) g)

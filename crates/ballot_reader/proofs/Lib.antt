@@ -8,6 +8,9 @@ pub mod Contests
 pub mod Adding
 pub mod Behind
 pub mod Ended
+pub mod Filed
+pub mod Each
+pub mod Missed
 pub mod Rereads
 pub mod IdBytes
 pub mod SortedIds

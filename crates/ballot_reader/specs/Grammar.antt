@@ -201,3 +201,31 @@ ballots_from asked (first ∷ rows) = ballots_behind (contest_count first) asked
 -- what a file says of the contest that is asked for, or, where none is, of its only one
 abbrev pub ballots_of : List ℕ → Option Id → Result BallotFile Refusal
 ballots_of bytes asked = ballots_from asked (numbered_records bytes)
+
+-- ---- all contests of the file
+
+abbrev pub unless_unsized : List Contest → Option Contest → Result (List Contest) Refusal
+unless_unsized contests None = Ok contests
+unless_unsized contests (Some contest) = refused B3 contest.at
+
+-- all contests, or the refusal of the first that has too few or too many candidates to be audited
+abbrev pub all_audited : List Contest → Result (List Contest) Refusal
+all_audited contests =
+    unless_unsized contests (find (λ contest. not (has_audited_size contest.candidates)) contests)
+
+-- behind n contests the records are ballots
+abbrev pub contests_behind : Option ℕ → List Fields → Result (List BallotFile) Refusal
+contests_behind None rows = refused B1 1
+contests_behind (Some n) rows =
+    then_on (contests_in n [] 2 rows) (λ contests.
+    then_on (all_audited contests) (λ audited.
+    then_on (ballots_after contests [] (2 + n) (drop n rows)) (λ ballots.
+    Ok (map (λ contest. file_of contest ballots) audited))))
+
+abbrev pub contests_from : List Fields → Result (List BallotFile) Refusal
+contests_from [] = refused B1 1
+contests_from (first ∷ rows) = contests_behind (contest_count first) rows
+
+-- what a file says of each of its contests, in their order
+abbrev pub contests_of : List ℕ → Result (List BallotFile) Refusal
+contests_of bytes = contests_from (numbered_records bytes)

@@ -1,10 +1,13 @@
--- The law of the grammar: a file of one contest that is spelled record by record is read as what it spells.
-use Rattle.std.specs.Prelude.{◌≡◌, ℕ, List, [], ◌∷◌, map, length, slice_index_or, None, Ok, IsTrue, codes, decimal}
-use Rattle.std.specs.List.{list_all, range_with_len}
+-- The laws of the grammar: a file of one contest that is spelled record by record is read as what it spells, and all contests of a
+-- file are read as each of them is.
+use Rattle.std.specs.Prelude.{◌≡◌, ◌≤◌, ℕ, List, [], ◌∷◌, map, length, slice_index_or, Option, Some, None, Result, Ok, Err, IsTrue, codes, decimal}
+use Rattle.std.specs.List.{Contains, list_all, range_with_len}
+use Rattle.csv_rows.specs.Fields.{numbered_records}
 use Rattle.csv_rows.specs.Rows.{Fields}
 use Rattle.irv_base.specs.Names.{Id, is_name}
 use Rattle.ballot_reader.specs.Ballots.{BallotFile, IsSound}
-use Rattle.ballot_reader.specs.Grammar.{ballots_from}
+use Rattle.ballot_reader.specs.Grammar.{Contest, Refusal, ballots_from, ballots_of, contest_count, contests_in, contests_of, refused}
+use Rattle.ballot_reader.specs.declared.fault.BRule.TheVariants.{B1, B5}
 
 abbrev pub id_of : List Id → ℕ → Id
 id_of candidates c = slice_index_or candidates c []
@@ -33,3 +36,46 @@ pub record HasSpelling (file : BallotFile) : Type 0 where
 abbrev pub WhatIsSpelledIsRead : Type 0
 WhatIsSpelledIsRead =
     (file : BallotFile) → HasSpelling file → ballots_from None (spelling file) ≡ Ok file
+
+-- ---- all contests of a file
+
+abbrev pub listed_behind : Option ℕ → List Fields → Result (List Contest) Refusal
+listed_behind None rows = refused B1 1
+listed_behind (Some n) rows = contests_in n [] 2 rows
+
+abbrev pub listed_from : List Fields → Result (List Contest) Refusal
+listed_from [] = refused B1 1
+listed_from (first ∷ rows) = listed_behind (contest_count first) rows
+
+-- the contests that a file lists in front of its ballots
+abbrev pub contests_listed : List ℕ → Result (List Contest) Refusal
+contests_listed bytes = listed_from (numbered_records bytes)
+
+-- the refusal of one of these contests, none of which is refused at an earlier record
+pub record IsFirstRefusal
+    (said : Option Id → Result BallotFile Refusal) (contests : List Contest)
+    (refusal : Refusal) : Type 0 where
+  pub contest : Contest
+  pub there : Contains contests contest
+  pub refuses : said (Some contest.id) ≡ Err refusal
+  pub first : (other : Contest) (later : Refusal) → Contains contests other →
+      said (Some other.id) ≡ Err later → refusal.at ≤ later.at
+
+-- what is said of all contests is what is said of each by its id: the files in their order, or the first refusal. Where the contests
+-- aren't listed, it is that refusal
+abbrev pub IsOfEach :
+    (Option Id → Result BallotFile Refusal) → Result (List Contest) Refusal →
+    Result (List BallotFile) Refusal → Type 0
+IsOfEach said (Err refusal) all =
+    (all ≡ Err refusal) × ((asked : Option Id) → said asked ≡ Err refusal)
+IsOfEach said (Ok contests) (Ok files) =
+    map (λ contest. said (Some contest.id)) contests ≡ map Ok files
+IsOfEach said (Ok contests) (Err refusal) = IsFirstRefusal said contests refusal
+
+abbrev pub ContestsAreEach : Type 0
+ContestsAreEach =
+    (bytes : List ℕ) → IsOfEach (ballots_of bytes) (contests_listed bytes) (contests_of bytes)
+
+-- no contest is missed of those that the file lists
+abbrev pub NoneIsMissed : Type 0
+NoneIsMissed = (bytes : List ℕ) (at : ℕ) → contests_of bytes ≡ refused B5 at → ⊥

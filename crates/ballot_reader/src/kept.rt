@@ -1,19 +1,20 @@
 // What is kept of the ballots that are read.
-ghost use Rattle.std.specs.Prelude.{ℕ, ◌≡◌, ◌<◌, ◌++◌, ◌∷◌, [], List, Ok, Err, Some, None, IfOk, IfErr, IfSome, IfNone, IsTrue, length, replicate, position, slice_get, slice_set, not, true};
+ghost use Rattle.std.specs.Prelude.{ℕ, ◌≡◌, ◌<◌, ◌++◌, ◌∷◌, [], List, Ok, Err, Some, None, IfOk, IfErr, IfSome, IsTrue, length, position, replicate, slice_get, slice_set, not, true, if◌then◌else◌};
 ghost use Rattle.csv.specs.Records.{fields_of};
 ghost use Rattle.csv_rows.specs.Fields.{trimmed_fields};
 ghost use Rattle.irv_base.specs.Names.{Id, all_differ, is_among, is_name};
-ghost use Rattle.ballot_reader.specs.Grammar.{Ballot, Contest as ContestRecord, ballot_for, ballot_in, ballot_of, contest_with_id, has_audited_size, has_id};
-ghost use Rattle.ballot_reader.specs.Kept.{IsKept, RefusesRecord, contest_ids};
+ghost use Rattle.ballot_reader.specs.Grammar.{Ballot, ballot_for, ballot_in, ballot_of, has_id};
+ghost use Rattle.ballot_reader.specs.Kept.{IsKept, KeepsAudited, RefusesRecord, WantsAudited, contest_ids, is_wanted, parts_from};
+ghost use Rattle.ballot_reader.specs.declared.wanted.Wanted.{Wanted as WantedContests};
 
 use crate::contest::Contest;
 use crate::fault::{BRule, BallotFault};
-use crate::guesses::Guesses;
 use crate::noted::Noted;
-use crate::preferences::{are_candidates, ranking_of};
+use crate::part::{Part, keep};
+use crate::wanted::Wanted;
 use csv::ByteRecord;
 use csv_rows::Fields;
-use irv_base::{MOST_RECORDS, Memory, Name, Ranking};
+use irv_base::{MOST_RECORDS, Memory, Name};
 use std::alloc::Global;
 use std::marker::Model;
 
@@ -66,22 +67,18 @@ fn head_of<'r>(contests: &[Contest], row: &'r ByteRecord) -> Result<Head<'r>, BR
     })
 }
 
-/// What is kept of ballots: the ids of each contest's, how many there are, and of those of the audited contest the places
-/// and the rankings.
+/// What is kept of ballots: the ids of each contest's, how many there are, and of each contest that is wanted the places and the
+/// rankings.
 ///
-/// To a contract it is these four.
+/// To a contract it is these three.
 #[derive(Drop)]
 pub struct Kept {
     /// For each contest the ids of its ballots, in the order of the file.
     pub ids: Vec<Noted>,
+    /// For each contest what else is kept of its ballots, where they are wanted.
+    pub parts: Vec<Option<Part>>,
     /// How many ballots there are, of all contests.
     pub count: u32,
-    /// For each ballot of the audited contest the number of its record, from 1.
-    pub places: Vec<u32>,
-    /// For each ballot of the audited contest its ranking.
-    pub rankings: Vec<Ranking>,
-    // Which candidate of the audited contest an id looks like. It saves time, and tells nothing of the ballots.
-    guesses: Guesses,
 }
 
 impl Model for Kept {
@@ -91,22 +88,57 @@ impl Model for Kept {
 
     ghost view = { λ k. record {
       ids = k.ids.items;
-      places = k.places.items;
-      rankings = k.rankings.items;
+      parts = k.parts.items;
       count = k.count;
     } };
 }
 
-// Nothing noted in n contests, with room for so many ids in the audited one.
-fn nothing_noted(alloc: Global, n: usize, audited: usize, room: usize) -> Result<Vec<Noted>, Memory>
+// Nothing noted in n contests, with room for so many ids of those that are wanted.
+fn nothing_noted(alloc: Global, n: usize, wanted: Wanted, room: usize) -> Result<Vec<Noted>, Memory>
     ensures { IfOk result (λ sets. sets.items ≡ replicate n []) }
 {
     let mut sets = Vec::new(alloc);
-    for i in 0..n {
-        let room = if i == audited { room } else { 0 };
-        sets.push(Noted::nothing(alloc, room)?)?;
+    for place in 0..n {
+        sets.push(Noted::nothing(alloc, wanted.room(place, n, room))?)?;
     }
     Ok(sets)
+}
+
+// An empty part of the contest at a place, if it is wanted, with room for its share of so many ballots.
+fn part_for(
+    alloc: Global,
+    contests: &[Contest],
+    place: usize,
+    wanted: Wanted,
+    room: usize,
+) -> Result<Option<Part>, Memory>
+    requires within { place < length contests.now }
+    requires sized { WantsAudited contests.now wanted }
+    ensures { IfOk result (λ part. part
+        ≡ (if is_wanted wanted place then Some (record { places = []; rankings = [] }) else None)) }
+{
+    if !wanted.has(place) {
+        return Ok(None);
+    }
+    let room = wanted.room(place, contests.len(), room);
+    Ok(Some(Part::nothing(alloc, &contests[place], room)?))
+}
+
+// An empty part of each of these contests that is wanted.
+fn no_parts(
+    alloc: Global,
+    contests: &[Contest],
+    wanted: Wanted,
+    room: usize,
+) -> Result<Vec<Option<Part>>, Memory>
+    requires { WantsAudited contests.now wanted }
+    ensures { IfOk result (λ parts. parts.items ≡ parts_from 0 wanted [] contests.now) }
+{
+    let mut parts = Vec::new(alloc);
+    for place in 0..contests.len() {
+        parts.push(part_for(alloc, contests, place, wanted, room)?)?;
+    }
+    Ok(parts)
 }
 
 // Notes a ballot's id in the set at a place, unless it is there; tells whether it is new.
@@ -123,30 +155,20 @@ fn note(sets: &mut Vec<Noted>, place: usize, id: &[u8]) -> Result<bool, Memory>
 }
 
 impl Kept {
-    /// Nothing, in these contests, with room for so many ballots of the audited one.
+    /// Nothing, in these contests, with room for so many ballots of those that are wanted.
     pub fn nothing(
         alloc: Global,
         contests: &[Contest],
-        audited: usize,
+        wanted: Wanted,
         room: usize,
     ) -> Result<Kept, Memory>
-        requires within { audited < length contests.now }
-        requires sized { IfSome (slice_get contests.now audited)
-            (λ chosen. IsTrue (has_audited_size chosen.candidates)) }
-        ensures ids { IfOk result (λ kept. kept.ids ≡ replicate (length contests.now) []) }
-        ensures count { IfOk result (λ kept. kept.count ≡ 0) }
-        ensures places { IfOk result (λ kept. kept.places ≡ []) }
-        ensures rankings { IfOk result (λ kept. kept.rankings ≡ []) }
+        requires { WantsAudited contests.now wanted }
+        ensures { IfOk result (IsKept contests.now wanted []) }
     {
-        let ids = nothing_noted(alloc, contests.len(), audited, room)?;
-        let chosen = &contests[audited];
-        let guesses = Guesses::of(alloc, chosen.candidates.as_slice())?;
         Ok(Kept {
-            ids,
+            ids: nothing_noted(alloc, contests.len(), wanted, room)?,
+            parts: no_parts(alloc, contests, wanted, room)?,
             count: 0,
-            places: Vec::with_capacity(alloc, room)?,
-            rankings: Vec::with_capacity(alloc, room)?,
-            guesses,
         })
     }
 
@@ -154,24 +176,20 @@ impl Kept {
     pub fn add(
         &mut self,
         contests: &[Contest],
-        audited: usize,
         at: u32,
         row: &ByteRecord,
     ) -> Result<(), BallotFault>
         requires differ { IsTrue (all_differ (contest_ids contests.now)) }
-        requires within { audited < length contests.now }
         requires noted { length self.now.ids ≡ length contests.now }
-        requires sized { IfSome (slice_get contests.now audited)
-            (λ chosen. IsTrue (has_audited_size chosen.candidates)) }
-        ensures kept { IfOk result (λ _. (chosen : ContestRecord) → (ballots : List Ballot)
-            → slice_get contests.now audited ≡ Some chosen
-            → IsKept contests.now chosen ballots self.old
+        requires parted { length self.now.parts ≡ length contests.now }
+        requires sized { KeepsAudited contests.now self.now.parts }
+        ensures kept { IfOk result (λ _. (wanted : WantedContests) → (ballots : List Ballot)
+            → IsKept contests.now wanted ballots self.old
             → (ballot : Ballot)
             × (ballot_of contests.now ballots at (trimmed_fields (fields_of row.now)) ≡ Ok ballot)
-            × IsKept contests.now chosen (ballots ++ ballot ∷ []) self.new) }
-        ensures refused { IfErr result (λ fault. (chosen : ContestRecord) → (ballots : List Ballot)
-            → slice_get contests.now audited ≡ Some chosen
-            → IsKept contests.now chosen ballots self.old
+            × IsKept contests.now wanted (ballots ++ ballot ∷ []) self.new) }
+        ensures refused { IfErr result (λ fault. (wanted : WantedContests) → (ballots : List Ballot)
+            → IsKept contests.now wanted ballots self.old
             → RefusesRecord
             (ballot_of contests.now ballots at (trimmed_fields (fields_of row.now))) at fault) }
     {
@@ -193,24 +211,12 @@ impl Kept {
         }
         self.count += 1;
         let contest = &contests[head.contest];
-        if head.contest != audited {
-            if are_candidates(&contest.candidates, head.preferences) {
-                return Ok(());
-            }
+        if !keep(&mut self.parts, head.contest, contest, at, head.preferences)? {
             return Err(BallotFault::Refused {
                 rule: BRule::B8,
                 at,
             });
         }
-        let candidates = contest.candidates.as_slice();
-        let Some(ranking) = ranking_of(candidates, &self.guesses, head.preferences) else {
-            return Err(BallotFault::Refused {
-                rule: BRule::B8,
-                at,
-            });
-        };
-        self.places.push(at)?;
-        self.rankings.push(ranking)?;
         Ok(())
     }
 }

@@ -1,11 +1,18 @@
 //! The laws of ballot files. None has code.
 ghost use Rattle.std.specs.Prelude.{◌≡◌};
-ghost use Rattle.ballot_reader.specs.Laws.{WhatIsSpelledIsRead};
+ghost use Rattle.ballot_reader.specs.Laws.{ContestsAreEach, NoneIsMissed, WhatIsSpelledIsRead};
 ghost use Rattle.ballot_reader.specs.declared.limits.TheConstants as limit;
 
 /// What one contest and its ballots are spelled as, record by record, is read as them.
 pub fn what_is_spelled_is_read()
     ensures { WhatIsSpelledIsRead }
+{}
+
+/// All contests of a file are what each of them is by its id, in their order. The file is refused exactly where one of them is, and
+/// by the refusal that stands first. It is never refused by B5.
+pub fn contests_are_each()
+    ensures each { ContestsAreEach }
+    ensures none_missed { NoneIsMissed }
 {}
 
 /// The numbers of the limits.

@@ -12,13 +12,17 @@ mod kept;
 pub mod laws;
 mod limits;
 mod noted;
+mod page;
 mod pages;
+mod part;
 mod preferences;
 mod read;
 mod sorted;
+mod wanted;
 
 pub use ballots::Ballots;
 pub use fault::{BRule, BallotFault};
 pub use ids::Ids;
 pub use limits::{MOST_CONTESTS, MOST_LISTED};
-pub use read::read_ballots;
+pub use preferences::ranking_of;
+pub use read::{read_ballots, read_contests};

@@ -13,9 +13,9 @@ use std::marker::Model;
 /// How it is told that an id is new.
 #[derive(Drop)]
 pub enum Notes {
-    /// On pages, as long as each id has a place of its own.
+    /// On pages, as long as each id has a bit of its own.
     Paged(Pages),
-    /// In order, from the first id on whose place another has. Which ids share a place can be foreseen, so a file may have many.
+    /// In order, from the first id on whose bit another has. Which ids share a bit can be foreseen, so a file may have many.
     Sorted(Sorted),
 }
 

@@ -1,23 +1,25 @@
 // Ids on pages, that can be told from many others without a comparison.
-ghost use Rattle.std.specs.Prelude.{◌≡◌, ℕ, IfOk, OnOk, IsTrue, false, not};
+ghost use Rattle.std.specs.Prelude.{◌≡◌, ◌<◌, ℕ, IfOk, OnOk, IsTrue, false, not};
 ghost use Rattle.irv_base.specs.Names.{Id};
-ghost use Rattle.ballot_reader.specs.Ids.{digest, is_marked_on, is_paged, last_byte, page, place};
+ghost use Rattle.ballot_reader.specs.Ids.{bit, digest, is_marked_on, is_paged, last_byte, page_number};
+ghost use Rattle.ballot_reader.specs.declared.page.TheConstants.{PAGE_BITS};
 
-use irv_base::{CandSet, Candidate, Memory, ROOM};
+use crate::page::{PAGE_BITS, Page};
+use irv_base::Memory;
 use std::alloc::Global;
 use std::collections::BTreeMap;
 use std::hash::{FoldHasher, Hasher};
 
-/// The places of last bytes on each page, as a set of numbers below `ROOM`. One page lies open: ids that were counted up stand on
-/// the page of the one before. The others are in order, so that no choice of ids makes them slow to find.
+/// The bits of last bytes on each page. One page lies open: ids that were counted up stand on the page of the one before. The others
+/// are in order, so that no choice of ids makes them slow to find.
 #[derive(Drop)]
 pub struct Pages {
     /// The number of the page that lies open.
     pub open: u64,
-    /// The places on that page.
-    pub places: CandSet,
-    /// Those on each page that was closed. What stands here of the open page doesn't count.
-    pub closed: BTreeMap<u64, CandSet>,
+    /// That page.
+    pub page: Page,
+    /// The pages that were closed. What stands here of the open one doesn't count.
+    pub closed: BTreeMap<u64, Page>,
 }
 
 /// A number that stands for an id, though not for it alone.
@@ -38,19 +40,20 @@ fn last_byte(id: &[u8]) -> u8
     id[id.len() - 1]
 }
 
-// The page of an id.
-fn page(id: &[u8]) -> u64
-    ensures { result ≡ page id.now }
+// The number of an id's page.
+fn page_number(id: &[u8]) -> u64
+    ensures { result ≡ page_number id.now }
 {
     let all_but_last = &id[..id.len().saturating_sub(1)];
-    digest(all_but_last) ^ u64::from(last_byte(id) / ROOM)
+    digest(all_but_last) ^ u64::from(last_byte(id) / PAGE_BITS)
 }
 
-// The place of an id on its page.
-fn place(id: &[u8]) -> Candidate
-    ensures { result ≡ place id.now }
+// The bit of an id on its page.
+fn bit(id: &[u8]) -> u8
+    ensures same { result ≡ bit id.now }
+    ensures below { result < PAGE_BITS }
 {
-    Candidate(last_byte(id) % ROOM)
+    last_byte(id) % PAGE_BITS
 }
 
 impl Pages {
@@ -60,42 +63,42 @@ impl Pages {
     {
         Pages {
             open: 0,
-            places: CandSet::empty(),
+            page: Page::empty(),
             closed: BTreeMap::new(alloc),
         }
     }
 
     // Opens a page.
-    fn turn_to(&mut self, page: u64) -> Result<(), Memory>
-        ensures open { OnOk result (self.new.open ≡ page) }
-        ensures same { (page : ℕ) → (c : ℕ)
-            → is_marked_on self.new page c ≡ is_marked_on self.old page c }
+    fn turn_to(&mut self, number: u64) -> Result<(), Memory>
+        ensures open { OnOk result (self.new.open ≡ number) }
+        ensures same { (number : ℕ) → (bit : ℕ)
+            → is_marked_on self.new number bit ≡ is_marked_on self.old number bit }
     {
-        if page == self.open {
+        if number == self.open {
             return Ok(());
         }
-        self.closed.insert(self.open, self.places)?;
-        self.places = match self.closed.get(&page) {
-            Some(places) => *places,
-            None => CandSet::empty(),
+        self.closed.insert(self.open, self.page)?;
+        self.page = match self.closed.get(&number) {
+            Some(page) => *page,
+            None => Page::empty(),
         };
-        self.open = page;
+        self.open = number;
         Ok(())
     }
 
-    /// Marks an id's place on its page, and tells whether it wasn't marked.
+    /// Sets an id's bit on its page, and tells whether it wasn't set.
     pub fn mark(&mut self, id: &[u8]) -> Result<bool, Memory>
         ensures fresh { IfOk result (λ fresh. fresh ≡ not (is_paged self.old id.now)) }
         ensures own { OnOk result (IsTrue (is_paged self.new id.now)) }
         ensures kept { (other : Id) → IsTrue (is_paged self.old other)
             → IsTrue (is_paged self.new other) }
     {
-        self.turn_to(page(id))?;
-        let place = place(id);
-        if self.places.has(place) {
+        self.turn_to(page_number(id))?;
+        let bit = bit(id);
+        if self.page.has(bit) {
             return Ok(false);
         }
-        self.places = self.places.with(place);
+        self.page = self.page.with(bit);
         Ok(true)
     }
 }

@@ -1,5 +1,5 @@
 // The preferences of a ballot.
-ghost use Rattle.std.specs.Prelude.{◌≡◌, ◌≤◌, IsTrue, is_some, length};
+ghost use Rattle.std.specs.Prelude.{◌≡◌, ◌≤◌, IfSome, IsTrue, is_some, length};
 ghost use Rattle.irv_base.specs.declared.limits.TheConstants.{ROOM};
 ghost use Rattle.irv_base.specs.Names.{all_differ, candidate_named};
 ghost use Rattle.ballot_reader.specs.Grammar.{are_names, ranking_of};
@@ -9,26 +9,29 @@ use csv_rows::Fields;
 use indexmap::IndexSet;
 use irv_base::{Candidate, Name, Ranking, candidate_named};
 
-fn candidate_of(candidates: &[Name], guesses: &Guesses, id: &[u8]) -> Option<Candidate>
+// The candidate with that id, first sought where it is guessed to stand.
+fn candidate_of(candidates: &[Name], guesses: Option<&Guesses>, id: &[u8]) -> Option<Candidate>
     requires few { length candidates.now ≤ ROOM }
-    requires differ { IsTrue (all_differ candidates.now) }
+    requires differ { IfSome guesses (λ _. IsTrue (all_differ candidates.now)) }
     ensures { result ≡ candidate_named candidates.now id.now }
 {
-    let guess = guesses.place(id);
-    if guess < candidates.len() && candidates[guess].bytes() == id {
-        return Some(Candidate(guess as u8));
+    if let Some(guesses) = guesses {
+        let guess = guesses.place(id);
+        if guess < candidates.len() && candidates[guess].bytes() == id {
+            return Some(Candidate(guess as u8));
+        }
     }
     candidate_named(candidates, id)
 }
 
-/// The ranking of these preferences, if each that isn't blank is one of a few candidates.
-pub fn ranking_of(
+/// The ranking of these preferences, as `ranking_of` gives it. Guesses save time, and need candidates that are all different.
+pub(crate) fn ranking_guessed(
     candidates: &[Name],
-    guesses: &Guesses,
+    guesses: Option<&Guesses>,
     preferences: Fields<'_>,
 ) -> Option<Ranking>
     requires few { length candidates.now ≤ ROOM }
-    requires differ { IsTrue (all_differ candidates.now) }
+    requires differ { IfSome guesses (λ _. IsTrue (all_differ candidates.now)) }
     ensures { result ≡ ranking_of candidates.now preferences.entry }
 {
     let mut ranking = Ranking::empty();
@@ -40,6 +43,15 @@ pub fn ranking_of(
         ranking.push(candidate);
     }
     Some(ranking)
+}
+
+/// The ranking of these preferences, if each that isn't blank is the id of one of a few candidates. A repeated candidate counts at
+/// its first place.
+pub fn ranking_of(candidates: &[Name], preferences: Fields<'_>) -> Option<Ranking>
+    requires { length candidates.now ≤ ROOM }
+    ensures { result ≡ ranking_of candidates.now preferences.entry }
+{
+    ranking_guessed(candidates, None, preferences)
 }
 
 fn is_candidate(candidates: &IndexSet<Name>, id: &[u8]) -> bool

@@ -1,20 +1,26 @@
 // Reading a ballot file.
-ghost use Rattle.std.specs.Prelude.{◌≡◌, ◌<◌, ◌≤◌, ◌+◌, [], List, Ok, Some, IfOk, IfErr, IfSome, IfNone, IsTrue, None, length, map, drop, slice_get, option_copied};
+ghost use Rattle.std.specs.Prelude.{◌≡◌, ◌<◌, ◌≤◌, ◌+◌, ◌∷◌, [], List, Option, Ok, Some, IfOk, IfErr, IfSome, IfNone, IsTrue, None, OnOk, length, map, drop, not, position, slice_get, option_copied};
 ghost use Rattle.csv_rows.specs.Fields.{numbered};
-ghost use Rattle.irv_base.specs.Names.{all_differ};
+ghost use Rattle.csv_rows.specs.Rows.{Fields as FieldList};
+ghost use Rattle.irv_base.specs.Names.{Id, all_differ};
 ghost use Rattle.ballot_reader.specs.declared.limits.TheConstants.{MOST_CONTESTS};
-ghost use Rattle.ballot_reader.specs.Grammar.{Ballot, Contest as ContestRecord, asked_for, ballots_after, ballots_behind, ballots_of, contests_in, file_of, has_audited_size, audited_contest};
+ghost use Rattle.ballot_reader.specs.declared.wanted.Wanted.TheVariants.{One, All as EachContest};
+ghost use Rattle.ballot_reader.specs.Ballots.{AreBallots};
+ghost use Rattle.ballot_reader.specs.Grammar.{Ballot, Contest as ContestRecord, all_audited, asked_for, audited_contest, ballots_after, ballots_behind, ballots_from, ballots_of, contest_count, contests_behind, contests_from, contests_in, contests_of, file_of, has_audited_size};
 ghost use Rattle.ballot_reader.specs.Faults.{Refuses};
-ghost use Rattle.ballot_reader.specs.Kept.{IsKept, contest_ids};
+ghost use Rattle.ballot_reader.specs.Kept.{IsKept, WantsAudited, contest_ids, file_with};
 
 use crate::ballots::Ballots;
 use crate::contest::{Contest, contest_of};
 use crate::count::contest_count;
 use crate::fault::{BRule, BallotFault};
 use crate::kept::{Kept, contest_place};
+use crate::noted::Noted;
+use crate::part::Part;
+use crate::wanted::Wanted;
 use csv::ByteRecord;
 use csv_rows::{Rows, without_mark};
-use irv_base::{FEWEST_CANDIDATES, MOST_CANDIDATES, MOST_RECORDS, Name};
+use irv_base::{FEWEST_CANDIDATES, MOST_CANDIDATES, MOST_RECORDS, Memory, Name};
 use std::alloc::Global;
 
 // The record of the first contest, counted from 1: the number of contests stands before it.
@@ -73,6 +79,13 @@ fn asked_place(contests: &[Contest], asked: Option<&Name>) -> Option<usize>
     }
 }
 
+fn has_audited_size(contest: &Contest) -> bool
+    ensures { result ≡ has_audited_size contest.now.candidates }
+{
+    let size = contest.candidates.len();
+    (FEWEST_CANDIDATES as usize..=MOST_CANDIDATES as usize).contains(&size)
+}
+
 // The place of the contest that is audited.
 fn audited_place(contests: &[Contest], asked: Option<&Name>) -> Result<usize, BallotFault>
     ensures within { IfOk result (λ k. k < length contests.now) }
@@ -89,8 +102,7 @@ fn audited_place(contests: &[Contest], asked: Option<&Name>) -> Result<usize, Ba
         });
     };
     let contest = &contests[place];
-    let size = contest.candidates.len();
-    if size < FEWEST_CANDIDATES as usize || size > MOST_CANDIDATES as usize {
+    if !has_audited_size(contest) {
         return Err(BallotFault::Refused {
             rule: BRule::B3,
             at: contest.at,
@@ -99,52 +111,108 @@ fn audited_place(contests: &[Contest], asked: Option<&Name>) -> Result<usize, Ba
     Ok(place)
 }
 
+// The place of the first contest that has too few or too many candidates to be audited.
+fn unsized_place(contests: &[Contest]) -> Option<usize>
+    ensures place { result
+        ≡ position (λ contest. not (has_audited_size contest.candidates)) contests.now }
+    ensures within { IfSome result (λ k. k < length contests.now) }
+{
+    contests
+        .iter()
+        .position(|contest| !has_audited_size(contest))
+}
+
+// Sees that all contests are of a size that can be audited.
+fn see_all_audited(contests: &[Contest]) -> Result<(), BallotFault>
+    ensures audited { OnOk result (all_audited contests.now ≡ Ok contests.now) }
+    ensures refused { IfErr result (Refuses (all_audited contests.now)) }
+{
+    let Some(place) = unsized_place(contests) else {
+        return Ok(());
+    };
+    let contest = &contests[place];
+    Err(BallotFault::Refused {
+        rule: BRule::B3,
+        at: contest.at,
+    })
+}
+
 // What is kept of the ballots in the records that are left.
 fn ballots_left(
     alloc: Global,
     contests: &[Contest],
-    audited: usize,
+    wanted: Wanted,
     room: usize,
     rows: &mut Rows<'_>,
     row: &mut ByteRecord,
 ) -> Result<Kept, BallotFault>
     requires few { length contests.now ≤ MOST_CONTESTS }
     requires differ { IsTrue (all_differ (contest_ids contests.now)) }
-    requires within { audited < length contests.now }
-    requires sized { IfSome (slice_get contests.now audited)
-        (λ chosen. IsTrue (has_audited_size chosen.candidates)) }
-    ensures read { IfOk result (λ kept. (chosen : ContestRecord) × (ballots : List Ballot)
-        × (slice_get contests.now audited ≡ Some chosen)
+    requires sized { WantsAudited contests.now wanted }
+    ensures read { IfOk result (λ kept. (ballots : List Ballot)
         × (ballots_after contests.now [] (2 + length contests.now) (numbered rows.old) ≡ Ok ballots)
-        × IsKept contests.now chosen ballots kept) }
+        × IsKept contests.now wanted ballots kept) }
     ensures refused { IfErr result
         (Refuses (ballots_after contests.now [] (2 + length contests.now) (numbered rows.old))) }
 {
-    let mut kept = Kept::nothing(alloc, contests, audited, room)?;
+    let mut kept = Kept::nothing(alloc, contests, wanted, room)?;
     let mut at = FIRST_CONTEST + contests.len() as u32;
     'records: while rows.read_numbered(row)? {
-        kept.add(contests, audited, at, row)?;
+        kept.add(contests, at, row)?;
         at += 1;
     }
     Ok(kept)
 }
 
-// The audited contest with the ballots that are kept.
+// A contest with these ballots.
+fn ballots_with(contest: Contest, ids: Noted, part: Part) -> Ballots
+    requires sized { IsTrue (has_audited_size contest.candidates) }
+    requires ballots { AreBallots (length contest.candidates) ids part.places part.rankings }
+    ensures { result ≡ file_with contest ids part }
+{
+    let Contest { id, candidates, .. } = contest;
+    Ballots::new(id, candidates, ids.into_ids(), part.places, part.rankings)
+}
+
+// The contest at a place with the ballots that are kept.
 fn file_of(mut contests: Vec<Contest>, audited: usize, mut kept: Kept) -> Ballots
     requires within { audited < length contests.items }
-    requires sized { IfSome (slice_get contests.items audited)
-        (λ chosen. IsTrue (has_audited_size chosen.candidates)) }
-    requires kept { (chosen : ContestRecord) × (ballots : List Ballot)
-        × (slice_get contests.items audited ≡ Some chosen)
-        × IsKept contests.items chosen ballots kept }
+    requires sized { WantsAudited contests.items (One audited) }
+    requires kept { (ballots : List Ballot) × IsKept contests.items (One audited) ballots kept }
     ensures { (chosen : ContestRecord) → (ballots : List Ballot)
         → slice_get contests.items audited ≡ Some chosen
-        → IsKept contests.items chosen ballots kept
+        → IsKept contests.items (One audited) ballots kept
         → result ≡ file_of chosen ballots }
 {
-    let Contest { id, candidates, .. } = contests.swap_remove(audited);
-    let ids = kept.ids.swap_remove(audited).into_ids();
-    Ballots::new(id, candidates, ids, kept.places, kept.rankings)
+    let contest = contests.swap_remove(audited);
+    let ids = kept.ids.swap_remove(audited);
+    let Some(part) = kept.parts.swap_remove(audited) else {
+        unreachable!();
+    };
+    ballots_with(contest, ids, part)
+}
+
+// Each contest with the ballots that are kept, in the order of the file.
+fn files_of(alloc: Global, contests: Vec<Contest>, kept: Kept) -> Result<Vec<Ballots>, Memory>
+    requires sized { WantsAudited contests.items EachContest }
+    requires kept { (ballots : List Ballot) × IsKept contests.items EachContest ballots kept }
+    ensures { IfOk result (λ files. (ballots : List Ballot)
+        → IsKept contests.items EachContest ballots kept
+        → files.items ≡ map (λ contest. file_of contest ballots) contests.items) }
+{
+    let mut files = Vec::with_capacity(alloc, contests.len())?;
+    let mut noted = kept.ids.into_iter();
+    let mut parts = kept.parts.into_iter();
+    for contest in contests {
+        let Some(ids) = noted.next() else {
+            unreachable!();
+        };
+        let Some(Some(part)) = parts.next() else {
+            unreachable!();
+        };
+        files.push(ballots_with(contest, ids, part))?;
+    }
+    Ok(files)
 }
 
 // The ballots in the records that are left, the next n of which are contests.
@@ -164,8 +232,52 @@ fn ballots_behind(
 {
     let contests = contests_left(alloc, n, rows, row)?;
     let audited = audited_place(&contests, asked)?;
-    let kept = ballots_left(alloc, &contests, audited, room, rows, row)?;
+    let kept = ballots_left(alloc, &contests, Wanted::One(audited), room, rows, row)?;
     Ok(file_of(contests, audited, kept))
+}
+
+// The same of all contests.
+fn contests_behind(
+    alloc: Global,
+    n: u32,
+    room: usize,
+    rows: &mut Rows<'_>,
+    row: &mut ByteRecord,
+) -> Result<Vec<Ballots>, BallotFault>
+    requires { n ≤ MOST_CONTESTS }
+    ensures read { IfOk result (λ files.
+        contests_behind (Some n) (numbered rows.old) ≡ Ok files.items) }
+    ensures refused { IfErr result (Refuses (contests_behind (Some n) (numbered rows.old))) }
+{
+    let contests = contests_left(alloc, n, rows, row)?;
+    see_all_audited(&contests)?;
+    let kept = ballots_left(alloc, &contests, Wanted::All, room, rows, row)?;
+    Ok(files_of(alloc, contests, kept)?)
+}
+
+// The number of contests in the first record.
+fn first_count(rows: &mut Rows<'_>, row: &mut ByteRecord) -> Result<u32, BallotFault>
+    ensures few { IfOk result (λ n. n ≤ MOST_CONTESTS) }
+    ensures read { IfOk result (λ n. (first : FieldList)
+        × (numbered rows.old ≡ first ∷ numbered rows.new) × (contest_count first ≡ Some n)) }
+    ensures refused { IfErr result (λ fault. (asked : Option Id)
+        → Refuses (ballots_from asked (numbered rows.old)) fault) }
+    ensures refused_all { IfErr result (Refuses (contests_from (numbered rows.old))) }
+{
+    if rows.read_numbered(row)? {
+        if let Some(n) = contest_count(row) {
+            return Ok(n);
+        }
+    }
+    Err(BallotFault::Refused {
+        rule: BRule::B1,
+        at: 1,
+    })
+}
+
+// For how many ballots room is made first.
+fn room_for(bytes: &[u8]) -> usize {
+    (bytes.len() / RECORD_BYTES).min(MOST_RECORDS as usize)
 }
 
 /// Reads a ballot file: the contest that is asked for, or, where none is, the only one.
@@ -196,18 +308,20 @@ pub fn read_ballots(
 {
     let mut rows = Rows::of(alloc, without_mark(bytes));
     let mut row = ByteRecord::new(alloc);
-    if !rows.read_numbered(&mut row)? {
-        return Err(BallotFault::Refused {
-            rule: BRule::B1,
-            at: 1,
-        });
-    }
-    let Some(n) = contest_count(&row) else {
-        return Err(BallotFault::Refused {
-            rule: BRule::B1,
-            at: 1,
-        });
-    };
-    let room = (bytes.len() / RECORD_BYTES).min(MOST_RECORDS as usize);
-    ballots_behind(alloc, n, contest, room, &mut rows, &mut row)
+    let n = first_count(&mut rows, &mut row)?;
+    ballots_behind(alloc, n, contest, room_for(bytes), &mut rows, &mut row)
+}
+
+/// Reads all contests of a ballot file, in their order there, each as `read_ballots` reads it by its id.
+///
+/// It is refused exactly where `read_ballots` refuses one of them, with the refusal that comes first: by the rules that are told
+/// there, but B5, in whose place B3 is judged of all contests in their order.
+pub fn read_contests(alloc: Global, bytes: &[u8]) -> Result<Vec<Ballots>, BallotFault>
+    ensures read { IfOk result (λ files. contests_of bytes.now ≡ Ok files.items) }
+    ensures refused { IfErr result (Refuses (contests_of bytes.now)) }
+{
+    let mut rows = Rows::of(alloc, without_mark(bytes));
+    let mut row = ByteRecord::new(alloc);
+    let n = first_count(&mut rows, &mut row)?;
+    contests_behind(alloc, n, room_for(bytes), &mut rows, &mut row)
 }

@@ -25,6 +25,7 @@ use Rattle.bound_search.specs.declared.join.Joined.{Joined}
 use Rattle.bound_search.specs.declared.team.Worker.{Worker}
 use Rattle.bound_search.proofs.Racing.{closed_lower}
 use Rattle.bound_search.proofs.Reporting.{reports-more}
+use Rattle.bound_search.proofs.Sharing.{none_skipped}
 
 -- the next of a list that is gone through
 pub drop_next : {A : Type 0} (xs : List A) (i : ℕ) (x : A) → i < length xs → x ≡ get_or xs i x → drop i xs ≡ x ∷ drop (i + 1) xs
@@ -102,7 +103,9 @@ module _ (bag : Kept) (nodes : ℕ) (tails : List Suffix) (race : SharedRace) (s
 
   now_closed : e.spent.items ≡ [] → (p : PieceEnd) → IsDoneWith bag w.seat.view (left_open e) p → IsClosedUnder bag k.seats.items p
   now_closed none p (inl (closed, at)) bound all = closed_lower bag w.seat.view.seen bound p.tail.list p.expanded (seats_before bound all).1 at
-  now_closed none p (inr left) bound all = let no : false ≡ true = ap₂ (λ xs ys. is_in (xs ++ ys) p.piece) (sym none) (sym (end.cause none)) ∙ left in cc
+  now_closed none p (inr left) bound all =
+      let idle = none_skipped e.ends.items e.spent.items e.skipped.items end.unclosed none in
+      let no : false ≡ true = ap₂ (λ xs ys. is_in (xs ++ ys) p.piece) (sym none) (sym idle) ∙ left in cc
 
   spent_now : MatchOption k.spent (All (IsClosedUnder bag k.seats.items) k.ends.items) (IsCostly bag first nodes tails)
   spent_now = subst (λ o. MatchOption o closed (IsCostly bag first nodes tails)) (sym spent) (go j.spent was.spent e.spent.items refl) where

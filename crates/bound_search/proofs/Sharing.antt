@@ -1,8 +1,9 @@
 -- The share of one worker, piece by piece.
-use Rattle.std.proofs.Common.{◌≡◌, ◌⊎◌, inl, inr, ℕ, ◌+◌, ◌*◌, ◌≤◌, ◌==◌, Bool, true, false, not, cond, List, [], ◌∷◌, ◌++◌, sum_by, All, Contains, Option, None, Some, slice_get, if◌then◌else◌, refl, sym, ap, subst, arith, ◌∙◌}
+use Rattle.std.proofs.Common.{◌≡◌, inl, inr, ℕ, ◌+◌, ◌*◌, ◌≤◌, ◌==◌, Bool, true, false, not, cond, List, [], ◌∷◌, ◌++◌, sum_by, All, Contains, Option, None, Some, slice_get, if◌then◌else◌, refl, sym, ap, subst, arith, ◌∙◌}
 use Rattle.std.specs.Option.{option_or}
 use Rattle.std.proofs.lemmas.Option.{slice_get_within, get_or_from_slice_get}
 use Rattle.std.proofs.lemmas.Bool.{cases_eq, eq-eqb, ne_eqb, or_left, or_right}
+use Rattle.std.proofs.lemmas.List.{append_assoc, map_push}
 use Rattle.std.proofs.lemmas.List.Elements.{All-push, All-weaker}
 use Rattle.std.proofs.lemmas.List.Folds.{list_any-append}
 use Rattle.std.proofs.lemmas.List.Sums.{sum_by_push}
@@ -13,7 +14,7 @@ use Rattle.shared_witness.specs.View.{highest}
 use Rattle.shared_witness.specs.Moment.{times}
 use Rattle.shared_witness.proofs.Lists.{times-push, times_none}
 use Rattle.suffix_tree.specs.Suffixes.{Suffix}
-use Rattle.bound_search.specs.Reached.{IsNewest, IsPieceSearched, IsBestFound, IsEntry, IsCostly, IsDoneWith}
+use Rattle.bound_search.specs.Reached.{AreLeftOpen, IsNewest, IsPieceSearched, IsBestFound, IsEntry, IsCostly, IsDoneWith, skipped_with, spent_with}
 use Rattle.bound_search.specs.declared.ends.Best.{Best}
 use Rattle.bound_search.specs.declared.ends.PieceEnd.{PieceEnd}
 use Rattle.bound_search.specs.declared.piece.Searched.{Searched}
@@ -51,6 +52,16 @@ noted : (b : Bool) (closed spent : List ℕ) (n p : ℕ) → times (if b then cl
     ≡ times closed p + times spent p + cond (n == p) 1 0
 noted true closed spent n p = omega (arith, times-push closed n p)
 noted false closed spent n p = omega (arith, times-push spent n p)
+
+-- ---- pieces that are left open
+
+open_same : (ends : List PieceEnd) (before after were are : List ℕ) → after ≡ before → are ≡ were → AreLeftOpen ends before were → AreLeftOpen ends after are
+open_same ends before after were are is left so_far = subst (λ xs. AreLeftOpen ends xs are) (sym is) (subst (AreLeftOpen ends before) (sym left) so_far)
+
+-- no piece is skipped before one is spent
+pub none_skipped : (ends : List PieceEnd) (spent skipped : List ℕ) → AreLeftOpen ends spent skipped → spent ≡ [] → skipped ≡ []
+none_skipped ends [] skipped so_far none = so_far
+none_skipped ends (number ∷ rest) skipped so_far none = absurd cc
 
 -- ---- a piece more
 
@@ -112,13 +123,49 @@ module _ (bag : Kept) (first nodes worker : ℕ) (tails : List Suffix) (piece : 
       this_done
 
   -- a piece that is spent now wasn't skipped
-  pub costly_now : (before after : List ℕ) → (before ≡ [] → skipped ≡ false) → (after ≡ before) ⊎ ((s.closed ≡ false) × (before ≡ []) × (after ≡ piece ∷ [])) →
+  pub costly_now : (before after : List ℕ) → (before ≡ [] → skipped ≡ false) → after ≡ spent_with s.closed before piece →
       All (IsCostly bag first nodes tails) before → All (IsCostly bag first nodes tails) after
-  costly_now before after none_skipped (inl same) all = subst (All (IsCostly bag first nodes tails)) (sym same) all
-  costly_now before after none_skipped (inr (left, none, is)) all =
-      subst (All (IsCostly bag first nodes tails)) (sym is)
-      (All-push (IsCostly bag first nodes tails) [] piece (subst (All (IsCostly bag first nodes tails)) none all)
-      (tail, inside, did.over left (none_skipped none)))
+  costly_now [] after none_skipped is all = go s.closed refl where
+    go : (b : Bool) → s.closed ≡ b → All (IsCostly bag first nodes tails) after
+    go true e = subst (All (IsCostly bag first nodes tails)) (sym (is ∙ ap (λ b. spent_with b [] piece) e)) all
+    go false e = subst (All (IsCostly bag first nodes tails)) (sym (is ∙ ap (λ b. spent_with b [] piece) e))
+        (All-push (IsCostly bag first nodes tails) [] piece all (tail, inside, did.over e (none_skipped refl)))
+  costly_now (number ∷ rest) after none_skipped is all = subst (All (IsCostly bag first nodes tails)) (sym (is ∙ stays s.closed)) all where
+    stays : (b : Bool) → spent_with b (number ∷ rest) piece ≡ number ∷ rest
+    stays true = refl
+    stays false = refl
+
+  -- once a piece was spent, the worker skips this one
+  pub open_now : (ends : List PieceEnd) (before after were are : List ℕ) → AreLeftOpen ends before were →
+      ((number : ℕ) (rest : List ℕ) → before ≡ number ∷ rest → skipped ≡ true) → (skipped ≡ true → (s.closed ≡ false) × (s.expanded ≡ 0)) →
+      after ≡ spent_with s.closed before piece → are ≡ skipped_with s.closed before were piece → AreLeftOpen (ends ++ entry ∷ []) after are
+  open_now ends [] after were are so_far skips idle is left = go s.closed refl where
+    go : (b : Bool) → s.closed ≡ b → AreLeftOpen (ends ++ entry ∷ []) after are
+    go true e = open_same (ends ++ entry ∷ []) [] after [] are (is ∙ ap (λ b. spent_with b [] piece) e)
+        (left ∙ ap (λ b. skipped_with b [] were piece) e ∙ so_far) refl
+    go false e = open_same (ends ++ entry ∷ []) (piece ∷ []) after [] are (is ∙ ap (λ b. spent_with b [] piece) e)
+        (left ∙ ap (λ b. skipped_with b [] were piece) e ∙ so_far) record {
+          before = ends;
+          spent = entry;
+          after = [];
+          all = refl;
+          spent_is = refl;
+          skipped_are = refl;
+          unexpanded = λ k d less. absurd (omega (arith, less));
+        }
+  open_now ends (number ∷ []) after were are so_far skips idle is left =
+      let (is_open, none) = idle (skips number [] refl) in
+      open_same (ends ++ entry ∷ []) (number ∷ []) after (were ++ piece ∷ []) are (is ∙ ap (λ b. spent_with b (number ∷ []) piece) is_open)
+      (left ∙ ap (λ b. skipped_with b (number ∷ []) were piece) is_open) record {
+        before = so_far.before;
+        spent = so_far.spent;
+        after = so_far.after ++ entry ∷ [];
+        all = ap (λ xs. xs ++ entry ∷ []) so_far.all ∙ append_assoc so_far.before (so_far.spent ∷ so_far.after) (entry ∷ []);
+        spent_is = so_far.spent_is;
+        skipped_are = ap (λ xs. xs ++ piece ∷ []) so_far.skipped_are ∙ sym (map_push (λ (p : PieceEnd). p.piece) so_far.after entry);
+        unexpanded = All-push (λ p. p.expanded ≡ 0) so_far.after entry so_far.unexpanded none;
+      }
+  open_now ends (number ∷ other ∷ rest) after were are so_far skips idle is left = absurd so_far
 
   pub paced_now : (ends : List PieceEnd) (looks : ℕ) → sum_by (λ p. p.expanded) ends ≤ MOST_EXPANDED * looks →
       sum_by (λ p. p.expanded) (ends ++ entry ∷ []) ≤ MOST_EXPANDED * (looks + s.looks)

@@ -1,5 +1,5 @@
 -- What a worker found in a piece and in its share of a race, by the views of its seat before and after.
-use Rattle.std.specs.Prelude.{◌≡◌, ◌⊎◌, ℕ, ◌+◌, ◌*◌, ◌<◌, ◌≤◌, if◌then◌else◌, Bool, false, not, List, [], ◌∷◌, ◌++◌, length, map, sum_by, All, Contains, Option, Some, slice_get, IsTrue}
+use Rattle.std.specs.Prelude.{◌≡◌, ◌⊎◌, ℕ, ◌+◌, ◌*◌, ◌<◌, ◌≤◌, if◌then◌else◌, Bool, true, false, not, List, [], ◌∷◌, ◌++◌, length, map, sum_by, All, Contains, Option, Some, slice_get, IsTrue}
 use Rattle.std.specs.Option.{MatchOption}
 use Rattle.irv_base.specs.Candidates.{is_in}
 use Rattle.irv_base.specs.Orders.{is_order, EndsIn}
@@ -115,6 +115,33 @@ IsCostly bag first nodes tails number =
 abbrev pub left_open : WorkerEnd → List ℕ
 left_open e = e.spent.items ++ e.skipped.items
 
+-- a piece that is left open is spent where none was before, and else skipped
+abbrev pub spent_with : Bool → List ℕ → ℕ → List ℕ
+spent_with true spent piece = spent
+spent_with false [] piece = piece ∷ []
+spent_with false (first ∷ rest) piece = first ∷ rest
+
+abbrev pub skipped_with : Bool → List ℕ → List ℕ → ℕ → List ℕ
+skipped_with true spent skipped piece = skipped
+skipped_with false [] skipped piece = skipped
+skipped_with false (first ∷ rest) skipped piece = skipped ++ piece ∷ []
+
+-- all pieces that the worker took after the spent one were skipped: no suffix of them was expanded
+pub record IsCutOff (ends : List PieceEnd) (piece : ℕ) (skipped : List ℕ) : Type 0 where
+  pub before : List PieceEnd
+  pub spent : PieceEnd
+  pub after : List PieceEnd
+  pub all : ends ≡ before ++ spent ∷ after
+  pub spent_is : spent.piece ≡ piece
+  pub skipped_are : skipped ≡ map (λ p. p.piece) after
+  pub unexpanded : All (λ p. p.expanded ≡ 0) after
+
+-- no piece was spent and none skipped, or one was spent
+abbrev pub AreLeftOpen : List PieceEnd → List ℕ → List ℕ → Type 0
+AreLeftOpen ends [] skipped = skipped ≡ []
+AreLeftOpen ends (piece ∷ []) skipped = IsCutOff ends piece skipped
+AreLeftOpen ends (piece ∷ other ∷ rest) skipped = ⊥
+
 -- the piece is closed, or was left open
 abbrev pub IsDoneWith : Kept → View → List ℕ → PieceEnd → Type 0
 IsDoneWith bag v left p =
@@ -134,7 +161,7 @@ pub record IsWorkerEnd (bag : Kept) (first nodes worker : ℕ) (tails : List Suf
   pub entries : All (IsEntry bag first nodes worker tails) e.ends.items
   pub done_with : All (IsDoneWith bag v (left_open e)) e.ends.items
   pub costly : All (IsCostly bag first nodes tails) e.spent.items
-  -- no piece is skipped before one is spent
-  pub cause : e.spent.items ≡ [] → e.skipped.items ≡ []
+  -- at most one piece is spent, and those that are skipped are all that came after it
+  pub unclosed : AreLeftOpen e.ends.items e.spent.items e.skipped.items
   pub paced : sum_by (λ p. p.expanded) e.ends.items ≤ MOST_EXPANDED * e.looks
   pub best : IsBestFound bag tails v.posted e.best

@@ -37,9 +37,9 @@ pub struct WorkerEnd {
     pub best: Option<Best>,
     /// The pieces that it took, in turn.
     pub ends: Vec<PieceEnd>,
-    /// The numbers of the pieces that it couldn't search to the end within the budget.
+    /// The number of the piece that it couldn't search to the end within the budget. There is at most one.
     pub spent: Vec<u32>,
-    /// The numbers of the pieces that it skipped, once one was spent.
+    /// The numbers of the pieces that it took after that one, and skipped.
     pub skipped: Vec<u32>,
     /// How often it looked at the bound.
     pub looks: u64,

@@ -1,7 +1,7 @@
 // The share of one worker.
-ghost use Rattle.std.specs.Prelude.{◌≡◌, ◌⊎◌, ◌≤◌, ◌++◌, ◌∷◌, [], All, false, IfOk, OnOk, length, if◌then◌else◌};
+ghost use Rattle.std.specs.Prelude.{◌≡◌, ◌≤◌, ◌++◌, ◌∷◌, [], All, false, IfOk, IsTrue, OnOk, length, if◌then◌else◌};
 ghost use Rattle.shared_witness.specs.Race.{new_seat};
-ghost use Rattle.bound_search.specs.Reached.{HoldsPiece, IsPieceSearched, IsWorkerEnd};
+ghost use Rattle.bound_search.specs.Reached.{HoldsPiece, IsPieceSearched, IsWorkerEnd, skipped_with, spent_with};
 ghost use Rattle.bound_search.specs.declared.limits.TheConstants.{MOST_PIECES};
 
 use crate::ends::{PieceEnd, WorkerEnd};
@@ -23,12 +23,13 @@ fn note(
     closed: bool,
 ) -> Result<(), Memory>
     requires cause { spent.old.items ≡ [] → skipped.old.items ≡ [] }
-    ensures cause { OnOk result (spent.new.items ≡ [] → skipped.new.items ≡ []) }
     ensures left { OnOk result (spent.new.items ++ skipped.new.items
         ≡ (if closed then spent.old.items ++ skipped.old.items
         else (spent.old.items ++ skipped.old.items) ++ piece ∷ [])) }
-    ensures spent { OnOk result ((spent.new.items ≡ spent.old.items)
-        ⊎ ((closed ≡ false) × (spent.old.items ≡ []) × (spent.new.items ≡ piece ∷ []))) }
+    ensures spent { OnOk result (spent.new.items
+        ≡ spent_with closed spent.old.items piece) }
+    ensures skipped { OnOk result (skipped.new.items
+        ≡ skipped_with closed spent.old.items skipped.old.items piece) }
 {
     if closed {
         return Ok(());
@@ -57,6 +58,7 @@ fn search_or_skip(
     ensures race { seat.new.race ≡ race.now.id }
     ensures searched { IfOk result (IsPieceSearched tallies.old.bag race.now.terms.first nodes
         piece tail.now.list skip seat.old.view seat.new.view) }
+    ensures idle { IsTrue skip → IfOk result (λ s. (s.closed ≡ false) × (s.expanded ≡ 0)) }
     ensures same { tallies.new ≡ tallies.old }
 {
     if skip {

@@ -1,5 +1,5 @@
 -- How a command ends, once a file is read.
-use Rattle.std.proofs.Common.{◌≡◌, List, Result, Err, ℕ, inl, inr, refl, sym, ap, subst, ◌∙◌}
+use Rattle.std.proofs.Common.{◌≡◌, true, List, Result, Err, ℕ, inl, inr, refl, sym, ap, subst, ◌∙◌}
 use Rattle.std.proofs.Common.{Vec, String, string_bytes}
 use Rattle.std.specs.String.{string_vec}
 use Rattle.std.specs.declared.alloc.Global.{Global}
@@ -9,6 +9,7 @@ use Rattle.cli_base.specs.declared.outcome.RefusalKind.TheVariants.{Input}
 use Rattle.cli_base.specs.Script.{IsOfKind, SameButBudget}
 use Rattle.cli_base.specs.Due.{due_refusal, IsOrMemory, IsOneOrMemory, IsReadAs}
 use Rattle.cli_base.specs.declared.outcome.Refusal.{Refusal}
+use Rattle.cli_base.proofs.AmongKinds.{among, is_among}
 
 -- ---- a file that is refused
 
@@ -46,10 +47,15 @@ pub one-same : (texts : List ℕ → Type 0) (kind : AnswerKind) → ((text othe
     One texts kind v → One texts kind w → v ≡ w
 one-same texts kind one v w (text, holds, is) (other, holds', is') = is ∙ ap (Answered kind) (one text other holds holds') ∙ sym is'
 
-pub one-kind : (kinds : AnswerKind → Type 0) (texts : List ℕ → Type 0) (kind : AnswerKind) → kinds kind → (v : Verdict) → One texts kind v → IsOfKind kinds v
-one-kind kinds texts kind is v (text, holds, e) = subst (IsOfKind kinds) (sym e) is
+pub one-kind : (kinds : List AnswerKind) (texts : List ℕ → Type 0) (kind : AnswerKind) → is_among kinds kind ≡ true → (v : Verdict) → One texts kind v →
+    IsOfKind kinds v
+one-kind kinds texts kind is v (text, holds, e) = subst (IsOfKind kinds) (sym e) (among kinds kind is)
 
-pub refused-kind : (kinds : AnswerKind → Type 0) (v : Verdict) (name text : List ℕ) → v ≡ Refused name text → IsOfKind kinds v
+pub answer-kind : (kinds : List AnswerKind) (kind : AnswerKind) (text : List ℕ) (v : Verdict) → is_among kinds kind ≡ true → v ≡ Answered kind text →
+    IsOfKind kinds v
+answer-kind kinds kind text v is e = subst (IsOfKind kinds) (sym e) (among kinds kind is)
+
+pub refused-kind : (kinds : List AnswerKind) (v : Verdict) (name text : List ℕ) → v ≡ Refused name text → IsOfKind kinds v
 refused-kind kinds v name text e = subst (IsOfKind kinds) (sym e) tt
 
 pub of_answers : (k l : AnswerKind) (text other : List ℕ) (v w : Verdict) → v ≡ Answered k text → w ≡ Answered l other →

@@ -3,4 +3,5 @@ pub mod Statuses
 pub mod Steps
 pub mod Ended
 pub mod Clauses
+pub mod AmongKinds
 mod ReadFiles

@@ -81,7 +81,7 @@ determined R itself files (Read name next) d e agree (inr (bytes, there_d, rest_
     determined R itself files (next others) d e (agree others) (subst (λ b. May (AsHeld files) (next b) d) same rest_d) rest_e
 
 -- What a script concludes with is of its kinds.
-pub of_kind : (kinds : AnswerKind → Type 0) (readings : Readings) (script : Script) (v : Verdict) → AreOfKind kinds script → Concludes readings script v →
+pub of_kind : (kinds : List AnswerKind) (readings : Readings) (script : Script) (v : Verdict) → AreOfKind kinds script → Concludes readings script v →
     IsOfKind kinds v
 of_kind kinds readings (Ends verdicts) v are concludes = are v concludes
 of_kind kinds readings (Read name next) v are (bytes, there, rest) = of_kind kinds readings (next bytes) v (are bytes) rest

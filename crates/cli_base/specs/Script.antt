@@ -1,5 +1,5 @@
 -- A command as the files that it reads, one after the other, and what it comes to.
-use Rattle.std.specs.Prelude.{◌≡◌, ◌⊎◌, ℕ, List, length, Option, None, Some, MatchOption, ◌≢◌, nat_le, if◌then◌else◌, ⊤}
+use Rattle.std.specs.Prelude.{◌≡◌, ◌⊎◌, ℕ, List, length, Contains, Option, None, Some, MatchOption, ◌≢◌, nat_le, if◌then◌else◌, ⊤}
 use Rattle.irv_base.specs.declared.limits.TheConstants.{MOST_FILE_BYTES}
 use Rattle.desk.specs.Desk.{File, held_bytes}
 use Rattle.cli_base.specs.Outcome.{Outcome, Verdict, Answered, Refused, outcome, bad_words, read_fault, out_of_memory, too_long, no_such_file}
@@ -137,10 +137,10 @@ SameButBudget due other = Same due other ⊎ OneIsSpent due other
 
 -- ---- the kinds of answer that a script may conclude with
 
-abbrev pub IsOfKind : (AnswerKind → Type 0) → Verdict → Type 0
-IsOfKind kinds (Answered kind text) = kinds kind
+abbrev pub IsOfKind : List AnswerKind → Verdict → Type 0
+IsOfKind kinds (Answered kind text) = Contains kinds kind
 IsOfKind kinds (Refused name text) = ⊤
 
-abbrev pub AreOfKind : (AnswerKind → Type 0) → Script → Type 0
+abbrev pub AreOfKind : List AnswerKind → Script → Type 0
 AreOfKind kinds (Ends verdicts) = (v : Verdict) → verdicts v → IsOfKind kinds v
 AreOfKind kinds (Read name next) = (bytes : List ℕ) → AreOfKind kinds (next bytes)

@@ -1,37 +1,35 @@
 -- What a line asks for is checked.
-use Rattle.std.proofs.Common.{◌≡◌, ◌≤◌, ◌<◌, ◌&&◌, ◌==◌, ℕ, zero, suc, List, [], ◌∷◌, Option, Some, None, Bool, true, false, not, length, nat_le, refl, sym, ◌∙◌, subst, arith, leb-true}
-use Rattle.std.specs.Prelude.{unwrap_or, option_map, is_some, if◌then◌else◌}
-use Rattle.std.specs.List.{list_all}
+use Rattle.std.proofs.Common.{◌≡◌, ◌≤◌, ◌<◌, ◌&&◌, ◌||◌, ◌==◌, ℕ, zero, suc, List, [], ◌∷◌, Option, Some, None, Bool, true, false, not, length, nat_le, nat_lt, refl, sym, ap, ◌∙◌, subst, arith, leb-true, ltb-true}
+use Rattle.std.specs.Prelude.{unwrap_or, option_map, is_some}
+use Rattle.std.specs.List.{list_all, list_any}
+use Rattle.std.specs.Str.{bytes_eq}
 use Rattle.std.proofs.lemmas.Bool.{and_parts, false≢true}
-use Rattle.command_line.specs.Laws.{LinesHaveMeanings, LinesAreChecked, IsChecked, IsNamed, IsFromTo, IsUpTo}
-use Rattle.command_line.specs.Line.{command_named, are_right, is_given_right, pieces_of, is_line_of, command_by, meaning, file, value, number_of}
+use Rattle.irv_base.proofs.Members.{from_find}
+use Rattle.command_line.specs.Laws.{LinesHaveMeanings, LinesAreChecked, IsChecked}
+use Rattle.command.specs.Limits.{IsNamed, IsFromTo}
+use Rattle.command_line.specs.Line.{are_right, is_given_right, pieces_of, is_line_of, line_named, is_line, command_of, meaning, file, seed, value, number_of}
 use Rattle.command_line.specs.Pieces.{Piece, File, Given, Stray, fits, files_in}
-use Rattle.command_line.specs.Table.{kind_of, default_of, is_needed}
+use Rattle.command_line.specs.Table.{commands, form_of, text_of, kind_of, default_of, is_needed}
 use Rattle.command_line.specs.Values.{is_number, number, is_value}
-use Rattle.command_line.specs.declared.limits.TheConstants.{MOST_NODES, MOST_FLOOR, MOST_TRIAL_NUMBER, DEFAULT_WORKERS, DEFAULT_NODES, DEFAULT_FLOOR, DEFAULT_LIMIT, DEFAULT_GAMMA, DEFAULT_CANDIDATES, DEFAULT_BALLOTS}
-use Rattle.irv_base.specs.declared.limits.TheConstants.{FEWEST_CANDIDATES, GREATEST_GAMMA, GREATEST_LIMIT, MOST_CANDIDATES, MOST_DRAWS, MOST_RECORDS, MOST_WORKERS}
-use Rattle.command_line.specs.declared.command.Command.{Command}
+use Rattle.sampler.specs.Seeds.{is_seed}
 use Rattle.command_line.specs.declared.table.CommandName.{CommandName}
 use Rattle.command_line.specs.declared.table.CommandName.TheVariants as command
 use Rattle.command_line.specs.declared.table.OptionName.{OptionName}
 use Rattle.command_line.specs.declared.table.OptionName.TheVariants as option
-use Rattle.command_line.specs.declared.table.ValueKind.TheVariants.{Number}
-use Rattle.command_line.proofs.Meanings.{value-fits}
+use Rattle.command_line.specs.declared.table.ValueKind.{ValueKind}
+use Rattle.command_line.specs.declared.table.ValueKind.TheVariants.{Id, Seed, Number}
+use Rattle.command_line.proofs.Meanings.{same_option, value-fits}
 use Rattle.command_line.proofs.Needed.{IsRight, parts, needed_given, seed_given}
 
 -- ---- words are a line exactly where they have a meaning
 
-chosen : {X : Type 0} (b : Bool) (x : X) → b ≡ is_some (if b then Some x else None)
-chosen true x = refl
-chosen false x = refl
-
-by_command : (found : Option CommandName) (words : List (List ℕ)) → is_line_of found words ≡ is_some (command_by found words)
-by_command None words = refl
-by_command (Some command) words = chosen (are_right command (pieces_of command words)) (meaning command (pieces_of command words))
+mapped : {X Y : Type 0} (f : X → Y) (o : Option X) → is_some o ≡ is_some (option_map f o)
+mapped f None = refl
+mapped f (Some x) = refl
 
 pub have_meanings : LinesHaveMeanings
 have_meanings [] = refl
-have_meanings (word ∷ words) = by_command (command_named word) words
+have_meanings (word ∷ words) = mapped (λ name. meaning name (pieces_of name words)) (line_named word words)
 
 -- ---- what a line asks for is checked
 
@@ -61,98 +59,184 @@ number_from_to least most default name kind pieces h within =
         let (written, above) = and_parts (is_number v) (nat_le least (number v)) low in
         (leb-true least (number v) above, leb-true (number v) most high)
 
--- of an option that may be left out
-with_default : (least most default : ℕ) → IsFromTo least most default → (name : OptionName) → kind_of name ≡ Number least most (Some default)
-    → (pieces : List Piece) → list_all fits pieces ≡ true → IsFromTo least most (number_of name pieces)
-with_default least most default within name kind pieces fit = number_from_to least most (Some default) name kind pieces fit (λ none. within)
+-- what the value of an option is, where it is given right
+abbrev IsGiven : ValueKind → OptionName → List Piece → Type 0
+IsGiven Id option pieces = Unit {0}
+IsGiven Seed option pieces = is_seed (seed pieces) ≡ true
+IsGiven (Number least most default) option pieces = IsFromTo least most (number_of option pieces)
 
--- of an option that has to be given
-given_from_to : (least most : ℕ) (name : OptionName) → kind_of name ≡ Number least most None → is_needed (kind_of name) ≡ true
-    → (pieces : List Piece) → list_all fits pieces ≡ true → is_given_right name pieces ≡ true → IsFromTo least most (number_of name pieces)
-given_from_to least most name kind needed pieces fit right =
-    let (v, is) = needed_given name pieces needed right in
-    number_from_to least most None name kind pieces fit (λ none. let e : Some v ≡ None = sym is ∙ none in absurd (cc e))
+-- the number of a line that doesn't give it is within the limits too
+abbrev is_default : ValueKind → Bool
+is_default Id = true
+is_default Seed = true
+is_default (Number least most None) = true
+is_default (Number least most (Some default)) = nat_le least default && nat_le default most
 
-draws-are : (pieces : List Piece) → list_all fits pieces ≡ true → is_given_right option.Draws pieces ≡ true → IsUpTo MOST_DRAWS (number_of option.Draws pieces)
-draws-are pieces fit right = given_from_to 1 MOST_DRAWS option.Draws refl refl pieces fit right
+defaults_fit : (option : OptionName) → is_default (kind_of option) ≡ true
+defaults_fit option.Contest = refl
+defaults_fit _ = refl
 
-meaning_checked : (name : CommandName) (pieces : List Piece) → are_right name pieces ≡ true → IsChecked (meaning name pieces)
-meaning_checked name pieces right = by name (parts name pieces right) where
-  workers-are : list_all fits pieces ≡ true → IsUpTo MOST_WORKERS (number_of option.Workers pieces)
-  workers-are fit = with_default 1 MOST_WORKERS DEFAULT_WORKERS (omega arith, omega arith) option.Workers refl pieces fit
+-- no other option than the seed is a seed
+is_the_seed : (name : OptionName) → kind_of name ≡ Seed → name ≡ option.Seed
+is_the_seed option.Seed is = refl
+is_the_seed _ is = cc
 
-  nodes-are : list_all fits pieces ≡ true → IsUpTo MOST_NODES (number_of option.Nodes pieces)
-  nodes-are fit = with_default 1 MOST_NODES DEFAULT_NODES (omega arith, omega arith) option.Nodes refl pieces fit
+given : (option : OptionName) (pieces : List Piece) → list_all fits pieces ≡ true → is_given_right option pieces ≡ true →
+    IsGiven (kind_of option) option pieces
+given option pieces fit right = by (kind_of option) refl (defaults_fit option) where
+  by : (kind : ValueKind) → kind_of option ≡ kind → is_default kind ≡ true → IsGiven kind option pieces
+  by Id kind fits = tt
+  by Seed kind fits = seed_given pieces fit (subst (λ o. is_given_right o pieces ≡ true) (is_the_seed option kind) right)
+  by (Number least most None) kind fits =
+      let (v, is) = needed_given option pieces (ap is_needed kind) right in
+      number_from_to least most None option kind pieces fit (λ none. let e : Some v ≡ None = sym is ∙ none in absurd (cc e))
+  by (Number least most (Some default)) kind fits =
+      let (low, high) = and_parts (nat_le least default) (nat_le default most) fits in
+      number_from_to least most (Some default) option kind pieces fit (λ none. (leb-true least default low, leb-true default most high))
 
-  floor-is : list_all fits pieces ≡ true → IsUpTo MOST_FLOOR (number_of option.Floor pieces)
-  floor-is fit = with_default 1 MOST_FLOOR DEFAULT_FLOOR (omega arith, omega arith) option.Floor refl pieces fit
+-- ---- the options of a command
 
-  limit-is : list_all fits pieces ≡ true → IsUpTo GREATEST_LIMIT (number_of option.Limit pieces)
-  limit-is fit = with_default 1 GREATEST_LIMIT DEFAULT_LIMIT (omega arith, omega arith) option.Limit refl pieces fit
+-- one of these
+abbrev has : OptionName → List OptionName → Bool
+has option options = list_any (λ other. bytes_eq (text_of other) (text_of option)) options
 
-  gamma-is : list_all fits pieces ≡ true → IsUpTo GREATEST_GAMMA (number_of option.Gamma pieces)
-  gamma-is fit = with_default 1 GREATEST_GAMMA DEFAULT_GAMMA (omega arith, omega arith) option.Gamma refl pieces fit
+right_among : (options : List OptionName) (option : OptionName) (pieces : List Piece) → has option options ≡ true →
+    list_all (λ option. is_given_right option pieces) options ≡ true → is_given_right option pieces ≡ true
+right_among [] option pieces among all = absurd (false≢true among)
+right_among (other ∷ options) option pieces among all =
+    let (first, rest) = and_parts (is_given_right other pieces) (list_all (λ option. is_given_right option pieces) options) all in
+    by (bytes_eq (text_of other) (text_of option)) refl among first (λ among. right_among options option pieces among rest)
+  where
+    by : (same : Bool) → bytes_eq (text_of other) (text_of option) ≡ same → (same || has option options) ≡ true → is_given_right other pieces ≡ true →
+        (has option options ≡ true → is_given_right option pieces ≡ true) → is_given_right option pieces ≡ true
+    by true same among first rest = subst (λ o. is_given_right o pieces ≡ true) (same_option other option same) first
+    by false same among first rest = rest among
 
-  candidates-are : list_all fits pieces ≡ true → IsFromTo FEWEST_CANDIDATES MOST_CANDIDATES (number_of option.Candidates pieces)
-  candidates-are fit = with_default FEWEST_CANDIDATES MOST_CANDIDATES DEFAULT_CANDIDATES (omega arith, omega arith) option.Candidates refl pieces fit
+-- the files and the options of a line that is right
+module _ (name : CommandName) (pieces : List Piece) (line : IsRight name pieces) where
+  named : (i : ℕ) → nat_lt i (length (form_of name).files) ≡ true → IsNamed (file i pieces)
+  named i less = file_named i pieces line.fit (subst (λ n. i < n) (sym line.count) (ltb-true i (length (form_of name).files) less))
 
-  ballots-are : list_all fits pieces ≡ true → IsUpTo MOST_RECORDS (number_of option.Ballots pieces)
-  ballots-are fit = with_default 1 MOST_RECORDS DEFAULT_BALLOTS (omega arith, omega arith) option.Ballots refl pieces fit
+  value_of : (o : OptionName) → has o (form_of name).options ≡ true → IsGiven (kind_of o) o pieces
+  value_of o among = given o pieces line.fit (right_among (form_of name).options o pieces among line.options)
 
-  by : (name : CommandName) → IsRight name pieces → IsChecked (meaning name pieces)
-  by command.Search line = (file_named 0 pieces line.fit (omega (arith, line.count)), workers-are line.fit, nodes-are line.fit, floor-is line.fit)
-  by command.Tabulate line = (file_named 0 pieces line.fit (omega (arith, line.count)), nodes-are line.fit)
-  by command.Check line =
-      (file_named 0 pieces line.fit (omega (arith, line.count)), file_named 1 pieces line.fit (omega (arith, line.count)), nodes-are line.fit)
-  by command.Sample line =
-      let (seed, draws) = and_parts (is_given_right option.Seed pieces) (is_given_right option.Draws pieces && true) line.options in (
-        file_named 0 pieces line.fit (omega (arith, line.count)),
-        seed_given pieces line.fit seed,
-        draws-are pieces line.fit (and_parts (is_given_right option.Draws pieces) true draws).0,
-      )
-  by command.Plan line =
-      (file_named 0 pieces line.fit (omega (arith, line.count)), file_named 1 pieces line.fit (omega (arith, line.count)), limit-is line.fit, gamma-is line.fit)
-  by command.Open line =
-      let named = λ (i : ℕ) (less : i < 3). file_named i pieces line.fit (omega (arith, line.count, less)) in (
-        named 0 (omega arith),
-        named 1 (omega arith),
-        named 2 (omega arith),
-        seed_given pieces line.fit (and_parts (is_given_right option.Seed pieces) _ line.options).0,
-        limit-is line.fit,
-        gamma-is line.fit,
-        nodes-are line.fit,
-      )
-  by command.Audit line =
-      let named = λ (i : ℕ) (less : i < 5). file_named i pieces line.fit (omega (arith, line.count, less)) in (
-        named 0 (omega arith),
-        named 1 (omega arith),
-        named 2 (omega arith),
-        named 3 (omega arith),
-        named 4 (omega arith),
-        draws-are pieces line.fit (and_parts (is_given_right option.Draws pieces) _ line.options).0,
-        nodes-are line.fit,
-      )
-  by command.Report line = file_named 0 pieces line.fit (omega (arith, line.count))
-  by command.Trial line = (
-    (given_from_to 0 MOST_TRIAL_NUMBER option.Number refl refl pieces line.fit (and_parts (is_given_right option.Number pieces) _ line.options).0).1,
-    candidates-are line.fit,
-    ballots-are line.fit,
-    workers-are line.fit,
-    nodes-are line.fit,
-  )
+-- a row a command
+meaning_checked : (name : CommandName) (pieces : List Piece) → IsRight name pieces → IsChecked (meaning name pieces)
+meaning_checked command.Search pieces line =
+    let file = named command.Search pieces line in
+    let value = value_of command.Search pieces line in
+    record { ballots = file 0 refl; workers = value option.Workers refl; nodes = value option.Nodes refl; floor = value option.Floor refl }
+meaning_checked command.Tabulate pieces line =
+    let file = named command.Tabulate pieces line in
+    let value = value_of command.Tabulate pieces line in
+    record { ballots = file 0 refl; nodes = value option.Nodes refl }
+meaning_checked command.Check pieces line =
+    let file = named command.Check pieces line in
+    let value = value_of command.Check pieces line in
+    record { ballots = file 0 refl; assertions = file 1 refl; nodes = value option.Nodes refl }
+meaning_checked command.Trim pieces line =
+    let file = named command.Trim pieces line in
+    let value = value_of command.Trim pieces line in
+    record { ballots = file 0 refl; assertions = file 1 refl; nodes = value option.Nodes refl }
+meaning_checked command.Sample pieces line =
+    let file = named command.Sample pieces line in
+    let value = value_of command.Sample pieces line in
+    record { manifest = file 0 refl; seed = value option.Seed refl; draws = value option.Draws refl }
+meaning_checked command.Plan pieces line =
+    let file = named command.Plan pieces line in
+    let value = value_of command.Plan pieces line in
+    record { manifest = file 0 refl; assertions = file 1 refl; limit = value option.Limit refl; gamma = value option.Gamma refl }
+meaning_checked command.Open pieces line =
+    let file = named command.Open pieces line in
+    let value = value_of command.Open pieces line in
+    record {
+      ballots = file 0 refl;
+      manifest = file 1 refl;
+      assertions = file 2 refl;
+      seed = value option.Seed refl;
+      limit = value option.Limit refl;
+      gamma = value option.Gamma refl;
+      nodes = value option.Nodes refl;
+    }
+meaning_checked command.Audit pieces line =
+    let file = named command.Audit pieces line in
+    let value = value_of command.Audit pieces line in
+    record {
+      session = file 0 refl;
+      ballots = file 1 refl;
+      manifest = file 2 refl;
+      assertions = file 3 refl;
+      seen = file 4 refl;
+      draws = value option.Draws refl;
+      nodes = value option.Nodes refl;
+    }
+meaning_checked command.Report pieces line =
+    let file = named command.Report pieces line in
+    record { session = file 0 refl }
+meaning_checked command.Poll pieces line =
+    let file = named command.Poll pieces line in
+    let value = value_of command.Poll pieces line in
+    record {
+      manifest = file 0 refl;
+      assertions = file 1 refl;
+      seen = file 2 refl;
+      seed = value option.Seed refl;
+      draws = value option.Draws refl;
+      limit = value option.Limit refl;
+      gamma = value option.Gamma refl;
+      nodes = value option.Nodes refl;
+    }
+meaning_checked command.OpenPlurality pieces line =
+    let file = named command.OpenPlurality pieces line in
+    let value = value_of command.OpenPlurality pieces line in
+    record {
+      ballots = file 0 refl;
+      manifest = file 1 refl;
+      seed = value option.Seed refl;
+      limit = value option.Limit refl;
+      gamma = value option.Gamma refl;
+    }
+meaning_checked command.AuditPlurality pieces line =
+    let file = named command.AuditPlurality pieces line in
+    let value = value_of command.AuditPlurality pieces line in
+    record { session = file 0 refl; ballots = file 1 refl; manifest = file 2 refl; seen = file 3 refl; draws = value option.Draws refl }
+meaning_checked command.Trial pieces line =
+    let value = value_of command.Trial pieces line in
+    record {
+      number = (value option.Number refl).1;
+      candidates = value option.Candidates refl;
+      ballots = value option.Ballots refl;
+      workers = value option.Workers refl;
+      nodes = value option.Nodes refl;
+    }
+
+-- the words of a line are right
+pub line_right : (word : List ℕ) (words : List (List ℕ)) (name : CommandName) → line_named word words ≡ Some name →
+    are_right name (pieces_of name words) ≡ true
+line_right word words name is =
+    (and_parts (bytes_eq (form_of name).word word) (are_right name (pieces_of name words))
+    (from_find (λ command. is_line_of command word words) name commands is).1).1
+
+-- the words of a line mean what its command means
+pub line_means : (word : List ℕ) (words : List (List ℕ)) (found : Option CommandName) → line_named word words ≡ found →
+    command_of (word ∷ words) ≡ option_map (λ name. meaning name (pieces_of name words)) found
+line_means word words found is = ap (option_map (λ name. meaning name (pieces_of name words))) is
+
+pub no_line_named : (word : List ℕ) (words : List (List ℕ)) (name : CommandName) → line_named word words ≡ Some name → is_line (word ∷ words) ≡ false → ⊥
+no_line_named word words name is none = let some : true ≡ false = sym (ap is_some is) ∙ none in cc some
 
 pub checked-meaning : (command : CommandName) (words : List (List ℕ)) → are_right command (pieces_of command words) ≡ true →
     IsChecked (meaning command (pieces_of command words))
-checked-meaning command words right = meaning_checked command (pieces_of command words) right
-
-checked_command : (found : Option CommandName) (words : List (List ℕ)) (command : Command) → command_by found words ≡ Some command → IsChecked command
-checked_command None words command e = cc
-checked_command (Some name) words command e = by (are_right name (pieces_of name words)) refl e where
-  by : (b : Bool) → are_right name (pieces_of name words) ≡ b → (if b then Some (meaning name (pieces_of name words)) else None) ≡ Some command →
-      IsChecked command
-  by true right e = let same : meaning name (pieces_of name words) ≡ command = cc in subst IsChecked same (checked-meaning name words right)
-  by false right e = cc
+checked-meaning command words right =
+    let pieces = pieces_of command words in
+    meaning_checked command pieces (parts command pieces right)
 
 pub are_checked : LinesAreChecked
 are_checked [] command e = cc
-are_checked (word ∷ words) command e = checked_command (command_named word) words command e
+are_checked (word ∷ words) command e = by (line_named word words) refl e where
+  by : (found : Option CommandName) → line_named word words ≡ found → option_map (λ name. meaning name (pieces_of name words)) found ≡ Some command →
+      IsChecked command
+  by None is e = cc
+  by (Some name) is e =
+      let same : meaning name (pieces_of name words) ≡ command = cc in
+      subst IsChecked same (checked-meaning name words (line_right word words name is))

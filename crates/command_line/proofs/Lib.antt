@@ -7,4 +7,5 @@ mod Needed
 mod Taken
 mod Rules
 mod Texts
+mod OneLine
 pub mod Checked

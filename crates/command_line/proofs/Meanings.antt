@@ -20,7 +20,7 @@ use Rattle.command_line.specs.declared.table.ValueKind.TheVariants.{Id, Seed, Nu
 -- ---- a row an option
 
 -- no two options have one name
-same_option : (a b : OptionName) → bytes_eq (text_of a) (text_of b) ≡ true → a ≡ b
+pub same_option : (a b : OptionName) → bytes_eq (text_of a) (text_of b) ≡ true → a ≡ b
 same_option Contest Contest h = refl
 same_option Workers Workers h = refl
 same_option Nodes Nodes h = refl
@@ -42,16 +42,7 @@ most_of (Number least most default) = most
 -- numbers have room
 small : (option : OptionName) → most_of (kind_of option) < 2 ^ 32
 small Contest = omega arith
-small Workers = omega arith
-small Nodes = omega arith
-small Floor = omega arith
-small option.Seed = omega arith
-small Draws = omega arith
-small Limit = omega arith
-small Gamma = omega arith
-small option.Number = omega arith
-small Candidates = omega arith
-small Ballots = omega arith
+small _ = omega arith
 
 -- ---- the text of an option
 

@@ -1,12 +1,12 @@
 -- A line in its one form is taken by the command that is made for it, which then shows its values: a row a command.
-use Rattle.std.proofs.Common.{◌≡◌, refl, true, List}
+use Rattle.std.proofs.Common.{◌≡◌, refl, rules, true, List}
 use Rattle.clap.specs.Simple.{is_simple, matches_of}
 use Rattle.clap.specs.Takes.{takes}
 use Rattle.clap.proofs.OnLiterals.{clap_on_literals}
 use Rattle.command_line.specs.OneForm.{app_of_command, one_form, Shows}
 use Rattle.command_line.specs.Pieces.{Piece}
 use Rattle.command_line.specs.declared.table.CommandName.{CommandName}
-use Rattle.command_line.specs.declared.table.CommandName.TheVariants.{Search, Tabulate, Check, Sample, Plan, Open, Audit, Report, Trial}
+use Rattle.command_line.specs.declared.table.CommandName.TheVariants.{Search}
 
 pub record IsTaken (command : CommandName) (pieces : List Piece) : Type 0 where
   pub simple : is_simple (app_of_command command) ≡ true
@@ -16,19 +16,4 @@ pub record IsTaken (command : CommandName) (pieces : List Piece) : Type 0 where
 pub is_taken : (command : CommandName) (pieces : List Piece) → IsTaken command pieces
 unfolding clap_on_literals
 is_taken Search pieces = record { simple = refl; taken = refl; shown = record { options = (refl, (refl, (refl, (refl, tt)))); files = (refl, tt) } }
-is_taken Tabulate pieces = record { simple = refl; taken = refl; shown = record { options = (refl, (refl, tt)); files = (refl, tt) } }
-is_taken Check pieces = record { simple = refl; taken = refl; shown = record { options = (refl, (refl, tt)); files = (refl, (refl, tt)) } }
-is_taken Sample pieces = record { simple = refl; taken = refl; shown = record { options = (refl, (refl, tt)); files = (refl, tt) } }
-is_taken Plan pieces = record { simple = refl; taken = refl; shown = record { options = (refl, (refl, tt)); files = (refl, (refl, tt)) } }
-is_taken Open pieces = record {
-  simple = refl;
-  taken = refl;
-  shown = record { options = (refl, (refl, (refl, (refl, (refl, tt))))); files = (refl, (refl, (refl, tt))) };
-}
-is_taken Audit pieces = record {
-  simple = refl;
-  taken = refl;
-  shown = record { options = (refl, (refl, tt)); files = (refl, (refl, (refl, (refl, (refl, tt))))) };
-}
-is_taken Report pieces = record { simple = refl; taken = refl; shown = record { options = tt; files = (refl, tt) } }
-is_taken Trial pieces = record { simple = refl; taken = refl; shown = record { options = (refl, (refl, (refl, (refl, (refl, tt))))); files = tt } }
+is_taken _ pieces = record { simple = refl; taken = refl; shown = record { options = search rules; files = search rules } }

@@ -1,13 +1,25 @@
 -- The laws of lines.
-use Rattle.std.specs.Prelude.{◌≡◌, ◌≤◌, ℕ, Bool, true, false, List, [], ◌∷◌, length, replicate, Some, None, is_some, codes}
-use Rattle.irv_base.specs.declared.limits.TheConstants.{FEWEST_CANDIDATES, GREATEST_GAMMA, GREATEST_LIMIT, MOST_CANDIDATES, MOST_DRAWS, MOST_RECORDS, MOST_WORKERS}
-use Rattle.sampler.specs.Seeds.{is_seed}
-use Rattle.command_line.specs.Line.{is_line, command_of}
+use Rattle.std.specs.Prelude.{◌≡◌, ℕ, Bool, true, false, List, [], ◌∷◌, replicate, Some, None, is_some, codes}
+use Rattle.command.specs.Search as search
+use Rattle.command.specs.Tabulate as tabulate
+use Rattle.command.specs.Check as check
+use Rattle.command.specs.Trim as trim
+use Rattle.command.specs.Sample as sample
+use Rattle.command.specs.Plan as plan
+use Rattle.command.specs.Open as opening
+use Rattle.command.specs.Audit as audit
+use Rattle.command.specs.Report as report
+use Rattle.command.specs.Poll as poll
+use Rattle.command.specs.OpenPlurality as plurality_opening
+use Rattle.command.specs.AuditPlurality as plurality_audit
+use Rattle.command.specs.Trial as trial
+use Rattle.command_line.specs.Line.{is_line, is_line_of, command_of}
 use Rattle.command_line.specs.Table.{kind_of}
 use Rattle.command_line.specs.Values.{is_number, is_value}
-use Rattle.command_line.specs.declared.command.Command.{Command}
-use Rattle.command_line.specs.declared.command.Command.TheVariants.{Search, Tabulate, Check, Sample, Plan, Open, Audit, Report, Trial}
-use Rattle.command_line.specs.declared.limits.TheConstants.{MOST_NODES, MOST_FLOOR, MOST_TRIAL_NUMBER, DEFAULT_WORKERS, DEFAULT_NODES, DEFAULT_FLOOR, DEFAULT_LIMIT, DEFAULT_GAMMA, DEFAULT_CANDIDATES, DEFAULT_BALLOTS}
+use Rattle.command_line.specs.declared.commands.Command.{Command}
+use Rattle.command_line.specs.declared.commands.Command.TheVariants.{Search, Tabulate, Check, Trim, Sample, Plan, Open, Audit, Report, Poll, OpenPlurality, AuditPlurality, Trial}
+use Rattle.command.specs.declared.limits.TheConstants.{DEFAULT_WORKERS, DEFAULT_NODES, DEFAULT_FLOOR, DEFAULT_LIMIT, DEFAULT_GAMMA, DEFAULT_CANDIDATES, DEFAULT_BALLOTS}
+use Rattle.command_line.specs.declared.table.CommandName.{CommandName}
 use Rattle.command_line.specs.declared.table.OptionName.{OptionName}
 use Rattle.command_line.specs.declared.table.OptionName.TheVariants.{Workers, Nodes, Floor, Seed, Draws, Limit, Gamma, Number, Candidates, Ballots}
 
@@ -15,67 +27,39 @@ use Rattle.command_line.specs.declared.table.OptionName.TheVariants.{Workers, No
 abbrev pub LinesHaveMeanings : Type 0
 LinesHaveMeanings = (words : List (List ℕ)) → is_line words ≡ is_some (command_of words)
 
+-- Words are a line of at most one command, also where two commands have the same word.
+abbrev pub LinesAreOfOne : Type 0
+LinesAreOfOne =
+    (word : List ℕ) (words : List (List ℕ)) (a b : CommandName) →
+    is_line_of a word words ≡ true → is_line_of b word words ≡ true → a ≡ b
+
 -- ---- what a line asks for is checked
-
-abbrev pub IsNamed : List ℕ → Type 0
-IsNamed file = 1 ≤ length file
-
--- a number from the one to the other
-abbrev pub IsFromTo : ℕ → ℕ → ℕ → Type 0
-IsFromTo least most n = (least ≤ n) × (n ≤ most)
-
--- a number from 1 to so many
-abbrev pub IsUpTo : ℕ → ℕ → Type 0
-IsUpTo most n = IsFromTo 1 most n
 
 -- the files have names, the numbers are within their limits, and a seed is one
 abbrev pub IsChecked : Command → Type 0
-IsChecked (Search ballots contest workers nodes floor) =
-    IsNamed ballots × IsUpTo MOST_WORKERS workers × IsUpTo MOST_NODES nodes
-    × IsUpTo MOST_FLOOR floor
-IsChecked (Tabulate ballots contest nodes) = IsNamed ballots × IsUpTo MOST_NODES nodes
-IsChecked (Check ballots assertions contest nodes) =
-    IsNamed ballots × IsNamed assertions × IsUpTo MOST_NODES nodes
-IsChecked (Sample manifest seed draws) =
-    IsNamed manifest × (is_seed seed ≡ true) × IsUpTo MOST_DRAWS draws
-IsChecked (Plan manifest assertions limit gamma) =
-    IsNamed manifest × IsNamed assertions × IsUpTo GREATEST_LIMIT limit
-    × IsUpTo GREATEST_GAMMA gamma
-IsChecked (Open ballots manifest assertions seed contest limit gamma nodes) =
-    IsNamed ballots × IsNamed manifest × IsNamed assertions × (is_seed seed ≡ true)
-    × IsUpTo GREATEST_LIMIT limit × IsUpTo GREATEST_GAMMA gamma
-    × IsUpTo MOST_NODES nodes
-IsChecked (Audit session ballots manifest assertions seen draws nodes) =
-    IsNamed session × IsNamed ballots × IsNamed manifest × IsNamed assertions × IsNamed seen
-    × IsUpTo MOST_DRAWS draws × IsUpTo MOST_NODES nodes
-IsChecked (Report session) = IsNamed session
-IsChecked (Trial number candidates ballots workers nodes) =
-    (number ≤ MOST_TRIAL_NUMBER) × IsFromTo FEWEST_CANDIDATES MOST_CANDIDATES candidates
-    × IsUpTo MOST_RECORDS ballots
-    × IsUpTo MOST_WORKERS workers × IsUpTo MOST_NODES nodes
+IsChecked (Search task) = search.IsWithinLimits task
+IsChecked (Tabulate task) = tabulate.IsWithinLimits task
+IsChecked (Check task) = check.IsWithinLimits task
+IsChecked (Trim task) = trim.IsWithinLimits task
+IsChecked (Sample task) = sample.IsWithinLimits task
+IsChecked (Plan task) = plan.IsWithinLimits task
+IsChecked (Open task) = opening.IsWithinLimits task
+IsChecked (Audit task) = audit.IsWithinLimits task
+IsChecked (Report task) = report.IsWithinLimits task
+IsChecked (Poll task) = poll.IsWithinLimits task
+IsChecked (OpenPlurality task) = plurality_opening.IsWithinLimits task
+IsChecked (AuditPlurality task) = plurality_audit.IsWithinLimits task
+IsChecked (Trial task) = trial.IsWithinLimits task
 
 abbrev pub LinesAreChecked : Type 0
 LinesAreChecked = (words : List (List ℕ)) (command : Command) → command_of words ≡ Some command →
     IsChecked command
 
--- ---- the limits
-
-pub record Limits : Type 0 where
-  pub default_workers : DEFAULT_WORKERS ≡ 4
-  pub nodes : MOST_NODES ≡ 200000
-  pub default_nodes : DEFAULT_NODES ≡ 100000
-  pub floor : MOST_FLOOR ≡ 1000000
-  pub default_floor : DEFAULT_FLOOR ≡ 1
-  pub default_limit : DEFAULT_LIMIT ≡ 50000
-  pub default_gamma : DEFAULT_GAMMA ≡ 100
-  pub trial_number : MOST_TRIAL_NUMBER ≡ 4294967295
-  pub default_candidates : DEFAULT_CANDIDATES ≡ 6
-  pub default_ballots : DEFAULT_BALLOTS ≡ 10000
+-- ---- texts on both sides of each limit
 
 abbrev is_taken : OptionName → List ℕ → Bool
 is_taken option text = is_value (kind_of option) text
 
--- texts on both sides of each limit
 pub record Examples : Type 0 where
   pub least_workers : is_taken Workers (codes "1") ≡ true
   pub no_workers : is_taken Workers (codes "0") ≡ false
@@ -172,72 +156,212 @@ pub record Trials : Type 0 where
 pub record Meanings : Type 0 where
   pub tabulate :
       command_of (codes "tabulate" ∷ codes "b" ∷ codes "--contest=c" ∷ codes "--nodes=2" ∷ [])
-      ≡ Some (Tabulate (codes "b") (Some (codes "c")) 2)
+      ≡ Some (Tabulate (record { ballots = codes "b"; contest = Some (codes "c"); nodes = 2 }))
   pub tabulate_left_out :
       command_of (codes "tabulate" ∷ codes "b" ∷ [])
-      ≡ Some (Tabulate (codes "b") None DEFAULT_NODES)
+      ≡ Some (Tabulate (record { ballots = codes "b"; contest = None; nodes = DEFAULT_NODES }))
   pub search :
       command_of (codes "search" ∷ codes "b" ∷ codes "--contest=c" ∷ codes "--workers=2"
       ∷ codes "--nodes=3" ∷ codes "--floor=4" ∷ [])
-      ≡ Some (Search (codes "b") (Some (codes "c")) 2 3 4)
+      ≡ Some (Search (record {
+        ballots = codes "b";
+        contest = Some (codes "c");
+        workers = 2;
+        nodes = 3;
+        floor = 4;
+      }))
   pub search_left_out :
       command_of (codes "search" ∷ codes "b" ∷ [])
-      ≡ Some (Search (codes "b") None DEFAULT_WORKERS DEFAULT_NODES DEFAULT_FLOOR)
+      ≡ Some (Search (record {
+        ballots = codes "b";
+        contest = None;
+        workers = DEFAULT_WORKERS;
+        nodes = DEFAULT_NODES;
+        floor = DEFAULT_FLOOR;
+      }))
   pub check :
       command_of (codes "check" ∷ codes "b" ∷ codes "a" ∷ codes "--contest=c"
       ∷ codes "--nodes=2" ∷ [])
-      ≡ Some (Check (codes "b") (codes "a") (Some (codes "c")) 2)
+      ≡ Some (Check (record {
+        ballots = codes "b";
+        assertions = codes "a";
+        contest = Some (codes "c");
+        nodes = 2;
+      }))
   pub check_left_out :
       command_of (codes "check" ∷ codes "b" ∷ codes "a" ∷ [])
-      ≡ Some (Check (codes "b") (codes "a") None DEFAULT_NODES)
+      ≡ Some (Check (record {
+        ballots = codes "b";
+        assertions = codes "a";
+        contest = None;
+        nodes = DEFAULT_NODES;
+      }))
+  pub trim :
+      command_of (codes "trim" ∷ codes "b" ∷ codes "a" ∷ codes "--contest=c"
+      ∷ codes "--nodes=2" ∷ [])
+      ≡ Some (Trim (record {
+        ballots = codes "b";
+        assertions = codes "a";
+        contest = Some (codes "c");
+        nodes = 2;
+      }))
+  pub trim_left_out :
+      command_of (codes "trim" ∷ codes "b" ∷ codes "a" ∷ [])
+      ≡ Some (Trim (record {
+        ballots = codes "b";
+        assertions = codes "a";
+        contest = None;
+        nodes = DEFAULT_NODES;
+      }))
   pub sample :
       command_of (codes "sample" ∷ codes "m" ∷ codes "--seed=s" ∷ codes "--draws=2" ∷ [])
-      ≡ Some (Sample (codes "m") (codes "s") 2)
+      ≡ Some (Sample (record { manifest = codes "m"; seed = codes "s"; draws = 2 }))
   pub plan :
       command_of (codes "plan" ∷ codes "m" ∷ codes "a" ∷ codes "--limit=2" ∷ codes "--gamma=3" ∷ [])
-      ≡ Some (Plan (codes "m") (codes "a") 2 3)
+      ≡ Some (Plan (record { manifest = codes "m"; assertions = codes "a"; limit = 2; gamma = 3 }))
   pub plan_left_out :
       command_of (codes "plan" ∷ codes "m" ∷ codes "a" ∷ [])
-      ≡ Some (Plan (codes "m") (codes "a") DEFAULT_LIMIT DEFAULT_GAMMA)
+      ≡ Some (Plan (record {
+        manifest = codes "m";
+        assertions = codes "a";
+        limit = DEFAULT_LIMIT;
+        gamma = DEFAULT_GAMMA;
+      }))
   pub open_all :
       command_of (codes "open" ∷ codes "b" ∷ codes "m" ∷ codes "a" ∷ codes "--seed=s"
       ∷ codes "--contest=c" ∷ codes "--limit=2" ∷ codes "--gamma=3" ∷ codes "--nodes=4" ∷ [])
-      ≡ Some (Open (codes "b") (codes "m") (codes "a") (codes "s") (Some (codes "c")) 2 3 4)
+      ≡ Some (Open (record {
+        ballots = codes "b";
+        manifest = codes "m";
+        assertions = codes "a";
+        seed = codes "s";
+        contest = Some (codes "c");
+        limit = 2;
+        gamma = 3;
+        nodes = 4;
+      }))
   pub open_left_out :
       command_of (codes "open" ∷ codes "b" ∷ codes "m" ∷ codes "a" ∷ codes "--seed=s" ∷ [])
-      ≡ Some (Open (codes "b") (codes "m") (codes "a") (codes "s") None DEFAULT_LIMIT
-      DEFAULT_GAMMA DEFAULT_NODES)
+      ≡ Some (Open (record {
+        ballots = codes "b";
+        manifest = codes "m";
+        assertions = codes "a";
+        seed = codes "s";
+        contest = None;
+        limit = DEFAULT_LIMIT;
+        gamma = DEFAULT_GAMMA;
+        nodes = DEFAULT_NODES;
+      }))
   pub audit :
       command_of (codes "audit" ∷ codes "s" ∷ codes "b" ∷ codes "m" ∷ codes "a" ∷ codes "t"
       ∷ codes "--draws=2" ∷ codes "--nodes=3" ∷ [])
-      ≡ Some (Audit (codes "s") (codes "b") (codes "m") (codes "a") (codes "t") 2 3)
+      ≡ Some (Audit (record {
+        session = codes "s";
+        ballots = codes "b";
+        manifest = codes "m";
+        assertions = codes "a";
+        seen = codes "t";
+        draws = 2;
+        nodes = 3;
+      }))
   pub audit_left_out :
       command_of (codes "audit" ∷ codes "s" ∷ codes "b" ∷ codes "m" ∷ codes "a" ∷ codes "t"
       ∷ codes "--draws=2" ∷ [])
-      ≡ Some (Audit (codes "s") (codes "b") (codes "m") (codes "a") (codes "t") 2 DEFAULT_NODES)
+      ≡ Some (Audit (record {
+        session = codes "s";
+        ballots = codes "b";
+        manifest = codes "m";
+        assertions = codes "a";
+        seen = codes "t";
+        draws = 2;
+        nodes = DEFAULT_NODES;
+      }))
   pub report :
       command_of (codes "report" ∷ codes "s" ∷ [])
-      ≡ Some (Report (codes "s"))
+      ≡ Some (Report (record { session = codes "s" }))
+  pub poll :
+      command_of (codes "poll" ∷ codes "m" ∷ codes "a" ∷ codes "t" ∷ codes "--seed=s"
+      ∷ codes "--draws=2" ∷ codes "--limit=3" ∷ codes "--gamma=4" ∷ codes "--nodes=5" ∷ [])
+      ≡ Some (Poll (record {
+        manifest = codes "m";
+        assertions = codes "a";
+        seen = codes "t";
+        seed = codes "s";
+        draws = 2;
+        limit = 3;
+        gamma = 4;
+        nodes = 5;
+      }))
+  pub poll_left_out :
+      command_of (codes "poll" ∷ codes "m" ∷ codes "a" ∷ codes "t" ∷ codes "--seed=s"
+      ∷ codes "--draws=2" ∷ [])
+      ≡ Some (Poll (record {
+        manifest = codes "m";
+        assertions = codes "a";
+        seen = codes "t";
+        seed = codes "s";
+        draws = 2;
+        limit = DEFAULT_LIMIT;
+        gamma = DEFAULT_GAMMA;
+        nodes = DEFAULT_NODES;
+      }))
+  pub open_plurality :
+      command_of (codes "plurality" ∷ codes "b" ∷ codes "m" ∷ codes "--seed=s"
+      ∷ codes "--contest=c" ∷ codes "--limit=2" ∷ codes "--gamma=3" ∷ [])
+      ≡ Some (OpenPlurality (record {
+        ballots = codes "b";
+        manifest = codes "m";
+        seed = codes "s";
+        contest = Some (codes "c");
+        limit = 2;
+        gamma = 3;
+      }))
+  pub open_plurality_left_out :
+      command_of (codes "plurality" ∷ codes "b" ∷ codes "m" ∷ codes "--seed=s" ∷ [])
+      ≡ Some (OpenPlurality (record {
+        ballots = codes "b";
+        manifest = codes "m";
+        seed = codes "s";
+        contest = None;
+        limit = DEFAULT_LIMIT;
+        gamma = DEFAULT_GAMMA;
+      }))
+  pub audit_plurality :
+      command_of (codes "plurality" ∷ codes "s" ∷ codes "b" ∷ codes "m" ∷ codes "t"
+      ∷ codes "--draws=2" ∷ [])
+      ≡ Some (AuditPlurality (record {
+        session = codes "s";
+        ballots = codes "b";
+        manifest = codes "m";
+        seen = codes "t";
+        draws = 2;
+      }))
   pub trial :
       command_of (codes "trial" ∷ codes "--number=2" ∷ codes "--candidates=3"
       ∷ codes "--ballots=4" ∷ codes "--workers=5" ∷ codes "--nodes=6" ∷ [])
-      ≡ Some (Trial 2 3 4 5 6)
+      ≡ Some (Trial (record { number = 2; candidates = 3; ballots = 4; workers = 5; nodes = 6 }))
   pub trial_left_out :
       command_of (codes "trial" ∷ codes "--number=0" ∷ [])
-      ≡ Some (Trial 0 DEFAULT_CANDIDATES DEFAULT_BALLOTS DEFAULT_WORKERS DEFAULT_NODES)
+      ≡ Some (Trial (record {
+        number = 0;
+        candidates = DEFAULT_CANDIDATES;
+        ballots = DEFAULT_BALLOTS;
+        workers = DEFAULT_WORKERS;
+        nodes = DEFAULT_NODES;
+      }))
   pub two_words :
       command_of (codes "plan" ∷ codes "--gamma" ∷ codes "3" ∷ codes "m" ∷ codes "--limit"
       ∷ codes "2" ∷ codes "a" ∷ [])
-      ≡ Some (Plan (codes "m") (codes "a") 2 3)
+      ≡ Some (Plan (record { manifest = codes "m"; assertions = codes "a"; limit = 2; gamma = 3 }))
   pub after_dashes :
       command_of (codes "report" ∷ codes "--" ∷ codes "-s" ∷ [])
-      ≡ Some (Report (codes "-s"))
+      ≡ Some (Report (record { session = codes "-s" }))
   pub equals_in_a_value :
       command_of (codes "sample" ∷ codes "m" ∷ codes "--seed=a=b" ∷ codes "--draws=007" ∷ [])
-      ≡ Some (Sample (codes "m") (codes "a=b") 7)
+      ≡ Some (Sample (record { manifest = codes "m"; seed = codes "a=b"; draws = 7 }))
   pub hyphen_in_a_value :
       command_of (codes "sample" ∷ codes "m" ∷ codes "--seed=-1" ∷ codes "--draws=1" ∷ [])
-      ≡ Some (Sample (codes "m") (codes "-1") 1)
+      ≡ Some (Sample (record { manifest = codes "m"; seed = codes "-1"; draws = 1 }))
 
 -- words that are no line
 pub record NoLines : Type 0 where
@@ -252,4 +376,17 @@ pub record NoLines : Type 0 where
       is_line (codes "search" ∷ codes "b" ∷ codes "--contest" ∷ codes "-c" ∷ []) ≡ false
   pub value_left_empty : is_line (codes "search" ∷ codes "b" ∷ codes "--contest=" ∷ []) ≡ false
   pub file_too_many : is_line (codes "report" ∷ codes "s" ∷ codes "s" ∷ []) ≡ false
+  pub poll_without_draws :
+      is_line (codes "poll" ∷ codes "m" ∷ codes "a" ∷ codes "t" ∷ codes "--seed=s" ∷ []) ≡ false
+  pub poll_without_seed :
+      is_line (codes "poll" ∷ codes "m" ∷ codes "a" ∷ codes "t" ∷ codes "--draws=2" ∷ []) ≡ false
+  pub round_with_seed :
+      is_line (codes "plurality" ∷ codes "s" ∷ codes "b" ∷ codes "m" ∷ codes "t"
+      ∷ codes "--draws=2" ∷ codes "--seed=s" ∷ []) ≡ false
+  pub opening_with_draws :
+      is_line (codes "plurality" ∷ codes "b" ∷ codes "m" ∷ codes "--seed=s"
+      ∷ codes "--draws=2" ∷ []) ≡ false
+  pub three_files :
+      is_line (codes "plurality" ∷ codes "b" ∷ codes "m" ∷ codes "t" ∷ codes "--seed=s" ∷ [])
+      ≡ false
   pub no_command : is_line [] ≡ false

@@ -1,22 +1,19 @@
 -- What is a line, and what it asks for.
-use Rattle.std.specs.Prelude.{ℕ, Bool, false, not, ◌&&◌, ◌||◌, ◌==◌, nat_le, List, [], ◌∷◌, length, find, slice_get, Option, None, Some, unwrap_or, option_map, if◌then◌else◌}
+use Rattle.std.specs.Prelude.{ℕ, Bool, false, not, ◌&&◌, ◌||◌, ◌==◌, nat_le, List, [], ◌∷◌, length, find, slice_get, Option, None, is_some, unwrap_or, option_map}
 use Rattle.std.specs.List.{list_all}
 use Rattle.std.specs.Str.{bytes_eq}
 use Rattle.irv_base.specs.Names.{Id}
 use Rattle.command_line.specs.Table.{form_of, commands, kind_of, is_needed, default_of}
 use Rattle.command_line.specs.Pieces.{Piece, pieces, files_in, values_in, fits}
 use Rattle.command_line.specs.Values.{number}
-use Rattle.command_line.specs.declared.command.Command.{Command}
-use Rattle.command_line.specs.declared.command.Command.TheVariants.{Search, Tabulate, Check, Sample, Plan, Open, Audit, Report, Trial}
+use Rattle.command_line.specs.declared.commands.Command.{Command}
+use Rattle.command_line.specs.declared.commands.Command.TheVariants.{Search, Tabulate, Check, Trim, Sample, Plan, Open, Audit, Report, Poll, OpenPlurality, AuditPlurality, Trial}
 use Rattle.command_line.specs.declared.table.CommandName.{CommandName}
 use Rattle.command_line.specs.declared.table.CommandName.TheVariants as name
 use Rattle.command_line.specs.declared.table.OptionName.{OptionName}
 use Rattle.command_line.specs.declared.table.OptionName.TheVariants.{Contest, Workers, Nodes, Floor, Seed, Draws, Limit, Gamma, Number, Candidates, Ballots}
 
 -- ---- the rules
-
-abbrev pub command_named : List ℕ → Option CommandName
-command_named word = find (λ command. bytes_eq (form_of command).word word) commands
 
 -- it stands at most once, and once where a line has to give it
 abbrev pub is_given_right : OptionName → List Piece → Bool
@@ -34,13 +31,18 @@ are_right command pieces =
 abbrev pub pieces_of : CommandName → List (List ℕ) → List Piece
 pieces_of command words = pieces (form_of command).options words
 
-abbrev pub is_line_of : Option CommandName → List (List ℕ) → Bool
-is_line_of None words = false
-is_line_of (Some command) words = are_right command (pieces_of command words)
+-- the word is the command's, and the words after it are right
+abbrev pub is_line_of : CommandName → List ℕ → List (List ℕ) → Bool
+is_line_of command word words =
+    bytes_eq (form_of command).word word && are_right command (pieces_of command words)
+
+-- the command whose line they are: two commands may have the same word
+abbrev pub line_named : List ℕ → List (List ℕ) → Option CommandName
+line_named word words = find (λ command. is_line_of command word words) commands
 
 abbrev pub is_line : List (List ℕ) → Bool
 is_line [] = false
-is_line (word ∷ words) = is_line_of (command_named word) words
+is_line (word ∷ words) = is_some (line_named word words)
 
 -- ---- the meaning
 
@@ -65,35 +67,96 @@ number_of option pieces =
 
 -- the command with its files and the values of its options
 abbrev pub meaning : CommandName → List Piece → Command
-meaning name.Search pieces =
-    Search (file 0 pieces) (contest pieces) (number_of Workers pieces) (number_of Nodes pieces)
-    (number_of Floor pieces)
-meaning name.Tabulate pieces = Tabulate (file 0 pieces) (contest pieces) (number_of Nodes pieces)
-meaning name.Check pieces =
-    Check (file 0 pieces) (file 1 pieces) (contest pieces) (number_of Nodes pieces)
-meaning name.Sample pieces = Sample (file 0 pieces) (seed pieces) (number_of Draws pieces)
-meaning name.Plan pieces =
-    Plan (file 0 pieces) (file 1 pieces) (number_of Limit pieces) (number_of Gamma pieces)
-meaning name.Open pieces =
-    Open (file 0 pieces) (file 1 pieces) (file 2 pieces) (seed pieces) (contest pieces)
-    (number_of Limit pieces) (number_of Gamma pieces)
-    (number_of Nodes pieces)
-meaning name.Audit pieces =
-    Audit (file 0 pieces) (file 1 pieces) (file 2 pieces) (file 3 pieces) (file 4 pieces)
-    (number_of Draws pieces) (number_of Nodes pieces)
-meaning name.Report pieces = Report (file 0 pieces)
-meaning name.Trial pieces =
-    Trial (number_of Number pieces) (number_of Candidates pieces) (number_of Ballots pieces)
-    (number_of Workers pieces)
-    (number_of Nodes pieces)
-
-abbrev pub command_by : Option CommandName → List (List ℕ) → Option Command
-command_by None words = None
-command_by (Some name) words =
-    let found = pieces_of name words in
-    if are_right name found then Some (meaning name found) else None
+meaning name.Search pieces = Search (record {
+  ballots = file 0 pieces;
+  contest = contest pieces;
+  workers = number_of Workers pieces;
+  nodes = number_of Nodes pieces;
+  floor = number_of Floor pieces;
+})
+meaning name.Tabulate pieces = Tabulate (record {
+  ballots = file 0 pieces;
+  contest = contest pieces;
+  nodes = number_of Nodes pieces;
+})
+meaning name.Check pieces = Check (record {
+  ballots = file 0 pieces;
+  assertions = file 1 pieces;
+  contest = contest pieces;
+  nodes = number_of Nodes pieces;
+})
+meaning name.Trim pieces = Trim (record {
+  ballots = file 0 pieces;
+  assertions = file 1 pieces;
+  contest = contest pieces;
+  nodes = number_of Nodes pieces;
+})
+meaning name.Sample pieces = Sample (record {
+  manifest = file 0 pieces;
+  seed = seed pieces;
+  draws = number_of Draws pieces;
+})
+meaning name.Plan pieces = Plan (record {
+  manifest = file 0 pieces;
+  assertions = file 1 pieces;
+  limit = number_of Limit pieces;
+  gamma = number_of Gamma pieces;
+})
+meaning name.Open pieces = Open (record {
+  ballots = file 0 pieces;
+  manifest = file 1 pieces;
+  assertions = file 2 pieces;
+  seed = seed pieces;
+  contest = contest pieces;
+  limit = number_of Limit pieces;
+  gamma = number_of Gamma pieces;
+  nodes = number_of Nodes pieces;
+})
+meaning name.Audit pieces = Audit (record {
+  session = file 0 pieces;
+  ballots = file 1 pieces;
+  manifest = file 2 pieces;
+  assertions = file 3 pieces;
+  seen = file 4 pieces;
+  draws = number_of Draws pieces;
+  nodes = number_of Nodes pieces;
+})
+meaning name.Report pieces = Report (record { session = file 0 pieces })
+meaning name.Poll pieces = Poll (record {
+  manifest = file 0 pieces;
+  assertions = file 1 pieces;
+  seen = file 2 pieces;
+  seed = seed pieces;
+  draws = number_of Draws pieces;
+  limit = number_of Limit pieces;
+  gamma = number_of Gamma pieces;
+  nodes = number_of Nodes pieces;
+})
+meaning name.OpenPlurality pieces = OpenPlurality (record {
+  ballots = file 0 pieces;
+  manifest = file 1 pieces;
+  seed = seed pieces;
+  contest = contest pieces;
+  limit = number_of Limit pieces;
+  gamma = number_of Gamma pieces;
+})
+meaning name.AuditPlurality pieces = AuditPlurality (record {
+  session = file 0 pieces;
+  ballots = file 1 pieces;
+  manifest = file 2 pieces;
+  seen = file 3 pieces;
+  draws = number_of Draws pieces;
+})
+meaning name.Trial pieces = Trial (record {
+  number = number_of Number pieces;
+  candidates = number_of Candidates pieces;
+  ballots = number_of Ballots pieces;
+  workers = number_of Workers pieces;
+  nodes = number_of Nodes pieces;
+})
 
 -- the command that the words ask for
 abbrev pub command_of : List (List ℕ) → Option Command
 command_of [] = None
-command_of (word ∷ words) = command_by (command_named word) words
+command_of (word ∷ words) =
+    option_map (λ name. meaning name (pieces_of name words)) (line_named word words)

@@ -10,7 +10,7 @@ use Rattle.command_line.specs.Line.{are_right, file, meaning, value}
 use Rattle.command_line.specs.Pieces.{Piece, fits}
 use Rattle.command_line.specs.Table.{form_of, text_of}
 use Rattle.command_line.specs.Values.{is_number, number}
-use Rattle.command_line.specs.declared.command.Command.{Command}
+use Rattle.command_line.specs.declared.commands.Command.{Command}
 use Rattle.command_line.specs.declared.table.CommandName.{CommandName}
 use Rattle.command_line.specs.declared.table.OptionName.{OptionName}
 use Rattle.command_line.specs.declared.table.OptionName.TheVariants.{Seed}

@@ -1,9 +1,9 @@
 -- The commands and the options: a line for each.
 use Rattle.std.specs.Prelude.{ℕ, Bool, true, false, List, [], ◌∷◌, None, Some, is_none, unwrap_or, codes}
 use Rattle.irv_base.specs.declared.limits.TheConstants.{FEWEST_CANDIDATES, GREATEST_GAMMA, GREATEST_LIMIT, MOST_CANDIDATES, MOST_DRAWS, MOST_RECORDS, MOST_WORKERS}
-use Rattle.command_line.specs.declared.limits.TheConstants.{MOST_NODES, MOST_FLOOR, MOST_TRIAL_NUMBER, DEFAULT_WORKERS, DEFAULT_NODES, DEFAULT_FLOOR, DEFAULT_LIMIT, DEFAULT_GAMMA, DEFAULT_CANDIDATES, DEFAULT_BALLOTS}
+use Rattle.command.specs.declared.limits.TheConstants.{MOST_NODES, MOST_FLOOR, MOST_TRIAL_NUMBER, DEFAULT_WORKERS, DEFAULT_NODES, DEFAULT_FLOOR, DEFAULT_LIMIT, DEFAULT_GAMMA, DEFAULT_CANDIDATES, DEFAULT_BALLOTS}
 use Rattle.command_line.specs.declared.table.CommandName.{CommandName}
-use Rattle.command_line.specs.declared.table.CommandName.TheVariants.{Search, Tabulate, Check, Sample, Plan, Open, Audit, Report, Trial}
+use Rattle.command_line.specs.declared.table.CommandName.TheVariants.{Search, Tabulate, Check, Trim, Sample, Plan, Open, Audit, Report, Poll, OpenPlurality, AuditPlurality, Trial}
 use Rattle.command_line.specs.declared.table.OptionName.{OptionName}
 use Rattle.command_line.specs.declared.table.OptionName.TheVariants as option
 use Rattle.command_line.specs.declared.table.ValueKind.{ValueKind}
@@ -33,6 +33,12 @@ form_of Check =
       files = codes "ballots" ∷ codes "assertions" ∷ [];
       options = option.Contest ∷ option.Nodes ∷ [];
     }
+form_of Trim =
+    record {
+      word = codes "trim";
+      files = codes "ballots" ∷ codes "assertions" ∷ [];
+      options = option.Contest ∷ option.Nodes ∷ [];
+    }
 form_of Sample =
     record {
       word = codes "sample";
@@ -58,6 +64,21 @@ form_of Audit = record {
   options = option.Draws ∷ option.Nodes ∷ [];
 }
 form_of Report = record { word = codes "report"; files = codes "session" ∷ []; options = [] }
+form_of Poll = record {
+  word = codes "poll";
+  files = codes "manifest" ∷ codes "assertions" ∷ codes "seen" ∷ [];
+  options = option.Seed ∷ option.Draws ∷ option.Limit ∷ option.Gamma ∷ option.Nodes ∷ [];
+}
+form_of OpenPlurality = record {
+  word = codes "plurality";
+  files = codes "ballots" ∷ codes "manifest" ∷ [];
+  options = option.Seed ∷ option.Contest ∷ option.Limit ∷ option.Gamma ∷ [];
+}
+form_of AuditPlurality = record {
+  word = codes "plurality";
+  files = codes "session" ∷ codes "ballots" ∷ codes "manifest" ∷ codes "seen" ∷ [];
+  options = option.Draws ∷ [];
+}
 form_of Trial = record {
   word = codes "trial";
   files = [];
@@ -65,7 +86,9 @@ form_of Trial = record {
 }
 
 abbrev pub commands : List CommandName
-commands = Search ∷ Tabulate ∷ Check ∷ Sample ∷ Plan ∷ Open ∷ Audit ∷ Report ∷ Trial ∷ []
+commands =
+    Search ∷ Tabulate ∷ Check ∷ Trim ∷ Sample ∷ Plan ∷ Open ∷ Audit ∷ Report ∷ Poll
+    ∷ OpenPlurality ∷ AuditPlurality ∷ Trial ∷ []
 
 -- an option's name, without the hyphens
 abbrev pub text_of : OptionName → List ℕ

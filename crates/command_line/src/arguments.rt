@@ -7,9 +7,9 @@ ghost use Rattle.command_line.specs.Pieces.{Piece, fits};
 ghost use Rattle.command_line.specs.Line.{contest, number_of, seed};
 ghost use Rattle.command_line.specs.OneForm.{IsShown, HasSeed, name_in, may_be_number, number_or};
 
-use crate::file_name::FileName;
 use crate::table::OptionName;
 use clap::ArgMatches;
+use command::FileName;
 use irv_base::Name;
 use sampler::Seed;
 use std::alloc::{AllocError, Global};

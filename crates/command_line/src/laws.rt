@@ -1,19 +1,19 @@
 //! The laws of lines: each holds of all words, and has no code.
-ghost use Rattle.command_line.specs.Laws.{LinesHaveMeanings, LinesAreChecked, Limits, Examples, Searches, Samples, Trials, Meanings, NoLines};
+ghost use Rattle.command_line.specs.Laws.{LinesHaveMeanings, LinesAreOfOne, LinesAreChecked, Examples, Searches, Samples, Trials, Meanings, NoLines};
 
 /// Words are a line exactly where they have a meaning.
 pub fn lines_have_meanings()
     ensures { LinesHaveMeanings }
 {}
 
+/// Words are a line of at most one command.
+pub fn lines_are_of_one()
+    ensures { LinesAreOfOne }
+{}
+
 /// The files of a line have names, and its numbers are within their limits.
 pub fn lines_are_checked()
     ensures { LinesAreChecked }
-{}
-
-/// The limits and the defaults of options, as numbers.
-pub fn limits()
-    ensures { Limits }
 {}
 
 /// Values of options on both sides of each limit.

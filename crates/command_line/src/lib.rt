@@ -2,10 +2,8 @@
 #![tactic(auto)]
 
 mod arguments;
-mod command;
-mod file_name;
+mod commands;
 pub mod laws;
-mod limits;
 mod line;
 mod matches;
 mod one_form;
@@ -13,10 +11,5 @@ mod pieces;
 mod table;
 mod value;
 
-pub use command::{Command, read};
-pub use file_name::FileName;
-pub use limits::{
-    DEFAULT_BALLOTS, DEFAULT_CANDIDATES, DEFAULT_FLOOR, DEFAULT_GAMMA, DEFAULT_LIMIT,
-    DEFAULT_NODES, DEFAULT_WORKERS, MOST_FLOOR, MOST_NODES, MOST_TRIAL_NUMBER,
-};
+pub use commands::{Command, read};
 pub use line::is_line;

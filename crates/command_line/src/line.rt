@@ -2,21 +2,11 @@
 ghost use Rattle.std.specs.Prelude.{◌≡◌, length};
 ghost use Rattle.std.specs.List.{list_all};
 ghost use Rattle.command_line.specs.Words.{texts};
-ghost use Rattle.command_line.specs.Line.{is_line, are_right, command_named, is_given_right, pieces_of};
+ghost use Rattle.command_line.specs.Line.{is_line, is_line_of, line_named, are_right, is_given_right, pieces_of};
 ghost use Rattle.command_line.specs.Pieces.{pieces, files_in, values_in, fits};
 
 use crate::pieces::Pieces;
 use crate::table::{COMMANDS, CommandName, OptionName};
-
-/// The command that a word names.
-pub fn command_named(word: &str) -> Option<CommandName>
-    ensures { result ≡ command_named word.now }
-{
-    COMMANDS
-        .iter()
-        .copied()
-        .find(|command| command.form().word == word)
-}
 
 fn file_count(pieces: Pieces<'_>) -> usize
     ensures { result ≡ length (files_in pieces.entry) }
@@ -51,8 +41,8 @@ fn are_given_right(options: &[OptionName], words: &[String]) -> bool
     options.iter().all(|option| is_given_right(*option, Pieces::of(options, words)))
 }
 
-/// Whether the words after its word are a line of the command.
-pub fn are_right(command: CommandName, words: &[String]) -> bool
+// Whether the words after its word are right.
+fn are_right(command: CommandName, words: &[String]) -> bool
     ensures { result ≡ are_right command (pieces_of command (texts words.now)) }
 {
     let form = command.form();
@@ -61,15 +51,28 @@ pub fn are_right(command: CommandName, words: &[String]) -> bool
         && are_given_right(form.options, words)
 }
 
+fn is_line_of(command: CommandName, word: &str, words: &[String]) -> bool
+    ensures { result ≡ is_line_of command word.now (texts words.now) }
+{
+    command.form().word == word && are_right(command, words)
+}
+
+/// The command whose line a word and the words after it are. Two commands may have the same word.
+pub fn line_named(word: &str, words: &[String]) -> Option<CommandName>
+    ensures { result ≡ line_named word.now (texts words.now) }
+{
+    COMMANDS
+        .iter()
+        .copied()
+        .find(|command| is_line_of(*command, word, words))
+}
+
 /// Whether the words of a call, without the program's own name, are a line. No memory is taken.
 pub fn is_line(words: &[String]) -> bool
     ensures { result ≡ is_line (texts words.now) }
 {
     match words.split_first() {
-        Some((word, words)) => match command_named(word.as_str()) {
-            Some(command) => are_right(command, words),
-            None => false,
-        },
+        Some((word, words)) => line_named(word.as_str(), words).is_some(),
         None => false,
     }
 }

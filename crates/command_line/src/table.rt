@@ -3,7 +3,7 @@ ghost use Rattle.std.specs.Prelude.{◌≡◌, map};
 ghost use Rattle.command_line.specs.Table.{form_of, text_of, kind_of, is_needed, default_of};
 ghost use Rattle.command_line.specs.declared.table.ValueKind.TheVariants.{Number};
 
-use crate::limits::{
+use command::{
     DEFAULT_BALLOTS, DEFAULT_CANDIDATES, DEFAULT_FLOOR, DEFAULT_GAMMA, DEFAULT_LIMIT,
     DEFAULT_NODES, DEFAULT_WORKERS, MOST_FLOOR, MOST_NODES, MOST_TRIAL_NUMBER,
 };
@@ -21,6 +21,8 @@ pub enum CommandName {
     Tabulate,
     /// `check`: whether an assertion file holds.
     Check,
+    /// `trim`: an assertion file without the claims that can go.
+    Trim,
     /// `sample`: the cards that a seed draws.
     Sample,
     /// `plan`: how many draws a clean audit takes.
@@ -31,6 +33,12 @@ pub enum CommandName {
     Audit,
     /// `report`: what a session says.
     Report,
+    /// `poll`: whether what is on the drawn cards confirms the assertions, with no card matched to its record.
+    Poll,
+    /// `plurality` of two files: the session of an audit of first preferences, before its first round.
+    OpenPlurality,
+    /// `plurality` of four files: that session with a round more.
+    AuditPlurality,
     /// `trial`: what a search of a drawn contest comes to.
     Trial,
 }
@@ -92,15 +100,19 @@ pub struct Form<'f> {
 }
 
 /// All commands.
-pub const COMMANDS: [CommandName; 9] = [
+pub const COMMANDS: [CommandName; 13] = [
     CommandName::Search,
     CommandName::Tabulate,
     CommandName::Check,
+    CommandName::Trim,
     CommandName::Sample,
     CommandName::Plan,
     CommandName::Open,
     CommandName::Audit,
     CommandName::Report,
+    CommandName::Poll,
+    CommandName::OpenPlurality,
+    CommandName::AuditPlurality,
     CommandName::Trial,
 ];
 
@@ -132,6 +144,21 @@ const OPEN_OPTIONS: [OptionName; 5] = [
     OptionName::Limit,
     OptionName::Gamma,
     OptionName::Nodes,
+];
+
+const POLL_OPTIONS: [OptionName; 5] = [
+    OptionName::Seed,
+    OptionName::Draws,
+    OptionName::Limit,
+    OptionName::Gamma,
+    OptionName::Nodes,
+];
+
+const OPEN_PLURALITY_OPTIONS: [OptionName; 4] = [
+    OptionName::Seed,
+    OptionName::Contest,
+    OptionName::Limit,
+    OptionName::Gamma,
 ];
 
 const TRIAL_OPTIONS: [OptionName; 5] = [
@@ -176,6 +203,11 @@ impl CommandName {
                 &[BALLOTS, ASSERTIONS],
                 &[OptionName::Contest, OptionName::Nodes],
             ),
+            CommandName::Trim => Form::of(
+                "trim",
+                &[BALLOTS, ASSERTIONS],
+                &[OptionName::Contest, OptionName::Nodes],
+            ),
             CommandName::Sample => {
                 Form::of(
                     "sample",
@@ -195,6 +227,15 @@ impl CommandName {
                 &[OptionName::Draws, OptionName::Nodes],
             ),
             CommandName::Report => Form::of("report", &[SESSION], &[]),
+            CommandName::Poll => Form::of("poll", &[MANIFEST, ASSERTIONS, SEEN], &POLL_OPTIONS),
+            CommandName::OpenPlurality => {
+                Form::of("plurality", &[BALLOTS, MANIFEST], &OPEN_PLURALITY_OPTIONS)
+            }
+            CommandName::AuditPlurality => Form::of(
+                "plurality",
+                &[SESSION, BALLOTS, MANIFEST, SEEN],
+                &[OptionName::Draws],
+            ),
             CommandName::Trial => Form::of("trial", &[], &TRIAL_OPTIONS),
         }
     }

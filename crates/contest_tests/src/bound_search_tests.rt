@@ -108,8 +108,8 @@ fn race_of<R: AllocGlobal + Threads + Sync, G: Gate + Sync>(
     }
 }
 
-// The order 1, 0, 2 has 1 against it. The piece 0, 2 is expanded; the last is where a worker takes it
-// before the order is found.
+// The order 1, 0, 2 has 1 against it. The piece 0, 2 is expanded; the last is where another worker takes it before the order is
+// found.
 fn is_found<R: AllocGlobal + Threads + Sync, G: Gate + Sync>(
     rt: &R,
     workers: u32,
@@ -130,7 +130,7 @@ fn is_found<R: AllocGlobal + Threads + Sync, G: Gate + Sync>(
                 && end.pieces[0].expanded == 0
                 && end.pieces[1].expanded == 0
                 && end.pieces[2].expanded == 1
-                && end.pieces[3].expanded <= 1
+                && (end.pieces[3].expanded == 0 || workers > 1 && end.pieces[3].expanded == 1)
                 && end.workers.len() == workers as usize
         }
         Err(_) => false,

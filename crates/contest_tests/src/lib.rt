@@ -9,6 +9,8 @@ mod bound_search_tests;
 #[cfg(test)]
 mod certifier_tests;
 #[cfg(test)]
+mod contest_search_tests;
+#[cfg(test)]
 mod contests;
 #[cfg(test)]
 mod cover_checker_tests;

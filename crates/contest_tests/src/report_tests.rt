@@ -7,7 +7,11 @@ use assertions::Assertion;
 use ballot_reader::{Ballots, read_ballots};
 use irv_base::{CandSet, Name, Order};
 use irv_tabulator::{TabFault, Tabulated, tabulate};
-use report::{assertion_text, order_text, set_text, tabulation};
+use km_risk::Counts;
+use report::{
+    add_risk, assertion_text, counts_text, order_text, set_text, spent_at, spent_text, state_text,
+    tabulation, tie_text,
+};
 use set_tallies::{Ahead, Bag, Tallies};
 use std::thread::Threads;
 
@@ -87,4 +91,38 @@ fn assertions_of_two(rt: HostRuntime) {
     };
     let text = assertion_text(rt.alloc(), names.as_slice(), &nen).expect(&rt, "NEN");
     assert!(rt; text.as_str() == "NEN B A {A,B}");
+}
+
+#[test]
+fn ends_of_three(rt: HostRuntime) {
+    let one = Name::read(b"1".as_slice()).expect(&rt, "name");
+    let two = Name::read(b"2".as_slice()).expect(&rt, "name");
+    let three = Name::read(b"3".as_slice()).expect(&rt, "name");
+    let names = [one, two, three];
+    let tied = CandSet::empty().with(ONE).with(TWO);
+    let text = tie_text(rt.alloc(), names.as_slice(), 1, tied, 4).expect(&rt, "tie");
+    assert!(rt; text.as_str() == "tie\nround 1\ntied 2,3\ntally 4\n");
+    let order = Order::read(3, [1, 0, 2].as_slice()).expect(&rt, "order");
+    let text = spent_text(rt.alloc(), names.as_slice(), TWO, &order, 1).expect(&rt, "spent");
+    assert!(rt; text.as_str() == "spent\ncandidate 3\norder 2,1,3\nmargin 1\n");
+    let text = spent_at(rt.alloc(), "3").expect(&rt, "spent");
+    assert!(rt; text.as_str() == "spent\ncandidate 3\n");
+}
+
+#[test]
+fn risk_and_counts(rt: HostRuntime) {
+    let counts = Counts {
+        n0: 0,
+        n1: 1,
+        n2: 23,
+        n3: 4,
+        n4: 0,
+    };
+    let mut text = counts_text(rt.alloc(), &counts).expect(&rt, "counts");
+    assert!(rt; text.as_str() == "0 1 23 4 0");
+    text.push_str(" ").expect(&rt, "blank");
+    add_risk(&mut text, 88_518_543_815_313_162).expect(&rt, "risk");
+    assert!(rt; text.as_str() == "0 1 23 4 0 0.088518543815313162");
+    assert!(rt; state_text(true) == "confirmed");
+    assert!(rt; state_text(false) == "unconfirmed");
 }

@@ -23,7 +23,7 @@ pos-same : (m k : ℕ) → pos m ≡ pos k → m ≡ k
 pos-same m k e = omega (arith, ints)
 
 -- a margin above 0 is that of a true assertion
-its-margin : (records : List (List ℕ)) (claim : Claim) → 1 ≤ claim.margin → HasItsMargin records claim → claim.margin ≡ true_margin records claim.assertion
+pub its-margin : (records : List (List ℕ)) (claim : Claim) → 1 ≤ claim.margin → HasItsMargin records claim → claim.margin ≡ true_margin records claim.assertion
 its-margin records claim some e =
     let t = true_margin_is records claim.assertion in
     let above : pos 0 <ℤ margin records claim.assertion = omega (arith, ints) in

@@ -16,3 +16,4 @@ mod unrefuted;
 pub use checked::{CheckFault, Checked};
 pub use checks::check;
 pub use cover::{CoverFault, Verdict, covered};
+pub use index::Index;

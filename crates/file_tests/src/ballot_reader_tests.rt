@@ -1,4 +1,7 @@
 // Tests of `ballot_reader`: ballot files as an office may export them, and what is refused.
+mod contests;
+mod rankings;
+
 use ballot_reader::{BRule, BallotFault, read_ballots};
 use irv_base::{Candidate, Name};
 

@@ -1,9 +1,11 @@
 // Tests of `command_line`: lines, words that are none, and what a line asks for.
+mod polling;
+
 use command_line::{Command, is_line, read};
 use std::alloc::{AllocError, Global};
 use std::test::Fail;
 
-fn words(alloc: Global, line: &str) -> Result<Vec<String>, AllocError> {
+pub(crate) fn words(alloc: Global, line: &str) -> Result<Vec<String>, AllocError> {
     let mut words = Vec::new(alloc);
     for word in line.split(' ') {
         words.push(String::from_str(alloc, word)?)?;
@@ -11,7 +13,7 @@ fn words(alloc: Global, line: &str) -> Result<Vec<String>, AllocError> {
     Ok(words)
 }
 
-fn is_taken(alloc: Global, line: &str) -> Result<bool, AllocError> {
+pub(crate) fn is_taken(alloc: Global, line: &str) -> Result<bool, AllocError> {
     let words = words(alloc, line)?;
     Ok(is_line(words.as_slice()))
 }
@@ -138,23 +140,17 @@ fn reads_a_search(rt: HostRuntime) -> Result<(), Fail> {
         "search --contest 1 row1.raire --nodes=08 --workers 2",
     )?;
     let command = read(rt.alloc(), words.as_slice()).expect(&rt, "memory");
-    let Some(
-        Command::Search {
-            ballots,
-            contest,
-            workers,
-            nodes,
-            floor,
-        },
-    ) = command
-    else {
+    let Some(Command::Search(task)) = command else {
         panic!(rt; "no search");
     };
-    assert!(rt; ballots.as_str() == "row1.raire");
-    assert!(rt; contest.is_some_and(|name| name.bytes() == b"1".as_slice()));
-    assert!(rt; workers == 2);
-    assert!(rt; nodes == 8);
-    assert!(rt; floor == 1);
+    assert!(rt; task.ballots.as_str() == "row1.raire");
+    assert!(rt;
+        task.contest
+            .is_some_and(|name| name.bytes() == b"1".as_slice())
+    );
+    assert!(rt; task.workers == 2);
+    assert!(rt; task.nodes == 8);
+    assert!(rt; task.floor == 1);
     Ok(())
 }
 
@@ -162,19 +158,15 @@ fn reads_a_search(rt: HostRuntime) -> Result<(), Fail> {
 fn reads_a_tabulation(rt: HostRuntime) -> Result<(), Fail> {
     let words = words(rt.alloc(), "tabulate row1.raire --nodes 3 --contest=7")?;
     let command = read(rt.alloc(), words.as_slice()).expect(&rt, "memory");
-    let Some(
-        Command::Tabulate {
-            ballots,
-            contest,
-            nodes,
-        },
-    ) = command
-    else {
+    let Some(Command::Tabulate(task)) = command else {
         panic!(rt; "no tabulation");
     };
-    assert!(rt; ballots.as_str() == "row1.raire");
-    assert!(rt; contest.is_some_and(|name| name.bytes() == b"7".as_slice()));
-    assert!(rt; nodes == 3);
+    assert!(rt; task.ballots.as_str() == "row1.raire");
+    assert!(rt;
+        task.contest
+            .is_some_and(|name| name.bytes() == b"7".as_slice())
+    );
+    assert!(rt; task.nodes == 3);
     Ok(())
 }
 
@@ -182,21 +174,13 @@ fn reads_a_tabulation(rt: HostRuntime) -> Result<(), Fail> {
 fn reads_a_check(rt: HostRuntime) -> Result<(), Fail> {
     let words = words(rt.alloc(), "check --nodes 3 row1.raire f.json")?;
     let command = read(rt.alloc(), words.as_slice()).expect(&rt, "memory");
-    let Some(
-        Command::Check {
-            ballots,
-            assertions,
-            contest,
-            nodes,
-        },
-    ) = command
-    else {
+    let Some(Command::Check(task)) = command else {
         panic!(rt; "no check");
     };
-    assert!(rt; ballots.as_str() == "row1.raire");
-    assert!(rt; assertions.as_str() == "f.json");
-    assert!(rt; contest.is_none());
-    assert!(rt; nodes == 3);
+    assert!(rt; task.ballots.as_str() == "row1.raire");
+    assert!(rt; task.assertions.as_str() == "f.json");
+    assert!(rt; task.contest.is_none());
+    assert!(rt; task.nodes == 3);
     Ok(())
 }
 
@@ -204,19 +188,12 @@ fn reads_a_check(rt: HostRuntime) -> Result<(), Fail> {
 fn reads_a_sample(rt: HostRuntime) -> Result<(), Fail> {
     let words = words(rt.alloc(), "sample --draws 07 m.csv --seed=20,24")?;
     let command = read(rt.alloc(), words.as_slice()).expect(&rt, "memory");
-    let Some(
-        Command::Sample {
-            manifest,
-            seed,
-            draws,
-        },
-    ) = command
-    else {
+    let Some(Command::Sample(task)) = command else {
         panic!(rt; "no sample");
     };
-    assert!(rt; manifest.as_str() == "m.csv");
-    assert!(rt; seed.text() == "20,24");
-    assert!(rt; draws == 7);
+    assert!(rt; task.manifest.as_str() == "m.csv");
+    assert!(rt; task.seed.text() == "20,24");
+    assert!(rt; task.draws == 7);
     Ok(())
 }
 
@@ -224,21 +201,13 @@ fn reads_a_sample(rt: HostRuntime) -> Result<(), Fail> {
 fn reads_a_plan(rt: HostRuntime) -> Result<(), Fail> {
     let words = words(rt.alloc(), "plan m.csv --gamma 9 f.json")?;
     let command = read(rt.alloc(), words.as_slice()).expect(&rt, "memory");
-    let Some(
-        Command::Plan {
-            manifest,
-            assertions,
-            limit,
-            gamma,
-        },
-    ) = command
-    else {
+    let Some(Command::Plan(task)) = command else {
         panic!(rt; "no plan");
     };
-    assert!(rt; manifest.as_str() == "m.csv");
-    assert!(rt; assertions.as_str() == "f.json");
-    assert!(rt; limit == 50_000);
-    assert!(rt; gamma == 9);
+    assert!(rt; task.manifest.as_str() == "m.csv");
+    assert!(rt; task.assertions.as_str() == "f.json");
+    assert!(rt; task.limit == 50_000);
+    assert!(rt; task.gamma == 9);
     Ok(())
 }
 
@@ -249,29 +218,17 @@ fn reads_an_opening(rt: HostRuntime) -> Result<(), Fail> {
         "open a.raire --seed 2024 m.csv --gamma 9 f.json --nodes=8",
     )?;
     let command = read(rt.alloc(), words.as_slice()).expect(&rt, "memory");
-    let Some(
-        Command::Open {
-            ballots,
-            manifest,
-            assertions,
-            seed,
-            contest,
-            limit,
-            gamma,
-            nodes,
-        },
-    ) = command
-    else {
+    let Some(Command::Open(task)) = command else {
         panic!(rt; "no opening");
     };
-    assert!(rt; ballots.as_str() == "a.raire");
-    assert!(rt; manifest.as_str() == "m.csv");
-    assert!(rt; assertions.as_str() == "f.json");
-    assert!(rt; seed.text() == "2024");
-    assert!(rt; contest.is_none());
-    assert!(rt; limit == 50_000);
-    assert!(rt; gamma == 9);
-    assert!(rt; nodes == 8);
+    assert!(rt; task.ballots.as_str() == "a.raire");
+    assert!(rt; task.manifest.as_str() == "m.csv");
+    assert!(rt; task.assertions.as_str() == "f.json");
+    assert!(rt; task.seed.text() == "2024");
+    assert!(rt; task.contest.is_none());
+    assert!(rt; task.limit == 50_000);
+    assert!(rt; task.gamma == 9);
+    assert!(rt; task.nodes == 8);
     Ok(())
 }
 
@@ -282,27 +239,16 @@ fn reads_an_audit(rt: HostRuntime) -> Result<(), Fail> {
         "audit s.json a.raire m.csv --draws 4 -- f.json v.csv",
     )?;
     let command = read(rt.alloc(), words.as_slice()).expect(&rt, "memory");
-    let Some(
-        Command::Audit {
-            session,
-            ballots,
-            manifest,
-            assertions,
-            seen,
-            draws,
-            nodes,
-        },
-    ) = command
-    else {
+    let Some(Command::Audit(task)) = command else {
         panic!(rt; "no audit");
     };
-    assert!(rt; session.as_str() == "s.json");
-    assert!(rt; ballots.as_str() == "a.raire");
-    assert!(rt; manifest.as_str() == "m.csv");
-    assert!(rt; assertions.as_str() == "f.json");
-    assert!(rt; seen.as_str() == "v.csv");
-    assert!(rt; draws == 4);
-    assert!(rt; nodes == 100_000);
+    assert!(rt; task.session.as_str() == "s.json");
+    assert!(rt; task.ballots.as_str() == "a.raire");
+    assert!(rt; task.manifest.as_str() == "m.csv");
+    assert!(rt; task.assertions.as_str() == "f.json");
+    assert!(rt; task.seen.as_str() == "v.csv");
+    assert!(rt; task.draws == 4);
+    assert!(rt; task.nodes == 100_000);
     Ok(())
 }
 
@@ -310,10 +256,10 @@ fn reads_an_audit(rt: HostRuntime) -> Result<(), Fail> {
 fn reads_a_report(rt: HostRuntime) -> Result<(), Fail> {
     let words = words(rt.alloc(), "report s.json")?;
     let command = read(rt.alloc(), words.as_slice()).expect(&rt, "memory");
-    let Some(Command::Report { session }) = command else {
+    let Some(Command::Report(task)) = command else {
         panic!(rt; "no report");
     };
-    assert!(rt; session.as_str() == "s.json");
+    assert!(rt; task.session.as_str() == "s.json");
     Ok(())
 }
 
@@ -321,22 +267,13 @@ fn reads_a_report(rt: HostRuntime) -> Result<(), Fail> {
 fn reads_a_trial(rt: HostRuntime) -> Result<(), Fail> {
     let words = words(rt.alloc(), "trial --candidates=3 --number 0 --workers 2")?;
     let command = read(rt.alloc(), words.as_slice()).expect(&rt, "memory");
-    let Some(
-        Command::Trial {
-            number,
-            candidates,
-            ballots,
-            workers,
-            nodes,
-        },
-    ) = command
-    else {
+    let Some(Command::Trial(task)) = command else {
         panic!(rt; "no trial");
     };
-    assert!(rt; number == 0);
-    assert!(rt; candidates == 3);
-    assert!(rt; ballots == 10_000);
-    assert!(rt; workers == 2);
-    assert!(rt; nodes == 100_000);
+    assert!(rt; task.number == 0);
+    assert!(rt; task.candidates == 3);
+    assert!(rt; task.ballots == 10_000);
+    assert!(rt; task.workers == 2);
+    assert!(rt; task.nodes == 100_000);
     Ok(())
 }

@@ -19,6 +19,4 @@ mod seen_file_tests;
 #[cfg(test)]
 mod session_file_tests;
 #[cfg(test)]
-mod session_text_tests;
-#[cfg(test)]
 mod texts;

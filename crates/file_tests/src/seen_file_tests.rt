@@ -1,4 +1,6 @@
 // Tests of `seen_file`: seen files as an office may write them, and what is refused.
+mod records;
+
 use assorters::Seen;
 use irv_base::{Candidate, Name};
 use manifest::read_manifest;

@@ -1,3 +1,4 @@
+pub mod BatchTable
 pub mod Numbers
 pub mod Pairs
 pub mod Judged

@@ -2,6 +2,7 @@ pub mod Cards
 pub mod Manifest
 pub mod Spelling
 pub mod Faults
+pub mod BatchIds
 pub mod Firsts
 pub mod Laws
 pub mod Linked

@@ -7,11 +7,11 @@ ghost use Rattle.manifest.specs.Cards.{is_batch_id};
 ghost use Rattle.manifest.specs.Manifest.{batch_of, batch_with, is_header};
 ghost use Rattle.irv_base.specs.declared.limits.TheConstants.{MOST_CARDS};
 
+use crate::batch_ids::BatchIds;
 use crate::fault::MRule;
 use crate::limits::{MOST_BATCH_BYTES, MOST_BATCH_CARDS};
 use csv::ByteRecord;
 use csv_rows::{number_of, trimmed};
-use indexmap::IndexSet;
 use irv_base::{MOST_CARDS, Name};
 
 /// A batch: its id, and how many cards it has.
@@ -74,9 +74,9 @@ fn batch_with(id: Name, others: u32, number: &[u8]) -> Result<Batch, MRule>
 }
 
 /// The batch of a record, or the first rule that the record breaks, after batches with these ids and so many cards.
-pub fn batch_of(ids: &IndexSet<Name>, others: u32, row: &ByteRecord) -> Result<Batch, MRule>
+pub fn batch_of(ids: &BatchIds, others: u32, row: &ByteRecord) -> Result<Batch, MRule>
     requires { others ≤ MOST_CARDS }
-    ensures { result ≡ batch_of ids.now.keys others (trimmed_fields (fields_of row.now)) }
+    ensures { result ≡ batch_of ids.now others (trimmed_fields (fields_of row.now)) }
 {
     let Some((id, number)) = pair_of(row) else {
         return Err(MRule::M2);
@@ -84,7 +84,7 @@ pub fn batch_of(ids: &IndexSet<Name>, others: u32, row: &ByteRecord) -> Result<B
     let Some(id) = batch_id(id) else {
         return Err(MRule::M4);
     };
-    if ids.contains(&id) {
+    if ids.index_of(&id).is_some() {
         return Err(MRule::M4);
     }
     batch_with(id, others, number)

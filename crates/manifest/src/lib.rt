@@ -2,6 +2,7 @@
 #![tactic(auto)]
 
 mod batch;
+mod batch_ids;
 mod card;
 pub mod examples;
 mod fault;

@@ -7,10 +7,9 @@ ghost use Rattle.irv_base.specs.declared.limits.TheConstants.{MOST_CARDS};
 ghost use Rattle.manifest.specs.Firsts.{IsManifest};
 
 use crate::batch::batch_id;
+use crate::batch_ids::BatchIds;
 use crate::card::Card;
 use crate::number::card_number;
-use indexmap::IndexSet;
-use irv_base::Name;
 use std::marker::Model;
 
 /// A ballot manifest: batches of cards, whose ids are all different.
@@ -21,7 +20,7 @@ use std::marker::Model;
 /// To a contract it is the record of the batches' ids and of their numbers of cards.
 #[derive(Drop)]
 pub struct Manifest {
-    ids: IndexSet<Name>,
+    ids: BatchIds,
     counts: Vec<u32>,
     // the number of each batch's first card
     firsts: Vec<u32>,
@@ -34,9 +33,9 @@ impl Model for Manifest {
 
     ghost Value = { Batches };
 
-    ghost view = { λ m. record { ids = m.ids.keys; counts = m.counts.items } };
+    ghost view = { λ m. record { ids = m.ids; counts = m.counts.items } };
 
-    ghost invariant = { λ m. IsManifest m.ids.keys m.counts.items m.firsts.items m.cards };
+    ghost invariant = { λ m. IsManifest m.ids m.counts.items m.firsts.items m.cards };
 }
 
 // The bytes before the last underscore, and those after it.
@@ -96,14 +95,9 @@ fn batch_of_card(firsts: &[u32], i: u32) -> usize
 }
 
 impl Manifest {
-    pub(crate) fn new(
-        ids: IndexSet<Name>,
-        counts: Vec<u32>,
-        firsts: Vec<u32>,
-        cards: u32,
-    ) -> Manifest
-        requires { IsManifest ids.keys counts.items firsts.items cards }
-        ensures { result ≡ record { ids = ids.keys; counts = counts.items } }
+    pub(crate) fn new(ids: BatchIds, counts: Vec<u32>, firsts: Vec<u32>, cards: u32) -> Manifest
+        requires { IsManifest ids counts.items firsts.items cards }
+        ensures { result ≡ record { ids = ids; counts = counts.items } }
     {
         Manifest {
             ids,
@@ -131,7 +125,7 @@ impl Manifest {
     {
         let batch = batch_of_card(self.firsts.as_slice(), i);
         Card {
-            batch: self.ids.as_slice()[batch],
+            batch: self.ids.at(batch),
             k: i - self.firsts[batch] + 1,
         }
     }
@@ -145,7 +139,7 @@ impl Manifest {
         let Some(card) = card_named(id) else {
             return None;
         };
-        let Some(i) = ids.get_index_of(&card.batch) else {
+        let Some(i) = ids.index_of(&card.batch) else {
             return None;
         };
         if card.k > self.counts[i] {

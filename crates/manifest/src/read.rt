@@ -5,19 +5,23 @@ ghost use Rattle.manifest.specs.Faults.{Refuses};
 ghost use Rattle.manifest.specs.Manifest.{batches_after, manifest_of};
 
 use crate::batch::{batch_of, is_header};
+use crate::batch_ids::BatchIds;
 use crate::fault::{MRule, ManifestFault};
 use crate::manifest::Manifest;
 use csv::ByteRecord;
 use csv_rows::{Rows, without_mark};
-use indexmap::IndexSet;
 use std::alloc::Global;
 
 // The record of the first batch, counted from 1: the header stands before it.
 const FIRST_BATCH: u32 = 2;
 
+// So many bytes of a file have a place in the table of ids. A record has several times as many, so most ids have a place alone.
+const BYTES_A_PLACE: usize = 2;
+
 // The manifest of the batches in the records that are left.
 fn batches_left(
     alloc: Global,
+    bytes: usize,
     rows: &mut Rows<'_>,
     row: &mut ByteRecord,
 ) -> Result<Manifest, ManifestFault>
@@ -25,7 +29,7 @@ fn batches_left(
         batches_after [] [] 2 (numbered rows.old) ≡ Ok manifest) }
     ensures refused { IfErr result (Refuses (batches_after [] [] 2 (numbered rows.old))) }
 {
-    let mut ids = IndexSet::new(alloc);
+    let mut ids = BatchIds::nothing(alloc, bytes / BYTES_A_PLACE)?;
     let mut counts = Vec::new(alloc);
     let mut firsts = Vec::new(alloc);
     let mut cards = 0;
@@ -39,7 +43,7 @@ fn batches_left(
                 });
             }
         };
-        ids.insert(batch.id)?;
+        ids.push(batch.id)?;
         counts.push(batch.cards)?;
         firsts.push(cards + 1)?;
         cards += batch.cards;
@@ -75,5 +79,5 @@ pub fn read_manifest(alloc: Global, bytes: &[u8]) -> Result<Manifest, ManifestFa
             at: 1,
         });
     }
-    batches_left(alloc, &mut rows, &mut row)
+    batches_left(alloc, bytes.len(), &mut rows, &mut row)
 }

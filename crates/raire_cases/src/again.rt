@@ -26,7 +26,7 @@ pub fn go_on(
         ≡ map (λ claim. claim.margin) file.now.claims }
     requires some { 1 ≤ draws }
     requires most { draws ≤ MOST_DRAWS }
-    ensures gone { GoesOn trying.old.session file.now.claims linked.now seen.now draws result
+    ensures gone { GoesOn trying.old.session file.now linked.now seen.now draws result
         trying.new.session }
     ensures twice { result ≡ Err Memory → trying.new.tries ≡ 2 }
 {

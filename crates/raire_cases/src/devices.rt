@@ -15,7 +15,7 @@ const CALLS: u32 = 3;
 const NARROW: usize = 7;
 
 // A call that has an answer: its words, its status, and the files that it reads, first read first.
-const ANSWERED: [(&str, u8, &[&str]); 14] = [
+const ANSWERED: [(&str, u8, &[&str]); 18] = [
     ("search row1.raire", 0, &["row1.raire"]),
     ("search tie.raire", 3, &["tie.raire"]),
     ("search row1.raire --nodes 1", 4, &["row1.raire"]),
@@ -62,6 +62,26 @@ const ANSWERED: [(&str, u8, &[&str]); 14] = [
         ],
     ),
     ("report signed_off.json", 0, &["signed_off.json"]),
+    (
+        "poll m.csv one_card.json seen.csv --seed 2024 --draws 5",
+        0,
+        &["m.csv", "one_card.json", "seen.csv"],
+    ),
+    (
+        "poll m.csv nothing.json seen.csv --seed 1 --draws 1",
+        6,
+        &["m.csv", "nothing.json"],
+    ),
+    (
+        "plurality one_card.raire m.csv --seed 2024",
+        0,
+        &["one_card.raire", "m.csv"],
+    ),
+    (
+        "plurality plural.json one_card.raire m.csv seen.csv --draws 4",
+        10,
+        &["plural.json", "one_card.raire", "m.csv", "seen.csv"],
+    ),
 ];
 
 // A call that is refused: its words, the call of the desk that fails, or 0, and its status.

@@ -19,6 +19,10 @@ mod devices;
 #[cfg(test)]
 mod plain;
 #[cfg(test)]
+mod plurality_table;
+#[cfg(test)]
+mod poll_table;
+#[cfg(test)]
 mod session_table;
 #[cfg(test)]
 mod table;
@@ -26,4 +30,6 @@ mod table;
 mod tie_table;
 #[cfg(test)]
 mod together;
+#[cfg(test)]
+mod trims;
 pub mod trying;

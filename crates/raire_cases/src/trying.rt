@@ -40,7 +40,7 @@ impl Trying {
         requires some { 1 ≤ draws }
         requires most { draws ≤ MOST_DRAWS }
         ensures counted { self.new.tries ≡ self.old.tries + 1 }
-        ensures gone { GoesOn self.old.session file.now.claims linked.now seen.now draws result
+        ensures gone { GoesOn self.old.session file.now linked.now seen.now draws result
             self.new.session }
     {
         self.tries += 1;

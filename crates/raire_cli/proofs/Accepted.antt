@@ -1,23 +1,24 @@
 -- Status 0 of a check comes with an assertion file that holds of the ballots.
-use Rattle.std.proofs.Common.{◌≡◌, ℕ, List, Some, Result, Ok, Err, refl, subst}
-use Rattle.desk.specs.Desk.{File, held_bytes}
+use Rattle.std.proofs.Common.{◌≡◌, ℕ, List, Some, Ok, Err, refl, subst}
+use Rattle.desk.specs.Desk.{File}
 use Rattle.ballot_reader.specs.Ballots.{BallotFile}
-use Rattle.ballot_reader.specs.Grammar.{Refusal, ballots_of}
+use Rattle.ballot_reader.specs.Grammar.{ballots_of}
 use Rattle.assertion_file.specs.Content.{Content}
-use Rattle.assertion_file.specs.Reading.{Refusal as FileRefusal, assertion_file_of}
+use Rattle.assertion_file.specs.Reading.{assertion_file_of}
 use Rattle.cover_checker.specs.Checks.{IsAnswer}
 use Rattle.cover_checker.specs.Findings.{Answer}
 use Rattle.cover_checker.proofs.Held.{accepted_iff_holds}
 use Rattle.cover_checker.specs.declared.checked.Checked.TheVariants.{OtherContest, OtherWinner, OtherMargin, Stands, NotLeast, NotAlternative, Harder, Accepted}
 use Rattle.cover_checker.specs.declared.checked.CheckFault.TheVariants.{Spent, Memory}
 use Rattle.cli_base.specs.Outcome.{Answered}
-use Rattle.cli_base.specs.Script.{AsHeld, Concludes, ComesTo}
+use Rattle.cli_base.specs.Script.{Script, Ends, AsHeld, ComesTo}
 use Rattle.cli_base.specs.declared.outcome.AnswerKind.TheVariants.{Done}
-use Rattle.contest_commands.specs.Check.{yes_text, verdict_on, ChecksIn, check_after}
+use Rattle.check_command.specs.Check.{yes_text, verdict_on, Checks, after_ballots}
+use Rattle.input_files.specs.Refusals.{refused_assertions, refused_ballots}
 use Rattle.assertion_file.proofs.SoundFiles.{read_is_sound}
-use Rattle.raire_cli.specs.Acceptance.{AsksForCheck, HoldsAsked}
+use Rattle.raire_cli.specs.Acceptance.{AsksForCheck, HasAssertions, HasBallots, HoldsAsked}
 use Rattle.raire_cli.specs.Answers.{asked, asked_by}
-use Rattle.raire_cli.proofs.Headline.{held_whole}
+use Rattle.raire_cli.proofs.Said.{said}
 
 -- `yes` is told of a file that is accepted
 pub accepted_answer : (file : Content) (answer : Answer) (text : List ℕ) → verdict_on file answer ≡ Some (Answered Done text) → answer ≡ Ok Accepted
@@ -40,33 +41,27 @@ module _ (words : List (List ℕ)) (files : List File) (asks : AsksForCheck word
   abbrev Held : Type 0
   Held = (file : Content) × HoldsAsked words files file × (text ≡ yes_text file)
 
-  by_file : (bytes more : List ℕ) (ballots : BallotFile) (read : Result Content FileRefusal) → held_bytes asks.ballots files ≡ Some bytes →
-      ballots_of bytes asks.contest ≡ Ok ballots →
-      held_bytes asks.assertions files ≡ Some more → assertion_file_of more ≡ read → ChecksIn asks.nodes ballots asks.assertions read (Answered Done text) →
-      Held
-  by_file bytes more ballots (Err refusal) held accepted held' is refused = absurd (cc refused)
-  by_file bytes more ballots (Ok file) held accepted held' is (answer, found, told) =
+  -- a check that says yes accepts its file, which was read
+  accepts : (ballots : BallotFile) → HasBallots asks files ballots → (file : Content) → HasAssertions asks files file →
+      Checks asks.task.nodes ballots file (Answered Done text) → Held
+  accepts ballots of_ballots file of_file (answer, found, told) =
       let yes = accepted_answer file answer text told in
-      let holds = (accepted_iff_holds asks.nodes ballots file Accepted (read_is_sound more file is) (subst (IsAnswer asks.nodes ballots file) yes found)).0
-      refl in (
+      let sound = read_is_sound of_file.bytes file of_file.accepted in
+      let holds = (accepted_iff_holds asks.task.nodes ballots file Accepted sound (subst (IsAnswer asks.task.nodes ballots file) yes found)).0 refl in (
         file,
-        record {
-          asks = asks;
-          ballots = ballots;
-          of_ballots = record { bytes = bytes; held = held; accepted = accepted };
-          of_assertions = record { bytes = more; held = held'; accepted = is };
-          holds = holds;
-        },
+        record { asks = asks; ballots = ballots; of_ballots = of_ballots; of_assertions = of_file; holds = holds },
         yes_is file text (subst (λ a. verdict_on file a ≡ Some (Answered Done text)) yes told),
       )
 
-  by_ballots : (bytes : List ℕ) (read : Result BallotFile Refusal) → held_bytes asks.ballots files ≡ Some bytes → ballots_of bytes asks.contest ≡ read →
-      Concludes (AsHeld files) (check_after asks.nodes asks.ballots asks.assertions read) (Answered Done text) → Held
-  by_ballots bytes (Err refusal) held is refused = absurd (cc refused)
-  by_ballots bytes (Ok ballots) held is (more, there, checks) =
-      by_file bytes more ballots (assertion_file_of more) held is (held_whole (held_bytes asks.assertions files) more there) refl checks
+  abbrev with_ballots : List ℕ → BallotFile → Script
+  with_ballots bytes ballots = after_ballots asks.task.assertions asks.task.nodes ballots
 
   pub held_of : ComesTo (AsHeld files) (asked words) (Answered Done text) → Held
   held_of comes =
-      let (bytes, there, rest) = subst (λ command. ComesTo (AsHeld files) (asked_by command) (Answered Done text)) asks.asked comes in
-      by_ballots bytes (ballots_of bytes asks.contest) (held_whole (held_bytes asks.ballots files) bytes there) refl rest
+      let task = asks.task in
+      let is = said files task.ballots (refused_ballots task.ballots) (λ bytes. ballots_of bytes task.contest) with_ballots Done text (λ why. tt)
+      (subst (λ command. ComesTo (AsHeld files) (asked_by command) (Answered Done text)) asks.asked comes) in
+      let its = said files task.assertions (refused_assertions task.assertions) assertion_file_of (λ bytes file. Ends (Checks task.nodes is.value file)) Done
+      text (λ why. tt) is.rest in
+      accepts is.value (record { bytes = is.bytes; held = is.held; accepted = is.is }) its.value
+      (record { bytes = its.bytes; held = its.held; accepted = its.is }) its.rest

@@ -7,7 +7,7 @@ use Rattle.cli_base.specs.Outcome.{Outcome}
 use Rattle.cli_base.specs.Script.{Script, Read, Ends, AsHeld, May, MayCome, Same, SameButBudget, reading_of}
 use Rattle.cli_base.proofs.Scripts.{determined, some_is}
 use Rattle.command_line.specs.Line.{command_of}
-use Rattle.command_line.specs.declared.command.Command.{Command}
+use Rattle.command_line.specs.declared.commands.Command.{Command}
 use Rattle.raire_cli.specs.Agreement.{HoldTheSame, MayBeSpent, SameFilesSameAnswer}
 use Rattle.raire_cli.specs.Answers.{script_of, asked_by, is_open}
 use Rattle.raire_cli.proofs.EachCommand.{agrees_by, agrees_exactly}

@@ -11,29 +11,39 @@ use Rattle.cli_base.specs.Statuses.{IsUndone, IsQuiet, Exactly, ExactlyInBudget,
 use Rattle.cli_base.specs.Story.{Story}
 use Rattle.cli_base.specs.declared.outcome.AnswerKind.{AnswerKind}
 use Rattle.cli_base.specs.declared.outcome.AnswerKind.TheVariants.{Done, Tie, Spent, FullCount, Unconfirmed}
-use Rattle.session_commands.specs.Audit.{kind_of}
+use Rattle.session_commands.specs.Rounds.{kind_of}
+use Rattle.poll_command.specs.Poll as poll
 use Rattle.cli_base.proofs.Statuses.{status_in}
 use Rattle.cli_base.proofs.Clauses.{statuses_clause, exact_clause, answered_with, undone_is_nine}
 use Rattle.command_line.specs.Line.{command_of, is_line}
-use Rattle.command_line.specs.declared.command.Command.{Command}
+use Rattle.command_line.specs.declared.commands.Command.{Command}
 use Rattle.command_line.proofs.Checked.{have_meanings}
-use Rattle.contest_commands.specs.Check.{yes_text}
-use Rattle.audit_rounds.specs.Content.{Content as SessionContent}
-use Rattle.audit_rounds.specs.Sessions.{is_signed_off}
-use Rattle.session_text.specs.Text.{session_text}
+use Rattle.check_command.specs.Check.{yes_text}
+use Rattle.session_state.specs.Content.{Content as SessionContent}
+use Rattle.session_state.specs.Sessions.{is_signed_off}
+use Rattle.session_file.specs.Text.{session_text}
 use Rattle.raire_cli.specs.Answers.{asked, asked_by, is_open}
 use Rattle.raire_cli.specs.Confirmation.{AsksForSearch, ConfirmsAsked, GivesReason, IsConfirmed, IsReasoned}
 use Rattle.raire_cli.specs.Acceptance.{AsksForCheck, HoldsAsked, IsUpheld}
+use Rattle.raire_cli.specs.Trims.{AsksForTrim, IsTrimmed, IsTrimmedOf}
 use Rattle.raire_cli.specs.Promises.{IsComplete, IsTabulationComplete, IsTrialComplete, IsExactUnlessOpen, HasCause}
 use Rattle.raire_cli.specs.Undecided.{IsTied, IsTieComplete, TellsTie}
 use Rattle.raire_cli.specs.Audits.{AsksForAudit, GoesOn, IsAudited}
+use Rattle.raire_cli.specs.Pluralities.{AsksForPlurality, AsksForPluralRound, IsPluralityAudited, IsPluralityOpened, OpensPlurality, PluralGoesOn}
+use Rattle.raire_cli.specs.PluralityTies.{TellsPluralityTie}
+use Rattle.raire_cli.specs.Polls.{AsksForPoll, IsPollOf, IsPolled, is_confirmed_by, told_of}
 use Rattle.raire_cli.specs.Enough.{AreEnough, Judging, IsNeverSpent, judging_of}
 use Rattle.raire_cli.specs.Openings.{AsksForOpening, Opens, IsOpened}
 use Rattle.raire_cli.proofs.Accepted.{held_of}
+use Rattle.raire_cli.proofs.Trims.{printed_of}
 use Rattle.raire_cli.proofs.Audited.{IsKind, done_signed, goes_on, unconfirmed_not}
 use Rattle.raire_cli.proofs.Enough.{never_spent}
 use Rattle.raire_cli.proofs.Limited.{limited}
 use Rattle.raire_cli.proofs.Opened.{is_opened}
+use Rattle.raire_cli.proofs.PluralAudited.{plural_goes_on}
+use Rattle.raire_cli.proofs.PluralOpened.{plural_is_opened}
+use Rattle.raire_cli.proofs.PluralsLimit.{plural_limited}
+use Rattle.raire_cli.proofs.Polled.{done_confirmed, polled_by, unconfirmed_never}
 use Rattle.raire_cli.proofs.EachCommand.{agrees_by, agrees_exactly, counts_in_full}
 use Rattle.raire_cli.proofs.Complete.{not_spent, has_answer, tried}
 use Rattle.raire_cli.proofs.Headline.{confirms_asked, gives_reason}
@@ -85,7 +95,7 @@ module _ (words : List (List ℕ)) {held : Option (List File)} {failed : Type 0}
 
   pub tied_clause : IsTied held words status out
   tied_clause = if_some held (λ files. status ≡ 3 → (text : List ℕ) × ComesTo (AsHeld files) (asked words) (Answered Tie text) × Took out text)
-      (λ files. status ≡ 3 → (text : List ℕ) × TellsTie words files text × Took out text)
+      (λ files. status ≡ 3 → (text : List ℕ) × (TellsTie words files text ⊎ TellsPluralityTie words files text) × Took out text)
       (λ files answer three.
       let (text, comes, took) = answer three in
       (text, tells_tie words files text comes, took))
@@ -98,6 +108,15 @@ module _ (words : List (List ℕ)) {held : Option (List File)} {failed : Type 0}
       let (text, comes, took) = answer zero in
       let (file, holds, shown) = held_of words files asks text comes in
       (file, holds, subst (Took out) shown took))
+      (answered_with story Done)
+
+  pub trimmed_clause : IsTrimmed held words status out
+  trimmed_clause = if_some held (λ files. status ≡ 0 → (text : List ℕ) × ComesTo (AsHeld files) (asked words) (Answered Done text) × Took out text)
+      (λ files. AsksForTrim words → status ≡ 0 → (left : Content) × IsTrimmedOf words files left × Took out (assertion_file_text left))
+      (λ files answer asks zero.
+      let (text, comes, took) = answer zero in
+      let (left, is, shown) = printed_of words files asks text comes in
+      (left, is, subst (Took out) shown took))
       (answered_with story Done)
 
   pub opened_clause : IsOpened held words status out
@@ -135,6 +154,75 @@ module _ (words : List (List ℕ)) {held : Option (List File)} {failed : Type 0}
           )
       | inr ten ↦
           let (next, on, took, kind-is) = audited-of files Unconfirmed (inr refl) asks (unconfirmed ten) in (
+            next,
+            on,
+            took,
+            (λ zero. absurd (omega (arith, zero, ten)), λ yes. absurd (unconfirmed_not (is_signed_off next.session) kind-is yes)),
+            λ zero. absurd (omega (arith, zero, ten)),
+          )
+    ]
+
+  -- a poll that ends with an answer of this kind
+  polled-of : (files : List File) (kind : AnswerKind) → IsKind kind → AsksForPoll words →
+      (text : List ℕ) × ComesTo (AsHeld files) (asked words) (Answered kind text) × Took out text →
+      (of : IsPollOf words files) × Took out (told_of of) × (kind ≡ poll.kind_of (is_confirmed_by of))
+  polled-of files kind of asks (text, comes, took) =
+      let (made, text-is, kind-is) = polled_by words files asks kind text of comes in
+      (made, subst (Took out) text-is took, kind-is)
+
+  pub polled_clause : IsPolled held words status out
+  polled_clause = by held (answered_with story Done) (answered_with story Unconfirmed) where
+    by : (h : Option (List File)) → IfSome h (λ files. status ≡ 0 → (text : List ℕ) × ComesTo (AsHeld files) (asked words) (Answered Done text)
+        × Took out text) →
+        IfSome h (λ files. status ≡ 10 → (text : List ℕ) × ComesTo (AsHeld files) (asked words) (Answered Unconfirmed text) × Took out text) →
+        IsPolled h words status out
+    by None done unconfirmed = tt
+    by (Some files) done unconfirmed = λ asks status-is. elim status-is [
+      | inl zero ↦
+          let (of, took, kind-is) = polled-of files Done (inl refl) asks (done zero) in
+          (of, took, (λ e. done_confirmed (is_confirmed_by of) kind-is, λ yes. zero))
+      | inr ten ↦
+          let (of, took, kind-is) = polled-of files Unconfirmed (inr refl) asks (unconfirmed ten) in
+          (of, took, (λ zero. absurd (omega (arith, zero, ten)), λ yes. absurd (unconfirmed_never (is_confirmed_by of) kind-is yes)))
+    ]
+
+  -- ---- a plurality contest
+
+  pub opened_plurality_clause : IsPluralityOpened held words status out
+  opened_plurality_clause = if_some held (λ files. status ≡ 0 → (text : List ℕ) × ComesTo (AsHeld files) (asked words) (Answered Done text) × Took out text)
+      (λ files. AsksForPlurality words → status ≡ 0 → (session : SessionContent) × OpensPlurality words files session × Took out (session_text session))
+      (λ files answer asks zero.
+      let (text, comes, took) = answer zero in
+      let (session, opens, shown) = plural_is_opened words files asks text comes in
+      (session, opens, subst (Took out) shown took))
+      (answered_with story Done)
+
+  -- a round that ends with an answer of this kind, and its session
+  plural-of : (files : List File) (kind : AnswerKind) → IsKind kind → AsksForPluralRound words →
+      (text : List ℕ) × ComesTo (AsHeld files) (asked words) (Answered kind text) × Took out text →
+      (next : SessionContent) × (on : PluralGoesOn words files next) × Took out (session_text next) × (kind ≡ kind_of next.session)
+  plural-of files kind of asks (text, comes, took) =
+      let (next, on, text-is, kind-is) = plural_goes_on words files asks kind text of comes in
+      (next, on, subst (Took out) text-is took, kind-is)
+
+  pub audited_plurality_clause : IsPluralityAudited held words status out
+  audited_plurality_clause = by held (answered_with story Done) (answered_with story Unconfirmed) where
+    by : (h : Option (List File)) → IfSome h (λ files. status ≡ 0 → (text : List ℕ) × ComesTo (AsHeld files) (asked words) (Answered Done text)
+        × Took out text) →
+        IfSome h (λ files. status ≡ 10 → (text : List ℕ) × ComesTo (AsHeld files) (asked words) (Answered Unconfirmed text) × Took out text) →
+        IsPluralityAudited h words status out
+    by None done unconfirmed = tt
+    by (Some files) done unconfirmed = λ asks status-is. elim status-is [
+      | inl zero ↦
+          let (next, on, took, kind-is) = plural-of files Done (inl refl) asks (done zero) in (
+            next,
+            on,
+            took,
+            (λ e. done_signed (is_signed_off next.session) kind-is, λ yes. zero),
+            λ e. plural_limited next on (done_signed (is_signed_off next.session) kind-is),
+          )
+      | inr ten ↦
+          let (next, on, took, kind-is) = plural-of files Unconfirmed (inr refl) asks (unconfirmed ten) in (
             next,
             on,
             took,

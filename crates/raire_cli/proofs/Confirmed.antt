@@ -1,8 +1,8 @@
 -- The certificate of a contest confirms its winner.
-use Rattle.std.proofs.Common.{◌≡◌, ℕ, ◌<◌, ◌≤◌, List, All, Contains, Some, sym, ap, subst, refl, arith, ◌∙◌}
+use Rattle.std.proofs.Common.{◌≡◌, ℕ, ◌<◌, ◌≤◌, List, [], ◌∷◌, All, Contains, Some, sym, ap, subst, refl, arith, ◌∙◌}
 use Rattle.std.specs.List.{list_any}
-use Rattle.std.proofs.lemmas.List.Elements.{All-contains}
-use Rattle.irv_base.proofs.Members.{Member, from_list_all, from_list_any, member-map, from_map, contains-from_member, member-from_contains}
+use Rattle.std.proofs.lemmas.List.Elements.{All-contains, All-cons, All-nil}
+use Rattle.irv_base.proofs.Members.{Member, here, there, from_list_all, from_list_any, member-map, from_map, contains-from_member, member-from_contains}
 use Rattle.assertions.specs.declared.assertion.Assertion.{Assertion}
 use Rattle.assertions.specs.declared.assertion.Claim.{Claim}
 use Rattle.assertions.specs.Assertions.{is_proper, is_true, true_margin}
@@ -18,11 +18,14 @@ use Rattle.assertions.proofs.Decided.{decided-positive}
 use Rattle.ballot_reader.specs.Ballots.{BallotFile}
 use Rattle.assertion_file.specs.Content.{Content}
 use Rattle.cli_base.proofs.Scripts.{some_is}
-use Rattle.contest_commands.specs.Contest.{candidate_count}
-use Rattle.contest_commands.specs.Search.{margin_of, certificate_of, IsCertificateOf}
-use Rattle.contest_commands.proofs.Contests.{winner-below}
-use Rattle.contest_commands.proofs.Searches.{each}
+use Rattle.contest_search.specs.Certificate.{margin_of, certificate_of, IsCertificateOfDecided}
+use Rattle.contest_search.specs.Contest.{candidate_count}
+use Rattle.contest_search.proofs.Contests.{winner-below}
 use Rattle.raire_cli.specs.Confirmation.{ClaimHolds, Confirms, IsLeast}
+
+each : {X : Type 0} (P : X → Type 0) (xs : List X) → ((x : X) → Member x xs → P x) → All P xs
+each P [] h = All-nil P
+each P (x ∷ xs) h = All-cons P x xs (h x here) (each P xs (λ y m. h y (there m)))
 
 module _ (n : ℕ) (records : List (List ℕ)) (winner : ℕ) where
   listed : (claim : Claim) → Member claim (certificate_claims n records winner) → (a : Assertion) × Member a (certificate_assertions n records winner)
@@ -85,12 +88,12 @@ confirmed n records winner file below two positive c =
       };
     }
 
-pub certificate-positive : (ballots : BallotFile) (file : Content) → 1 < candidate_count ballots → (c : IsCertificateOf ballots file) →
+pub certificate-positive : (ballots : BallotFile) (file : Content) → 1 < candidate_count ballots → (c : IsCertificateOfDecided ballots file) →
     1 ≤ margin_of ballots c.winner
 certificate-positive ballots file two c =
     decided-positive (candidate_count ballots) c.winner ballots.rankings (winner-below ballots c.winner c.won) two c.decided
 
-pub certificate-confirms : (ballots : BallotFile) (file : Content) → 1 < candidate_count ballots → (c : IsCertificateOf ballots file) →
+pub certificate-confirms : (ballots : BallotFile) (file : Content) → 1 < candidate_count ballots → (c : IsCertificateOfDecided ballots file) →
     Confirms (candidate_count ballots) ballots.rankings c.winner file
 certificate-confirms ballots file two c =
     let n = candidate_count ballots in

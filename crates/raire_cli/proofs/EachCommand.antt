@@ -1,55 +1,94 @@
 -- What is known of every command: a row each.
-use Rattle.std.proofs.Common.{◌≡◌, inl, inr, ℕ, List, Option, Some, None, false, refl}
-use Rattle.cli_base.specs.Outcome.{Answered}
+use Rattle.std.proofs.Common.{◌≡◌, inl, ℕ, List, Bool, true, false, Option, Some, None, refl, subst}
+use Rattle.cli_base.specs.Outcome.{Outcome, Answered}
 use Rattle.cli_base.specs.Script.{Script, Readings, Agree, AgreeOn, AreOfKind, ComesTo, Concludes, Same, SameButBudget}
 use Rattle.cli_base.specs.declared.outcome.AnswerKind.{AnswerKind}
 use Rattle.cli_base.specs.declared.outcome.AnswerKind.TheVariants.{Tie, FullCount}
+use Rattle.cli_base.proofs.AmongKinds.{is_among, not_among}
 use Rattle.cli_base.proofs.Scripts.{agree-weaker, of_kind}
 use Rattle.command_line.specs.Line.{command_of}
-use Rattle.command_line.specs.declared.command.Command.{Command}
-use Rattle.command_line.specs.declared.command.Command.TheVariants.{Search, Tabulate, Check, Sample, Plan, Open, Audit, Report, Trial}
-use Rattle.contest_commands.specs.Tabulate as tabulate
-use Rattle.contest_commands.specs.Check as check
-use Rattle.contest_commands.specs.Trial as trial
-use Rattle.contest_commands.specs.declared.trials.Terms.{Terms as TrialTerms}
+use Rattle.command_line.specs.declared.commands.Command.{Command}
+use Rattle.command_line.specs.declared.commands.Command.TheVariants.{Search, Tabulate, Check, Trim, Sample, Plan, Open, Audit, Report, Trial, Poll, OpenPlurality, AuditPlurality}
+use Rattle.search_commands.specs.Search as search
+use Rattle.search_commands.specs.Tabulate as tabulate
+use Rattle.search_commands.specs.Trial as trial
+use Rattle.check_command.specs.Check as check
+use Rattle.trim_command.specs.Trim as trim
 use Rattle.audit_commands.specs.Sample as sample
 use Rattle.audit_commands.specs.Plan as plan
-use Rattle.audit_commands.specs.declared.plan.Setting.{Setting}
 use Rattle.session_commands.specs.Open as opening
-use Rattle.session_commands.specs.declared.open.Terms.{Terms}
 use Rattle.session_commands.specs.Audit as audit
 use Rattle.session_commands.specs.Report as report
-use Rattle.contest_commands.proofs.Searches as searches
-use Rattle.contest_commands.proofs.Tabulations as tabulations
-use Rattle.contest_commands.proofs.Checks as checks
-use Rattle.contest_commands.proofs.Tried as tried
+use Rattle.poll_command.specs.Poll as poll
+use Rattle.plurality_commands.specs.OpenPlurality as plurality_opening
+use Rattle.plurality_commands.specs.AuditPlurality as plurality_round
+use Rattle.search_commands.proofs.Searches as searches
+use Rattle.search_commands.proofs.Tabulations as tabulations
+use Rattle.search_commands.proofs.Tried as tried
+use Rattle.check_command.proofs.Checks as checks
+use Rattle.trim_command.proofs.Trims as trims
 use Rattle.audit_commands.proofs.Samples as samples
 use Rattle.audit_commands.proofs.Plans as plans
 use Rattle.session_commands.proofs.Opens as opens
 use Rattle.session_commands.proofs.Audits as audits
 use Rattle.session_commands.proofs.Reports as reports
+use Rattle.poll_command.proofs.Polls as polls
+use Rattle.plurality_commands.proofs.Opens as plurality_opens
+use Rattle.plurality_commands.proofs.Audits as plurality_audits
 use Rattle.raire_cli.specs.Answers.{script_of, asked_by, is_open}
 use Rattle.raire_cli.specs.Confirmation.{AsksForSearch}
 
-weaker : (script : Script) → Agree Same script → Agree SameButBudget script
-weaker script same = agree-weaker Same SameButBudget (λ d e same. inl same) script same
+-- how far the ends of a script agree
+abbrev SameBy : Bool → Outcome → Outcome → Type 0
+SameBy true = SameButBudget
+SameBy false = Same
+
+-- the kinds of the answers of a command
+abbrev pub kinds_of : Command → List AnswerKind
+kinds_of (Search task) = search.kinds
+kinds_of (Tabulate task) = tabulate.kinds
+kinds_of (Check task) = check.kinds
+kinds_of (Trim task) = trim.kinds
+kinds_of (Sample task) = sample.kinds
+kinds_of (Plan task) = plan.kinds
+kinds_of (Open task) = opening.kinds
+kinds_of (Audit task) = audit.kinds
+kinds_of (Report task) = report.kinds
+kinds_of (Trial task) = trial.kinds
+kinds_of (Poll task) = poll.kinds
+kinds_of (OpenPlurality task) = plurality_opening.kinds
+kinds_of (AuditPlurality task) = plurality_round.kinds
+
+-- the ends of its script agree, and its answers are of these kinds
+record IsKnown (may_be_open : Bool) (kinds : List AnswerKind) (script : Script) : Type 0 where
+  pub agree : Agree (SameBy may_be_open) script
+  pub are : AreOfKind kinds script
+
+-- a row a command
+known : (command : Command) → IsKnown (is_open command) (kinds_of command) (script_of command)
+known (Search task) = record { agree = searches.agrees task; are = searches.kinds_are task }
+known (Tabulate task) = record { agree = tabulations.agrees task; are = tabulations.kinds_are task }
+known (Check task) = record { agree = checks.agrees task; are = checks.kinds_are task }
+known (Trim task) = record { agree = trims.agrees task; are = trims.kinds_are task }
+known (Sample task) = record { agree = samples.agrees task; are = samples.kinds_are task }
+known (Plan task) = record { agree = plans.agrees task; are = plans.kinds_are task }
+known (Open task) = record { agree = opens.agrees task; are = opens.kinds_are task }
+known (Audit task) = record { agree = audits.agrees task; are = audits.kinds_are task }
+known (Report task) = record { agree = reports.agrees task; are = reports.kinds_are task }
+known (Trial task) = record { agree = tried.agrees task; are = tried.kinds_are task }
+known (Poll task) = record { agree = polls.agrees task; are = polls.kinds_are task }
+known (OpenPlurality task) = record { agree = plurality_opens.agrees task; are = plurality_opens.kinds_are task }
+known (AuditPlurality task) = record { agree = plurality_audits.agrees task; are = plurality_audits.kinds_are task }
+
+-- ---- one end
+
+by_budget : (may_be_open : Bool) (script : Script) → Agree (SameBy may_be_open) script → Agree SameButBudget script
+by_budget true script agree = agree
+by_budget false script agree = agree-weaker Same SameButBudget (λ d e same. inl same) script agree
 
 -- A budget alone leaves a command open.
 agrees : (command : Command) → Agree SameButBudget (script_of command)
-agrees (Search ballots contest workers nodes floor) = searches.agrees ballots contest (record { nodes = nodes; floor = floor })
-agrees (Tabulate ballots contest nodes) = tabulations.agrees ballots contest nodes
-agrees (Check ballots assertions contest nodes) = weaker (check.script ballots assertions contest nodes) (checks.agrees ballots assertions contest nodes)
-agrees (Sample manifest seed draws) = weaker (sample.script manifest seed draws) (samples.agrees manifest seed draws)
-agrees (Plan manifest assertions limit gamma) =
-    let setting : Setting = record { limit = limit; gamma = gamma } in
-    weaker (plan.script manifest assertions setting) (plans.agrees manifest assertions setting)
-agrees (Open ballots manifest assertions seed contest limit gamma nodes) =
-    let terms : Terms = record { seed = seed; limit = limit; gamma = gamma; nodes = nodes } in
-    weaker (opening.script ballots manifest assertions contest terms) (opens.agrees ballots manifest assertions contest terms)
-agrees (Audit session ballots manifest assertions seen draws nodes) =
-    weaker (audit.script session ballots manifest assertions seen draws nodes) (audits.agrees session ballots manifest assertions seen draws nodes)
-agrees (Report session) = weaker (report.script session) (reports.agrees session)
-agrees (Trial number candidates ballots workers nodes) = tried.agrees (record { number = number; candidates = candidates; ballots = ballots; nodes = nodes })
+agrees command = by_budget (is_open command) (script_of command) (known command).agree
 
 pub agrees_by : (command : Option Command) → AgreeOn SameButBudget (asked_by command)
 agrees_by None = tt
@@ -57,100 +96,24 @@ agrees_by (Some command) = agrees command
 
 -- Those that no budget leaves open come to one end.
 pub agrees_exactly : (command : Command) → is_open command ≡ false → Agree Same (script_of command)
-agrees_exactly (Search ballots contest workers nodes floor) closed = absurd (cc closed)
-agrees_exactly (Tabulate ballots contest nodes) closed = absurd (cc closed)
-agrees_exactly (Check ballots assertions contest nodes) closed = checks.agrees ballots assertions contest nodes
-agrees_exactly (Sample manifest seed draws) closed = samples.agrees manifest seed draws
-agrees_exactly (Plan manifest assertions limit gamma) closed = plans.agrees manifest assertions (record { limit = limit; gamma = gamma })
-agrees_exactly (Open ballots manifest assertions seed contest limit gamma nodes) closed =
-    opens.agrees ballots manifest assertions contest (record { seed = seed; limit = limit; gamma = gamma; nodes = nodes })
-agrees_exactly (Audit session ballots manifest assertions seen draws nodes) closed = audits.agrees session ballots manifest assertions seen draws nodes
-agrees_exactly (Report session) closed = reports.agrees session
-agrees_exactly (Trial number candidates ballots workers nodes) closed = absurd (cc closed)
+agrees_exactly command closed = subst (λ b. Agree (SameBy b) (script_of command)) closed (known command).agree
 
 -- ---- kinds of answers
 
-of_closed : (kinds : AnswerKind → Type 0) → ((kind : AnswerKind) → kinds kind → audit.Kinds kind) → (readings : Readings) (script : Script)
-    (kind : AnswerKind) (text : List ℕ) → AreOfKind kinds script → Concludes readings script (Answered kind text) → audit.Kinds kind
-of_closed kinds weaker readings script kind text are concludes = weaker kind (of_kind kinds readings script (Answered kind text) are concludes)
+-- an answer is of one of the kinds of its command
+never : (readings : Readings) (kind : AnswerKind) (text : List ℕ) (command : Command) → is_among (kinds_of command) kind ≡ false →
+    Concludes readings (script_of command) (Answered kind text) → ⊥
+never readings kind text command none comes =
+    not_among (kinds_of command) kind none (of_kind (kinds_of command) readings (script_of command) (Answered kind text) (known command).are comes)
 
-of_check : (kind : AnswerKind) → check.Kinds kind → audit.Kinds kind
-of_check kind (inl e) = inl e
-of_check kind (inr (inl e)) = inr (inl e)
-of_check kind (inr (inr e)) = inr (inr (inl e))
-
--- Those that no budget leaves open tell no tie, and call for no full count.
-closed_kinds : (readings : Readings) (kind : AnswerKind) (text : List ℕ) (command : Command) → is_open command ≡ false →
-    Concludes readings (script_of command) (Answered kind text) → audit.Kinds kind
-closed_kinds readings kind text (Search ballots contest workers nodes floor) closed comes = absurd (cc closed)
-closed_kinds readings kind text (Tabulate ballots contest nodes) closed comes = absurd (cc closed)
-closed_kinds readings kind text (Check ballots assertions contest nodes) closed comes =
-    of_closed check.Kinds of_check readings (check.script ballots assertions contest nodes) kind text (checks.kinds ballots assertions contest nodes) comes
-closed_kinds readings kind text (Sample manifest seed draws) closed comes =
-    of_closed sample.Kinds (λ kind e. inl e) readings (sample.script manifest seed draws) kind text (samples.kinds manifest seed draws) comes
-closed_kinds readings kind text (Plan manifest assertions limit gamma) closed comes =
-    let setting : Setting = record { limit = limit; gamma = gamma } in
-    of_closed plan.Kinds (λ kind e. inl e) readings (plan.script manifest assertions setting) kind text (plans.kinds manifest assertions setting) comes
-closed_kinds readings kind text (Open ballots manifest assertions seed contest limit gamma nodes) closed comes =
-    let terms : Terms = record { seed = seed; limit = limit; gamma = gamma; nodes = nodes } in
-    of_closed opening.Kinds of_check readings (opening.script ballots manifest assertions contest terms) kind text
-    (opens.kinds ballots manifest assertions contest terms) comes
-closed_kinds readings kind text (Audit session ballots manifest assertions seen draws nodes) closed comes =
-    of_closed audit.Kinds (λ kind e. e) readings (audit.script session ballots manifest assertions seen draws nodes) kind text
-    (audits.kinds session ballots manifest assertions seen draws nodes) comes
-closed_kinds readings kind text (Report session) closed comes =
-    of_closed report.Kinds (λ kind e. inl e) readings (report.script session) kind text (reports.kinds session) comes
-closed_kinds readings kind text (Trial number candidates ballots workers nodes) closed comes = absurd (cc closed)
-
-not_full : audit.Kinds FullCount → ⊥
-not_full (inl e) = cc e
-not_full (inr (inl e)) = cc e
-not_full (inr (inr (inl e))) = cc e
-not_full (inr (inr (inr e))) = cc e
-
-not_tie : audit.Kinds Tie → ⊥
-not_tie (inl e) = cc e
-not_tie (inr (inl e)) = cc e
-not_tie (inr (inr (inl e))) = cc e
-not_tie (inr (inr (inr e))) = cc e
-
-pub tells_no_tie : (readings : Readings) (text : List ℕ) (command : Command) → is_open command ≡ false →
+-- a command whose kinds have no tie tells none
+pub tells_no_tie : (readings : Readings) (text : List ℕ) (command : Command) → is_among (kinds_of command) Tie ≡ false →
     Concludes readings (script_of command) (Answered Tie text) → ⊥
-tells_no_tie readings text command closed comes = not_tie (closed_kinds readings Tie text command closed comes)
-
-never_full : (readings : Readings) (text : List ℕ) (command : Command) → is_open command ≡ false →
-    Concludes readings (script_of command) (Answered FullCount text) → ⊥
-never_full readings text command closed comes = not_full (closed_kinds readings FullCount text command closed comes)
-
-not_tabulated : tabulate.Kinds FullCount → ⊥
-not_tabulated (inl e) = cc e
-not_tabulated (inr (inl e)) = cc e
-not_tabulated (inr (inr e)) = cc e
-
-not_tried : trial.Kinds FullCount → ⊥
-not_tried (inl e) = cc e
-not_tried (inr (inl e)) = cc e
-not_tried (inr (inr e)) = cc e
+tells_no_tie readings text command none comes = never readings Tie text command none comes
 
 -- A full count is called for by a search alone.
 pub counts_in_full : (words : List (List ℕ)) (readings : Readings) (text : List ℕ) (command : Option Command) → command_of words ≡ command →
     ComesTo readings (asked_by command) (Answered FullCount text) → AsksForSearch words
 counts_in_full words readings text None is comes = absurd comes
-counts_in_full words readings text (Some (Search ballots contest workers nodes floor)) is comes =
-    record { name = ballots; contest = contest; workers = workers; nodes = nodes; floor = floor; asked = is }
-counts_in_full words readings text (Some (Tabulate ballots contest nodes)) is comes =
-    absurd (not_tabulated (of_kind tabulate.Kinds readings (tabulate.script ballots contest nodes) (Answered FullCount text)
-    (tabulations.kinds ballots contest nodes) comes))
-counts_in_full words readings text (Some (Check ballots assertions contest nodes)) is comes =
-    absurd (never_full readings text (Check ballots assertions contest nodes) refl comes)
-counts_in_full words readings text (Some (Sample manifest seed draws)) is comes = absurd (never_full readings text (Sample manifest seed draws) refl comes)
-counts_in_full words readings text (Some (Plan manifest assertions limit gamma)) is comes =
-    absurd (never_full readings text (Plan manifest assertions limit gamma) refl comes)
-counts_in_full words readings text (Some (Open ballots manifest assertions seed contest limit gamma nodes)) is comes =
-    absurd (never_full readings text (Open ballots manifest assertions seed contest limit gamma nodes) refl comes)
-counts_in_full words readings text (Some (Audit session ballots manifest assertions seen draws nodes)) is comes =
-    absurd (never_full readings text (Audit session ballots manifest assertions seen draws nodes) refl comes)
-counts_in_full words readings text (Some (Report session)) is comes = absurd (never_full readings text (Report session) refl comes)
-counts_in_full words readings text (Some (Trial number candidates ballots workers nodes)) is comes =
-    let terms : TrialTerms = record { number = number; candidates = candidates; ballots = ballots; nodes = nodes } in
-    absurd (not_tried (of_kind trial.Kinds readings (trial.script terms) (Answered FullCount text) (tried.kinds terms) comes))
+counts_in_full words readings text (Some (Search task)) is comes = record { task = task; asked = is }
+counts_in_full words readings text (Some command) is comes = absurd (never readings FullCount text command refl comes)

@@ -20,27 +20,33 @@ use Rattle.ballot_reader.specs.Ballots.{BallotFile}
 use Rattle.ballot_reader.specs.Grammar.{ballots_of}
 use Rattle.ballot_reader.specs.declared.fault.BRule.TheVariants.{B1}
 use Rattle.cli_base.specs.Outcome.{Verdict, Answered, outcome, bad_words, no_such_file, too_long}
-use Rattle.cli_base.specs.Script.{Bytes, Missing, TooLong, AsHeld, May, MayCome, limit, reading_of}
+use Rattle.cli_base.specs.Script.{Ends, Bytes, Missing, TooLong, AsHeld, May, MayCome, limit, reading_of}
 use Rattle.cli_base.specs.declared.outcome.AnswerKind.TheVariants.{Done, Tie, Spent, FullCount}
 use Rattle.command_line.specs.Line.{command_of}
-use Rattle.command_line.specs.declared.limits.TheConstants.{DEFAULT_NODES}
+use Rattle.command.specs.declared.limits.TheConstants.{DEFAULT_NODES}
 use Rattle.cover_checker.specs.Checks.{IsAnswer, checked_is}
 use Rattle.cover_checker.specs.Findings.{Answer}
 use Rattle.cover_checker.specs.Outcomes.{IsWinner}
 use Rattle.cover_checker.specs.declared.checked.Checked.TheVariants.{Stands}
 use Rattle.cover_checker.specs.declared.checked.CheckFault.TheVariants.{Spent as SpentAt}
-use Rattle.command_line.specs.declared.command.Command.TheVariants.{Check}
-use Rattle.contest_commands.specs.Contest.{HasTie, IsElected, IsWon, refused, tie_text}
-use Rattle.contest_commands.specs.Check.{ChecksIn, check_after, differs, spent_at, stands, verdict_on}
-use Rattle.contest_commands.specs.Search.{FindsIn, HasFullCount, certificate_of, full_count_text, margin_of}
-use Rattle.contest_commands.specs.declared.search.Terms.{Terms}
-use Rattle.contest_commands.specs.Tabulate.{HasRounds, TabulatesIn}
+use Rattle.command_line.specs.declared.commands.Command.TheVariants.{Check}
+use Rattle.command.specs.declared.check.CheckTask.{CheckTask}
+use Rattle.contest_search.specs.Certificate.{certificate_of, margin_of}
+use Rattle.contest_search.specs.Contest.{IsElected, IsWon}
+use Rattle.input_files.specs.Judged.{told, go_on}
+use Rattle.input_files.specs.Refusals.{refused_assertions, refused_ballots}
+use Rattle.search_commands.specs.Ends.{HasTie}
+use Rattle.search_commands.specs.Search.{Finds, HasFullCount, full_count_text}
+use Rattle.search_commands.specs.Tabulate.{HasRounds, Tabulates}
+use Rattle.check_command.specs.Check.{Checks, after_ballots, differs, stands, verdict_on}
+use Rattle.report.specs.Ends.{spent_at, tie_text}
 use Rattle.report.specs.Tabulations.{tabulation_text}
 use Rattle.report.specs.Texts.{order_text}
 use Rattle.raire_cli.specs.Answers.{asked_by}
 use Rattle.raire_cli.specs.EachStatus.{EndsWith, IsOfSome, EachStatus}
 use Rattle.raire_cli.proofs.Agreement.{not_spent}
 use Rattle.raire_cli.proofs.Ended.{ends_with}
+use Rattle.raire_cli.proofs.Said.{going}
 use Rattle.raire_cli.proofs.Nodes.{default_suffices}
 use Rattle.raire_cli.proofs.Unconfirmed.{unconfirmed_end}
 
@@ -82,10 +88,14 @@ too_long_end = let (bytes, long) = longer limit in (tabulate_words, one_file byt
 
 -- ---- a tabulation
 
-tabulated_end : (bytes : List ℕ) (v : Verdict) → Bytes bytes ≡ reading_of (Some bytes) → TabulatesIn DEFAULT_NODES f (ballots_of bytes None) v →
-    (outcome v).status ≢ 4 → EndsWith (outcome v).status tabulate_words (one_file bytes)
-tabulated_end bytes v short tabulates unspent =
-    ends_with tabulate_words (one_file bytes) (outcome v) (inr (bytes, short, (v, tabulates, refl))) (λ asks. unspent)
+tabulated_end : (bytes : List ℕ) (ballots : BallotFile) (v : Verdict) → Bytes bytes ≡ reading_of (Some bytes) → ballots_of bytes None ≡ Ok ballots →
+    Tabulates DEFAULT_NODES ballots v → (outcome v).status ≢ 4 → EndsWith (outcome v).status tabulate_words (one_file bytes)
+tabulated_end bytes ballots v short read tabulates unspent =
+    ends_with tabulate_words (one_file bytes) (outcome v) (inr (bytes, short, ends)) (λ asks. unspent)
+  where
+    ends : May (AsHeld (one_file bytes)) (go_on (told (refused_ballots f) (ballots_of bytes None)) (λ ballots. Ends (Tabulates DEFAULT_NODES ballots))) (outcome v)
+    ends = going (AsHeld (one_file bytes)) (told (refused_ballots f) (ballots_of bytes None)) ballots (λ ballots. Ends (Tabulates DEFAULT_NODES ballots))
+        (outcome v) (ap (told (refused_ballots f)) read) (v, tabulates, refl)
 
 nothing_read : ballots_of [] None ≡ Err (record { rule = B1; at = 1 })
 unfolding strip_bom records_from next_record
@@ -93,10 +103,14 @@ nothing_read = refl
 
 refused_end : IsOfSome 2
 refused_end =
-    let verdict : Verdict = refused f (record { rule = B1; at = 1 }) in (
+    let verdict : Verdict = refused_ballots f (record { rule = B1; at = 1 }) in
+    let reads : May (AsHeld (one_file [])) (go_on (told (refused_ballots f) (ballots_of [] None)) (λ ballots. Ends (Tabulates DEFAULT_NODES ballots)))
+    (outcome verdict) =
+    subst (λ r. May (AsHeld (one_file [])) (go_on (told (refused_ballots f) r) (λ ballots. Ends (Tabulates DEFAULT_NODES ballots))) (outcome verdict))
+    (sym nothing_read) (verdict, refl, refl) in (
       tabulate_words,
       one_file [],
-      tabulated_end [] verdict refl (subst (λ r. TabulatesIn DEFAULT_NODES f r verdict) (sym nothing_read) refl) (λ four. absurd (cc four)),
+      ends_with tabulate_words (one_file []) (outcome verdict) (inr ([], refl, reads)) (λ asks. λ four. absurd (cc four)),
     )
 
 -- two candidates, and one ballot or none
@@ -141,11 +155,10 @@ none_read = refl
 tie_end : IsOfSome 3
 tie_end =
     let text = tie_text none.candidates 1 3 0 in
-    let tabulates : TabulatesIn DEFAULT_NODES f (Ok none) (Answered Tie text) = inr (inl (text, tie_of_none, refl)) in (
+    let tabulates : Tabulates DEFAULT_NODES none (Answered Tie text) = inr (inl (text, tie_of_none, refl)) in (
       tabulate_words,
       one_file head,
-      tabulated_end head (Answered Tie text) refl
-          (subst (λ r. TabulatesIn DEFAULT_NODES f r (Answered Tie text)) (sym none_read) tabulates) (λ four. absurd (cc four)),
+      tabulated_end head none (Answered Tie text) refl none_read tabulates (λ four. absurd (cc four)),
     )
 
 abbrev one_bytes : List ℕ
@@ -170,11 +183,10 @@ done_end : IsOfSome 0
 done_end =
     let text = tabulation_text one (1 ∷ 0 ∷ []) 0 in
     let rounds : HasRounds one text = record { winner = 0; won = won_of_one; decided = elected_of_one; shown = refl } in
-    let tabulates : TabulatesIn DEFAULT_NODES f (Ok one) (Answered Done text) = inl (text, rounds, refl) in (
+    let tabulates : Tabulates DEFAULT_NODES one (Answered Done text) = inl (text, rounds, refl) in (
       tabulate_words,
       one_file one_bytes,
-      tabulated_end one_bytes (Answered Done text) refl
-          (subst (λ r. TabulatesIn DEFAULT_NODES f r (Answered Done text)) (sym one_read) tabulates) (λ four. absurd (cc four)),
+      tabulated_end one_bytes one (Answered Done text) refl one_read tabulates (λ four. absurd (cc four)),
     )
 
 -- ---- a full count
@@ -182,16 +194,13 @@ done_end =
 abbrev search_words : List (List ℕ)
 search_words = codes "search" ∷ f ∷ codes "--floor" ∷ codes "2" ∷ []
 
-abbrev terms : Terms
-terms = record { nodes = DEFAULT_NODES; floor = 2 }
-
 abbrev certificate : Content
 certificate = certificate_of one 0 (0 ∷ 1 ∷ [])
 
 margin_is_one : margin_of one 0 ≡ 1
 margin_is_one = refl
 
-full_count : HasFullCount terms one (full_count_text certificate 2)
+full_count : HasFullCount DEFAULT_NODES 2 one (full_count_text certificate 2)
 full_count = record {
   file = certificate;
   is = record { winner = 0; won = won_of_one; decided = elected_of_one; order = 0 ∷ 1 ∷ []; least = refl; is = refl };
@@ -203,12 +212,14 @@ full_count = record {
 full_count_end : IsOfSome 5
 full_count_end =
     let verdict : Verdict = Answered FullCount (full_count_text certificate 2) in
-    let finds : FindsIn terms f (Ok one) verdict = inr (inr (inr (full_count_text certificate 2, full_count, refl))) in (
+    let finds : Finds DEFAULT_NODES 2 one verdict = inr (inr (inr (full_count_text certificate 2, full_count, refl))) in
+    let ends : May (AsHeld (one_file one_bytes)) (go_on (told (refused_ballots f) (ballots_of one_bytes None)) (λ ballots. Ends (Finds DEFAULT_NODES 2 ballots)))
+    (outcome verdict) =
+    going (AsHeld (one_file one_bytes)) (told (refused_ballots f) (ballots_of one_bytes None)) one (λ ballots. Ends (Finds DEFAULT_NODES 2 ballots))
+    (outcome verdict) (ap (told (refused_ballots f)) one_read) (verdict, finds, refl) in (
       search_words,
       one_file one_bytes,
-      ends_with search_words (one_file one_bytes) (outcome verdict)
-          (inr (one_bytes, refl, (verdict, subst (λ r. FindsIn terms f r verdict) (sym one_read) finds, refl)))
-          (λ asks. λ four. absurd (cc four)),
+      ends_with search_words (one_file one_bytes) (outcome verdict) (inr (one_bytes, refl, ends)) (λ asks. λ four. absurd (cc four)),
     )
 
 -- ---- a check of a file without assertions
@@ -268,24 +279,35 @@ two_files = record { name = f; bytes = three_bytes } ∷ record { name = g; byte
 won_of_three : IsWinner 3 three.rankings 0
 won_of_three = record { order = 2 ∷ 1 ∷ 0 ∷ []; permutation = refl; tabulated = refl; elects = (2 ∷ 1 ∷ [], refl) }
 
-checked_end : (words : List (List ℕ)) (nodes : ℕ) (answer : Answer) (v : Verdict) → command_of words ≡ Some (Check f g None nodes) →
+checked_end : (words : List (List ℕ)) (nodes : ℕ) (answer : Answer) (v : Verdict) →
+    command_of words ≡ Some (Check (record { ballots = f; assertions = g; contest = None; nodes = nodes })) →
     checked_is nodes three.rankings empty 0 ≡ answer →
     verdict_on empty answer ≡ Some v → EndsWith (outcome v).status words two_files
-checked_end words nodes answer v is found told =
+checked_end words nodes answer v is found told_is =
     ends_with words two_files (outcome v) (subst (λ command. MayCome (AsHeld two_files) (asked_by command) (outcome v)) (sym is) comes)
-    (λ asks. absurd (not_spent words (Check f g None nodes) is refl asks))
+    (λ asks. absurd (not_spent words (Check task) is refl asks))
   where
+    task : CheckTask
+    task = record { ballots = f; assertions = g; contest = None; nodes = nodes }
+
     judges : IsAnswer nodes three empty answer
     judges = record { winner = 0; tabulated = won_of_three; answer_is = found }
 
-    checks : ChecksIn nodes three g (assertion_file_of empty_bytes) v
-    checks = subst (λ r. ChecksIn nodes three g r v) (sym read_empty) (answer, judges, told)
+    after : May (AsHeld two_files) (after_ballots g nodes three) (outcome v)
+    after = inr (
+      empty_bytes,
+      refl,
+      going (AsHeld two_files) (told (refused_assertions g) (assertion_file_of empty_bytes)) empty (λ file. Ends (Checks nodes three file)) (outcome v)
+          (ap (told (refused_assertions g)) read_empty) (v, (answer, judges, told_is), refl),
+    )
 
-    after : May (AsHeld two_files) (check_after nodes f g (ballots_of three_bytes None)) (outcome v)
-    after = subst (λ r. May (AsHeld two_files) (check_after nodes f g r) (outcome v)) (sym three_read) (inr (empty_bytes, refl, (v, checks, refl)))
-
-    comes : MayCome (AsHeld two_files) (asked_by (Some (Check f g None nodes))) (outcome v)
-    comes = inr (three_bytes, refl, after)
+    comes : MayCome (AsHeld two_files) (asked_by (Some (Check task))) (outcome v)
+    comes = inr (
+      three_bytes,
+      refl,
+      going (AsHeld two_files) (told (refused_ballots f) (ballots_of three_bytes None)) three (λ ballots. after_ballots g nodes ballots) (outcome v)
+          (ap (told (refused_ballots f)) three_read) after,
+    )
 
 spent_end : IsOfSome 4
 spent_end = (

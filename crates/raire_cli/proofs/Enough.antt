@@ -1,48 +1,67 @@
 -- A command that judges an assertion file isn't spent where its nodes are enough.
-use Rattle.std.proofs.Common.{◌≡◌, ℕ, ◌≤◌, ◌-◌, ◌*◌, List, Bool, true, false, if◌then◌else◌, Option, Some, Result, Ok, Err, MatchBool, refl, sym, subst}
+use Rattle.std.proofs.Common.{◌≡◌, ℕ, ◌≤◌, ◌-◌, ◌*◌, List, Bool, true, false, if◌then◌else◌, Option, None, Some, Result, Ok, Err, MatchBool, refl, sym, ap, subst}
+use Rattle.std.specs.Prelude.{option_map, unwrap_or}
+use Rattle.std.specs.Option.{option_or}
+use Rattle.sha2.specs.Sha256.{sha256}
 use Rattle.desk.specs.Desk.{File, held_bytes}
-use Rattle.irv_base.specs.Names.{Id}
 use Rattle.assertions.specs.Suffixes.{factorial}
 use Rattle.ballot_reader.specs.Ballots.{BallotFile}
-use Rattle.ballot_reader.specs.Grammar.{Refusal, ballots_of}
+use Rattle.ballot_reader.specs.Grammar.{ballots_of}
 use Rattle.manifest.specs.Cards.{Batches}
 use Rattle.manifest.specs.Linked.{linked_of}
+use Rattle.manifest.specs.Manifest.{manifest_of}
+use Rattle.sampler.specs.Draws.{drawn_card}
 use Rattle.seen_file.specs.Reading.{seen_of}
+use Rattle.seen_file.specs.Seen.{Entry}
 use Rattle.assertion_file.specs.Content.{Content as FileContent, candidate_count}
-use Rattle.assertion_file.specs.Reading.{Refusal as FileRefusal, assertion_file_of}
-use Rattle.audit_rounds.specs.Content.{Content}
-use Rattle.audit_rounds.specs.Sessions.{is_signed_off}
-use Rattle.audit_rounds.specs.declared.digests.Digests.{Digests}
+use Rattle.assertion_file.specs.Reading.{assertion_file_of}
+use Rattle.session_state.specs.Claims.{values_of}
+use Rattle.session_state.specs.Content.{Content}
+use Rattle.session_state.specs.Sessions.{is_signed_off}
+use Rattle.audit_session.specs.Refusals.{unseen_draw}
+use Rattle.session_state.specs.declared.digests.Digests.{Digests}
 use Rattle.cover_checker.specs.Checks.{IsAnswer}
-use Rattle.cover_checker.specs.Findings.{Answer}
+use Rattle.cover_checker.specs.Covers.{first_over, or_spent, standing_order, verdict_on as cover_verdict_on}
+use Rattle.cover_checker.specs.Findings.{Answer, assertions_of}
 use Rattle.cover_checker.specs.declared.checked.Checked.TheVariants.{OtherContest, OtherWinner, OtherMargin, Stands, NotLeast, NotAlternative, Harder, Accepted}
 use Rattle.cover_checker.specs.declared.checked.CheckFault.TheVariants.{Spent as SpentAt, Memory}
+use Rattle.cover_checker.proofs.Enough.{never_spent as cover_never_spent}
 use Rattle.cover_checker.proofs.Existing.{answer_never_spent}
 use Rattle.cli_base.specs.Outcome.{Verdict, Answered, Refused}
-use Rattle.cli_base.specs.Script.{Script, Ends, Bytes, AsHeld, ComesTo, Concludes}
+use Rattle.cli_base.specs.Script.{Script, Read, Ends, Bytes, AsHeld, ComesTo, Concludes}
 use Rattle.cli_base.specs.Statuses.{HasAnswer}
 use Rattle.cli_base.specs.declared.outcome.AnswerKind.TheVariants.{Done, Spent, Unconfirmed}
 use Rattle.cli_base.proofs.Scripts.{some_is}
+use Rattle.command.specs.declared.audit.AuditTask.{AuditTask}
+use Rattle.command.specs.declared.check.CheckTask.{CheckTask}
+use Rattle.command.specs.declared.open.OpenTask.{OpenTask}
+use Rattle.command.specs.declared.poll.PollTask.{PollTask}
+use Rattle.command.specs.declared.trim.TrimTask.{TrimTask}
 use Rattle.command_line.specs.Line.{command_of}
-use Rattle.command_line.specs.declared.command.Command.{Command}
-use Rattle.command_line.specs.declared.command.Command.TheVariants.{Search, Tabulate, Check, Sample, Plan, Open, Audit, Report, Trial}
-use Rattle.contest_commands.specs.Check.{Checks, ChecksIn, check_after, verdict_on}
-use Rattle.contest_commands.specs.Check as check
-use Rattle.contest_commands.specs.Contest.{refused, refused_file}
+use Rattle.command_line.specs.declared.commands.Command.{Command}
+use Rattle.command_line.specs.declared.commands.Command.TheVariants.{Check, Trim, Open, Audit, Poll}
+use Rattle.check_command.specs.Check.{Checks, verdict_on}
+use Rattle.check_command.specs.Check as check
+use Rattle.trimmer.specs.Trimmed.{trimmed}
+use Rattle.trimmer.specs.declared.fault.TrimFault.{TrimFault}
+use Rattle.trimmer.specs.declared.fault.TrimFault.TheVariants.{Spent as TrimSpent, Memory as TrimMemory}
+use Rattle.trimmer.proofs.Enough.{trim_is_never_spent}
+use Rattle.trim_command.specs.Trim.{Trims, trim_verdict}
+use Rattle.trim_command.specs.Trim as trim
+use Rattle.input_files.specs.Cards.{cards_for}
+use Rattle.input_files.specs.Judged.{told, go_on}
+use Rattle.input_files.specs.Refusals.{no_record_text, refused_assertions, refused_ballots, refused_manifest, refused_seen}
+use Rattle.poll_command.specs.Poll as poll
+use Rattle.input_files.proofs.Going.{IsRefusal, OnlyRefuses, cards-only, told-only}
 use Rattle.session_commands.specs.Accepted.{if_accepted, is_accepted, on_if}
 use Rattle.session_commands.specs.Audit as audit
-use Rattle.session_commands.specs.Inputs.{cards_for}
-use Rattle.session_commands.specs.Judged.{told, go_on}
 use Rattle.session_commands.specs.Open as opening
-use Rattle.session_commands.specs.Refusals.{refused_seen}
-use Rattle.session_commands.specs.declared.open.Terms.{Terms}
-use Rattle.session_commands.proofs.Audits.{assertions-only, ballots-only, manifest-only, next-only, same_facts-only, session-only}
-use Rattle.session_commands.proofs.Going.{OnlyRefuses, told-only}
-use Rattle.session_commands.proofs.Opens.{cards-only}
+use Rattle.session_commands.specs.Rounds.{same_ballots, same_manifest, session_to_go_on, verdict_of}
+use Rattle.session_commands.proofs.Audits.{assertions-only, same_facts-only}
+use Rattle.session_commands.proofs.OneRound.{ballots-only, manifest-only, next-only, session-only}
 use Rattle.raire_cli.specs.Answers.{asked, asked_by, script_of}
 use Rattle.raire_cli.specs.Enough.{AreEnough, Judging, judging_of}
-use Rattle.raire_cli.proofs.Headline.{held_whole}
-use Rattle.raire_cli.proofs.Said.{value_of, told_ok, unless_ok}
+use Rattle.raire_cli.proofs.Said.{held_whole, value_of, told_ok, unless_ok}
 
 -- ---- a check
 
@@ -65,6 +84,28 @@ checks-never nodes ballots file text enough (answer, found, is) =
     let (last, e) = spent_answer file answer text is in
     answer_never_spent nodes ballots file last enough (subst (IsAnswer nodes ballots file) e found)
 
+-- ---- a trim
+
+spent_trial : (file : FileContent) (r : Result FileContent TrimFault) (text : List ℕ) → trim_verdict file r ≡ Some (Answered Spent text) →
+    (claim : ℕ) × (last : ℕ) × (r ≡ Err (TrimSpent claim last))
+spent_trial file (Ok left) text is = absurd (cc is)
+spent_trial file (Err (TrimSpent claim last)) text is = (claim, last, refl)
+spent_trial file (Err TrimMemory) text is = absurd (cc is)
+
+trims-never : (nodes : ℕ) (ballots : BallotFile) (file : FileContent) (text : List ℕ) → 2 * factorial (candidate_count file - 1) ≤ nodes →
+    Trims nodes ballots file (Answered Spent text) → ⊥
+trims-never nodes ballots file text enough (Ok Accepted, found, is) =
+    let (claim, last, e) = spent_trial file (trimmed nodes file) text is in trim_is_never_spent nodes file enough claim last e
+trims-never nodes ballots file text enough (Ok OtherContest, found, is) = checks-never nodes ballots file text enough (Ok OtherContest, found, is)
+trims-never nodes ballots file text enough (Ok (OtherWinner c), found, is) = checks-never nodes ballots file text enough (Ok (OtherWinner c), found, is)
+trims-never nodes ballots file text enough (Ok (OtherMargin at m), found, is) = checks-never nodes ballots file text enough (Ok (OtherMargin at m), found, is)
+trims-never nodes ballots file text enough (Ok (Stands order), found, is) = checks-never nodes ballots file text enough (Ok (Stands order), found, is)
+trims-never nodes ballots file text enough (Ok (NotLeast m), found, is) = checks-never nodes ballots file text enough (Ok (NotLeast m), found, is)
+trims-never nodes ballots file text enough (Ok NotAlternative, found, is) = checks-never nodes ballots file text enough (Ok NotAlternative, found, is)
+trims-never nodes ballots file text enough (Ok (Harder a m), found, is) = checks-never nodes ballots file text enough (Ok (Harder a m), found, is)
+trims-never nodes ballots file text enough (Err (SpentAt last), found, is) = checks-never nodes ballots file text enough (Err (SpentAt last), found, is)
+trims-never nodes ballots file text enough (Err Memory, found, is) = checks-never nodes ballots file text enough (Err Memory, found, is)
+
 module _ (files : List File) (judging : Judging) (enough : AreEnough files judging) (text : List ℕ) where
   -- what is read comes to no budget that is spent
   abbrev Never : Script → Type 0
@@ -79,41 +120,59 @@ module _ (files : List File) (judging : Judging) (enough : AreEnough files judgi
       2 * factorial (candidate_count file - 1) ≤ judging.nodes
   few bytes file there is = enough bytes file (held_whole (held_bytes judging.assertions files) bytes there) is
 
-  file-never : (ballots : BallotFile) (bytes : List ℕ) → AsHeld files judging.assertions (Bytes bytes) → (read : Result FileContent FileRefusal) →
-      assertion_file_of bytes ≡ read →
-      ChecksIn judging.nodes ballots judging.assertions read (Answered Spent text) → ⊥
-  file-never ballots bytes there (Err refusal) is refused = cc refused
-  file-never ballots bytes there (Ok file) is checks = checks-never judging.nodes ballots file text (few bytes file there is) checks
+  -- the same of a command that judges it
+  few_there : (assertions : List ℕ) (nodes : ℕ) → assertions ≡ judging.assertions → nodes ≡ judging.nodes → (bytes : List ℕ) (file : FileContent) →
+      AsHeld files assertions (Bytes bytes) → assertion_file_of bytes ≡ Ok file → 2 * factorial (candidate_count file - 1) ≤ nodes
+  few_there assertions nodes name same bytes file there is =
+      subst (λ n. 2 * factorial (candidate_count file - 1) ≤ n) (sym same) (few bytes file (subst (λ n. AsHeld files n (Bytes bytes)) name there) is)
 
-  after-never : (name : List ℕ) (read : Result BallotFile Refusal) → Never (check_after judging.nodes name judging.assertions read)
-  after-never name (Err refusal) refused = cc refused
-  after-never name (Ok ballots) (bytes, there, checks) = file-never ballots bytes there (assertion_file_of bytes) refl checks
+  -- what is read of a file is gone on with
+  abbrev ReadNever : {A Why : Type 0} → List ℕ → (Why → Verdict) → (List ℕ → Result A Why) → (List ℕ → A → Script) → Type 0
+  ReadNever {A} name words read next =
+      ((bytes : List ℕ) (value : A) → AsHeld files name (Bytes bytes) → read bytes ≡ Ok value → Never (next bytes value)) →
+      Never (Read name (λ bytes. go_on (told words (read bytes)) (next bytes)))
 
-  check-never : (name : List ℕ) (contest : Option Id) → Never (check.script name judging.assertions contest judging.nodes)
-  check-never name contest (bytes, there, rest) = after-never name (ballots_of bytes contest) rest
+  read-never : {A Why : Type 0} (name : List ℕ) (words : Why → Verdict) (read : List ℕ → Result A Why) (next : List ℕ → A → Script) →
+      ((why : Why) → IsRefusal (words why)) → ReadNever name words read next
+  read-never name words read next refuses each (bytes, there, rest) =
+      after_value (told words (read bytes)) (next bytes) (told-only words (read bytes) refuses)
+      (λ value is. each bytes value there (told_ok words (read bytes) value is)) rest
+
+  check-never : (task : CheckTask) → task.assertions ≡ judging.assertions → task.nodes ≡ judging.nodes → Never (check.script task)
+  check-never task name same =
+      read-never task.ballots (refused_ballots task.ballots) (λ bytes. ballots_of bytes task.contest)
+      (λ bytes ballots. check.after_ballots task.assertions task.nodes ballots) (λ why. tt)
+      (λ b ballots at_b is_b. read-never task.assertions (refused_assertions task.assertions) assertion_file_of
+      (λ bytes file. Ends (Checks task.nodes ballots file)) (λ why. tt)
+      (λ a file at_a is_a. checks-never task.nodes ballots file text (few_there task.assertions task.nodes name same a file at_a is_a)))
+
+  trim-never : (task : TrimTask) → task.assertions ≡ judging.assertions → task.nodes ≡ judging.nodes → Never (trim.script task)
+  trim-never task name same =
+      read-never task.ballots (refused_ballots task.ballots) (λ bytes. ballots_of bytes task.contest)
+      (λ bytes ballots. trim.after_ballots task.assertions task.nodes ballots) (λ why. tt)
+      (λ b ballots at_b is_b. read-never task.assertions (refused_assertions task.assertions) assertion_file_of
+      (λ bytes file. Ends (Trims task.nodes ballots file)) (λ why. tt)
+      (λ a file at_a is_a. trims-never task.nodes ballots file text (few_there task.assertions task.nodes name same a file at_a is_a)))
 
   -- ---- a session that is opened
 
-  opens-never : (terms : Terms) (ballots : BallotFile) (batches : Batches) (file : FileContent) (digests : Digests) →
-      2 * factorial (candidate_count file - 1) ≤ terms.nodes →
-      opening.Opens terms ballots batches file digests (Answered Spent text) → ⊥
-  opens-never terms ballots batches file digests le opens = by (is_accepted terms.nodes ballots file) opens where
-    by : (b : Bool) → MatchBool b (Answered Spent text ≡ opening.opened terms batches file digests) (Checks terms.nodes ballots file (Answered Spent text)) → ⊥
+  opens-never : (task : OpenTask) (ballots : BallotFile) (batches : Batches) (file : FileContent) (digests : Digests) →
+      2 * factorial (candidate_count file - 1) ≤ task.nodes →
+      opening.Opens task ballots batches file digests (Answered Spent text) → ⊥
+  opens-never task ballots batches file digests le opens = by (is_accepted task.nodes ballots file) opens where
+    by : (b : Bool) → MatchBool b (Answered Spent text ≡ opening.opened task batches file digests) (Checks task.nodes ballots file (Answered Spent text)) → ⊥
     by true is = cc is
-    by false checks = checks-never terms.nodes ballots file text le checks
+    by false checks = checks-never task.nodes ballots file text le checks
 
-  open-never : (ballots manifest : List ℕ) (contest : Option Id) (terms : Terms) → terms.nodes ≡ judging.nodes →
-      Never (opening.script ballots manifest judging.assertions contest terms)
-  open-never ballots manifest contest terms same = λ (b, at_b, from_b).
-      after_value (told (refused ballots) (ballots_of b contest)) _ (told-only (refused ballots) (ballots_of b contest) (λ why. tt))
-      (λ file is_b (m, at_m, from_m).
-      after_value (cards_for ballots file manifest m) _ (cards-only ballots file manifest m) (λ batches is_m (a, at_a, from_a).
-      after_value (told (refused_file judging.assertions) (assertion_file_of a)) _
-      (told-only (refused_file judging.assertions) (assertion_file_of a) (λ why. tt)) (λ claims is_a opens.
-      opens-never terms file batches claims _
-      (subst (λ nodes. 2 * factorial (candidate_count claims - 1) ≤ nodes) (sym same)
-      (few a claims at_a (told_ok (refused_file judging.assertions) (assertion_file_of a) claims is_a))) opens)
-      from_a) from_m) from_b
+  open-never : (task : OpenTask) → task.assertions ≡ judging.assertions → task.nodes ≡ judging.nodes → Never (opening.script task)
+  open-never task name same =
+      read-never task.ballots (refused_ballots task.ballots) (λ bytes. ballots_of bytes task.contest)
+      (λ bytes ballots. opening.after_ballots task ballots (sha256 bytes)) (λ why. tt)
+      (λ b ballots at_b is_b (m, at_m, from_m).
+      after_value (cards_for task.ballots ballots task.manifest m) _ (cards-only task.ballots ballots task.manifest m) (λ batches is_m.
+      read-never task.assertions (refused_assertions task.assertions) assertion_file_of _ (λ why. tt) (λ a file at_a is_a.
+      opens-never task ballots batches file _ (few_there task.assertions task.nodes name same a file at_a is_a)))
+      from_m)
 
   -- ---- a round of an audit
 
@@ -129,31 +188,74 @@ module _ (files : List File) (judging : Judging) (enough : AreEnough files judgi
   session-never true is = cc is
   session-never false is = cc is
 
-  next-never : (task : audit.Asked) (judged : Result Content Verdict) → OnlyRefuses judged → Answered Spent text ≡ audit.verdict_of task judged → ⊥
-  next-never task (Ok next) only is = session-never (is_signed_off next.session) (cc is)
-  next-never task (Err (Refused name t)) only is = cc is
-  next-never task (Err (Answered kind t)) only is = absurd only
+  next-never : (judged : Result Content Verdict) → OnlyRefuses judged → Answered Spent text ≡ verdict_of judged → ⊥
+  next-never (Ok next) only is = session-never (is_signed_off next.session) (cc is)
+  next-never (Err (Refused name t)) only is = cc is
+  next-never (Err (Answered kind t)) only is = absurd only
 
-  facts-never : (task : audit.Asked) (session : Content) (ballots : BallotFile) (batches : Batches) (file : FileContent) →
+  facts-never : (task : AuditTask) (session : Content) (ballots : BallotFile) (batches : Batches) (file : FileContent) →
       Never (audit.after_check task session ballots batches file)
   facts-never task session ballots batches file =
       after_value (audit.same_facts task session batches file) _ (same_facts-only task session batches file) (λ same is (v, at_v, from_v).
       after_value (told (refused_seen task.seen) (seen_of batches file.candidates v)) _
       (told-only (refused_seen task.seen) (seen_of batches file.candidates v) (λ why. tt)) (λ entries is_v ends.
-      next-never task _ (next-only task same file (record { recorded = linked_of batches ballots; entries = entries })) ends) from_v)
+      next-never _ (next-only task.session task.seen task.draws same (values_of file) (record { recorded = linked_of batches ballots; entries = entries }))
+      ends) from_v)
 
-  audit-never : (task : audit.Asked) → task.assertions ≡ judging.assertions → task.nodes ≡ judging.nodes → Never (audit.audit task)
+  audit-never : (task : AuditTask) → task.assertions ≡ judging.assertions → task.nodes ≡ judging.nodes → Never (audit.script task)
   audit-never task name same = λ (s, at_s, from_s).
-      after_value (audit.session_to_go_on task s) _ (session-only task s) (λ session is_s (b, at_b, from_b).
-      after_value (audit.same_ballots task session b) _ (ballots-only task session b) (λ ballots is_b (m, at_m, from_m).
-      after_value (audit.same_manifest task session ballots m) _ (manifest-only task session ballots m) (λ batches is_m (a, at_a, from_a).
+      after_value (session_to_go_on task.session task.draws s) _ (session-only task.session task.draws s) (λ session is_s (b, at_b, from_b).
+      after_value (same_ballots task.ballots session b) _ (ballots-only task.ballots session b) (λ ballots is_b (m, at_m, from_m).
+      after_value (same_manifest task.ballots task.manifest session ballots m) _ (manifest-only task.ballots task.manifest session ballots m)
+      (λ batches is_m (a, at_a, from_a).
       after_value (audit.same_assertions task session a) _ (assertions-only task session a) (λ file is_a.
       accepted-never task.nodes ballots file _
-      (subst (λ nodes. 2 * factorial (candidate_count file - 1) ≤ nodes) (sym same)
-      (few a file (subst (λ n. AsHeld files n (Bytes a)) name at_a)
-      (told_ok (refused_file task.assertions) (assertion_file_of a) file (unless_ok _ _ file is_a).1)))
+      (few_there task.assertions task.nodes name same a file at_a
+      (told_ok (refused_assertions task.assertions) (assertion_file_of a) file (unless_ok _ _ file is_a).1))
       (facts-never task session ballots batches file))
       from_a) from_m) from_b) from_s
+
+  -- ---- a poll
+
+  covered-never : (nodes : ℕ) (file : FileContent) (next : Script) → 2 * factorial (candidate_count file - 1) ≤ nodes → Never next →
+      Never (poll.if_covered nodes file next)
+  covered-never nodes file next le never =
+      by (first_over n file.winner (assertions_of file) nodes) (standing_order n file.winner (assertions_of file)) refl where
+        n : ℕ
+        n = candidate_count file
+
+        by : (over : Option ℕ) (left : Option (List ℕ)) → first_over n file.winner (assertions_of file) nodes ≡ over →
+            Never (poll.unless_ended (option_or (option_map (poll.spent file) over) (option_map (poll.standing file) left)) next)
+        by (Some last) left e is = cover_never_spent n file.winner nodes (assertions_of file) last le
+            (ap (λ over. or_spent over (cover_verdict_on (standing_order n file.winner (assertions_of file)))) e)
+        by None (Some order) e is = cc is
+        by None None e comes = never comes
+
+  -- a poll confirms each claim or not
+  told-never : (yes : Bool) → Spent ≡ poll.kind_of yes → ⊥
+  told-never true is = cc is
+  told-never false is = cc is
+
+  polls-never : (task : PollTask) (batches : Batches) (file : FileContent) (entries : List Entry) →
+      poll.Polls task batches file entries (Answered Spent text) → ⊥
+  polls-never task batches file entries is = by (unseen_draw task.seed cards entries task.draws) is where
+    cards : ℕ
+    cards = poll.cards task batches file entries
+
+    by : (o : Option ℕ) → Answered Spent text ≡ unwrap_or (option_map (λ k. Refused task.seen (no_record_text (drawn_card task.seed k cards) k)) o)
+        (poll.answered task batches file entries) → ⊥
+    by None is = told-never (poll.is_yes task batches file entries) (cc is)
+    by (Some k) is = cc is
+
+  poll-never : (task : PollTask) → task.assertions ≡ judging.assertions → task.nodes ≡ judging.nodes → Never (poll.script task)
+  poll-never task name same =
+      read-never task.manifest (refused_manifest task.manifest) manifest_of (λ bytes batches. poll.after_manifest task batches) (λ why. tt)
+      (λ m batches at_m is_m. read-never task.assertions (refused_assertions task.assertions) assertion_file_of
+      (λ bytes file. poll.after_assertions task batches file) (λ why. tt)
+      (λ a file at_a is_a. covered-never task.nodes file (poll.after_cover task batches file)
+      (few_there task.assertions task.nodes name same a file at_a is_a)
+      (read-never task.seen (refused_seen task.seen) (seen_of batches file.candidates) (λ bytes entries. Ends (poll.Polls task batches file entries))
+      (λ why. tt) (λ v entries at_v is_v. polls-never task batches file entries))))
 
 -- ---- each command
 
@@ -162,21 +264,22 @@ judged-is files own judging is enough = subst (AreEnough files) (sym (some_is is
 
 script-never : (files : List File) (command : Command) (judging : Judging) (text : List ℕ) → judging_of command ≡ Some judging → AreEnough files judging →
     Concludes (AsHeld files) (script_of command) (Answered Spent text) → ⊥
-script-never files (Search ballots contest workers nodes floor) judging text is enough = absurd (cc is)
-script-never files (Tabulate ballots contest nodes) judging text is enough = absurd (cc is)
-script-never files (Check ballots assertions contest nodes) judging text is enough =
-    let own : Judging = record { assertions = assertions; nodes = nodes } in
-    check-never files own (judged-is files own judging is enough) text ballots contest
-script-never files (Sample manifest seed draws) judging text is enough = absurd (cc is)
-script-never files (Plan manifest assertions limit gamma) judging text is enough = absurd (cc is)
-script-never files (Open ballots manifest assertions seed contest limit gamma nodes) judging text is enough =
-    let own : Judging = record { assertions = assertions; nodes = nodes } in
-    open-never files own (judged-is files own judging is enough) text ballots manifest contest _ refl
-script-never files (Audit session ballots manifest assertions seen draws nodes) judging text is enough =
-    let own : Judging = record { assertions = assertions; nodes = nodes } in
-    audit-never files own (judged-is files own judging is enough) text _ refl refl
-script-never files (Report session) judging text is enough = absurd (cc is)
-script-never files (Trial number candidates ballots workers nodes) judging text is enough = absurd (cc is)
+script-never files (Check task) judging text is enough =
+    let own : Judging = record { assertions = task.assertions; nodes = task.nodes } in
+    check-never files own (judged-is files own judging is enough) text task refl refl
+script-never files (Trim task) judging text is enough =
+    let own : Judging = record { assertions = task.assertions; nodes = task.nodes } in
+    trim-never files own (judged-is files own judging is enough) text task refl refl
+script-never files (Open task) judging text is enough =
+    let own : Judging = record { assertions = task.assertions; nodes = task.nodes } in
+    open-never files own (judged-is files own judging is enough) text task refl refl
+script-never files (Audit task) judging text is enough =
+    let own : Judging = record { assertions = task.assertions; nodes = task.nodes } in
+    audit-never files own (judged-is files own judging is enough) text task refl refl
+script-never files (Poll task) judging text is enough =
+    let own : Judging = record { assertions = task.assertions; nodes = task.nodes } in
+    poll-never files own (judged-is files own judging is enough) text task refl refl
+script-never files _ judging text is enough = absurd (cc is)
 
 pub never_spent : (words : List (List ℕ)) (files : List File) (command : Command) (judging : Judging) → command_of words ≡ Some command →
     judging_of command ≡ Some judging → AreEnough files judging →

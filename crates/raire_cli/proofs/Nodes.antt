@@ -2,10 +2,10 @@
 use Rattle.std.proofs.Common.{ℕ, zero, suc, ◌≤◌, ◌-◌, ◌*◌, List, arith}
 use Rattle.assertions.specs.Suffixes.{factorial}
 use Rattle.ballot_reader.specs.Ballots.{BallotFile}
-use Rattle.command_line.specs.declared.limits.TheConstants.{DEFAULT_NODES}
-use Rattle.contest_commands.specs.Contest.{candidate_count, IsOther}
-use Rattle.contest_commands.specs.Search.{nodes_for}
-use Rattle.contest_commands.proofs.Nodes.{nodes_are_few}
+use Rattle.command.specs.declared.limits.TheConstants.{DEFAULT_NODES}
+use Rattle.contest_search.specs.Budget.{nodes_for}
+use Rattle.contest_search.specs.Contest.{candidate_count, IsOther}
+use Rattle.contest_search.proofs.Nodes.{nodes_are_few}
 
 few_for_nine : (k : ℕ) → k ≤ 8 → 2 * factorial k ≤ DEFAULT_NODES
 few_for_nine zero h = omega arith

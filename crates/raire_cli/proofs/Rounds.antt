@@ -8,15 +8,15 @@ use Rattle.cli_base.specs.Script.{AsHeld, ComesTo}
 use Rattle.cli_base.specs.Statuses.{HasAnswer}
 use Rattle.cli_base.specs.declared.outcome.AnswerKind.TheVariants.{Done, Spent}
 use Rattle.report.specs.Tabulations.{tabulation_text}
-use Rattle.contest_commands.specs.Contest.{candidate_count, IsOther}
-use Rattle.contest_commands.specs.Tabulate.{HasRounds, HasStopped, Tabulates, TabulatesIn}
-use Rattle.contest_commands.proofs.Contests.{winner-one, same_tabulated}
+use Rattle.contest_search.specs.Contest.{candidate_count, IsOther}
+use Rattle.contest_search.proofs.Contests.{winner-one, same_tabulated}
+use Rattle.search_commands.specs.Tabulate.{HasRounds, HasStopped, Tabulates}
 use Rattle.raire_cli.specs.Answers.{asked, asked_by}
 use Rattle.raire_cli.specs.Promises.{IsTabulable}
-use Rattle.raire_cli.proofs.Undecided.{read_there, said_there}
+use Rattle.raire_cli.proofs.Undecided.{comes_of, ends_there}
 
 module _ (words : List (List ℕ)) (files : List File) (ok : IsTabulable words files) where
-  not_stopped : (text : List ℕ) → HasStopped ok.nodes ok.ballots text → ⊥
+  not_stopped : (text : List ℕ) → HasStopped ok.task.nodes ok.ballots text → ⊥
   not_stopped text stopped = by ok.budget where
     same : stopped.is.won.order ≡ ok.won.order
     same = same_tabulated ok.ballots stopped.is.winner ok.winner stopped.is.won ok.won
@@ -25,21 +25,21 @@ module _ (words : List (List ℕ)) (files : List File) (ok : IsTabulable words f
     work order = work_for (candidate_count ok.ballots) ok.ballots.rankings order stopped.last
 
     by : HasNoTie ok.ballots.rankings ok.won.order
-        ⊎ ((c : ℕ) → IsOther ok.ballots ok.winner c → work_for (candidate_count ok.ballots) ok.ballots.rankings ok.won.order c ≤ ok.nodes) → ⊥
+        ⊎ ((c : ℕ) → IsOther ok.ballots ok.winner c → work_for (candidate_count ok.ballots) ok.ballots.rankings ok.won.order c ≤ ok.task.nodes) → ⊥
     by (inl free) = stopped.is.tied (subst (HasNoTie ok.ballots.rankings) (sym same) free)
     by (inr budget) =
         let one = winner-one ok.ballots stopped.is.winner ok.winner stopped.is.won ok.won in
-        let enough : work ok.won.order ≤ ok.nodes = budget stopped.last (subst (λ v. IsOther ok.ballots v stopped.last) one stopped.is.named) in
-        let above : ok.nodes < work stopped.is.won.order = stopped.is.cause.above in
+        let enough : work ok.won.order ≤ ok.task.nodes = budget stopped.last (subst (λ v. IsOther ok.ballots v stopped.last) one stopped.is.named) in
+        let above : ok.task.nodes < work stopped.is.won.order = stopped.is.cause.above in
         let alike : work stopped.is.won.order ≡ work ok.won.order = ap work same in
         omega (arith, enough, above, alike)
 
   pub never_stopped : HasAnswer (asked words) files Spent → ⊥
   never_stopped (text, comes) =
-      let (bytes, there, ends) = subst (λ command. ComesTo (AsHeld files) (asked_by command) (Answered Spent text)) ok.asked comes in
-      by (said_there files ok.name ok.contest ok.ballots ok.are (λ read. TabulatesIn ok.nodes ok.name read (Answered Spent text)) bytes there ends)
+      by (ends_there files ok.task.ballots ok.task.contest (Tabulates ok.task.nodes) ok.ballots ok.are Spent text
+      (subst (λ command. ComesTo (AsHeld files) (asked_by command) (Answered Spent text)) ok.asked comes))
     where
-      by : Tabulates ok.nodes ok.ballots (Answered Spent text) → ⊥
+      by : Tabulates ok.task.nodes ok.ballots (Answered Spent text) → ⊥
       by (inl (other, has, e)) = cc e
       by (inr (inl (other, has, e))) = cc e
       by (inr (inr (other, has, e))) = not_stopped other has
@@ -50,6 +50,5 @@ module _ (words : List (List ℕ)) (files : List File) (ok : IsTabulable words f
       let has : HasRounds ok.ballots text = record { winner = ok.winner; won = ok.won; decided = ok.decided; shown = refl } in (
         text,
         subst (λ command. ComesTo (AsHeld files) (asked_by command) (Answered Done text)) (sym ok.asked)
-            (read_there files ok.name ok.contest ok.ballots ok.are (λ read. TabulatesIn ok.nodes ok.name read (Answered Done text))
-            (inl (text, has, refl))),
+            (comes_of files ok.task.ballots ok.task.contest (Tabulates ok.task.nodes) ok.ballots ok.are (Answered Done text) (inl (text, has, refl))),
       )

@@ -1,28 +1,48 @@
 -- What was said of files where a command answers.
-use Rattle.std.proofs.Common.{◌≡◌, inl, inr, ℕ, ◌+◌, ◌<◌, Bool, true, false, if◌then◌else◌, List, [], ◌∷◌, take, Option, None, Some, Result, Ok, Err, refl, sym, ap, subst, ◌∙◌}
-use Rattle.std.specs.Prelude.{ok_or, option_map, find}
-use Rattle.std.specs.List.{range_with_len}
-use Rattle.std.proofs.lemmas.Bool.{cases_Bool}
-use Rattle.std.proofs.lemmas.Bool.Decides.{leb_tells}
-use Rattle.sha2.specs.Sha256.{sha256}
-use Rattle.irv_base.specs.Names.{is_same}
-use Rattle.manifest.proofs.Numbers.{same-equal}
-use Rattle.assertions.specs.declared.assertion.Claim.{Claim}
-use Rattle.km_risk.specs.declared.draws.Counts.{Counts}
-use Rattle.audit_rounds.specs.Sessions.{Round}
-use Rattle.audit_session.specs.Going.{all_counts}
-use Rattle.audit_session.specs.Refusals.{changed_from, changed_in, first_of, last_draws, same_counts, smaller, without_record}
-use Rattle.audit_session.specs.declared.compared.Drawn.{Drawn}
-use Rattle.audit_session.specs.declared.fault.AdvanceFault.{AdvanceFault}
-use Rattle.audit_session.specs.declared.fault.AdvanceFault.TheVariants.{Smaller, NoRecord, Changed}
-use Rattle.sampler.specs.Draws.{drawn_card}
-use Rattle.seen_file.specs.Seen.{Entry}
+use Rattle.std.proofs.Common.{◌≡◌, inl, inr, ℕ, ◌≤◌, length, nat_le, Bool, true, false, if◌then◌else◌, List, Option, None, Some, Result, Ok, Err, sym, ap, subst, ◌∙◌, leb-true, le-leb, refl}
+use Rattle.std.specs.Prelude.{ok_or, option_map}
+use Rattle.desk.specs.Desk.{File, held_bytes}
+use Rattle.ballot_reader.specs.Ballots.{BallotFile}
+use Rattle.manifest.specs.Cards.{Batches}
+use Rattle.manifest.specs.Linked.{first_without_card}
+use Rattle.manifest.specs.Manifest.{manifest_of}
 use Rattle.cli_base.specs.Outcome.{Outcome, Verdict, Answered, Refused}
-use Rattle.cli_base.specs.Script.{Script, Readings, Concludes, May}
+use Rattle.cli_base.specs.Script.{Script, Read, Readings, Bytes, TooLong, AsHeld, Concludes, May, limit, reading_of, stop_of}
 use Rattle.cli_base.specs.declared.outcome.AnswerKind.{AnswerKind}
-use Rattle.session_commands.specs.Judged.{told, unless, then_judged, go_on}
-use Rattle.session_commands.specs.Refusals.{other_digest, other_facts, differs_text, refused_by}
-use Rattle.session_commands.proofs.Going.{OnlyRefuses}
+use Rattle.input_files.specs.Cards.{cards_for, without_card}
+use Rattle.input_files.specs.Judged.{told, unless, then_judged, go_on}
+use Rattle.input_files.specs.Refusals.{no_card, refused_manifest}
+use Rattle.input_files.proofs.Going.{IsRefusal, OnlyRefuses, told-only}
+
+-- ---- a file that is read whole
+
+pub held_whole : (held : Option (List ℕ)) (bytes : List ℕ) → Bytes bytes ≡ reading_of held → held ≡ Some bytes
+held_whole None bytes e = cc
+held_whole (Some all) bytes e = by_length (nat_le (length all) limit) e where
+  by_length : (b : Bool) → Bytes bytes ≡ (if b then Bytes all else TooLong) → Some all ≡ Some bytes
+  by_length true e = cc
+  by_length false e = cc
+
+pub short_of : (held : Option (List ℕ)) (bytes : List ℕ) → Bytes bytes ≡ reading_of held → length bytes ≤ limit
+short_of None bytes e = absurd (cc e)
+short_of (Some all) bytes e = by (nat_le (length all) limit) refl e where
+  by : (b : Bool) → nat_le (length all) limit ≡ b → Bytes bytes ≡ (if b then Bytes all else TooLong) → length bytes ≤ limit
+  by true le e = let same : all ≡ bytes = cc in subst (λ xs. length xs ≤ limit) same (leb-true (length all) limit le)
+  by false le e = absurd (cc e)
+
+pub read_whole : (name : List ℕ) (files : List File) (bytes : List ℕ) → held_bytes name files ≡ Some bytes → length bytes ≤ limit →
+    Bytes bytes ≡ reading_of (held_bytes name files)
+read_whole name files bytes held short =
+    sym (ap reading_of held ∙ ap (λ b. if b then Bytes bytes else TooLong) (le-leb (length bytes) limit short))
+
+none_is_some : {due : Outcome} → None ≡ Some due → ⊥
+none_is_some e = cc e
+
+-- ---- a file that is judged
+
+-- a result is one value
+pub only : {A E : Type 0} {r : Result A E} {x y : A} → r ≡ Ok x → r ≡ Ok y → x ≡ y
+only {A = A} {E = E} {x = x} {y = y} first second = let same : ◌≡◌ {A = Result A E} (Ok x) (Ok y) = sym first ∙ second in cc
 
 -- an answer comes of what is said
 pub value_of : {A : Type 0} (readings : Readings) (judged : Result A Verdict) (next : A → Script) (kind : AnswerKind) (text : List ℕ) → OnlyRefuses judged →
@@ -41,6 +61,54 @@ pub told_ok : {A Why : Type 0} (words : Why → Verdict) (read : Result A Why) (
 told_ok words (Ok v) value is = cc is
 told_ok words (Err why) value is = absurd (cc is)
 
+-- the bytes of a file that a command reads and goes on with, and what they say
+pub record IsSaid {A Why : Type 0} (files : List File) (name : List ℕ) (read : List ℕ → Result A Why) (next : List ℕ → A → Script) (kind : AnswerKind)
+    (text : List ℕ) : Type 0 where
+  pub bytes : List ℕ
+  pub held : held_bytes name files ≡ Some bytes
+  pub is_short : length bytes ≤ limit
+  pub value : A
+  pub is : read bytes ≡ Ok value
+  pub rest : Concludes (AsHeld files) (next bytes value) (Answered kind text)
+
+module _ {A Why : Type 0} (files : List File) (name : List ℕ) (words : Why → Verdict) (read : List ℕ → Result A Why) (next : List ℕ → A → Script) where
+  -- a command that answers comes to it
+  pub said : (kind : AnswerKind) (text : List ℕ) → ((why : Why) → IsRefusal (words why)) →
+      Concludes (AsHeld files) (Read name (λ bytes. go_on (told words (read bytes)) (next bytes))) (Answered kind text) → IsSaid files name read next kind text
+  said kind text refuses (bytes, there, rest) =
+      let (value, is, on) = value_of (AsHeld files) (told words (read bytes)) (next bytes) kind text (told-only words (read bytes) refuses) rest in
+      record {
+        bytes = bytes;
+        held = held_whole (held_bytes name files) bytes there;
+        is_short = short_of (held_bytes name files) bytes there;
+        value = value;
+        is = told_ok words (read bytes) value is;
+        rest = on;
+      }
+
+  module _ (bytes : List ℕ) (held : held_bytes name files ≡ Some bytes) (is_short : length bytes ≤ limit) (value : A) (is : read bytes ≡ Ok value) where
+    -- and the other way round
+    pub saying : (v : Verdict) → Concludes (AsHeld files) (next bytes value) v →
+        Concludes (AsHeld files) (Read name (λ bytes. go_on (told words (read bytes)) (next bytes))) v
+    saying v rest =
+        (bytes, read_whole name files bytes held is_short, subst (λ r. Concludes (AsHeld files) (go_on (told words r) (next bytes)) v) (sym is) rest)
+
+    -- it comes to nothing else
+    pub says : (due : Outcome) → May (AsHeld files) (Read name (λ bytes. go_on (told words (read bytes)) (next bytes))) due →
+        May (AsHeld files) (next bytes value) due
+    says due (inl (reading, there, stops)) =
+        let its : Bytes bytes ≡ reading = read_whole name files bytes held is_short ∙ sym there in
+        absurd (none_is_some (subst (λ r. stop_of name r ≡ Some due) (sym its) stops))
+    says due (inr (other, there, rest)) =
+        let same : other ≡ bytes = let whole : Bytes other ≡ Bytes bytes = there ∙ sym (read_whole name files bytes held is_short) in cc in
+        subst (λ r. May (AsHeld files) (go_on (told words r) (next bytes)) due) is
+        (subst (λ b. May (AsHeld files) (go_on (told words (read b)) (next b)) due) same rest)
+
+    pub may_say : (due : Outcome) → May (AsHeld files) (next bytes value) due →
+        May (AsHeld files) (Read name (λ bytes. go_on (told words (read bytes)) (next bytes))) due
+    may_say due rest =
+        inr (bytes, read_whole name files bytes held is_short, subst (λ r. May (AsHeld files) (go_on (told words r) (next bytes)) due) (sym is) rest)
+
 pub unless_ok : {A : Type 0} (wrong : Option Verdict) (judged : Result A Verdict) (value : A) → unless wrong judged ≡ Ok value →
     (wrong ≡ None) × (judged ≡ Ok value)
 unless_ok None judged value is = (refl, is)
@@ -55,62 +123,17 @@ pub some_ok : {A : Type 0} (o : Option A) (verdict : Verdict) (value : A) → ok
 some_ok None verdict value is = absurd (cc is)
 some_ok (Some v) verdict value is = cc is
 
-pub same_digest : (name expected bytes : List ℕ) → other_digest name expected bytes ≡ None → expected ≡ sha256 bytes
-same_digest name expected bytes none = elim (cases_Bool (is_same expected (sha256 bytes))) [
-  | inl same ↦ same-equal expected (sha256 bytes) same
-  | inr differ ↦
-      let some = sym (ap (λ b. if b then None else Some (Refused name (differs_text expected (sha256 bytes)))) differ) ∙ none in
-      absurd (cc some)
-]
-
--- ---- a session that isn't refused
-
-pub not_smaller : (session seen : List ℕ) (rounds : List Round) (draws : ℕ) → refused_by session seen (smaller rounds draws) ≡ None → last_draws rounds < draws
-not_smaller session seen rounds draws none = elim (leb_tells draws (last_draws rounds)) [
-  | inl (test, le) ↦
-      let some = sym (ap (λ b. refused_by session seen (if b then Some (Smaller (last_draws rounds)) else None)) test) ∙ none in
-      absurd (cc some)
-  | inr (test, lt) ↦ lt
-]
-
-pub all_recorded : (session seen seed : List ℕ) (cards : ℕ) (entries : List Entry) (draws : ℕ) →
-    refused_by session seen (without_record seed cards entries draws) ≡ None → without_record seed cards entries draws ≡ None
-all_recorded session seen seed cards entries draws none = by (find _ (range_with_len 1 draws)) none where
-  by : (k : Option ℕ) → refused_by session seen (option_map (λ k. NoRecord (drawn_card seed k cards) k) k) ≡ None →
-      option_map (λ k. NoRecord (drawn_card seed k cards) k) k ≡ None
-  by None none = refl
-  by (Some k) none = absurd (cc none)
-
--- it is told where it isn't none
-abbrev IsTold : List ℕ → List ℕ → Option AdvanceFault → Type 0
-IsTold session seen fault = refused_by session seen fault ≡ None → fault ≡ None
-
-first-told : (session seen : List ℕ) (a b : Option AdvanceFault) → IsTold session seen a → IsTold session seen b → IsTold session seen (first_of a b)
-first-told session seen None b told-a told-b = told-b
-first-told session seen (Some fault) b told-a told-b = told-a
-
-changed-told : (session seen : List ℕ) (round claim : ℕ) (expected found : List Counts) → IsTold session seen (changed_in round claim expected found)
-changed-told session seen round claim [] found = λ none. refl
-changed-told session seen round claim (e ∷ expected) [] = λ none. refl
-changed-told session seen round claim (e ∷ expected) (f ∷ found) = by (same_counts e f) (changed-told session seen round (claim + 1) expected found) where
-  by : (b : Bool) → IsTold session seen (changed_in round (claim + 1) expected found) →
-      IsTold session seen (if b then changed_in round (claim + 1) expected found else Some (Changed round claim e f))
-  by true later = later
-  by false later = λ none. absurd (cc none)
-
-pub unchanged : (session seen : List ℕ) (claims : List Claim) (drawn : List Drawn) (number : ℕ) (rounds : List Round) →
-    IsTold session seen (changed_from claims drawn number rounds)
-unchanged session seen claims drawn number [] = λ none. refl
-unchanged session seen claims drawn number (round ∷ rounds) =
-    first-told session seen (changed_in number 1 round.counts (all_counts claims (take round.draws drawn))) (changed_from claims drawn (number + 1) rounds)
-    (changed-told session seen number 1 round.counts (all_counts claims (take round.draws drawn))) (unchanged session seen claims drawn (number + 1) rounds)
-
--- ---- nothing wrong is told
-
 pub none_mapped : {A B : Type 0} (f : A → B) (o : Option A) → option_map f o ≡ None → o ≡ None
 none_mapped f None none = refl
 none_mapped f (Some x) none = absurd (cc none)
 
-pub facts_kept : (name : List ℕ) (fits : Bool) → (if fits then None else Some (other_facts name)) ≡ None → fits ≡ true
-facts_kept name true none = refl
-facts_kept name false none = absurd (cc none)
+-- the batches that are gone on with are those of the manifest, and each ballot has a card
+pub said_cards : (name : List ℕ) (ballots : BallotFile) (manifest bytes : List ℕ) (batches : Batches) → cards_for name ballots manifest bytes ≡ Ok batches →
+    (manifest_of bytes ≡ Ok batches) × (first_without_card batches ballots ≡ None)
+said_cards name ballots manifest bytes batches is =
+    let (read, first, placed) = then_ok (told (refused_manifest manifest) (manifest_of bytes)) _ batches is in
+    let (without, same) = unless_ok (without_card name ballots read) _ batches placed in
+    let read-is : read ≡ batches = cc same in (
+      told_ok (refused_manifest manifest) (manifest_of bytes) batches (first ∙ ap Ok read-is),
+      subst (λ b. first_without_card b ballots ≡ None) read-is (none_mapped (no_card name) (first_without_card read ballots) without),
+    )

@@ -1,5 +1,5 @@
 -- Of all sequences of draws, the audits of what was announced are signed off on few.
-use Rattle.std.proofs.Common.{◌≡◌, ◌≢◌, ℕ, ◌<◌, ◌≤◌, List, [], ◌∷◌, length, Option, Some, Result, Ok, All, AllPairs, sym, ap, subst, ◌∙◌, arith}
+use Rattle.std.proofs.Common.{◌≡◌, ◌≢◌, ℕ, ◌<◌, ◌≤◌, List, [], ◌∷◌, length, Option, Some, All, AllPairs, sym, ap, subst, ◌∙◌, arith}
 use Rattle.std.proofs.lemmas.List.{length-map}
 use Rattle.std.proofs.lemmas.List.Elements.{All-head, All-weaker}
 use Rattle.csv_rows.specs.Fields.{numbered_records}
@@ -12,19 +12,18 @@ use Rattle.assertion_file.specs.Content.{Content as FileContent}
 use Rattle.assertion_file.proofs.SoundFiles.{read_is_sound as read_file_is_sound}
 use Rattle.km_risk.specs.Exact.{millionths_in_one}
 use Rattle.km_risk.specs.Reach.{IsSequence}
-use Rattle.audit_rounds.specs.Content.{IsSound}
+use Rattle.session_state.specs.Content.{IsSound}
 use Rattle.session_file.proofs.SoundFiles.{read_is_sound}
 use Rattle.audit_laws.specs.Laws.{FitTogether}
-use Rattle.audit_laws.specs.RiskLimit.{AreSignedOff, AreTerms, MayBeSignedOff}
-use Rattle.audit_laws.proofs.Advanced.{advanced_is_counted}
+use Rattle.session_state.specs.Claims.{audited, values_of}
+use Rattle.session_state.specs.RiskOfValues.{AreSignedOff, AreTerms, MayBeSignedOff}
 use Rattle.audit_laws.proofs.Published.{held_risk_limit}
+use Rattle.raire_cli.specs.Audits.{claims, recorded}
 use Rattle.raire_cli.specs.Basis.{Basis, BelongTogether, FileBytes, Say}
 use Rattle.raire_cli.specs.SignedOff.{Announced, IsSignedOffOn, SignedOffAreFew}
-use Rattle.raire_cli.proofs.Limited.{some_card}
-
--- a result is one value
-only : {A E : Type 0} {r : Result A E} {x y : A} → r ≡ Ok x → r ≡ Ok y → x ≡ y
-only {A = A} {E = E} {x = x} {y = y} first second = let same : ◌≡◌ {A = Result A E} (Ok x) (Ok y) = sym first ∙ second in cc
+use Rattle.raire_cli.proofs.Limited.{fits as fits_it}
+use Rattle.raire_cli.proofs.NextRounds.{round_is_counted}
+use Rattle.raire_cli.proofs.Said.{only}
 
 -- bytes say one thing
 said-once : (contest : Option Id) (bytes : FileBytes) (basis other : Basis) → Say contest bytes basis → Say contest bytes other → basis ≡ other
@@ -50,7 +49,7 @@ module _ (announced : Announced) (actual : List (List ℕ)) (most : ℕ) where
   abbrev Counted : Basis → ℕ → ℕ → List ℕ → Type 0
   Counted basis limit gamma sequence =
       IsSequence (length (linked_of basis.batches basis.ballots)) most sequence
-      × MayBeSignedOff limit gamma basis.file.claims (linked_of basis.batches basis.ballots) actual sequence
+      × MayBeSignedOff limit gamma (audited basis.file) (linked_of basis.batches basis.ballots) actual sequence
 
   module _ (sequence : List ℕ) (audit : IsSignedOffOn announced actual most sequence) where
     same-contest : audit.on.inputs.session.contest ≡ announced.basis.file.contest
@@ -86,10 +85,8 @@ module _ (announced : Announced) (actual : List (List ℕ)) (most : ℕ) where
         let each : length (linked_of inputs.basis.batches inputs.basis.ballots) ≡ length (cards_of inputs.basis.batches) =
         length-map (cards_of inputs.basis.batches) (recorded_of inputs.basis.ballots) in
         subst (Counted inputs.basis inputs.session.session.limit inputs.session.session.gamma) (sym audit.of_seed)
-        (advanced_is_counted inputs.session.session.limit inputs.session.session.gamma audit.on.asks.draws most inputs.session.seed
-        inputs.basis.file.claims (linked_of inputs.basis.batches inputs.basis.ballots) inputs.entries actual audit.next.session
-        (some_card inputs audit.on.bytes.session audit.on.say.session audit.on.of_files.facts) audit.few (long ∙ sym cards ∙ sym each)
-        audit.true_entries audit.on.is_next.of_draws audit.signed_off)
+        (round_is_counted inputs.session (recorded inputs) inputs.entries (values_of inputs.basis.file) (claims inputs) (fits_it audit.on)
+        audit.on.asks.task.draws most audit.next actual audit.on.is_next audit.signed_off audit.few (long ∙ sym cards ∙ sym each) audit.true_entries)
 
     counted : length actual ≡ length (cards_of announced.basis.batches) →
         Counted announced.basis announced.limit announced.gamma sequence
@@ -100,7 +97,7 @@ module _ (announced : Announced) (actual : List (List ℕ)) (most : ℕ) where
 
   all-counted : length actual ≡ length (cards_of announced.basis.batches) → (sequences : List (List ℕ)) → AllPairs ◌≢◌ sequences →
       All (IsSignedOffOn announced actual most) sequences →
-      AreSignedOff announced.limit announced.gamma announced.basis.file.claims (linked_of announced.basis.batches announced.basis.ballots) actual most
+      AreSignedOff announced.limit announced.gamma (audited announced.basis.file) (linked_of announced.basis.batches announced.basis.ballots) actual most
       sequences
   all-counted long sequences differ audits = record {
     drawn = All-weaker (IsSignedOffOn announced actual most)
@@ -108,7 +105,7 @@ module _ (announced : Announced) (actual : List (List ℕ)) (most : ℕ) where
         (λ sequence audit. (counted sequence audit long).0) sequences audits;
     differ = differ;
     each = All-weaker (IsSignedOffOn announced actual most)
-        (MayBeSignedOff announced.limit announced.gamma announced.basis.file.claims
+        (MayBeSignedOff announced.limit announced.gamma (audited announced.basis.file)
         (linked_of announced.basis.batches announced.basis.ballots) actual)
         (λ sequence audit. (counted sequence audit long).1) sequences audits;
   }

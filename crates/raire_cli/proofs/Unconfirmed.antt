@@ -27,21 +27,24 @@ use Rattle.assorters.specs.declared.seen.Seen.TheVariants.{Found}
 use Rattle.seen_file.specs.Reading.{seen_of}
 use Rattle.seen_file.specs.Seen.{Entry}
 use Rattle.km_risk.specs.Printed.{printed_risk}
-use Rattle.audit_rounds.specs.Content.{Content, IsSound}
-use Rattle.audit_rounds.specs.Sessions.{IsRound, Round}
-use Rattle.session_text.specs.Forms.{HasForms}
-use Rattle.session_text.specs.Text.{session_text, session_value}
+use Rattle.session_state.specs.Claims.{values_of}
+use Rattle.session_state.specs.Content.{Content, IsSound}
+use Rattle.session_state.specs.Sessions.{IsRound, Round}
+use Rattle.session_file.specs.Forms.{HasForms}
+use Rattle.session_file.specs.Text.{session_text, session_value}
 use Rattle.session_file.specs.Reading.{session_of}
 use Rattle.session_file.proofs.ReadsBack.{printed_reads_back as printed_session_reads_back}
 use Rattle.cli_base.specs.Outcome.{Outcome, Verdict, outcome}
 use Rattle.cli_base.specs.Script.{Ends, Readings, AsHeld, May}
-use Rattle.command_line.specs.declared.command.Command.TheVariants.{Audit}
-use Rattle.command_line.specs.declared.limits.TheConstants.{DEFAULT_NODES}
+use Rattle.command_line.specs.declared.commands.Command.TheVariants.{Audit}
+use Rattle.command.specs.declared.limits.TheConstants.{DEFAULT_NODES}
 use Rattle.session_commands.specs.Accepted.{is_accepted, on_if}
-use Rattle.session_commands.specs.Audit.{Asked, Compared, GoesOn, after_assertions, after_ballots, after_check, after_facts, after_manifest, after_session, audit, next_session, same_assertions, same_ballots, same_facts, same_manifest, session_to_go_on, verdict_of}
-use Rattle.session_commands.specs.Judged.{told}
-use Rattle.session_commands.specs.Refusals.{refused_seen}
-use Rattle.contest_commands.specs.Check.{Checks}
+use Rattle.session_commands.specs.Audit.{after_assertions, after_ballots, after_check, after_facts, after_manifest, after_session, script, same_assertions, same_facts}
+use Rattle.session_commands.specs.Rounds.{Compared, GoesOn, next_session, same_ballots, same_manifest, session_to_go_on, verdict_of}
+use Rattle.command.specs.declared.audit.AuditTask.{AuditTask}
+use Rattle.input_files.specs.Judged.{told}
+use Rattle.input_files.specs.Refusals.{refused_seen}
+use Rattle.check_command.specs.Check.{Checks}
 use Rattle.raire_cli.specs.Agreement.{MayBeSpent}
 use Rattle.raire_cli.specs.EachStatus.{EndsWith, IsOfSome}
 use Rattle.raire_cli.proofs.Agreement.{not_spent}
@@ -212,33 +215,33 @@ audit_files =
     }
     ∷ record { name = codes "a"; bytes = assertions_bytes } ∷ record { name = codes "v"; bytes = seen_bytes } ∷ []
 
-no_search : MayBeSpent audit_words → ⊥
-no_search = not_spent audit_words (Audit (codes "s") (codes "b") (codes "m") (codes "a") (codes "v") 1 DEFAULT_NODES) refl refl
-
-abbrev asks : Asked
+abbrev asks : AuditTask
 asks = record { session = codes "s"; ballots = codes "b"; manifest = codes "m"; assertions = codes "a"; seen = codes "v"; draws = 1; nodes = DEFAULT_NODES }
+
+no_search : MayBeSpent audit_words → ⊥
+no_search = not_spent audit_words (Audit asks) refl refl
 
 abbrev compared : Compared
 compared = record { recorded = linked_of batches ballots; entries = entries }
 
 abbrev verdict : Verdict
-verdict = verdict_of asks (next_session asks session file compared)
+verdict = verdict_of (next_session asks.session asks.seen asks.draws session (values_of file) compared)
 
 verdict_status : (outcome verdict).status ≡ 10
 unfolding first_words schedule rounds compress hash_after digest_bytes sha256 digits printed_risk
 verdict_status = refl
 
-to_go_on : session_to_go_on asks session_bytes ≡ Ok session
+to_go_on : session_to_go_on asks.session asks.draws session_bytes ≡ Ok session
 to_go_on = rw session_read refl
 
-of_ballots : same_ballots asks session ballots_bytes ≡ Ok ballots
+of_ballots : same_ballots asks.ballots session ballots_bytes ≡ Ok ballots
 of_ballots = rw (ballots_hash, ballots_read) refl
 
 placed : first_without_card batches ballots ≡ None
 unfolding digits
 placed = refl
 
-of_manifest : same_manifest asks session ballots manifest_bytes ≡ Ok batches
+of_manifest : same_manifest asks.ballots asks.manifest session ballots manifest_bytes ≡ Ok batches
 of_manifest = rw (manifest_hash, manifest_read, placed) refl
 
 of_assertions : same_assertions asks session assertions_bytes ≡ Ok file
@@ -265,7 +268,8 @@ seen_counted =
       seen_bytes,
       refl,
       going held (told (refused_seen asks.seen) (seen_of batches file.candidates seen_bytes)) entries
-          (λ entries. Ends (GoesOn asks session file (record { recorded = linked_of batches ballots; entries = entries }))) due of_seen (verdict, refl, refl),
+          (λ entries. Ends (GoesOn asks.session asks.seen asks.draws session (values_of file) (record { recorded = linked_of batches ballots; entries = entries })))
+          due of_seen (verdict, refl, refl),
     )
 
 facts_hold : May held (after_check asks session ballots batches file) due
@@ -289,16 +293,16 @@ ballots_there =
     inr (
       manifest_bytes,
       refl,
-      going held (same_manifest asks session ballots manifest_bytes) batches
+      going held (same_manifest asks.ballots asks.manifest session ballots manifest_bytes) batches
           (after_manifest asks session ballots) due of_manifest cards_there,
     )
 
 session_there : May held (after_session asks session) due
 session_there =
-    inr (ballots_bytes, refl, going held (same_ballots asks session ballots_bytes) ballots (after_ballots asks session) due of_ballots ballots_there)
+    inr (ballots_bytes, refl, going held (same_ballots asks.ballots session ballots_bytes) ballots (after_ballots asks session) due of_ballots ballots_there)
 
-goes_on : May held (audit asks) due
-goes_on = inr (session_bytes, refl, going held (session_to_go_on asks session_bytes) session (after_session asks) due to_go_on session_there)
+goes_on : May held (script asks) due
+goes_on = inr (session_bytes, refl, going held (session_to_go_on asks.session asks.draws session_bytes) session (after_session asks) due to_go_on session_there)
 
 pub unconfirmed_end : IsOfSome 10
 unconfirmed_end = (

@@ -1,137 +1,124 @@
 -- Status 3 comes of a contest that isn't decided, with its first tie.
-use Rattle.std.proofs.Common.{◌≡◌, ◌⊎◌, inl, inr, ◌+◌, ◌≤◌, ◌<◌, ℕ, List, Option, None, Some, Result, Ok, Err, length, nat_le, Bool, true, false, if◌then◌else◌, refl, sym, ◌∙◌, ap, subst, arith, leb-true}
+use Rattle.std.proofs.Common.{◌≡◌, ◌⊎◌, inl, inr, ◌+◌, ◌≤◌, ◌<◌, ℕ, List, Option, None, Some, refl, sym, ◌∙◌, ap, subst, arith}
 use Rattle.std.proofs.lemmas.List.FromFn.{length-map-range_with_len}
 use Rattle.std.specs.Fmt.{decimal}
-use Rattle.desk.specs.Desk.{File, held_bytes}
+use Rattle.desk.specs.Desk.{File}
 use Rattle.irv_base.specs.Names.{Id}
 use Rattle.irv_base.specs.declared.limits.TheConstants.{FEWEST_CANDIDATES}
 use Rattle.assertions.proofs.Decided.{positive-decided}
 use Rattle.bound_search.specs.Race.{work_for}
 use Rattle.ballot_reader.specs.Ballots.{BallotFile}
-use Rattle.ballot_reader.specs.Grammar.{Refusal, ballots_of}
-use Rattle.cli_base.specs.Outcome.{Answered}
-use Rattle.cli_base.specs.Script.{Bytes, TooLong, AsHeld, Concludes, ComesTo, reading_of, limit}
+use Rattle.ballot_reader.specs.Grammar.{ballots_of}
+use Rattle.cli_base.specs.Outcome.{Verdict, Answered}
+use Rattle.cli_base.specs.Script.{Script, Read, Ends, AsHeld, Concludes, ComesTo}
 use Rattle.cli_base.specs.Statuses.{HasAnswer}
+use Rattle.cli_base.specs.declared.outcome.AnswerKind.{AnswerKind}
 use Rattle.cli_base.specs.declared.outcome.AnswerKind.TheVariants.{Tie, Spent}
 use Rattle.cli_base.proofs.Scripts.{some_is}
+use Rattle.command.specs.declared.trial.TrialTask.{TrialTask}
 use Rattle.command_line.specs.Laws.{IsChecked}
 use Rattle.command_line.specs.Line.{command_of}
-use Rattle.command_line.specs.declared.command.Command.{Command}
-use Rattle.command_line.specs.declared.command.Command.TheVariants.{Search, Tabulate, Check, Sample, Plan, Open, Audit, Report, Trial}
+use Rattle.command_line.specs.declared.commands.Command.{Command}
+use Rattle.command_line.specs.declared.commands.Command.TheVariants.{Search, Tabulate, Trial, OpenPlurality, AuditPlurality}
 use Rattle.command_line.proofs.Checked.{are_checked}
-use Rattle.contest_commands.specs.Contest.{candidate_count, HasTie, IsOther, IsUndecided, IsWon}
-use Rattle.contest_commands.specs.Search.{margin_of, Finds, FindsIn, HasSpent, IsCertificateSpent, IsRaceSpent, IsSpent}
-use Rattle.contest_commands.specs.Tabulate.{Tabulates, TabulatesIn}
-use Rattle.contest_commands.specs.Trial.{contest_of, search_of, Tries}
-use Rattle.contest_commands.specs.declared.search.Terms.{Terms as SearchTerms}
-use Rattle.contest_commands.specs.declared.trials.Terms.{Terms as TrialTerms}
-use Rattle.contest_commands.proofs.Contests.{winner-below}
-use Rattle.contest_commands.proofs.Ends.{undecided_has_tie}
-use Rattle.contest_commands.proofs.ReadBallots.{ballots_fit}
-use Rattle.contest_commands.proofs.Searches.{spent_is}
+use Rattle.input_files.specs.Judged.{told, go_on}
+use Rattle.input_files.specs.Refusals.{refused_ballots}
+use Rattle.contest_search.specs.Budget.{IsCertificateSpent, IsRaceSpent, IsSpent}
+use Rattle.contest_search.specs.Certificate.{margin_of}
+use Rattle.contest_search.specs.Contest.{candidate_count, IsOther, IsUndecided, IsWon}
+use Rattle.contest_search.proofs.Contests.{winner-below}
+use Rattle.contest_search.proofs.ReadBallots.{ballots_fit}
+use Rattle.search_commands.specs.Ends.{HasSpent, HasTie}
+use Rattle.search_commands.specs.Search.{Finds}
+use Rattle.search_commands.specs.Tabulate.{Tabulates}
+use Rattle.search_commands.specs.Trial.{contest_of, Tries}
+use Rattle.search_commands.proofs.Ends.{undecided_has_tie}
+use Rattle.search_commands.proofs.Searches.{spent_is}
 use Rattle.raire_cli.specs.Answers.{asked, asked_by, script_of}
-use Rattle.raire_cli.specs.Undecided.{AreBallots, AsksUndecided, IsAbout, TellsTie, nodes_of}
-use Rattle.raire_cli.proofs.Complete.{read_whole}
+use Rattle.raire_cli.specs.Ballots.{AreBallots}
+use Rattle.raire_cli.specs.PluralityTies.{TellsPluralityTie}
+use Rattle.raire_cli.specs.Undecided.{AsksUndecided, IsAbout, TellsTie, nodes_of}
 use Rattle.raire_cli.proofs.EachCommand.{tells_no_tie}
-use Rattle.raire_cli.proofs.Headline.{held_whole}
-
--- ---- what is read
-
-short_of : (held : Option (List ℕ)) (bytes : List ℕ) → Bytes bytes ≡ reading_of held → length bytes ≤ limit
-short_of None bytes e = absurd (cc e)
-short_of (Some all) bytes e = by (nat_le (length all) limit) refl e where
-  by : (b : Bool) → nat_le (length all) limit ≡ b → Bytes bytes ≡ (if b then Bytes all else TooLong) → length bytes ≤ limit
-  by true le e = let same : all ≡ bytes = cc in subst (λ xs. length xs ≤ limit) same (leb-true (length all) limit le)
-  by false le e = absurd (cc e)
-
-module _ (files : List File) (name : List ℕ) (contest : Option Id) where
-  ballots_there : (bytes : List ℕ) (ballots : BallotFile) → AsHeld files name (Bytes bytes) → ballots_of bytes contest ≡ Ok ballots →
-      AreBallots files name contest ballots
-  ballots_there bytes ballots there is = record {
-    bytes = bytes;
-    held = held_whole (held_bytes name files) bytes there;
-    is_short = short_of (held_bytes name files) bytes there;
-    accepted = is;
-  }
-
-  module _ (ballots : BallotFile) (are : AreBallots files name contest ballots) (P : Result BallotFile Refusal → Type 0) where
-    -- what holds of the ballots is said of the bytes that are read
-    pub read_there : P (Ok ballots) → (bytes : List ℕ) × AsHeld files name (Bytes bytes) × P (ballots_of bytes contest)
-    read_there holds = (are.bytes, read_whole name files are.bytes are.held are.is_short, subst P (sym are.accepted) holds)
-
-    -- and the other way round
-    pub said_there : (bytes : List ℕ) → AsHeld files name (Bytes bytes) → P (ballots_of bytes contest) → P (Ok ballots)
-    said_there bytes there said =
-        let whole : bytes ≡ are.bytes = some_is (sym (held_whole (held_bytes name files) bytes there) ∙ are.held) in
-        subst P (ap (λ b. ballots_of b contest) whole ∙ are.accepted) said
+use Rattle.raire_cli.proofs.PluralAudited.{round_tie}
+use Rattle.raire_cli.proofs.PluralOpened.{opening_tie}
+use Rattle.raire_cli.proofs.Said.{only, said, saying}
 
 -- ---- a tie that is told
 
 module _ (text : List ℕ) where
-  tie_found : (terms : SearchTerms) (ballots : BallotFile) → Finds terms ballots (Answered Tie text) → HasTie ballots text
-  tie_found terms ballots (inl (other, has, e)) = absurd (cc e)
-  tie_found terms ballots (inr (inl (other, has, e))) = let same : other ≡ text = cc in subst (HasTie ballots) same has
-  tie_found terms ballots (inr (inr (inl (other, has, e)))) = absurd (cc e)
-  tie_found terms ballots (inr (inr (inr (other, has, e)))) = absurd (cc e)
+  tie_found : (nodes least : ℕ) (ballots : BallotFile) → Finds nodes least ballots (Answered Tie text) → HasTie ballots text
+  tie_found nodes least ballots (inl (other, has, e)) = absurd (cc e)
+  tie_found nodes least ballots (inr (inl (other, has, e))) = let same : other ≡ text = cc in subst (HasTie ballots) same has
+  tie_found nodes least ballots (inr (inr (inl (other, has, e)))) = absurd (cc e)
+  tie_found nodes least ballots (inr (inr (inr (other, has, e)))) = absurd (cc e)
 
   tie_tabulated : (nodes : ℕ) (ballots : BallotFile) → Tabulates nodes ballots (Answered Tie text) → HasTie ballots text
   tie_tabulated nodes ballots (inl (other, has, e)) = absurd (cc e)
   tie_tabulated nodes ballots (inr (inl (other, has, e))) = let same : other ≡ text = cc in subst (HasTie ballots) same has
   tie_tabulated nodes ballots (inr (inr (other, has, e))) = absurd (cc e)
 
-  tie_tried : (terms : TrialTerms) → Tries terms (Answered Tie text) → HasTie (contest_of terms) text
-  tie_tried terms (inl (other, has, e)) = absurd (cc e)
-  tie_tried terms (inr (inl (other, has, e))) = let same : other ≡ text = cc in subst (HasTie (contest_of terms)) same has
-  tie_tried terms (inr (inr (other, has, e))) = absurd (cc e)
+  tie_tried : (task : TrialTask) → Tries task (Answered Tie text) → HasTie (contest_of task) text
+  tie_tried task (inl (other, has, e)) = absurd (cc e)
+  tie_tried task (inr (inl (other, has, e))) = let same : other ≡ text = cc in subst (HasTie (contest_of task)) same has
+  tie_tried task (inr (inr (other, has, e))) = absurd (cc e)
 
-  -- a tie that is found in a file
-  tie_in_file : (files : List File) (name : List ℕ) (contest : Option Id) (bytes : List ℕ) (V : Result BallotFile Refusal → Type 0) →
-      ((refusal : Refusal) → V (Err refusal) → ⊥) → ((ballots : BallotFile) → V (Ok ballots) → HasTie ballots text) →
-      AsHeld files name (Bytes bytes) → V (ballots_of bytes contest) →
-      (ballots : BallotFile) × AreBallots files name contest ballots × HasTie ballots text
-  tie_in_file files name contest bytes V refused found there ends = by (ballots_of bytes contest) refl ends where
-    by : (read : Result BallotFile Refusal) → ballots_of bytes contest ≡ read → V read →
-        (ballots : BallotFile) × AreBallots files name contest ballots × HasTie ballots text
-    by (Err refusal) is ends = absurd (refused refusal ends)
-    by (Ok ballots) is ends = (ballots, ballots_there files name contest bytes ballots there is, found ballots ends)
+-- a command goes on with the ballots of a file
+module _ (files : List File) (name : List ℕ) (contest : Option Id) (Ended : BallotFile → Verdict → Type 0) where
+  abbrev ended_by : List ℕ → BallotFile → Script
+  ended_by bytes ballots = Ends (Ended ballots)
 
-  told_of : (words : List (List ℕ)) (files : List File) (command : Command) (ballots : BallotFile) → command_of words ≡ Some command →
-      IsAbout files command ballots → HasTie ballots text → TellsTie words files text
-  told_of words files command ballots is about tie = record {
+  abbrev reading : Script
+  reading = Read name (λ bytes. go_on (told (refused_ballots name) (ballots_of bytes contest)) (ended_by bytes))
+
+  said_of : (kind : AnswerKind) (text : List ℕ) → Concludes (AsHeld files) reading (Answered kind text) →
+      (ballots : BallotFile) × AreBallots files name contest ballots × Ended ballots (Answered kind text)
+  said_of kind text comes =
+      let is = said files name (refused_ballots name) (λ bytes. ballots_of bytes contest) ended_by kind text (λ why. tt) comes in
+      (is.value, record { bytes = is.bytes; held = is.held; is_short = is.is_short; accepted = is.is }, is.rest)
+
+  module _ (ballots : BallotFile) (are : AreBallots files name contest ballots) where
+    pub comes_of : (v : Verdict) → Ended ballots v → Concludes (AsHeld files) reading v
+    comes_of v ends =
+        saying files name (refused_ballots name) (λ bytes. ballots_of bytes contest) ended_by are.bytes are.held are.is_short ballots are.accepted v ends
+
+    pub ends_there : (kind : AnswerKind) (text : List ℕ) → Concludes (AsHeld files) reading (Answered kind text) → Ended ballots (Answered kind text)
+    ends_there kind text comes =
+        let (other, its, ends) = said_of kind text comes in
+        let whole : its.bytes ≡ are.bytes = some_is (sym its.held ∙ are.held) in
+        let same : other ≡ ballots = only its.accepted (ap (λ b. ballots_of b contest) whole ∙ are.accepted) in
+        subst (λ ballots. Ended ballots (Answered kind text)) same ends
+
+module _ (words : List (List ℕ)) (files : List File) (text : List ℕ) where
+  told_of : (command : Command) (ballots : BallotFile) → command_of words ≡ Some command → IsAbout files command ballots → HasTie ballots text →
+      TellsTie words files text
+  told_of command ballots is about tie = record {
     ballots = ballots;
     asks = record { command = command; asked = is; about = about };
     undecided = tie.is.undecided;
     tie = tie;
   }
 
-module _ (words : List (List ℕ)) (files : List File) (text : List ℕ) where
-  tells : (command : Option Command) → command_of words ≡ command → ComesTo (AsHeld files) (asked_by command) (Answered Tie text) →
-      TellsTie words files text
-  tells None is comes = absurd comes
-  tells (Some (Search name contest workers nodes floor)) is (bytes, there, ends) =
-      let terms : SearchTerms = record { nodes = nodes; floor = floor } in
-      let (ballots, are, tie) = tie_in_file text files name contest bytes (λ read. FindsIn terms name read (Answered Tie text))
-      (λ refusal e. cc e) (tie_found text terms) there ends in
-      told_of text words files (Search name contest workers nodes floor) ballots is are tie
-  tells (Some (Tabulate name contest nodes)) is (bytes, there, ends) =
-      let (ballots, are, tie) = tie_in_file text files name contest bytes (λ read. TabulatesIn nodes name read (Answered Tie text))
-      (λ refusal e. cc e) (tie_tabulated text nodes) there ends in
-      told_of text words files (Tabulate name contest nodes) ballots is are tie
-  tells (Some (Check name assertions contest nodes)) is comes =
-      absurd (tells_no_tie (AsHeld files) text (Check name assertions contest nodes) refl comes)
-  tells (Some (Sample manifest seed draws)) is comes = absurd (tells_no_tie (AsHeld files) text (Sample manifest seed draws) refl comes)
-  tells (Some (Plan manifest assertions risk_limit gamma)) is comes =
-      absurd (tells_no_tie (AsHeld files) text (Plan manifest assertions risk_limit gamma) refl comes)
-  tells (Some (Open name manifest assertions seed contest risk_limit gamma nodes)) is comes =
-      absurd (tells_no_tie (AsHeld files) text (Open name manifest assertions seed contest risk_limit gamma nodes) refl comes)
-  tells (Some (Audit session name manifest assertions seen draws nodes)) is comes =
-      absurd (tells_no_tie (AsHeld files) text (Audit session name manifest assertions seen draws nodes) refl comes)
-  tells (Some (Report session)) is comes = absurd (tells_no_tie (AsHeld files) text (Report session) refl comes)
-  tells (Some (Trial number candidates count workers nodes)) is ends =
-      let terms : TrialTerms = record { number = number; candidates = candidates; ballots = count; nodes = nodes } in
-      told_of text words files (Trial number candidates count workers nodes) (contest_of terms) is refl (tie_tried text terms ends)
+  abbrev Tells : Type 0
+  Tells = TellsTie words files text ⊎ TellsPluralityTie words files text
 
-  pub tells_tie : ComesTo (AsHeld files) (asked words) (Answered Tie text) → TellsTie words files text
+  tells : (command : Option Command) → command_of words ≡ command → ComesTo (AsHeld files) (asked_by command) (Answered Tie text) → Tells
+  tells None is comes = absurd comes
+  tells (Some (Search task)) is comes =
+      let (ballots, are, ends) = said_of files task.ballots task.contest (Finds task.nodes task.floor) Tie text comes in
+      inl (told_of (Search task) ballots is are (tie_found text task.nodes task.floor ballots ends))
+  tells (Some (Tabulate task)) is comes =
+      let (ballots, are, ends) = said_of files task.ballots task.contest (Tabulates task.nodes) Tie text comes in
+      inl (told_of (Tabulate task) ballots is are (tie_tabulated text task.nodes ballots ends))
+  tells (Some (Trial task)) is ends = inl (told_of (Trial task) (contest_of task) is refl (tie_tried text task ends))
+  tells (Some (OpenPlurality task)) is comes =
+      inr (opening_tie words files (record { task = task; asked = is }) text
+      (subst (λ command. ComesTo (AsHeld files) (asked_by command) (Answered Tie text)) (sym is) comes))
+  tells (Some (AuditPlurality task)) is comes =
+      inr (round_tie words files (record { task = task; asked = is }) text
+      (subst (λ command. ComesTo (AsHeld files) (asked_by command) (Answered Tie text)) (sym is) comes))
+  tells (Some command) is comes = absurd (tells_no_tie (AsHeld files) text command refl comes)
+
+  pub tells_tie : ComesTo (AsHeld files) (asked words) (Answered Tie text) → Tells
   tells_tie comes = tells (command_of words) refl comes
 
 -- ---- a tie that comes
@@ -141,33 +128,23 @@ module _ (files : List File) (ballots : BallotFile) where
   fewest_in name contest are = let fit = (ballots_fit are.bytes contest ballots are.accepted).fewest in omega (arith, fit)
 
   fewest_of : (command : Command) → IsChecked command → IsAbout files command ballots → FEWEST_CANDIDATES ≤ candidate_count ballots
-  fewest_of (Search name contest workers nodes floor) checked are = fewest_in name contest are
-  fewest_of (Tabulate name contest nodes) checked are = fewest_in name contest are
-  fewest_of (Check name assertions contest nodes) checked about = absurd about
-  fewest_of (Sample manifest seed draws) checked about = absurd about
-  fewest_of (Plan manifest assertions risk_limit gamma) checked about = absurd about
-  fewest_of (Open name manifest assertions seed contest risk_limit gamma nodes) checked about = absurd about
-  fewest_of (Audit session name manifest assertions seen draws nodes) checked about = absurd about
-  fewest_of (Report session) checked about = absurd about
-  fewest_of (Trial number candidates count workers nodes) checked is =
-      let long : candidate_count ballots ≡ candidates = ap candidate_count is ∙ length-map-range_with_len (λ c. decimal (c + 1)) 0 candidates in
-      let fewest : FEWEST_CANDIDATES ≤ candidates = checked.1.0 in
+  fewest_of (Search task) checked are = fewest_in task.ballots task.contest are
+  fewest_of (Tabulate task) checked are = fewest_in task.ballots task.contest are
+  fewest_of (Trial task) checked is =
+      let long : candidate_count ballots ≡ task.candidates =
+      ap candidate_count is ∙ length-map-range_with_len (λ c. decimal (c + 1)) 0 task.candidates in
+      let fewest : FEWEST_CANDIDATES ≤ task.candidates = checked.candidates.0 in
       omega (arith, fewest, long)
+  fewest_of _ checked about = absurd about
 
   comes_to_tie : (text : List ℕ) → HasTie ballots text → (command : Command) → IsAbout files command ballots →
       Concludes (AsHeld files) (script_of command) (Answered Tie text)
-  comes_to_tie text tie (Search name contest workers nodes floor) are =
-      let terms : SearchTerms = record { nodes = nodes; floor = floor } in
-      read_there files name contest ballots are (λ read. FindsIn terms name read (Answered Tie text)) (inr (inl (text, tie, refl)))
-  comes_to_tie text tie (Tabulate name contest nodes) are =
-      read_there files name contest ballots are (λ read. TabulatesIn nodes name read (Answered Tie text)) (inr (inl (text, tie, refl)))
-  comes_to_tie text tie (Check name assertions contest nodes) about = absurd about
-  comes_to_tie text tie (Sample manifest seed draws) about = absurd about
-  comes_to_tie text tie (Plan manifest assertions risk_limit gamma) about = absurd about
-  comes_to_tie text tie (Open name manifest assertions seed contest risk_limit gamma nodes) about = absurd about
-  comes_to_tie text tie (Audit session name manifest assertions seen draws nodes) about = absurd about
-  comes_to_tie text tie (Report session) about = absurd about
-  comes_to_tie text tie (Trial number candidates count workers nodes) is = inr (inl (text, subst (λ contest. HasTie contest text) is tie, refl))
+  comes_to_tie text tie (Search task) are =
+      comes_of files task.ballots task.contest (Finds task.nodes task.floor) ballots are (Answered Tie text) (inr (inl (text, tie, refl)))
+  comes_to_tie text tie (Tabulate task) are =
+      comes_of files task.ballots task.contest (Tabulates task.nodes) ballots are (Answered Tie text) (inr (inl (text, tie, refl)))
+  comes_to_tie text tie (Trial task) is = inr (inl (text, subst (λ contest. HasTie contest text) is tie, refl))
+  comes_to_tie text tie _ about = absurd about
 
 -- ---- and no budget that is spent
 
@@ -203,35 +180,27 @@ module _ (ballots : BallotFile) (nodes : ℕ) (fewest : FEWEST_CANDIDATES ≤ ca
   never_stopped text (inr (inl (other, has, e))) = cc e
   never_stopped text (inr (inr (other, has, e))) = let is = has.is in within is.winner has.last is.won is.named is.cause
 
-tried_spent : (terms : TrialTerms) (text : List ℕ) → Tries terms (Answered Spent text) → (other : List ℕ) × HasSpent (search_of terms) (contest_of terms) other
-tried_spent terms text (inl (other, has, e)) = absurd (cc e)
-tried_spent terms text (inr (inl (other, has, e))) = absurd (cc e)
-tried_spent terms text (inr (inr (other, has, e))) = (other, has)
+tried_spent : (task : TrialTask) (text : List ℕ) → Tries task (Answered Spent text) → (other : List ℕ) × HasSpent task.nodes (contest_of task) other
+tried_spent task text (inl (other, has, e)) = absurd (cc e)
+tried_spent task text (inr (inl (other, has, e))) = absurd (cc e)
+tried_spent task text (inr (inr (other, has, e))) = (other, has)
 
 module _ (files : List File) (ballots : BallotFile) (text : List ℕ) (fewest : FEWEST_CANDIDATES ≤ candidate_count ballots)
     (undecided : IsUndecided ballots) where
   never_spent : (command : Command) → IsAbout files command ballots → Suffice ballots (nodes_of command) →
       Concludes (AsHeld files) (script_of command) (Answered Spent text) → ⊥
-  never_spent (Search name contest workers nodes floor) are budget (bytes, there, ends) =
-      let terms : SearchTerms = record { nodes = nodes; floor = floor } in
-      let found : Finds terms ballots (Answered Spent text) =
-      said_there files name contest ballots are (λ read. FindsIn terms name read (Answered Spent text)) bytes there ends in
-      let spent = spent_is terms ballots text found in
-      never_spent_so ballots nodes fewest undecided budget spent.last spent.order spent.margin spent.is
-  never_spent (Tabulate name contest nodes) are budget (bytes, there, ends) =
-      never_stopped ballots nodes fewest undecided budget text
-      (said_there files name contest ballots are (λ read. TabulatesIn nodes name read (Answered Spent text)) bytes there ends)
-  never_spent (Check name assertions contest nodes) about budget comes = absurd about
-  never_spent (Sample manifest seed draws) about budget comes = absurd about
-  never_spent (Plan manifest assertions risk_limit gamma) about budget comes = absurd about
-  never_spent (Open name manifest assertions seed contest risk_limit gamma nodes) about budget comes = absurd about
-  never_spent (Audit session name manifest assertions seen draws nodes) about budget comes = absurd about
-  never_spent (Report session) about budget comes = absurd about
-  never_spent (Trial number candidates count workers nodes) is budget ends =
-      let terms : TrialTerms = record { number = number; candidates = candidates; ballots = count; nodes = nodes } in
-      let (other, has) = tried_spent terms text ends in
-      let spent : HasSpent (search_of terms) ballots other = subst (λ contest. HasSpent (search_of terms) contest other) (sym is) has in
-      never_spent_so ballots nodes fewest undecided budget spent.last spent.order spent.margin spent.is
+  never_spent (Search task) are budget comes =
+      let spent = spent_is task.nodes task.floor ballots text
+      (ends_there files task.ballots task.contest (Finds task.nodes task.floor) ballots are Spent text comes) in
+      never_spent_so ballots task.nodes fewest undecided budget spent.last spent.order spent.margin spent.is
+  never_spent (Tabulate task) are budget comes =
+      never_stopped ballots task.nodes fewest undecided budget text
+      (ends_there files task.ballots task.contest (Tabulates task.nodes) ballots are Spent text comes)
+  never_spent (Trial task) is budget ends =
+      let (other, has) = tried_spent task text ends in
+      let spent : HasSpent task.nodes ballots other = subst (λ contest. HasSpent task.nodes contest other) (sym is) has in
+      never_spent_so ballots task.nodes fewest undecided budget spent.last spent.order spent.margin spent.is
+  never_spent _ about budget comes = absurd about
 
 -- ---- the call
 

@@ -1,7 +1,6 @@
 -- What it means that a check accepts an assertion file.
 use Rattle.std.specs.Prelude.{◌≡◌, ℕ, List, Option, Some, IfSome, Ok}
 use Rattle.desk.specs.Desk.{File, held_bytes}
-use Rattle.irv_base.specs.Names.{Id}
 use Rattle.ballot_reader.specs.Ballots.{BallotFile}
 use Rattle.ballot_reader.specs.Grammar.{ballots_of}
 use Rattle.assertion_file.specs.Content.{Content}
@@ -9,29 +8,27 @@ use Rattle.assertion_file.specs.Reading.{assertion_file_of}
 use Rattle.cover_checker.specs.Holds.{Holds}
 use Rattle.cli_base.specs.Ends.{Writing, Took}
 use Rattle.command_line.specs.Line.{command_of}
-use Rattle.command_line.specs.declared.command.Command.TheVariants.{Check}
-use Rattle.contest_commands.specs.Check.{yes_text}
+use Rattle.command_line.specs.declared.commands.Command.TheVariants.{Check}
+use Rattle.command.specs.declared.check.CheckTask.{CheckTask}
+use Rattle.check_command.specs.Check.{yes_text}
 
 -- the words ask for a check
 pub record AsksForCheck (words : List (List ℕ)) : Type 0 where
-  pub ballots : List ℕ
-  pub assertions : List ℕ
-  pub contest : Option Id
-  pub nodes : ℕ
-  pub asked : command_of words ≡ Some (Check ballots assertions contest nodes)
+  pub task : CheckTask
+  pub asked : command_of words ≡ Some (Check task)
 
 -- its ballot file is held, and says this of the contest
 pub record HasBallots {words : List (List ℕ)} (asked : AsksForCheck words) (files : List File)
     (ballots : BallotFile) : Type 0 where
   pub bytes : List ℕ
-  pub held : held_bytes asked.ballots files ≡ Some bytes
-  pub accepted : ballots_of bytes asked.contest ≡ Ok ballots
+  pub held : held_bytes asked.task.ballots files ≡ Some bytes
+  pub accepted : ballots_of bytes asked.task.contest ≡ Ok ballots
 
 -- its assertion file is held, and says this
 pub record HasAssertions {words : List (List ℕ)} (asked : AsksForCheck words) (files : List File)
     (file : Content) : Type 0 where
   pub bytes : List ℕ
-  pub held : held_bytes asked.assertions files ≡ Some bytes
+  pub held : held_bytes asked.task.assertions files ≡ Some bytes
   pub accepted : assertion_file_of bytes ≡ Ok file
 
 -- this is what the assertion file of the words says, and it holds of the ballots of the contest that was asked for

@@ -5,7 +5,7 @@ use Rattle.desk.specs.Desk.{File, held_bytes}
 use Rattle.cli_base.specs.Ends.{Writing, Took}
 use Rattle.cli_base.specs.Statuses.{IsAnswered, IsQuiet}
 use Rattle.command_line.specs.Line.{command_of}
-use Rattle.command_line.specs.declared.command.Command.{Command}
+use Rattle.command_line.specs.declared.commands.Command.{Command}
 use Rattle.raire_cli.specs.Answers.{asked, is_open}
 
 -- what is seen of a call of `run`: the desk's count of faults before and after it, its status, and what its sinks took

@@ -11,7 +11,7 @@ use Rattle.manifest.specs.Manifest.{manifest_of}
 use Rattle.assertion_file.specs.Content.{Content}
 use Rattle.assertion_file.specs.Reading.{assertion_file_of}
 use Rattle.cover_checker.specs.Holds.{Holds}
-use Rattle.audit_rounds.specs.declared.digests.Digests.{Digests}
+use Rattle.session_state.specs.declared.digests.Digests.{Digests}
 
 -- the names of its three files
 pub record FileNames : Type 0 where

@@ -10,13 +10,13 @@ use Rattle.ballot_reader.specs.Ballots.{BallotFile}
 use Rattle.ballot_reader.specs.Grammar.{ballots_of}
 use Rattle.assertion_file.specs.Content.{Content}
 use Rattle.assertion_file.specs.Text.{assertion_file_text}
-use Rattle.irv_base.specs.Names.{Id}
 use Rattle.report.specs.Texts.{order_text}
 use Rattle.cli_base.specs.Ends.{Writing, Took}
 use Rattle.command_line.specs.Line.{command_of}
-use Rattle.command_line.specs.declared.command.Command.TheVariants.{Search}
-use Rattle.contest_commands.specs.Contest.{candidate_count, IsElected, IsWon}
-use Rattle.contest_commands.specs.Search.{full_count_lines}
+use Rattle.command_line.specs.declared.commands.Command.TheVariants.{Search}
+use Rattle.command.specs.declared.search.SearchTask.{SearchTask}
+use Rattle.contest_search.specs.Contest.{candidate_count, IsElected, IsWon}
+use Rattle.search_commands.specs.Search.{full_count_lines}
 
 -- an assertion among n candidates that is true of the records, by the margin that is claimed
 pub record ClaimHolds (n : ℕ) (records : List (List ℕ)) (claim : Claim) : Type 0 where
@@ -53,20 +53,16 @@ pub record Confirms (n : ℕ) (records : List (List ℕ)) (winner : ℕ) (file :
 
 -- the words ask for a search
 pub record AsksForSearch (words : List (List ℕ)) : Type 0 where
-  pub name : List ℕ
-  pub contest : Option Id
-  pub workers : ℕ
-  pub nodes : ℕ
-  pub floor : ℕ
-  pub asked : command_of words ≡ Some (Search name contest workers nodes floor)
+  pub task : SearchTask
+  pub asked : command_of words ≡ Some (Search task)
 
 -- its file is held and accepted, and the tabulated order of the contest elects this candidate
 pub record AsksFor (words : List (List ℕ)) (files : List File) (ballots : BallotFile)
     (winner : ℕ) : Type 0 where
   pub search : AsksForSearch words
   pub bytes : List ℕ
-  pub held : held_bytes search.name files ≡ Some bytes
-  pub accepted : ballots_of bytes search.contest ≡ Ok ballots
+  pub held : held_bytes search.task.ballots files ≡ Some bytes
+  pub accepted : ballots_of bytes search.task.contest ≡ Ok ballots
   pub won : IsWon ballots winner
 
 -- this is a file that confirms the winner of the contest that was asked for, whom each way of breaking its ties elects, by a margin
@@ -80,7 +76,7 @@ pub record ConfirmsAsked (words : List (List ℕ)) (files : List File) (file : C
   pub candidates : file.candidates ≡ ballots.candidates
   pub records : file.records ≡ length ballots.rankings
   pub named : file.winner ≡ winner
-  pub floor : asks.search.floor ≤ file.margin
+  pub floor : asks.search.task.floor ≤ file.margin
   pub confirms : Confirms (candidate_count ballots) ballots.rankings winner file
 
 -- this is a text that gives an order as reason for a full count: it elects another candidate than the winner of the contest that was
@@ -92,11 +88,11 @@ pub record GivesReason (words : List (List ℕ)) (files : List File) (text : Lis
   pub elected : IsElected ballots winner
   pub order : List ℕ
   pub margin : ℕ
-  pub below : margin < asks.search.floor
+  pub below : margin < asks.search.task.floor
   pub reason : IsHardest (candidate_count ballots) ballots.rankings winner order margin
   -- each such order is refuted by a true assertion of at least that margin
   pub least : IsLeast (candidate_count ballots) ballots.rankings winner margin
-  pub shown : text ≡ full_count_lines (order_text ballots.candidates order) margin asks.search.floor
+  pub shown : text ≡ full_count_lines (order_text ballots.candidates order) margin asks.search.task.floor
 
 -- ---- what `run` promises
 

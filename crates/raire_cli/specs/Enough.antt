@@ -5,28 +5,29 @@ use Rattle.assertions.specs.Suffixes.{factorial}
 use Rattle.assertion_file.specs.Content.{Content, candidate_count}
 use Rattle.assertion_file.specs.Reading.{assertion_file_of}
 use Rattle.command_line.specs.Line.{command_of}
-use Rattle.command_line.specs.declared.command.Command.{Command}
-use Rattle.command_line.specs.declared.command.Command.TheVariants.{Search, Tabulate, Check, Sample, Plan, Open, Audit, Report, Trial}
+use Rattle.command_line.specs.declared.commands.Command.{Command}
+use Rattle.command_line.specs.declared.commands.Command.TheVariants.{Search, Tabulate, Check, Trim, Sample, Plan, Open, Audit, Report, Trial, Poll, OpenPlurality, AuditPlurality}
 
 -- an assertion file, and the nodes to judge it with
 pub record Judging : Type 0 where
   pub assertions : List ℕ
   pub nodes : ℕ
 
--- what a command judges: a check, one that opens a session, and one before a round
+-- what a command judges: a check, one before a file is trimmed, one that opens a session, one before a round, and one before a poll
 abbrev pub judging_of : Command → Option Judging
-judging_of (Search ballots contest workers nodes floor) = None
-judging_of (Tabulate ballots contest nodes) = None
-judging_of (Check ballots assertions contest nodes) =
-    Some (record { assertions = assertions; nodes = nodes })
-judging_of (Sample manifest seed draws) = None
-judging_of (Plan manifest assertions limit gamma) = None
-judging_of (Open ballots manifest assertions seed contest limit gamma nodes) =
-    Some (record { assertions = assertions; nodes = nodes })
-judging_of (Audit session ballots manifest assertions seen draws nodes) =
-    Some (record { assertions = assertions; nodes = nodes })
-judging_of (Report session) = None
-judging_of (Trial number candidates ballots workers nodes) = None
+judging_of (Search task) = None
+judging_of (Tabulate task) = None
+judging_of (Check task) = Some (record { assertions = task.assertions; nodes = task.nodes })
+judging_of (Trim task) = Some (record { assertions = task.assertions; nodes = task.nodes })
+judging_of (Sample task) = None
+judging_of (Plan task) = None
+judging_of (Open task) = Some (record { assertions = task.assertions; nodes = task.nodes })
+judging_of (Audit task) = Some (record { assertions = task.assertions; nodes = task.nodes })
+judging_of (Report task) = None
+judging_of (Trial task) = None
+judging_of (Poll task) = Some (record { assertions = task.assertions; nodes = task.nodes })
+judging_of (OpenPlurality task) = None
+judging_of (AuditPlurality task) = None
 
 -- the nodes are at least 2 * (n - 1)!, where the assertion file has n candidates
 abbrev pub AreEnough : List File → Judging → Type 0

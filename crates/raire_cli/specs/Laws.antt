@@ -2,45 +2,42 @@
 use Rattle.std.specs.Prelude.{◌≡◌, ℕ, ◌≤◌, List, length, Option, Some, IsTrue, ⊤}
 use Rattle.desk.specs.Desk.{File}
 use Rattle.manifest.specs.Linked.{linked_of}
-use Rattle.audit_rounds.specs.Content.{Content}
-use Rattle.audit_rounds.specs.Sessions.{is_signed_off}
-use Rattle.audit_laws.specs.Laws.{AreTrueEntries}
-use Rattle.audit_laws.specs.RiskLimit.{MayBeSignedOff}
+use Rattle.session_state.specs.Content.{Content}
+use Rattle.session_state.specs.Sessions.{is_signed_off}
+use Rattle.session_state.specs.RiskOfValues.{MayBeSignedOff}
+use Rattle.audit_session.specs.Laws.{AreTrueEntries}
 use Rattle.ballot_reader.specs.Ballots.{BallotFile}
 use Rattle.cli_base.specs.Outcome.{Outcome}
 use Rattle.cli_base.specs.Script.{AsHeld, ByDesk, IsDue, MayCome, SameButBudget}
+use Rattle.command.specs.declared.search.SearchTask.{SearchTask}
+use Rattle.command.specs.declared.trial.TrialTask.{TrialTask}
 use Rattle.command_line.specs.Line.{command_of}
-use Rattle.command_line.specs.declared.command.Command.TheVariants.{Search, Trial}
-use Rattle.command_line.specs.declared.limits.TheConstants.{DEFAULT_NODES}
-use Rattle.irv_base.specs.Names.{Id}
+use Rattle.command_line.specs.declared.commands.Command.TheVariants.{Search, Trial}
+use Rattle.command.specs.declared.limits.TheConstants.{DEFAULT_NODES}
 use Rattle.raire_cli.specs.Answers.{asked}
-use Rattle.contest_commands.specs.Contest.{candidate_count, IsOther}
-use Rattle.contest_commands.specs.Search.{nodes_for}
-use Rattle.raire_cli.specs.Audits.{GoesOn, cards, drawn}
+use Rattle.contest_search.specs.Budget.{nodes_for}
+use Rattle.contest_search.specs.Contest.{candidate_count, IsOther}
+use Rattle.raire_cli.specs.Audits.{GoesOn, cards, claims, drawn}
 
--- the words ask for a search with so many workers, all else being this
-abbrev pub AskForWorkers : List ℕ → Option Id → ℕ → ℕ → ℕ → List (List ℕ) → Type 0
-AskForWorkers name contest nodes floor workers words =
-    command_of words ≡ Some (Search name contest workers nodes floor)
+-- the words ask for this search, but for the number of its workers
+abbrev pub AskForWorkers : SearchTask → ℕ → List (List ℕ) → Type 0
+AskForWorkers task workers words =
+    command_of words ≡ Some (Search (record task { workers = workers }))
 
 -- Of two searches that differ in their workers alone, what the one may come to, the other may come to, whatever files there are, and
 -- where the desk or memory fails.
 abbrev pub WorkersAskTheSame : Type 0
 WorkersAskTheSame =
-    (name : List ℕ) (contest : Option Id) (nodes floor some more : ℕ)
-    (words others : List (List ℕ)) →
-    AskForWorkers name contest nodes floor some words →
-    AskForWorkers name contest nodes floor more others →
+    (task : SearchTask) (some more : ℕ) (words others : List (List ℕ)) →
+    AskForWorkers task some words → AskForWorkers task more others →
     (held : Option (List File)) (due : Outcome) → IsDue (ByDesk held ⊤) (asked words) due →
     IsDue (ByDesk held ⊤) (asked others) due
 
 -- Over the same files they come to the same status and bytes, but for a budget that is spent.
 abbrev pub WorkersComeToTheSame : Type 0
 WorkersComeToTheSame =
-    (name : List ℕ) (contest : Option Id) (nodes floor some more : ℕ)
-    (words others : List (List ℕ)) →
-    AskForWorkers name contest nodes floor some words →
-    AskForWorkers name contest nodes floor more others →
+    (task : SearchTask) (some more : ℕ) (words others : List (List ℕ)) →
+    AskForWorkers task some words → AskForWorkers task more others →
     (files : List File) (due other : Outcome) → MayCome (AsHeld files) (asked words) due →
     MayCome (AsHeld files) (asked others) other →
     SameButBudget due other
@@ -48,9 +45,9 @@ WorkersComeToTheSame =
 -- So it is of two trials.
 abbrev pub TrialsComeToTheSame : Type 0
 TrialsComeToTheSame =
-    (number candidates ballots nodes some more : ℕ) (words others : List (List ℕ)) →
-    command_of words ≡ Some (Trial number candidates ballots some nodes) →
-    command_of others ≡ Some (Trial number candidates ballots more nodes) →
+    (task : TrialTask) (some more : ℕ) (words others : List (List ℕ)) →
+    command_of words ≡ Some (Trial (record task { workers = some })) →
+    command_of others ≡ Some (Trial (record task { workers = more })) →
     (files : List File) (due other : Outcome) → MayCome (AsHeld files) (asked words) due →
     MayCome (AsHeld files) (asked others) other →
     SameButBudget due other
@@ -68,8 +65,8 @@ abbrev pub SignedOffIsCounted : Type 0
 SignedOffIsCounted =
     (words : List (List ℕ)) (files : List File) (next : Content) (on : GoesOn words files next)
     (actual : List (List ℕ)) (most : ℕ) →
-    IsTrue (is_signed_off next.session) → on.asks.draws ≤ most → length actual ≡ cards on.inputs →
-    AreTrueEntries actual on.inputs.entries (drawn on.inputs on.asks.draws) →
+    IsTrue (is_signed_off next.session) → on.asks.task.draws ≤ most → length actual ≡ cards on.inputs →
+    AreTrueEntries actual on.inputs.entries (drawn on.inputs on.asks.task.draws) →
     MayBeSignedOff on.inputs.session.session.limit on.inputs.session.session.gamma
-    on.inputs.basis.file.claims
+    (claims on.inputs)
     (linked_of on.inputs.basis.batches on.inputs.basis.ballots) actual (drawn on.inputs most)

@@ -1,32 +1,24 @@
 -- What it means that the session of an audit is opened.
 use Rattle.std.specs.Prelude.{◌≡◌, ℕ, List, length, Option, Some, IfSome}
 use Rattle.desk.specs.Desk.{File}
-use Rattle.irv_base.specs.Names.{Id}
 use Rattle.manifest.specs.Cards.{cards_of}
-use Rattle.audit_rounds.specs.Content.{Content, begun}
-use Rattle.session_text.specs.Text.{session_text}
+use Rattle.session_state.specs.Content.{Content, begun}
+use Rattle.session_file.specs.Text.{session_text}
 use Rattle.cli_base.specs.Ends.{Writing, Took}
+use Rattle.command.specs.declared.open.OpenTask.{OpenTask}
 use Rattle.command_line.specs.Line.{command_of}
-use Rattle.command_line.specs.declared.command.Command.TheVariants.{Open}
+use Rattle.command_line.specs.declared.commands.Command.TheVariants.{Open}
 use Rattle.raire_cli.specs.Basis.{AreHeld, Basis, BelongTogether, FileBytes, FileNames, Say, digests_of}
 
 -- the words ask that a session be opened
 pub record AsksForOpening (words : List (List ℕ)) : Type 0 where
-  pub ballots : List ℕ
-  pub manifest : List ℕ
-  pub assertions : List ℕ
-  pub seed : List ℕ
-  pub contest : Option Id
-  pub limit : ℕ
-  pub gamma : ℕ
-  pub nodes : ℕ
-  pub asked : command_of words
-      ≡ Some (Open ballots manifest assertions seed contest limit gamma nodes)
+  pub task : OpenTask
+  pub asked : command_of words ≡ Some (Open task)
 
 -- the names of the files that it is to stand on
-abbrev pub names_of : {words : List (List ℕ)} → AsksForOpening words → FileNames
-names_of asks =
-    record { ballots = asks.ballots; manifest = asks.manifest; assertions = asks.assertions }
+abbrev pub names_of : OpenTask → FileNames
+names_of task =
+    record { ballots = task.ballots; manifest = task.manifest; assertions = task.assertions }
 
 -- ---- the session
 
@@ -34,14 +26,14 @@ names_of asks =
 pub record Opens (words : List (List ℕ)) (files : List File) (session : Content) : Type 0 where
   pub asks : AsksForOpening words
   pub bytes : FileBytes
-  pub held : AreHeld (names_of asks) files bytes
+  pub held : AreHeld (names_of asks.task) files bytes
   pub basis : Basis
-  pub say : Say asks.contest bytes basis
+  pub say : Say asks.task.contest bytes basis
   pub together : BelongTogether basis
   -- it has the contest and the margins of the assertion file, the cards of the manifest, the seed, the limit and the gamma of the words,
   -- the digests of the files, and no rounds
-  pub is : session ≡ begun basis.file.contest (length (cards_of basis.batches)) basis.file asks.seed
-      asks.limit asks.gamma (digests_of bytes)
+  pub is : session ≡ begun basis.file.contest (length (cards_of basis.batches)) basis.file asks.task.seed
+      asks.task.limit asks.task.gamma (digests_of bytes)
 
 -- ---- what `run` promises
 

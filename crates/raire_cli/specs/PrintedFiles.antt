@@ -1,17 +1,23 @@
--- What a search printed, and a later call that is given it: two calls of `run`, one after the other.
-use Rattle.std.specs.Prelude.{◌≡◌, ◌≤◌, ℕ, List, ◌++◌, length, Some, None, Ok}
+-- What a search or a trim printed, and a later call that is given it: two calls of `run`, one after the other.
+use Rattle.std.specs.Prelude.{◌≡◌, ◌⊎◌, ◌≤◌, ℕ, List, ◌++◌, length, Option, Some, None, Ok}
 use Rattle.desk.specs.Desk.{File, held_bytes}
+use Rattle.irv_base.specs.Names.{Id}
 use Rattle.irv_base.specs.declared.limits.TheConstants.{MOST_FILE_BYTES}
 use Rattle.ballot_reader.specs.Ballots.{BallotFile}
 use Rattle.manifest.specs.Cards.{Batches}
 use Rattle.manifest.specs.Linked.{first_without_card}
 use Rattle.manifest.specs.Manifest.{manifest_of}
+use Rattle.cli_base.specs.Ends.{Took}
 use Rattle.cli_base.specs.Statuses.{IsAnswered}
+use Rattle.command.specs.declared.check.CheckTask.{CheckTask}
+use Rattle.command.specs.declared.open.OpenTask.{OpenTask}
+use Rattle.command.specs.declared.trim.TrimTask.{TrimTask}
 use Rattle.command_line.specs.Line.{command_of}
-use Rattle.command_line.specs.declared.command.Command.TheVariants.{Check, Open}
+use Rattle.command_line.specs.declared.commands.Command.TheVariants.{Check, Open, Trim}
 use Rattle.raire_cli.specs.Agreement.{Call, Failed, IsSettled}
 use Rattle.raire_cli.specs.Answers.{asked}
 use Rattle.raire_cli.specs.Confirmation.{AsksFor, AsksForSearch}
+use Rattle.raire_cli.specs.Trims.{AsksForTrim}
 
 -- The call was of these words, over a desk that holds these files. It ended with status 0, and `out`, which tells what it takes, took
 -- this text.
@@ -25,10 +31,11 @@ pub record HasPrinted (words : List (List ℕ)) (files : List File) (call : Call
 
 -- ---- the files of the later call
 
--- Under the one name its desk holds the ballots of the search, and under the other this text, which isn't too long for a file.
-pub record HoldsPrinted {words : List (List ℕ)} (search : AsksForSearch words)
-    (files more : List File) (text ballots assertions : List ℕ) : Type 0 where
-  pub same_ballots : held_bytes ballots more ≡ held_bytes search.name files
+-- Under the one name its desk holds the ballots that the first call read under its own, and under the other this text, which isn't too
+-- long for a file.
+pub record HoldsPrinted (own : List ℕ) (files more : List File)
+    (text ballots assertions : List ℕ) : Type 0 where
+  pub same_ballots : held_bytes ballots more ≡ held_bytes own files
   pub printed : held_bytes assertions more ≡ Some text
   pub is_short : length text ≤ MOST_FILE_BYTES
 
@@ -45,24 +52,26 @@ pub record HoldsCards (words : List (List ℕ)) (files more : List File)
 
 -- ---- the words of the later call
 
--- they ask for a check, with the contest and the nodes of the search
-pub record ChecksTheSame {words : List (List ℕ)} (search : AsksForSearch words)
-    (others : List (List ℕ)) : Type 0 where
-  pub ballots : List ℕ
-  pub assertions : List ℕ
-  pub asked_for : command_of others ≡ Some (Check ballots assertions search.contest search.nodes)
+-- they ask for a check, with the contest and the nodes of the first call
+pub record ChecksTheSame (contest : Option Id) (nodes : ℕ) (others : List (List ℕ)) : Type 0 where
+  pub task : CheckTask
+  pub asked_for : command_of others ≡ Some (Check task)
+  pub same_contest : task.contest ≡ contest
+  pub same_nodes : task.nodes ≡ nodes
 
--- they ask that a session be opened, with the contest and the nodes of the search
-pub record OpensTheSame {words : List (List ℕ)} (search : AsksForSearch words)
-    (others : List (List ℕ)) : Type 0 where
-  pub ballots : List ℕ
-  pub manifest : List ℕ
-  pub assertions : List ℕ
-  pub seed : List ℕ
-  pub limit : ℕ
-  pub gamma : ℕ
-  pub asked_for : command_of others
-      ≡ Some (Open ballots manifest assertions seed search.contest limit gamma search.nodes)
+-- they ask that a session be opened, with them
+pub record OpensTheSame (contest : Option Id) (nodes : ℕ) (others : List (List ℕ)) : Type 0 where
+  pub task : OpenTask
+  pub asked_for : command_of others ≡ Some (Open task)
+  pub same_contest : task.contest ≡ contest
+  pub same_nodes : task.nodes ≡ nodes
+
+-- they ask for a trim, with them
+pub record TrimsTheSame (contest : Option Id) (nodes : ℕ) (others : List (List ℕ)) : Type 0 where
+  pub task : TrimTask
+  pub asked_for : command_of others ≡ Some (Trim task)
+  pub same_contest : task.contest ≡ contest
+  pub same_nodes : task.nodes ≡ nodes
 
 -- ---- the laws
 
@@ -70,16 +79,36 @@ pub record OpensTheSame {words : List (List ℕ)} (search : AsksForSearch words)
 abbrev pub PrintedIsAccepted : Type 0
 PrintedIsAccepted =
     (words others : List (List ℕ)) (search : AsksForSearch words)
-    (check : ChecksTheSame search others) (files more : List File) (first second : Call)
+    (check : ChecksTheSame search.task.contest search.task.nodes others) (files more : List File) (first second : Call)
     (text : List ℕ) → HasPrinted words files first text →
-    HoldsPrinted search files more text check.ballots check.assertions →
+    HoldsPrinted search.task.ballots files more text check.task.ballots check.task.assertions →
     IsSettled others more second → second.status ≡ 0
 
 -- A session is opened with it, where each ballot has a card.
 abbrev pub PrintedIsOpened : Type 0
 PrintedIsOpened =
     (words others : List (List ℕ)) (search : AsksForSearch words)
-    (opening : OpensTheSame search others) (files more : List File) (first second : Call)
+    (opening : OpensTheSame search.task.contest search.task.nodes others) (files more : List File) (first second : Call)
     (text : List ℕ) → HasPrinted words files first text →
-    HoldsPrinted search files more text opening.ballots opening.assertions →
-    HoldsCards words files more opening.manifest → IsSettled others more second → second.status ≡ 0
+    HoldsPrinted search.task.ballots files more text opening.task.ballots opening.task.assertions →
+    HoldsCards words files more opening.task.manifest → IsSettled others more second → second.status ≡ 0
+
+-- A check accepts what a trim printed.
+abbrev pub TrimmedIsAccepted : Type 0
+TrimmedIsAccepted =
+    (words others : List (List ℕ)) (trim : AsksForTrim words)
+    (check : ChecksTheSame trim.task.contest trim.task.nodes others)
+    (files more : List File) (first second : Call) (text : List ℕ) →
+    HasPrinted words files first text →
+    HoldsPrinted trim.task.ballots files more text check.task.ballots check.task.assertions →
+    IsSettled others more second → second.status ≡ 0
+
+-- Trimmed again it is printed as it is, unless the budget is spent.
+abbrev pub TrimmedIsTrimmed : Type 0
+TrimmedIsTrimmed =
+    (words others : List (List ℕ)) (trim : AsksForTrim words)
+    (again : TrimsTheSame trim.task.contest trim.task.nodes others)
+    (files more : List File) (first second : Call) (text : List ℕ) →
+    HasPrinted words files first text →
+    HoldsPrinted trim.task.ballots files more text again.task.ballots again.task.assertions →
+    IsSettled others more second → (second.status ≡ 4) ⊎ ((second.status ≡ 0) × Took second.out text)

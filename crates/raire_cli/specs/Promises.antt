@@ -1,23 +1,23 @@
 -- What `run` promises by its status.
 use Rattle.std.specs.Prelude.{◌≡◌, ◌⊎◌, ◌≤◌, ℕ, false, List, Option, Some, IfSome, length}
 use Rattle.desk.specs.Desk.{File}
-use Rattle.irv_base.specs.Names.{Id}
 use Rattle.irv_base.specs.Tabulation.{HasNoTie}
 use Rattle.bound_search.specs.Race.{work_for}
 use Rattle.ballot_reader.specs.Ballots.{BallotFile}
 use Rattle.cli_base.specs.Script.{limit}
 use Rattle.cli_base.specs.Ends.{Writing}
 use Rattle.cli_base.specs.Statuses.{IsQuiet, Exactly, IsExact, Statuses}
+use Rattle.command.specs.declared.tabulate.TabulateTask.{TabulateTask}
+use Rattle.command.specs.declared.trial.TrialTask.{TrialTask}
 use Rattle.command_line.specs.Line.{command_of, is_line}
-use Rattle.command_line.specs.declared.command.Command.{Command}
-use Rattle.command_line.specs.declared.command.Command.TheVariants.{Tabulate, Trial}
-use Rattle.contest_commands.specs.Contest.{candidate_count, IsElected, IsOther, IsWon}
-use Rattle.contest_commands.specs.Search.{nodes_for}
-use Rattle.contest_commands.specs.Trial.{contest_of}
-use Rattle.contest_commands.specs.declared.trials.Terms.{Terms}
+use Rattle.command_line.specs.declared.commands.Command.{Command}
+use Rattle.command_line.specs.declared.commands.Command.TheVariants.{Tabulate, Trial}
+use Rattle.contest_search.specs.Budget.{nodes_for}
+use Rattle.contest_search.specs.Contest.{candidate_count, IsElected, IsOther, IsWon}
+use Rattle.search_commands.specs.Trial.{contest_of}
 use Rattle.raire_cli.specs.Answers.{asked, is_open}
+use Rattle.raire_cli.specs.Ballots.{AreBallots}
 use Rattle.raire_cli.specs.Confirmation.{AsksFor}
-use Rattle.raire_cli.specs.Undecided.{AreBallots}
 
 -- The words ask for a search of a file that is held, not too long and accepted. Its contest is decided: each way of breaking its
 -- ties elects the winner. The budget has as many nodes as may be needed for each candidate who didn't win.
@@ -28,7 +28,7 @@ pub record IsSearchable (words : List (List ℕ)) (files : List File) : Type 0 w
   pub decided : IsElected ballots winner
   pub is_short : length asks.bytes ≤ limit
   pub budget : (c : ℕ) → IsOther ballots winner c →
-      nodes_for ballots asks.won.order winner c ≤ asks.search.nodes
+      nodes_for ballots asks.won.order winner c ≤ asks.search.task.nodes
 
 -- Such a search ends with its assertions or with reason for a full count, if memory was found and no count of faults rose.
 abbrev pub IsComplete : Option (List File) → List (List ℕ) → Type 0 → ℕ → Writing → Writing → Type 0
@@ -39,18 +39,16 @@ IsComplete held words failed status out err =
 -- The words ask for a tabulation of a file that is held, not too long and accepted, and its contest is decided. No round has a tie,
 -- or the budget has as many nodes as the race may need for each candidate who didn't win.
 pub record IsTabulable (words : List (List ℕ)) (files : List File) : Type 0 where
-  pub name : List ℕ
-  pub contest : Option Id
-  pub nodes : ℕ
-  pub asked : command_of words ≡ Some (Tabulate name contest nodes)
+  pub task : TabulateTask
+  pub asked : command_of words ≡ Some (Tabulate task)
   pub ballots : BallotFile
-  pub are : AreBallots files name contest ballots
+  pub are : AreBallots files task.ballots task.contest ballots
   pub winner : ℕ
   pub won : IsWon ballots winner
   pub decided : IsElected ballots winner
   pub budget : HasNoTie ballots.rankings won.order
       ⊎ ((c : ℕ) → IsOther ballots winner c →
-      work_for (candidate_count ballots) ballots.rankings won.order c ≤ nodes)
+      work_for (candidate_count ballots) ballots.rankings won.order c ≤ task.nodes)
 
 -- Such a tabulation ends with its rounds, if memory was found and no count of faults rose.
 abbrev pub IsTabulationComplete : Option (List File) → List (List ℕ) → Type 0 → ℕ → Writing →
@@ -61,29 +59,16 @@ IsTabulationComplete held words failed status out err =
 
 -- the words ask for a trial
 pub record AsksForTrial (words : List (List ℕ)) : Type 0 where
-  pub number : ℕ
-  pub candidates : ℕ
-  pub ballots : ℕ
-  pub workers : ℕ
-  pub nodes : ℕ
-  pub asked : command_of words ≡ Some (Trial number candidates ballots workers nodes)
-
--- its number, how many candidates and ballots it has, and its nodes
-abbrev pub terms_of : {words : List (List ℕ)} → AsksForTrial words → Terms
-terms_of trial = record {
-  number = trial.number;
-  candidates = trial.candidates;
-  ballots = trial.ballots;
-  nodes = trial.nodes;
-}
+  pub task : TrialTask
+  pub asked : command_of words ≡ Some (Trial task)
 
 -- The words ask for a trial. The budget has as many nodes as may be needed for each candidate whom the tabulated order of its
 -- contest doesn't elect.
 pub record IsTriable (words : List (List ℕ)) : Type 0 where
   pub trial : AsksForTrial words
-  pub budget : (winner c : ℕ) (won : IsWon (contest_of (terms_of trial)) winner) →
-      IsOther (contest_of (terms_of trial)) winner c →
-      nodes_for (contest_of (terms_of trial)) won.order winner c ≤ trial.nodes
+  pub budget : (winner c : ℕ) (won : IsWon (contest_of trial.task) winner) →
+      IsOther (contest_of trial.task) winner c →
+      nodes_for (contest_of trial.task) won.order winner c ≤ trial.task.nodes
 
 -- Such a trial ends with its lines or with a tie, if memory was found and no count of faults rose.
 abbrev pub IsTrialComplete : List (List ℕ) → Type 0 → ℕ → Writing → Writing → Type 0

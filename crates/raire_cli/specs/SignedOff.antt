@@ -16,9 +16,9 @@ use Rattle.desk.specs.Desk.{File}
 use Rattle.manifest.specs.Cards.{cards_of}
 use Rattle.assertion_file.specs.Content.{candidate_count}
 use Rattle.km_risk.specs.Exact.{millionths_in_one}
-use Rattle.audit_rounds.specs.Content.{Content}
-use Rattle.audit_rounds.specs.Sessions.{is_signed_off}
-use Rattle.audit_laws.specs.Laws.{AreTrueEntries}
+use Rattle.session_state.specs.Content.{Content}
+use Rattle.session_state.specs.Sessions.{is_signed_off}
+use Rattle.audit_session.specs.Laws.{AreTrueEntries}
 use Rattle.audit_laws.specs.RiskLimit.{MayElectAnother}
 use Rattle.raire_cli.specs.Audits.{GoesOn, drawn}
 use Rattle.raire_cli.specs.Basis.{Basis, FileBytes, Say}
@@ -57,9 +57,9 @@ module _ (announced : Announced) (actual : List (List ℕ)) (most : ℕ) where
     pub same_limit : on.inputs.session.session.limit ≡ announced.limit
     pub same_gamma : on.inputs.session.session.gamma ≡ announced.gamma
     -- it ends at one of the draws of the sequence, at whichever
-    pub few : on.asks.draws ≤ most
+    pub few : on.asks.task.draws ≤ most
     -- each card that it drew is missing, or was read as it is
-    pub true_entries : AreTrueEntries actual on.inputs.entries (drawn on.inputs on.asks.draws)
+    pub true_entries : AreTrueEntries actual on.inputs.entries (drawn on.inputs on.asks.task.draws)
     -- the sequence is what its seed draws, also behind its end
     pub of_seed : sequence ≡ drawn on.inputs most
 

@@ -14,6 +14,9 @@ ghost use Rattle.raire_cli.specs.Audits.{IsAudited};
 ghost use Rattle.raire_cli.specs.Confirmation.{IsConfirmed, IsReasoned};
 ghost use Rattle.raire_cli.specs.Enough.{IsNeverSpent};
 ghost use Rattle.raire_cli.specs.Openings.{IsOpened};
+ghost use Rattle.raire_cli.specs.Pluralities.{IsPluralityAudited, IsPluralityOpened};
+ghost use Rattle.raire_cli.specs.Polls.{IsPolled};
+ghost use Rattle.raire_cli.specs.Trims.{IsTrimmed};
 ghost use Rattle.raire_cli.specs.Promises.{IsComplete, IsTabulationComplete, IsTrialComplete, IsExactUnlessOpen, HasCause};
 ghost use Rattle.raire_cli.specs.Undecided.{IsTied, IsTieComplete};
 
@@ -30,14 +33,14 @@ use std::thread::Threads;
 /// | 0 | the answer | `out` |
 /// | 1 | the words are no command line | `err` |
 /// | 2 | a rule refuses a file | `err` |
-/// | 3 | the contest isn't decided: ways of breaking its ties elect different candidates | `out` |
+/// | 3 | the contest isn't decided: ways of breaking its ties elect different candidates, or a plurality contest has a tie | `out` |
 /// | 4 | the budget of nodes is spent | `out` |
 /// | 5 | the margin is below the floor, a full count is called for | `out` |
-/// | 6 | the assertion file doesn't hold of the ballots | `out` |
+/// | 6 | the assertion file doesn't hold of the ballots, or its claims don't prove its winner | `out` |
 /// | 7 | a file could not be read | `err` |
 /// | 8 | a text could not be written | a part of it |
 /// | 9 | memory could not be had | `err` |
-/// | 10 | the audit isn't signed off yet | `out` |
+/// | 10 | the audit isn't signed off yet, or the poll doesn't confirm each claim | `out` |
 /// | 11 | a file has more than `MOST_FILE_BYTES` bytes | `err` |
 /// | 12 | there is no such file | `err` |
 pub fn run<R: AllocGlobal + Threads + Sync, D: Desk, O: Sink, E: Sink, G: Gate + Sync>(
@@ -61,7 +64,7 @@ pub fn run<R: AllocGlobal + Threads + Sync, D: Desk, O: Sink, E: Sink, G: Gate +
         (Rose (D.faults desk.old) (D.faults desk.new)) result
         (writing O.Sink out.old out.new) (writing E.Sink err.old err.new) }
 
-    // Ways of breaking the contest's ties elect different candidates, and its first tie is told.
+    // Ways of breaking the contest's ties elect different candidates, and its first tie is told; or a plurality contest has a tie.
     ensures tied { IsTied (D.held desk.old) (texts words.now) result
         (writing O.Sink out.old out.new) }
 
@@ -80,11 +83,15 @@ pub fn run<R: AllocGlobal + Threads + Sync, D: Desk, O: Sink, E: Sink, G: Gate +
         (Rose (D.faults desk.old) (D.faults desk.new)) result
         (writing O.Sink out.old out.new) (writing E.Sink err.old err.new) }
 
-    // With enough nodes no check is spent, also where a session is opened or goes on.
+    // With enough nodes no check is spent, also where a file is trimmed, where a session is opened or goes on, and before a poll.
     ensures enough { IsNeverSpent (D.held desk.old) (texts words.now) result }
 
     // An assertion file that is accepted holds.
     ensures accepted { IsUpheld (D.held desk.old) (texts words.now) result
+        (writing O.Sink out.old out.new) }
+
+    // A trimmed assertion file holds as the one that was read, and each of its assertions is needed.
+    ensures trimmed { IsTrimmed (D.held desk.old) (texts words.now) result
         (writing O.Sink out.old out.new) }
 
     // A session that is opened is that of its words and files.
@@ -93,6 +100,18 @@ pub fn run<R: AllocGlobal + Threads + Sync, D: Desk, O: Sink, E: Sink, G: Gate +
 
     // A session goes on by the round that its files make, and is signed off exactly with status 0.
     ensures audited { IsAudited (D.held desk.old) (texts words.now) result
+        (writing O.Sink out.old out.new) }
+
+    // A poll has the counts and risks of its files, and confirms each claim exactly with status 0.
+    ensures polled { IsPolled (D.held desk.old) (texts words.now) result
+        (writing O.Sink out.old out.new) }
+
+    // The session of an audit of a plurality contest that is opened is that of its words and files.
+    ensures opened_plurality { IsPluralityOpened (D.held desk.old) (texts words.now) result
+        (writing O.Sink out.old out.new) }
+
+    // Such a session goes on by the round that its files make, and is signed off exactly with status 0.
+    ensures audited_plurality { IsPluralityAudited (D.held desk.old) (texts words.now) result
         (writing O.Sink out.old out.new) }
 
     // The defined status and texts, of the files that are told, or of some that the desk may have given.

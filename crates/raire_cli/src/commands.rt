@@ -8,12 +8,16 @@ ghost use Rattle.command_line.specs.Laws.{IsChecked};
 ghost use Rattle.raire_cli.specs.Answers.{files_of, script_of};
 
 use audit_commands::{plan, sample};
+use check_command::check;
 use cli_base::{Answer, Refusal};
 use command_line::Command;
-use contest_commands::{check, search, tabulate, trials};
 use desk::{Desk, Gate};
-use session_commands::{audit, open, tell};
+use plurality_commands::{audit_plurality, open_plurality};
+use poll_command::poll;
+use search_commands::{search, tabulate, trials};
+use session_commands::{audit, open, session_report};
 use std::thread::Threads;
+use trim_command::trim;
 
 /// Reads the files of a command, and answers it or refuses.
 pub(crate) fn answer_command<R: AllocGlobal + Threads + Sync, D: Desk, G: Gate + Sync>(
@@ -31,116 +35,19 @@ pub(crate) fn answer_command<R: AllocGlobal + Threads + Sync, D: Desk, G: Gate +
     ensures served { IsAccountedFor (length (files_of command.now))
         (D.served desk.old) (D.served desk.new) (due result).status }
 {
-    let alloc = rt.alloc();
     match command {
-        Command::Search {
-            ballots,
-            contest,
-            workers,
-            nodes,
-            floor,
-        } => {
-            let terms = search::Terms {
-                nodes: *nodes,
-                floor: *floor,
-            };
-            let (file, contest) = (ballots.as_str(), contest.as_ref());
-            search::answer(rt, desk, file, contest, terms, *workers, gate)
-        }
-        Command::Tabulate {
-            ballots,
-            contest,
-            nodes,
-        } => tabulate::answer(rt, desk, ballots.as_str(), contest.as_ref(), *nodes, gate),
-        Command::Check {
-            ballots,
-            assertions,
-            contest,
-            nodes,
-        } => check::answer(
-            rt,
-            desk,
-            ballots.as_str(),
-            assertions.as_str(),
-            contest.as_ref(),
-            *nodes,
-        ),
-        Command::Sample {
-            manifest,
-            seed,
-            draws,
-        } => sample::answer(alloc, desk, manifest.as_str(), seed, *draws),
-        Command::Plan {
-            manifest,
-            assertions,
-            limit,
-            gamma,
-        } => {
-            let setting = plan::Setting {
-                limit: *limit,
-                gamma: *gamma,
-            };
-            plan::answer(alloc, desk, manifest.as_str(), assertions.as_str(), setting)
-        }
-        Command::Open {
-            ballots,
-            manifest,
-            assertions,
-            seed,
-            contest,
-            limit,
-            gamma,
-            nodes,
-        } => {
-            let terms = open::Terms {
-                seed: *seed,
-                limit: *limit,
-                gamma: *gamma,
-                nodes: *nodes,
-            };
-            open::answer(
-                rt,
-                desk,
-                ballots.as_str(),
-                manifest.as_str(),
-                assertions.as_str(),
-                contest.as_ref(),
-                &terms,
-            )
-        }
-        Command::Audit {
-            session,
-            ballots,
-            manifest,
-            assertions,
-            seen,
-            draws,
-            nodes,
-        } => {
-            let files = audit::Files {
-                session: session.as_str(),
-                ballots: ballots.as_str(),
-                manifest: manifest.as_str(),
-                assertions: assertions.as_str(),
-                seen: seen.as_str(),
-            };
-            audit::answer(rt, desk, files, *draws, *nodes)
-        }
-        Command::Report { session } => tell::answer(alloc, desk, session.as_str()),
-        Command::Trial {
-            number,
-            candidates,
-            ballots,
-            workers,
-            nodes,
-        } => {
-            let terms = trials::Terms {
-                number: *number,
-                candidates: *candidates,
-                ballots: *ballots,
-                nodes: *nodes,
-            };
-            trials::answer(rt, terms, *workers, gate)
-        }
+        Command::Search(task) => search::answer(rt, desk, task, gate),
+        Command::Tabulate(task) => tabulate::answer(rt, desk, task, gate),
+        Command::Check(task) => check::answer(rt, desk, task),
+        Command::Trim(task) => trim::answer(rt, desk, task),
+        Command::Sample(task) => sample::answer(rt.alloc(), desk, task),
+        Command::Plan(task) => plan::answer(rt.alloc(), desk, task),
+        Command::Open(task) => open::answer(rt, desk, task),
+        Command::Audit(task) => audit::answer(rt, desk, task),
+        Command::Report(task) => session_report::answer(rt.alloc(), desk, task),
+        Command::Trial(task) => trials::answer(rt, task, gate),
+        Command::Poll(task) => poll::answer(rt.alloc(), desk, task),
+        Command::OpenPlurality(task) => open_plurality::answer(rt.alloc(), desk, task),
+        Command::AuditPlurality(task) => audit_plurality::answer(rt.alloc(), desk, task),
     }
 }

@@ -2,7 +2,9 @@
 ghost use Rattle.raire_cli.specs.Agreement.{SameFilesSameAnswer};
 ghost use Rattle.raire_cli.specs.EachStatus.{EachStatus};
 ghost use Rattle.raire_cli.specs.Laws.{WorkersAskTheSame, WorkersComeToTheSame, TrialsComeToTheSame, DefaultSuffices, SignedOffIsCounted};
-ghost use Rattle.raire_cli.specs.PrintedFiles.{PrintedIsAccepted, PrintedIsOpened};
+ghost use Rattle.raire_cli.specs.PluralLaws.{PluralSignedOffAreFew, PluralSignedOffIsCounted};
+ghost use Rattle.raire_cli.specs.PollLaws.{ConfirmedAreFew, ConfirmedIsCounted};
+ghost use Rattle.raire_cli.specs.PrintedFiles.{PrintedIsAccepted, PrintedIsOpened, TrimmedIsAccepted, TrimmedIsTrimmed};
 ghost use Rattle.raire_cli.specs.SignedOff.{SignedOffAreFew};
 
 /// What a search may come to, searches that differ from it in their number of workers alone may come to.
@@ -36,6 +38,30 @@ pub fn signed_off_are_few()
     ensures { SignedOffAreFew }
 {}
 
+/// A poll that confirms all claims is among those that the risk limit of polls counts, if the cards that were seen were read as they
+/// are.
+pub fn confirmed_is_counted()
+    ensures { ConfirmedIsCounted }
+{}
+
+/// Where the actual rankings of the cards may elect another candidate than the assertion file says, polls of the same manifest,
+/// assertion file, limit and gamma confirm all claims on at most `limit` millionths of all sequences of draws.
+pub fn confirmed_are_few()
+    ensures { ConfirmedAreFew }
+{}
+
+/// A session that an audit of a plurality contest signs off is among those that the risk limit counts, if the cards that were seen were
+/// read as they are.
+pub fn plural_signed_off_is_counted()
+    ensures { PluralSignedOffIsCounted }
+{}
+
+/// Where another candidate has as many first preferences on the cards, or more, audits of the same ballots, manifest, contest, limit and
+/// gamma are signed off on at most `limit` millionths of all sequences of draws.
+pub fn plural_signed_off_are_few()
+    ensures { PluralSignedOffAreFew }
+{}
+
 /// Two calls with the same words, over desks that hold the same, have the same status and write the same, where nothing failed,
 /// memory was found, and no search, no tabulation and no trial was spent.
 pub fn same_files_same_answer()
@@ -52,6 +78,16 @@ pub fn printed_is_accepted()
 /// found.
 pub fn printed_is_opened()
     ensures { PrintedIsOpened }
+{}
+
+/// A check of the same ballots with the same nodes accepts what a trim printed, where nothing failed and memory was found.
+pub fn trimmed_is_accepted()
+    ensures { TrimmedIsAccepted }
+{}
+
+/// A trim of it, with the same ballots and the same nodes, prints the same, unless the budget is spent.
+pub fn trimmed_is_trimmed()
+    ensures { TrimmedIsTrimmed }
 {}
 
 /// Each status comes of some words and files, but 7, 8 and 9, which come of a desk, a sink or memory.

@@ -2,6 +2,7 @@
 use Rattle.std.specs.Prelude.{List, [], ◌∷◌, ◌++◌, codes, replicate}
 use Rattle.irv_base.specs.Names.{Id}
 use Rattle.ballot_reader.specs.Ballots.{BallotFile}
+use Rattle.km_risk.specs.declared.draws.Counts.{Counts}
 
 abbrev pub three_names : List Id
 three_names = codes "1" ∷ codes "2" ∷ codes "3" ∷ []
@@ -26,3 +27,7 @@ county = record {
   rankings =
       replicate 4 (1 ∷ []) ++ replicate 3 (2 ∷ []) ++ (3 ∷ 2 ∷ []) ∷ (3 ∷ []) ∷ (0 ∷ 1 ∷ []) ∷ [];
 }
+
+-- five draws, two of which have discrepancy 1
+abbrev pub two_of_five : Counts
+two_of_five = record { n0 = 0; n1 = 2; n2 = 3; n3 = 0; n4 = 0 }

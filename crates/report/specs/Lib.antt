@@ -1,3 +1,5 @@
 pub mod Texts
 pub mod Tabulations
+pub mod Ends
+pub mod Risks
 pub mod Examples

@@ -1,7 +1,10 @@
 //! Worked examples: the texts of small contests, computed by the checker.
 ghost use Rattle.std.specs.Prelude.{◌≡◌, ◌∷◌, ◌++◌, [], codes};
 ghost use Rattle.assertions.specs.declared.assertion.Assertion.TheVariants.{Neb, Nen};
+ghost use Rattle.km_risk.specs.declared.limits.TheConstants.{ONE};
+ghost use Rattle.report.specs.Ends.{spent_text, tie_text};
 ghost use Rattle.report.specs.Examples as examples;
+ghost use Rattle.report.specs.Risks.{counts_text, risk_text};
 ghost use Rattle.report.specs.Texts.{assertion_text, order_text, set_text};
 ghost use Rattle.report.specs.Tabulations.{tabulation_text};
 
@@ -30,4 +33,25 @@ pub fn three_names()
     ensures set { set_text examples.three_names 5 ≡ codes "1,3" }
     ensures neb { assertion_text examples.three_names (Neb 1 2) ≡ codes "NEB 2 3" }
     ensures nen { assertion_text examples.three_names (Nen 2 0 5) ≡ codes "NEN 3 1 {1,3}" }
+{}
+
+/// A tie of the first two candidates in round 1, and a budget that is spent at the third.
+pub fn ends()
+    ensures tie { tie_text examples.three_names 1 3 4 ≡
+        codes "tie\nround 1\ntied 1,2\ntally 4\n" }
+    ensures spent { spent_text examples.three_names 2 (0 ∷ 1 ∷ 2 ∷ []) 3 ≡
+        codes "spent\ncandidate 3\norder 1,2,3\nmargin 3\n" }
+{}
+
+/// The greatest risk, and small ones.
+pub fn risks()
+    ensures one { risk_text ONE ≡ codes "1.000000000000000000" }
+    ensures below { risk_text 999999999999999999 ≡ codes "0.999999999999999999" }
+    ensures unit { risk_text 1 ≡ codes "0.000000000000000001" }
+    ensures none { risk_text 0 ≡ codes "0.000000000000000000" }
+{}
+
+/// Two cards are worse by one vote than recorded, three are clean.
+pub fn counts()
+    ensures { counts_text examples.two_of_five ≡ codes "0 2 3 0 0" }
 {}

@@ -1,10 +1,14 @@
-//! The texts that tell of a contest: its tabulation round by round, and its candidates, orders and assertions by
-//! their ids.
+//! The texts that commands share: the tabulation of a contest round by round, its candidates, orders and assertions by their ids, the
+//! ends that have no certificate, and what is told of a claim in an audit.
 #![tactic(auto)]
 
+mod ends;
 pub mod examples;
+mod risks;
 mod tabulations;
 mod text;
 
+pub use ends::{spent_at, spent_text, tie_text};
+pub use risks::{add_counts, add_risk, counts_text, state_text};
 pub use tabulations::tabulation;
 pub use text::{assertion_text, order_text, set_text};

@@ -1,5 +1,6 @@
 // Why a seen file isn't read.
 ghost use Rattle.std.specs.Prelude.{◌≡◌};
+ghost use Rattle.seen_file.specs.Faults.{rule_name};
 ghost use Rattle.seen_file.specs.declared.fault.SeenFault.TheVariants.{Memory as WantOfMemory};
 
 use irv_base::Memory;
@@ -19,6 +20,20 @@ pub enum VRule {
     V5,
 }
 
+impl VRule {
+    /// The name of the rule in the text of a refusal, as `V3`.
+    pub fn name(self) -> &'static str
+        ensures { result.now ≡ rule_name self }
+    {
+        match self {
+            VRule::V1 => "V1",
+            VRule::V2 => "V2",
+            VRule::V3 => "V3",
+            VRule::V5 => "V5",
+        }
+    }
+}
+
 /// Why a seen file isn't read.
 #[derive(Clone, Copy, Debug, PartialEq, Eq)]
 pub enum SeenFault {
@@ -30,12 +45,7 @@ pub enum SeenFault {
 
 impl fmt::Display for VRule {
     fn fmt<W: fmt::Write>(&self, f: &mut fmt::Formatter<W>) -> fmt::Result {
-        f.write_str(match self {
-            VRule::V1 => "V1",
-            VRule::V2 => "V2",
-            VRule::V3 => "V3",
-            VRule::V5 => "V5",
-        })
+        f.write_str(self.name())
     }
 }
 
@@ -43,7 +53,7 @@ impl fmt::Display for SeenFault {
     fn fmt<W: fmt::Write>(&self, f: &mut fmt::Formatter<W>) -> fmt::Result {
         match self {
             SeenFault::Refused { rule, at } => write!(f, "{rule} at {at}"),
-            SeenFault::Memory => f.write_str("out of memory"),
+            SeenFault::Memory => write!(f, "{Memory}"),
         }
     }
 }

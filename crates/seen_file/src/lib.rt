@@ -2,11 +2,11 @@
 #![tactic(auto)]
 
 mod fault;
-mod preferences;
 mod read;
 mod record;
 mod seen_cards;
 
 pub use fault::{SeenFault, VRule};
 pub use read::read_seen;
+pub use record::{is_told, seen_of_record};
 pub use seen_cards::SeenCards;

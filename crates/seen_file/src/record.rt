@@ -10,9 +10,9 @@ ghost use Rattle.seen_file.specs.Seen.{seen_in};
 ghost use Rattle.seen_file.specs.Reading.{entry_of, is_missing, is_told, seen_of_record};
 
 use crate::fault::VRule;
-use crate::preferences::ranking_of;
 use crate::seen_cards::SeenCards;
 use assorters::Seen;
+use ballot_reader::ranking_of;
 use csv::ByteRecord;
 use csv_rows::Fields;
 use irv_base::Name;
@@ -46,22 +46,22 @@ fn behind_word(row: &ByteRecord) -> Fields<'_>
     fields
 }
 
-fn is_told(word: &[u8], row: &ByteRecord) -> bool
-    ensures { result ≡ is_told word.now (drop 2 (trimmed_fields (fields_of row.now))) }
+/// Whether a record tells something of its card: the word is `ballot`, or it is `missing` and the fields behind it are blank.
+pub fn is_told(word: &[u8], rest: Fields<'_>) -> bool
+    ensures { result ≡ is_told word.now rest.entry }
 {
-    word == b"ballot".as_slice() || is_missing(word) && !some_is_marked(behind_word(row))
+    word == b"ballot".as_slice() || is_missing(word) && !some_is_marked(rest)
 }
 
-// What the record tells of its card.
-fn seen_of_record(candidates: &[Name], word: &[u8], row: &ByteRecord) -> Option<Seen>
+/// What a record with this word, and these fields behind it, tells of its card, if each preference is one of a few candidates.
+pub fn seen_of_record(candidates: &[Name], word: &[u8], rest: Fields<'_>) -> Option<Seen>
     requires { length candidates.now ≤ ROOM }
-    ensures { result ≡ seen_of_record candidates.now word.now
-        (drop 2 (trimmed_fields (fields_of row.now))) }
+    ensures { result ≡ seen_of_record candidates.now word.now rest.entry }
 {
     if is_missing(word) {
         return Some(Seen::Missing);
     }
-    match ranking_of(candidates, behind_word(row)) {
+    match ranking_of(candidates, rest) {
         Some(ranking) => Some(Seen::Found(ranking)),
         None => None,
     }
@@ -85,7 +85,7 @@ pub fn entry_of(
     let (Some(id), Some(word)) = (fields.next(), fields.next()) else {
         return Err(VRule::V1);
     };
-    if !is_told(word, row) {
+    if !is_told(word, behind_word(row)) {
         return Err(VRule::V1);
     }
     let Some(card) = manifest.place(id) else {
@@ -94,7 +94,7 @@ pub fn entry_of(
     if earlier.get(card).is_some() {
         return Err(VRule::V3);
     }
-    let Some(seen) = seen_of_record(candidates, word, row) else {
+    let Some(seen) = seen_of_record(candidates, word, behind_word(row)) else {
         return Err(VRule::V5);
     };
     Ok((card, seen))

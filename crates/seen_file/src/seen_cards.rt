@@ -1,29 +1,46 @@
 // What is seen of cards, by their numbers.
-ghost use Rattle.std.specs.Prelude.{◌≡◌, ◌++◌, ◌∷◌, [], if◌then◌else◌, not, is_some, IfOk, IfErr, OnErr};
+ghost use Rattle.std.specs.Prelude.{◌≡◌, ◌<◌, ◌++◌, ◌∷◌, [], ℕ, slice_index_or, if◌then◌else◌, not, is_some, length, IfOk, OnOk, OnErr};
 ghost use Rattle.seen_file.specs.Seen.{seen_in};
 
 use assorters::Seen;
-use indexmap::IndexMap;
 use irv_base::Memory;
 use std::alloc::Global;
 use std::marker::Model;
 
-/// What is seen of some cards, each by its number.
+/// What is seen of some cards, each by its number. A card has a place in a table by its number, so it is found at once, whichever cards
+/// there are; the table takes four to eight bytes for each card up to the greatest number.
 ///
 /// To a contract it is the list of the cards' numbers, each once and with what is seen of the card, in the order in which they
 /// were put.
 #[derive(Drop)]
 pub struct SeenCards {
-    entries: IndexMap<u32, Seen>,
+    entries: Vec<(u32, Seen)>,
+    // at the number of each card that of its entry, counted from 1, or 0
+    places: Vec<u32>,
 }
 
 impl Model for SeenCards {
-    ghost use Rattle.seen_file.specs.Seen.{Entry};
+    ghost use Rattle.seen_file.specs.Seen.{ArePlaces, Entry};
     ghost use Rattle.std.specs.Prelude.{List};
 
     ghost Value = { List Entry };
 
-    ghost view = { λ s. s.entries.entries };
+    ghost view = { λ s. s.entries.items };
+
+    ghost invariant = { λ s. ArePlaces s.entries.items s.places.items };
+}
+
+// Makes so many places that the card has one. The new ones are free.
+fn reach(places: &mut Vec<u32>, card: u32) -> Result<(), Memory>
+    ensures within { OnOk result (card < length places.new.items) }
+    ensures same { (other : ℕ)
+        → slice_index_or places.new.items other 0 ≡ slice_index_or places.old.items other 0 }
+{
+    let card = card as usize;
+    if card >= places.len() {
+        places.resize(card + 1, 0)?;
+    }
+    Ok(())
 }
 
 impl SeenCards {
@@ -32,23 +49,29 @@ impl SeenCards {
         ensures { result ≡ [] }
     {
         SeenCards {
-            entries: IndexMap::new(alloc),
+            entries: Vec::new(alloc),
+            places: Vec::new(alloc),
         }
     }
 
-    /// Puts a card with what is seen of it, unless the card is there; tells whether it was new.
+    /// Puts a card with what is seen of it, unless the card is there; tells whether it was new. As many cards as `u32::MAX` are want of
+    /// memory.
     pub fn put(&mut self, card: u32, seen: Seen) -> Result<bool, Memory>
         ensures told { IfOk result (λ new. new ≡ not (is_some (seen_in self.old card))) }
         ensures put { IfOk result
             (λ new. self.new ≡ (if new then self.old ++ (card, seen) ∷ [] else self.old)) }
         ensures kept { OnErr result (self.new ≡ self.old) }
     {
-        if self.entries.contains_key(&card) {
+        if self.get(card).is_some() {
             return Ok(false);
         }
-        if self.entries.insert(card, seen).is_err() {
+        let entries = self.entries.len();
+        if entries >= u32::MAX as usize {
             return Err(Memory);
         }
+        reach(&mut self.places, card)?;
+        self.entries.push((card, seen))?;
+        self.places[card as usize] = entries as u32 + 1;
         Ok(true)
     }
 
@@ -56,6 +79,11 @@ impl SeenCards {
     pub fn get(&self, card: u32) -> Option<Seen>
         ensures { result ≡ seen_in self.now card }
     {
-        self.entries.get(&card).copied()
+        let place = *self.places.get(card as usize)?;
+        if place == 0 {
+            return None;
+        }
+        let (_, seen) = self.entries[place as usize - 1];
+        Some(seen)
     }
 }

@@ -19,7 +19,6 @@ use Rattle.cover_checker.specs.Checks.{Judges, IsAnswer, checked_is, findings, f
 use Rattle.cover_checker.specs.declared.checked.Checked.TheVariants.{OtherContest, Accepted}
 use Rattle.cover_checker.proofs.Answered.{from_answer, judged}
 use Rattle.cover_checker.proofs.Nothing.{NeverAccepts, winner-none, winner-never, margins-never, covered-never, smallest-never, elected-never, harder-never}
-use Rattle.contest_commands.specs.Contest.{candidate_count}
 use Rattle.session_commands.specs.Accepted.{is_won, is_accepted}
 
 -- ---- the winner
@@ -38,18 +37,18 @@ ends_in n (suc k) t order m =
 
 module _ (ballots : BallotFile) (winner : ℕ) where
   abbrev n : ℕ
-  n = candidate_count ballots
+  n = length ballots.candidates
 
   abbrev is_it : List ℕ → Bool
   is_it order = is_order n order && is_tabulated ballots.rankings order
 
-  from_won : is_won ballots winner ≡ true → IsWinner (candidate_count ballots) ballots.rankings winner
+  from_won : is_won ballots winner ≡ true → IsWinner (length ballots.candidates) ballots.rankings winner
   from_won h =
       let (order, m, test) = from_list_any is_it (orders_ending n (n - 1) (winner ∷ [])) h in
       let (permutation, tabulated) = and_parts (is_order n order) (is_tabulated ballots.rankings order) test in
       record { order = order; permutation = permutation; tabulated = tabulated; elects = ends_in n (n - 1) (winner ∷ []) order m }
 
-  won_from : IsWinner (candidate_count ballots) ballots.rankings winner → is_won ballots winner ≡ true
+  won_from : IsWinner (length ballots.candidates) ballots.rankings winner → is_won ballots winner ≡ true
   won_from won =
       let (before, e) = won.elects in
       let facts = order_facts n won.order won.permutation in

@@ -18,7 +18,7 @@ use Rattle.cli_base.specs.declared.outcome.Refusal.TheVariants.{Words, Memory as
 use Rattle.cli_base.specs.declared.outcome.RefusalKind.TheVariants.{Input, ReadFault, TooLong, Missing}
 use Rattle.cli_base.proofs.Scripts.{some_is}
 use Rattle.cli_base.proofs.Statuses.{status_in, same_kind, of_no_kind}
-use Rattle.contest_commands.specs.Check.{Checks, verdict_on}
+use Rattle.check_command.specs.Check.{Checks, verdict_on}
 use Rattle.cli_base.specs.Script.{Ends, MayOrMemory, Readings, Script}
 use Rattle.session_commands.specs.Accepted.{if_accepted, is_accepted, on_if}
 use Rattle.session_commands.proofs.Acceptance.{decided}

@@ -1,10 +1,8 @@
 pub mod Reports
 pub mod Opens
+pub mod OneRound
 pub mod Audits
 pub mod Acceptance
-pub mod Judging
-pub mod Going
-pub mod Facts
 pub mod Rounds
 pub mod Checked
 pub mod Held

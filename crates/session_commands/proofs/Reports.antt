@@ -1,12 +1,15 @@
 -- A report comes to one end.
-use Rattle.std.proofs.Common.{ℕ, List, Option, None, Some, ok_or, refl, sym, ap, subst, ◌∙◌}
-use Rattle.audit_rounds.specs.Content.{Content}
+use Rattle.std.proofs.Common.{List, ℕ, Option, None, Some, ok_or, refl, sym, ap, ◌∙◌}
+use Rattle.session_state.specs.Content.{Content}
 use Rattle.session_file.specs.Reading.{session_of}
 use Rattle.cli_base.specs.Outcome.{outcome}
-use Rattle.cli_base.specs.Script.{Agree, AreOfKind, IsOfKind, Same}
+use Rattle.cli_base.specs.Script.{Agree, AreOfKind, Same}
+use Rattle.cli_base.specs.declared.outcome.AnswerKind.TheVariants.{Done}
+use Rattle.cli_base.proofs.Ended.{answer-kind}
+use Rattle.command.specs.declared.report.ReportTask.{ReportTask}
+use Rattle.input_files.proofs.Going.{OnlyRefuses, go_on-agrees, go_on-kinds}
 use Rattle.session_commands.specs.Refusals.{refused_session}
-use Rattle.session_commands.specs.Report.{Kinds, script, session_in}
-use Rattle.session_commands.proofs.Going.{OnlyRefuses, go_on-agrees, go_on-kinds}
+use Rattle.session_commands.specs.Report.{kinds, script, session_in}
 
 pub session_in-only : (name bytes : List ℕ) → OnlyRefuses (session_in name bytes)
 session_in-only name bytes = by (session_of bytes) where
@@ -14,8 +17,9 @@ session_in-only name bytes = by (session_of bytes) where
   by None = tt
   by (Some content) = tt
 
-pub agrees : (session : List ℕ) → Agree Same (script session)
-agrees session = λ bytes. go_on-agrees (session_in session bytes) _ (λ content v w p q. ap outcome (p ∙ sym q))
+pub agrees : (task : ReportTask) → Agree Same (script task)
+agrees task = λ bytes. go_on-agrees (session_in task.session bytes) _ (λ session v w p q. ap outcome (p ∙ sym q))
 
-pub kinds : (session : List ℕ) → AreOfKind Kinds (script session)
-kinds session = λ bytes. go_on-kinds Kinds (session_in session bytes) _ (session_in-only session bytes) (λ content v is. subst (IsOfKind Kinds) (sym is) refl)
+pub kinds_are : (task : ReportTask) → AreOfKind kinds (script task)
+kinds_are task = λ bytes. go_on-kinds kinds (session_in task.session bytes) _ (session_in-only task.session bytes)
+    (λ session v is. answer-kind kinds Done _ v refl is)

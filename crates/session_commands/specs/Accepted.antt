@@ -1,5 +1,5 @@
 -- Whether a check accepts an assertion file, as a test: a command goes on with the files that it accepts.
-use Rattle.std.specs.Prelude.{ℕ, ◌-◌, Bool, true, false, ◌&&◌, [], ◌∷◌, is_none}
+use Rattle.std.specs.Prelude.{ℕ, ◌-◌, Bool, true, false, ◌&&◌, [], ◌∷◌, length, is_none}
 use Rattle.std.specs.List.{list_all, list_any}
 use Rattle.irv_base.specs.Orders.{is_order}
 use Rattle.irv_base.specs.Tabulation.{is_tabulated}
@@ -8,16 +8,15 @@ use Rattle.ballot_reader.specs.Ballots.{BallotFile}
 use Rattle.assertion_file.specs.Content.{Content}
 use Rattle.cover_checker.specs.Findings.{is_about}
 use Rattle.cover_checker.specs.Checks.{findings}
-use Rattle.contest_commands.specs.Contest.{candidate_count}
-use Rattle.contest_commands.specs.Check.{Checks}
+use Rattle.check_command.specs.Check.{Checks}
 use Rattle.cli_base.specs.Script.{Script, Ends}
 
 -- the tabulated order of the contest elects this one
 abbrev pub is_won : BallotFile → ℕ → Bool
 is_won ballots winner =
-    list_any (λ order. is_order (candidate_count ballots) order
-    && is_tabulated ballots.rankings order)
-    (orders_ending (candidate_count ballots) (candidate_count ballots - 1) (winner ∷ []))
+    let n : ℕ = length ballots.candidates in
+    list_any (λ order. is_order n order && is_tabulated ballots.rankings order)
+    (orders_ending n (n - 1) (winner ∷ []))
 
 -- the file is about the contest, names its winner, and nothing is found in it
 abbrev pub is_accepted : ℕ → BallotFile → Content → Bool

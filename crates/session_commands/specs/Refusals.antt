@@ -3,14 +3,15 @@ use Rattle.std.specs.Prelude.{ℕ, List, ◌++◌, Option, None, Some, option_an
 use Rattle.std.specs.Fmt.{decimal}
 use Rattle.hex.specs.Hex.{encode_lower}
 use Rattle.sha2.specs.Sha256.{sha256}
-use Rattle.irv_base.specs.Names.{is_same}
+use Rattle.irv_base.specs.Names.{Id, is_same}
 use Rattle.km_risk.specs.declared.draws.Counts.{Counts}
-use Rattle.seen_file.specs.Reading.{Refusal}
-use Rattle.seen_file.specs.declared.fault.VRule.{VRule}
-use Rattle.seen_file.specs.declared.fault.VRule.TheVariants.{V1, V2, V3, V5}
+use Rattle.session_state.specs.Content.{Content}
+use Rattle.session_state.specs.Inputs.{has_facts}
 use Rattle.audit_session.specs.declared.fault.AdvanceFault.{AdvanceFault}
 use Rattle.audit_session.specs.declared.fault.AdvanceFault.TheVariants.{Smaller, NoRecord, Changed, Memory}
-use Rattle.cli_base.specs.Outcome.{Verdict, Refused, broken_at}
+use Rattle.report.specs.Risks.{counts_text}
+use Rattle.cli_base.specs.Outcome.{Verdict, Refused}
+use Rattle.input_files.specs.Refusals.{no_record_text}
 
 -- no session stands in the file
 abbrev pub refused_session : List ℕ → Verdict
@@ -30,39 +31,18 @@ other_digest name expected bytes =
     if is_same expected (sha256 bytes) then None
     else Some (Refused name (differs_text expected (sha256 bytes)))
 
--- the cards, the contest or the margins are others
 abbrev pub other_facts : List ℕ → Verdict
 other_facts name = Refused name (codes "S5")
 
--- ---- a ballot without a card, in a record of the ballot file
-
-abbrev pub no_card : List ℕ → ℕ → Verdict
-no_card ballots at = Refused ballots (broken_at (codes "M7") at)
-
--- ---- a seen file
-
-abbrev pub rule_name : VRule → List ℕ
-rule_name V1 = codes "V1"
-rule_name V2 = codes "V2"
-rule_name V3 = codes "V3"
-rule_name V5 = codes "V5"
-
-abbrev pub refused_seen : List ℕ → Refusal → Verdict
-refused_seen name refusal = Refused name (broken_at (rule_name refusal.rule) refusal.at)
+-- a session is refused where its cards, its contest or its margins aren't those of the other files
+abbrev pub without_facts : List ℕ → Content → ℕ → Id → List ℕ → Option Verdict
+without_facts name session cards contest margins =
+    if has_facts session cards contest margins then None else Some (other_facts name)
 
 -- ---- a session that doesn't go on
 
 abbrev pub had_text : ℕ → List ℕ
 had_text had = codes "S4 had " ++ decimal had
-
-abbrev pub no_record_text : ℕ → ℕ → List ℕ
-no_record_text card k = codes "V4 card " ++ decimal card ++ codes " draw " ++ decimal k
-
--- the counts of the discrepancies 0 to 4
-abbrev pub counts_text : Counts → List ℕ
-counts_text counts =
-    decimal counts.n0 ++ codes " " ++ decimal counts.n1 ++ codes " " ++ decimal counts.n2
-    ++ codes " " ++ decimal counts.n3 ++ codes " " ++ decimal counts.n4
 
 abbrev pub counted_text : ℕ → ℕ → List ℕ → List ℕ → List ℕ
 counted_text round claim expected found =

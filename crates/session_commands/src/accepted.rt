@@ -2,13 +2,13 @@
 ghost use Rattle.std.specs.Prelude.{◌≡◌, ◌≢◌, Ok, is_none, IfOk, IfErr, IfSome};
 ghost use Rattle.cli_base.specs.Due.{due, due_refusal, IsOneOrMemory};
 ghost use Rattle.cli_base.specs.Outcome.{out_of_memory};
-ghost use Rattle.contest_commands.specs.Check.{Checks};
+ghost use Rattle.check_command.specs.Check.{Checks};
 ghost use Rattle.session_commands.specs.Accepted.{is_accepted};
 
 use assertion_file::AssertionFile;
 use ballot_reader::Ballots;
+use check_command::check::check;
 use cli_base::{Answer, AnswerKind, Refusal};
-use contest_commands::check::check;
 use std::thread::Threads;
 
 /// What a check of the file answers, unless it accepts the file.

@@ -2,26 +2,27 @@
 ghost use Rattle.std.specs.Prelude.{◌≡◌, None, IfOk, IfErr};
 ghost use Rattle.sha2.specs.Sha256.{sha256};
 ghost use Rattle.cli_base.specs.Due.{due_refusal};
-ghost use Rattle.session_commands.specs.Judged.{IsTold};
+ghost use Rattle.input_files.specs.Judged.{IsTold};
 ghost use Rattle.session_commands.specs.Refusals.{other_digest};
 
-use crate::judged::refuse_for;
 use crate::texts::differs_text;
 use cli_base::Refusal;
+use command::FileName;
+use input_files::refuse_for;
 use sha2::{Digest, Sha256};
 use std::alloc::Global;
 
 /// The SHA-256 digest (FIPS 180-4) of the bytes of a file.
-pub(crate) fn digest_of(bytes: &[u8]) -> [u8; 32]
+pub fn digest_of(bytes: &[u8]) -> [u8; 32]
     ensures { result ≡ sha256 bytes.now }
 {
     Sha256::digest(bytes)
 }
 
 /// The bytes of the file have the digest that is expected.
-pub(crate) fn same_digest(
+pub fn same_digest(
     alloc: Global,
-    file: &str,
+    file: &FileName,
     expected: &[u8; 32],
     bytes: &[u8],
 ) -> Result<(), Refusal>

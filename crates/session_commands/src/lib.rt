@@ -4,14 +4,15 @@
 mod accepted;
 pub mod audit;
 mod digests;
-mod inputs;
-mod judged;
 pub mod laws;
 pub mod open;
 mod round;
 mod same;
-mod seen;
+pub mod session_report;
 mod sessions;
-mod task;
-pub mod tell;
 mod texts;
+
+pub use digests::{digest_of, same_digest};
+pub use round::{RoundTask, next_session, session_answer, with_seen};
+pub use same::{same_ballots, same_manifest};
+pub use sessions::session_to_go_on;

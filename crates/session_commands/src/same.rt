@@ -1,62 +1,91 @@
-// The files of a session: each has the digest that the session has of it, before it is read.
-ghost use Rattle.std.specs.Prelude.{◌≡◌, Ok, IfOk, IfErr};
-ghost use Rattle.manifest.specs.Linked.{linked_of};
-ghost use Rattle.session_commands.specs.Audit.{asked_by, same_assertions, same_ballots, same_manifest};
-ghost use Rattle.session_commands.specs.Judged.{IsJudged, IsStopped};
+// The files of a session: each has the digest that the session has of it, before it is read, and the session has their facts.
+ghost use Rattle.std.specs.Prelude.{◌≡◌, Ok, None, IfOk, IfErr};
+ghost use Rattle.manifest.specs.Linked.{first_without_card, linked_of};
+ghost use Rattle.session_commands.specs.Audit.{same_assertions};
+ghost use Rattle.session_state.specs.Claims.{margins_of};
+ghost use Rattle.session_state.specs.Inputs.{HasFacts};
+ghost use Rattle.cli_base.specs.Due.{due_refusal};
+ghost use Rattle.input_files.specs.Judged.{IsJudged, IsStopped, IsTold};
+ghost use Rattle.session_commands.specs.Refusals.{without_facts};
+ghost use Rattle.session_commands.specs.Rounds.{same_ballots, same_manifest};
 
 use crate::digests::same_digest;
-use crate::inputs::{Cards, cards_for};
-use crate::task::Task;
 use assertion_file::AssertionFile;
-use audit_rounds::Session;
 use ballot_reader::Ballots;
-use cli_base::Refusal;
-use contest_commands::contest::{assertions_in, ballots_in};
+use cli_base::{Refusal, RefusalKind, refuse};
+use command::{AuditTask, FileName};
+use input_files::{Cards, assertions_in, ballots_in, cards_for};
+use session_state::{Session, has_facts};
 use std::alloc::Global;
 
-/// The ballots of the session's contest.
-pub(crate) fn same_ballots(
+/// The ballots of the session's contest, in the bytes of the file with this name.
+pub fn same_ballots(
     alloc: Global,
-    task: &Task<'_>,
+    name: &FileName,
     session: &Session,
     bytes: &[u8],
 ) -> Result<Ballots, Refusal>
-    ensures { IsJudged (same_ballots (asked_by task.now) session.now bytes.now) result }
+    ensures { IsJudged (same_ballots name.now session.now bytes.now) result }
 {
-    let name = task.files.ballots;
     same_digest(alloc, name, &session.digests().ballots, bytes)?;
     ballots_in(alloc, name, bytes, Some(session.contest()))
 }
 
-/// The cards of the ballots.
-pub(crate) fn same_manifest(
+/// The cards of the ballots, of a file with this name, in the bytes of the manifest.
+pub fn same_manifest(
     alloc: Global,
-    task: &Task<'_>,
+    name: &FileName,
+    manifest: &FileName,
     session: &Session,
     ballots: &Ballots,
     bytes: &[u8],
 ) -> Result<Cards, Refusal>
     ensures read { IfOk result (λ cards.
-        same_manifest (asked_by task.now) session.now ballots.now bytes.now ≡ Ok cards.manifest) }
+        same_manifest name.now manifest.now session.now ballots.now bytes.now
+        ≡ Ok cards.manifest) }
+    ensures placed { IfOk result (λ cards.
+        first_without_card cards.manifest ballots.now ≡ None) }
     ensures linked { IfOk result (λ cards. cards.linked ≡ linked_of cards.manifest ballots.now) }
     ensures refused { IfErr result
-        (IsStopped (same_manifest (asked_by task.now) session.now ballots.now bytes.now)) }
+        (IsStopped (same_manifest name.now manifest.now session.now ballots.now bytes.now)) }
 {
-    let name = task.files.manifest;
-    same_digest(alloc, name, &session.digests().manifest, bytes)?;
-    cards_for(alloc, task.files.ballots, ballots, name, bytes)
+    same_digest(alloc, manifest, &session.digests().manifest, bytes)?;
+    cards_for(alloc, name, ballots, manifest, bytes)
 }
 
 /// The assertions.
 pub(crate) fn same_assertions(
     alloc: Global,
-    task: &Task<'_>,
+    task: &AuditTask,
     session: &Session,
     bytes: &[u8],
 ) -> Result<AssertionFile, Refusal>
-    ensures { IsJudged (same_assertions (asked_by task.now) session.now bytes.now) result }
+    ensures { IsJudged (same_assertions task.now session.now bytes.now) result }
 {
-    let name = task.files.assertions;
+    let name = &task.assertions;
     same_digest(alloc, name, &session.digests().assertions, bytes)?;
     assertions_in(alloc, name, bytes)
+}
+
+/// The session has so many cards, and the contest and the margins of the assertion file.
+pub(crate) fn same_facts(
+    alloc: Global,
+    task: &AuditTask,
+    session: &Session,
+    cards: u32,
+    file: &AssertionFile,
+) -> Result<(), Refusal>
+    ensures facts { IfOk result (λ _.
+        HasFacts session.now cards file.now.contest (margins_of file.now)) }
+    ensures same { IfOk result (λ _.
+        without_facts task.now.session session.now cards file.now.contest (margins_of file.now)
+        ≡ None) }
+    ensures refused { IfErr result (λ refusal.
+        IsTold (without_facts task.now.session session.now cards
+        file.now.contest (margins_of file.now)) (due_refusal refusal)) }
+{
+    if has_facts(session, cards, file) {
+        return Ok(());
+    }
+    Err(refuse(alloc, RefusalKind::Input, task.session.as_str(), "S5"))
 }

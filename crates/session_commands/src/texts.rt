@@ -1,9 +1,10 @@
 // What is wrong with a file of an audit, in words.
 ghost use Rattle.std.specs.Prelude.{◌≡◌, IfOk, string_bytes};
-ghost use Rattle.session_commands.specs.Refusals.{changed_text, counted_text, counts_text, differs_text, digests_text, had_text, no_record_text};
+ghost use Rattle.session_commands.specs.Refusals.{changed_text, counted_text, differs_text, digests_text, had_text};
 
 use hex::encode;
 use km_risk::Counts;
+use report::counts_text;
 use std::alloc::{AllocError, Global};
 
 /// A file has another digest than was expected.
@@ -30,20 +31,6 @@ pub(crate) fn had_text(alloc: Global, had: u32) -> Result<String, AllocError>
     ensures { IfOk result (λ text. string_bytes text ≡ had_text had) }
 {
     format!(in alloc; "S4 had {had}")
-}
-
-/// The card of a draw has no record.
-pub(crate) fn no_record_text(alloc: Global, card: u32, k: u32) -> Result<String, AllocError>
-    ensures { IfOk result (λ text. string_bytes text ≡ no_record_text card k) }
-{
-    format!(in alloc; "V4 card {card} draw {k}")
-}
-
-fn counts_text(alloc: Global, counts: &Counts) -> Result<String, AllocError>
-    ensures { IfOk result (λ text. string_bytes text ≡ counts_text counts.now) }
-{
-    let Counts { n0, n1, n2, n3, n4 } = *counts;
-    format!(in alloc; "{n0} {n1} {n2} {n3} {n4}")
 }
 
 /// The counts of a claim in a round aren't those that the session has.

@@ -8,8 +8,8 @@ use Rattle.serde_json.specs.Read.{read}
 use Rattle.json.proofs.Printed.Utf8.{IsUtf8-are_ascii, are_ascii}
 use Rattle.serde_json.specs.Data.{Data}
 use Rattle.assertion_file.specs.Stated.{◌>>=◌, number}
-use Rattle.audit_rounds.specs.Content.{Content}
-use Rattle.audit_rounds.specs.Sessions.{Round}
+use Rattle.session_state.specs.Content.{Content}
+use Rattle.session_state.specs.Sessions.{Round}
 use Rattle.session_file.specs.Faults.{Refuses}
 use Rattle.session_file.specs.Reading.{content_of, content_with, sound_session, session_of}
 use Rattle.session_file.specs.Stated.{Heading, each, heading_in, round}

@@ -5,10 +5,10 @@ use Rattle.std.proofs.Math.Bool.{beq}
 use Rattle.std.proofs.lemmas.Bool.{and_from}
 use Rattle.irv_base.specs.Names.{is_name}
 use Rattle.sampler.specs.Seeds.{is_seed}
-use Rattle.audit_rounds.specs.Content.{Content, IsSound}
-use Rattle.audit_rounds.specs.Sessions.{is_signed_off}
-use Rattle.session_text.specs.Forms.{HasForms}
-use Rattle.session_text.specs.declared.print.TheConstants.{VERSION}
+use Rattle.session_state.specs.Content.{Content, IsSound}
+use Rattle.session_state.specs.Sessions.{is_signed_off}
+use Rattle.session_file.specs.Forms.{HasForms}
+use Rattle.session_file.specs.declared.print.TheConstants.{VERSION}
 use Rattle.session_file.specs.Reading.{sound_session}
 use Rattle.session_file.specs.Sound.{are_margins, are_rounds, is_cards, is_gamma, is_limit, is_session, is_sound}
 use Rattle.session_file.specs.Stated.{Heading}

@@ -1,3 +1,6 @@
+pub mod Sessions
+pub mod PrintedText
+pub mod OneCard
 pub mod Each
 pub mod SoundSessions
 pub mod Refused

@@ -8,7 +8,7 @@ use Rattle.std.proofs.lemmas.List.{get_or-map, length-map}
 use Rattle.std.proofs.lemmas.Slice.Zip.{get_or-zip, length-zip}
 use Rattle.km_risk.specs.declared.draws.Counts.{Counts}
 use Rattle.km_risk.specs.Printed.{printed_risk}
-use Rattle.audit_rounds.specs.Sessions.{risks_of}
+use Rattle.session_state.specs.Sessions.{risks_of}
 
 module _ (cards gamma : ℕ) (margins : List ℕ) (counts : List Counts) (same : length counts ≡ length margins) where
   zipped : length (zip margins counts) ≡ length margins

@@ -17,12 +17,12 @@ use Rattle.km_risk.specs.declared.draws.Counts.{Counts}
 use Rattle.assertion_file.specs.Stated.{◌>>=◌, list, list_in, member_as, number, number_in, text_in}
 use Rattle.assertion_file.specs.Text.{array_of, whole_number}
 use Rattle.assertion_file.proofs.Elements.{elements-items_of}
-use Rattle.audit_rounds.specs.Content.{Content, IsSound}
-use Rattle.audit_rounds.specs.Sessions.{Round, is_signed_off}
-use Rattle.session_text.specs.Forms.{HasForms, IsDigest}
-use Rattle.session_text.specs.Text.{counts_value, digest_value, round_value, session_text, session_value}
-use Rattle.session_text.specs.declared.print.TheConstants.{VERSION}
-use Rattle.session_text.proofs.Printed.{text_reads_back}
+use Rattle.session_state.specs.Content.{Content, IsSound}
+use Rattle.session_state.specs.Sessions.{Round, is_signed_off}
+use Rattle.session_file.specs.Forms.{HasForms, IsDigest}
+use Rattle.session_file.specs.Text.{counts_value, digest_value, round_value, session_text, session_value}
+use Rattle.session_file.specs.declared.print.TheConstants.{VERSION}
+use Rattle.session_file.proofs.PrintedText.{text_reads_back}
 use Rattle.session_file.specs.Reading.{content_of, session_of}
 use Rattle.session_file.specs.Stated.{Heading, counts, counts_from, digest, digests_in, each, entry_in, heading_in, risk, round}
 use Rattle.session_file.proofs.Contents.{with-rounds}

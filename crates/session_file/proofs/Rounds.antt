@@ -2,7 +2,7 @@
 use Rattle.std.proofs.Common.{◌≡◌, ℕ, List, Option, None, Some, ap, ◌∙◌}
 use Rattle.serde_json.specs.Data.{Data}
 use Rattle.km_risk.specs.declared.draws.Counts.{Counts}
-use Rattle.audit_rounds.specs.Sessions.{Round}
+use Rattle.session_state.specs.Sessions.{Round}
 use Rattle.session_file.specs.Faults.{Refuses}
 use Rattle.assertion_file.specs.Stated.{◌>>=◌}
 use Rattle.session_file.specs.Stated.{Entry, counts, each, entry_in, risk, round}

@@ -14,11 +14,11 @@ use Rattle.irv_base.specs.Names.{is_name}
 use Rattle.sampler.specs.Seeds.{is_seed}
 use Rattle.assertion_file.specs.Stated.{list_in, member_as, number, number_in, text_in}
 use Rattle.assertion_file.specs.Text.{json_of}
-use Rattle.audit_rounds.specs.Content.{Content, IsSound}
-use Rattle.audit_rounds.specs.Sessions.{is_signed_off}
-use Rattle.audit_rounds.specs.declared.digests.Digests.{Digests}
-use Rattle.session_text.specs.Forms.{HasForms, IsDigest}
-use Rattle.session_text.specs.declared.print.TheConstants.{VERSION}
+use Rattle.session_state.specs.Content.{Content, IsSound}
+use Rattle.session_state.specs.Sessions.{is_signed_off}
+use Rattle.session_state.specs.declared.digests.Digests.{Digests}
+use Rattle.session_file.specs.Forms.{HasForms, IsDigest}
+use Rattle.session_file.specs.declared.print.TheConstants.{VERSION}
 use Rattle.session_file.specs.Reading.{content_of, content_with, is_kept, session_of}
 use Rattle.session_file.specs.Sound.{is_session, is_sound}
 use Rattle.session_file.specs.Stated.{Heading, digest, digests_in, each, heading_in, round}

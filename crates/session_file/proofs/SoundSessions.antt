@@ -10,8 +10,8 @@ use Rattle.std.proofs.lemmas.List.Kept.{AllPairs-cons}
 use Rattle.std.proofs.lemmas.List.Sums.{AllPass-from_list_all, list_all-from_AllPass}
 use Rattle.irv_base.specs.declared.limits.TheConstants.{GREATEST_GAMMA, GREATEST_LIMIT, MOST_CARDS, MOST_DRAWS}
 use Rattle.km_risk.specs.Counts.{draws_in}
-use Rattle.audit_rounds.specs.Content.{IsWithinLimits}
-use Rattle.audit_rounds.specs.Sessions.{IsRound, IsSession, Round, Session, risks_of}
+use Rattle.session_state.specs.Content.{IsWithinLimits}
+use Rattle.session_state.specs.Sessions.{IsRound, IsSession, Round, Session, risks_of}
 use Rattle.session_file.specs.Sound.{are_margins, are_rounds, counts_all, has_counts, has_risks, is_cards, is_draws, is_gamma, is_limit, is_margin, is_round, is_session, rises_above}
 
 -- ---- margins

@@ -1,9 +1,16 @@
 -- The laws of session files.
 use Rattle.std.specs.Prelude.{◌≡◌, ℕ, List, Some}
-use Rattle.audit_rounds.specs.Content.{Content, IsSound}
-use Rattle.session_text.specs.Forms.{HasForms}
-use Rattle.session_text.specs.Text.{session_text}
+use Rattle.assertion_file.specs.Text.{json_of}
+use Rattle.session_state.specs.Content.{Content, IsSound}
+use Rattle.session_file.specs.Forms.{HasForms}
+use Rattle.session_file.specs.Text.{session_text, session_value}
 use Rattle.session_file.specs.Reading.{session_of}
+
+-- what is printed reads as the session's value
+abbrev pub TextReadsBack : Type 0
+TextReadsBack =
+    (content : Content) → IsSound content → HasForms content →
+    json_of (session_text content) ≡ Some (session_value content)
 
 -- what is read keeps what a session keeps
 abbrev pub ReadIsSound : Type 0

@@ -1,3 +1,5 @@
+pub mod Text
+pub mod Forms
 pub mod Stated
 pub mod Sound
 pub mod Reading

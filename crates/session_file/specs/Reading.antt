@@ -4,9 +4,9 @@ use Rattle.std.proofs.Math.Bool.{beq}
 use Rattle.serde_json.specs.Data.{Data}
 use Rattle.assertion_file.specs.Stated.{◌>>=◌, number}
 use Rattle.assertion_file.specs.Text.{json_of}
-use Rattle.audit_rounds.specs.Content.{Content}
-use Rattle.audit_rounds.specs.Sessions.{Round, is_signed_off}
-use Rattle.session_text.specs.declared.print.TheConstants.{VERSION}
+use Rattle.session_state.specs.Content.{Content}
+use Rattle.session_state.specs.Sessions.{Round, is_signed_off}
+use Rattle.session_file.specs.declared.print.TheConstants.{VERSION}
 use Rattle.session_file.specs.Sound.{is_sound}
 use Rattle.session_file.specs.Stated.{Heading, each, heading_in, round}
 

@@ -6,8 +6,8 @@ use Rattle.irv_base.specs.Names.{is_name}
 use Rattle.irv_base.specs.declared.limits.TheConstants.{GREATEST_GAMMA, GREATEST_LIMIT, MOST_CARDS, MOST_DRAWS}
 use Rattle.sampler.specs.Seeds.{is_seed}
 use Rattle.km_risk.specs.Counts.{draws_in}
-use Rattle.audit_rounds.specs.Content.{Content}
-use Rattle.audit_rounds.specs.Sessions.{Round, Session, risks_of}
+use Rattle.session_state.specs.Content.{Content}
+use Rattle.session_state.specs.Sessions.{Round, Session, risks_of}
 
 -- ---- numbers within the limits of an audit
 

@@ -6,8 +6,8 @@ use Rattle.serde_json.specs.Data.{Data}
 use Rattle.serde_json.specs.Find.{as_bool, as_number, as_str, as_u64}
 use Rattle.assertion_file.specs.Stated.{◌>>=◌, list, list_in, member_as, number, number_in, text_in}
 use Rattle.km_risk.specs.declared.draws.Counts.{Counts}
-use Rattle.audit_rounds.specs.declared.digests.Digests.{Digests}
-use Rattle.audit_rounds.specs.Sessions.{Round}
+use Rattle.session_state.specs.declared.digests.Digests.{Digests}
+use Rattle.session_state.specs.Sessions.{Round}
 
 -- ---- the kinds of members
 

@@ -1,18 +1,46 @@
-//! Worked examples: what the tests of a session answer, and what a small file says, computed by the checker.
-ghost use Rattle.std.specs.Prelude.{◌≡◌, ◌∷◌, [], codes, false, replicate, Some, None, IsTrue};
+//! Worked examples: the texts of small sessions, what the tests of a session answer, and what a small file says, computed by the checker.
+ghost use Rattle.std.specs.Prelude.{◌≡◌, ◌∷◌, ◌++◌, [], codes, false, replicate, Some, None, IsTrue};
 ghost use Rattle.serde_json.specs.Data.{string};
-ghost use Rattle.session_text.specs.Examples as printed;
+ghost use Rattle.session_state.specs.Content.{IsSound};
 ghost use Rattle.session_file.specs.Examples as examples;
 ghost use Rattle.session_file.specs.Reading.{session_of};
 ghost use Rattle.session_file.specs.Sound.{are_margins, is_round, rises_above};
 ghost use Rattle.session_file.specs.Stated.{digest};
+ghost use Rattle.session_file.specs.Text.{session_text};
+
+/// One card that is drawn four times and then once more, which confirms the only assertion.
+pub fn one_card()
+    ensures sound { IsSound (examples.one_card (codes "2024")
+        (examples.four_draws ∷ examples.five_draws ∷ [])) }
+    ensures begun { session_text (examples.one_card (codes "2024") []) ≡
+        examples.head
+        ++ codes "\"rounds\":[],\"seed\":\"2024\",\"signed_off\":false,\"version\":1}\n" }
+    ensures four { session_text (examples.one_card (codes "2024") (examples.four_draws ∷ [])) ≡
+        examples.head
+        ++ codes "\"rounds\":[{\"counts\":[[0,0,4,0,0]],"
+        ++ codes "\"draws\":4,\"risks\":[88518543815313162]}],"
+        ++ codes "\"seed\":\"2024\",\"signed_off\":false,\"version\":1}\n" }
+    ensures five { session_text (examples.one_card (codes "2024")
+        (examples.four_draws ∷ examples.five_draws ∷ [])) ≡
+        examples.head
+        ++ codes "\"rounds\":[{\"counts\":[[0,0,4,0,0]],\"draws\":4,\"risks\":[88518543815313162]},"
+        ++ codes "{\"counts\":[[0,0,5,0,0]],\"draws\":5,\"risks\":[48282842081079907]}],"
+        ++ codes "\"seed\":\"2024\",\"signed_off\":true,\"version\":1}\n" }
+{}
+
+/// A quotation mark and a backslash in a seed are printed behind a backslash.
+pub fn escaped_seed()
+    ensures { session_text (examples.one_card (codes "a \"b\\") []) ≡
+        examples.head
+        ++ codes "\"rounds\":[],\"seed\":\"a \\\"b\\\\\",\"signed_off\":false,\"version\":1}\n" }
+{}
 
 /// Five draws of the only card; with a risk that is a unit too small, at another gamma, and where there is no claim.
 pub fn five_draws()
-    ensures right { IsTrue (is_round 1 100 (1 ∷ []) printed.five_draws) }
-    ensures risk { is_round 1 100 (1 ∷ []) (printed.clean_round 5 48282842081079906) ≡ false }
-    ensures gamma { is_round 1 101 (1 ∷ []) printed.five_draws ≡ false }
-    ensures no_claim { is_round 1 100 [] printed.five_draws ≡ false }
+    ensures right { IsTrue (is_round 1 100 (1 ∷ []) examples.five_draws) }
+    ensures risk { is_round 1 100 (1 ∷ []) (examples.clean_round 5 48282842081079906) ≡ false }
+    ensures gamma { is_round 1 101 (1 ∷ []) examples.five_draws ≡ false }
+    ensures no_claim { is_round 1 100 [] examples.five_draws ≡ false }
 {}
 
 /// Draws that rise, draws that stay, and a first round without a draw.
@@ -39,5 +67,5 @@ pub fn digests()
 
 /// The members in another order, and a further one.
 pub fn begun()
-    ensures { session_of examples.begun_text ≡ Some (printed.one_card (codes "2024") []) }
+    ensures { session_of examples.begun_text ≡ Some (examples.one_card (codes "2024") []) }
 {}

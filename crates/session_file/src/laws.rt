@@ -1,5 +1,12 @@
 //! The laws of the session file: each holds of every value that it names, and has no code.
-ghost use Rattle.session_file.specs.Laws.{PrintedReadsBack, ReadIsSound};
+ghost use Rattle.std.specs.Prelude.{◌≡◌};
+ghost use Rattle.session_file.specs.Laws.{PrintedReadsBack, ReadIsSound, TextReadsBack};
+ghost use Rattle.session_file.specs.declared.print.TheConstants.{VERSION};
+
+/// What is printed reads as the session's JSON value.
+pub fn text_reads_back()
+    ensures { TextReadsBack }
+{}
 
 /// What is read keeps what a session keeps.
 pub fn read_is_sound()
@@ -9,4 +16,9 @@ pub fn read_is_sound()
 /// What is printed reads back as what was printed.
 pub fn printed_reads_back()
     ensures { PrintedReadsBack }
+{}
+
+/// The number of the form's version.
+pub fn version()
+    ensures { VERSION ≡ 1 }
 {}

@@ -1,4 +1,5 @@
-//! The session file, read exactly: what is kept of an audit between its rounds.
+//! The session file: what is kept of an audit between its rounds, as a JSON text that anyone can check, and read
+//! exactly.
 #![tactic(auto)]
 
 pub mod examples;
@@ -6,8 +7,11 @@ mod fault;
 pub mod laws;
 mod lists;
 mod members;
+mod print;
 mod read;
 mod sound;
+mod values;
 
 pub use fault::SessionFault;
+pub use print::{VERSION, print_session};
 pub use read::read_session;

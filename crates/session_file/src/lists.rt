@@ -8,9 +8,10 @@ ghost use Rattle.session_file.specs.Stated.{counts, each, risk, round};
 
 use crate::SessionFault;
 use crate::members::{self, entry_in};
-use audit_rounds::DoneRound;
+use assertion_file::number;
 use km_risk::Counts;
 use serde_json::Value;
+use session_state::DoneRound;
 use std::alloc::Global;
 
 /// What the values of a list may state: all of them are of this kind.
@@ -29,7 +30,7 @@ impl Stated for u32 {
     ghost kind = { number };
 
     fn stated(_alloc: Global, value: &Value) -> Result<u32, SessionFault> {
-        members::number(value).ok_or(SessionFault::Refused)
+        number(value).ok_or(SessionFault::Refused)
     }
 }
 

@@ -2,14 +2,15 @@
 ghost use Rattle.std.specs.Prelude.{◌≡◌, map, option_map};
 ghost use Rattle.serde_json.specs.Find.{as_bool};
 ghost use Rattle.serde_json.specs.View.{view};
-ghost use Rattle.assertion_file.specs.Stated.{list_in, member_as, number, number_in, text_in};
+ghost use Rattle.assertion_file.specs.Stated.{member_as};
 ghost use Rattle.session_file.specs.Stated.{counts, counts_from, digest, digests_in, entry_in, heading_in, risk};
 ghost use Rattle.session_file.specs.Views.{stated_entry, stated_heading};
 
-use audit_rounds::Digests;
+use assertion_file::{list_in, number, number_in, text_in};
 use hex::FromHex;
 use km_risk::Counts;
 use serde_json::Value;
+use session_state::Digests;
 
 /// The members of a session's object.
 #[derive(Clone, Copy)]
@@ -47,13 +48,6 @@ pub struct Entry<'a> {
     pub risks: &'a [Value],
 }
 
-/// The whole number that the value is, if it is one of 32 bits.
-pub fn number(value: &Value) -> Option<u32>
-    ensures { result ≡ number (view value.now) }
-{
-    u32::try_from(value.as_u64()?).ok()
-}
-
 /// The risk that the value is, in units of 10^-18.
 pub fn risk(value: &Value) -> Option<u64>
     ensures { result ≡ risk (view value.now) }
@@ -84,29 +78,10 @@ pub fn counts(value: &Value) -> Option<Counts>
     counts_from(value.as_array()?.as_slice())
 }
 
-fn text_in<'a>(value: &'a Value, name: &str) -> Option<&'a str>
-    ensures { option_map (λ text. text.now) result ≡ text_in name.now (view value.now) }
-{
-    value.get(name)?.as_str()
-}
-
-fn number_in(value: &Value, name: &str) -> Option<u32>
-    ensures { result ≡ number_in name.now (view value.now) }
-{
-    number(value.get(name)?)
-}
-
 fn bool_in(value: &Value, name: &str) -> Option<bool>
     ensures { result ≡ member_as as_bool name.now (view value.now) }
 {
     value.get(name)?.as_bool()
-}
-
-fn list_in<'a>(value: &'a Value, name: &str) -> Option<&'a [Value]>
-    ensures { option_map (λ values. map view values.now) result ≡
-        list_in name.now (view value.now) }
-{
-    Some(value.get(name)?.as_array()?.as_slice())
 }
 
 fn digest_in(value: &Value, name: &str) -> Option<[u8; 32]>

@@ -5,15 +5,14 @@ ghost use Rattle.session_file.specs.Faults.{Refuses};
 ghost use Rattle.session_file.specs.Reading.{content_of, content_with, sound_session, session_of};
 ghost use Rattle.session_file.specs.Views.{stated_heading};
 
-use crate::SessionFault;
 use crate::lists::list;
 use crate::members::{Heading, heading_in};
 use crate::sound::{are_limits, are_margins, are_rounds};
-use audit_rounds::{DoneRound, Session, signed_off};
+use crate::{SessionFault, VERSION};
 use irv_base::Name;
 use sampler::Seed;
 use serde_json::Value;
-use session_text::VERSION;
+use session_state::{DoneRound, Session, signed_off};
 use std::alloc::Global;
 
 // The session with these members, margins and rounds, if it is sound and the file says rightly whether it is signed off.

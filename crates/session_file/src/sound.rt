@@ -6,9 +6,9 @@ ghost use Rattle.km_risk.specs.Counts.{draws_in};
 ghost use Rattle.km_risk.specs.Factor.{IsSetting};
 ghost use Rattle.session_file.specs.Sound.{are_margins, counts_all, has_risks, is_cards, is_draws, is_gamma, is_limit, is_margin, is_round, rises_above};
 
-use audit_rounds::DoneRound;
 use irv_base::{GREATEST_GAMMA, GREATEST_LIMIT, MOST_CARDS, MOST_DRAWS};
 use km_risk::{Counts, risk};
+use session_state::DoneRound;
 
 /// Whether the cards, the risk limit and gamma are within the limits of an audit.
 pub fn are_limits(cards: u32, limit: u32, gamma: u32) -> bool

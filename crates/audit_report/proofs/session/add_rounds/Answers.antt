@@ -1,6 +1,6 @@
 use Rattle.std.proofs.Common.{◌≡◌, ◌+◌, ◌++◌, ◌<◌, ◌||◌, ℕ, length, get_or, false, string_bytes, arith, ap, ap₂, subst, sym, flat_map, ◌∙◌}
 use Rattle.std.specs.List.{range_with_len}
-use Rattle.audit_rounds.specs.Sessions.{is_confirmed_at, meets}
+use Rattle.session_state.specs.Sessions.{is_confirmed_at, meets}
 use Rattle.audit_report.specs.Session.{claim_in, draws_line}
 use Rattle.audit_report.proofs.Confirmed.{confirmed_more}
 use Rattle.audit_report.proofs.Rounds.{counts-long, risks-long, rounds_more}

@@ -1,5 +1,5 @@
 use Rattle.std.proofs.Common.{◌≡◌, ◌+◌, ◌++◌, ◌<◌, ℕ, Bool, List, length, drop, get_or, false, string_bytes}
-use Rattle.audit_rounds.specs.Sessions.{Session, is_confirmed_at}
+use Rattle.session_state.specs.Sessions.{Session, is_confirmed_at}
 use Rattle.audit_report.specs.Session.{rounds_from}
 use Rattle.audit_report.proofs.session.add_rounds.Given as goal
 

@@ -1,54 +1,63 @@
-use Rattle.std.proofs.Common.{◌∙◌, length, refl, sym, ap, subst, arith}
-use Rattle.std.specs.List.{list_all}
-use Rattle.std.proofs.lemmas.Bool.{and_parts}
+use Rattle.std.proofs.Common.{◌∙◌, Some, length, get_or, refl, sym, ap, subst, arith}
 use Rattle.std.proofs.lemmas.Option.{slice_get_read}
-use Rattle.irv_base.specs.Names.{all_differ, is_name}
-use Rattle.ballot_reader.specs.Grammar.{Contest, ballot_ids}
-use Rattle.ballot_reader.specs.Kept.{IsKept}
-use Rattle.ballot_reader.proofs.Adding.{audited-size, same_at, stood}
-use Rattle.ballot_reader.proofs.Ended.{are_ballots, file-is, within-ids}
+use Rattle.ballot_reader.specs.Grammar.{Contest, file_of}
+use Rattle.ballot_reader.specs.Kept.{IsKept, part_of}
+use Rattle.ballot_reader.specs.declared.wanted.Wanted.TheVariants.{One}
+use Rattle.ballot_reader.proofs.Adding.{same_at}
+use Rattle.ballot_reader.proofs.Ended.{are_ballots, file-is, own-part, own_taken, sized-only, within-parts}
 use Rattle.ballot_reader.proofs.read.file_of.Goals as goal
 
-pub new-requires-clause-ballots : goal.new-requires-clause-ballots
-new-requires-clause-ballots c =
-    let contests = c.args.contests.items in
-    let (chosen, ballots, there, before) = c.requires.kept in
-    let kept = subst (IsKept contests chosen ballots) (sym c.kept.view_is) before in
-    let same = same_at contests c.args.audited c.swap_remove.result chosen
-    (slice_get_read contests (length contests) c.args.audited c.swap_remove.result refl c.requires.within c.swap_remove.ensures.value) there in
-    let candidates = ap (λ (x : Contest). length x.candidates) (c.id.view_is ∙ same) in
-    let within = within-ids c.kept.inside.ids.items contests ballots c.args.audited kept.noted c.requires.within in
-    let ids = c.into_ids-ids.ensures ∙ same_at c.kept.inside.ids.items c.args.audited c.swap_remove-2.result (ballot_ids chosen.id ballots)
-    (slice_get_read c.kept.inside.ids.items (length c.kept.inside.ids.items) c.args.audited c.swap_remove-2.result refl within c.swap_remove-2.ensures.value)
-    (stood contests chosen ballots _ c.args.audited chosen kept there)
-    in
-    rw (ids, candidates) (are_ballots contests chosen ballots _ kept)
+pub swap_remove-requires : goal.swap_remove-requires
+swap_remove-requires c =
+    let (ballots, before) = c.requires.kept in
+    let kept = subst (IsKept c.args.contests.items (One c.args.audited) ballots) (sym c.kept.view_is) before in
+    omega (
+      arith,
+      c.kept.inside.parts.ok,
+      within-parts c.kept.inside.parts.items c.args.contests.items (One c.args.audited) ballots c.args.audited kept.parted c.requires.within,
+    )
 
-pub new-requires-clause-candidates : goal.new-requires-clause-candidates
-new-requires-clause-candidates c =
+pub unreachable-requires : goal.unreachable-requires
+unreachable-requires c =
     let contests = c.args.contests.items in
-    let contest = c.swap_remove.result in
-    let keys = c.id.inside.candidates.keys in
-    let there = slice_get_read contests (length contests) c.args.audited contest refl c.requires.within c.swap_remove.ensures.value in
-    let sized = audited-size contests c.args.audited contest there c.requires.sized in
-    let same = ap (λ (x : Contest). length x.candidates) c.id.view_is in
-    record {
-      fewest = omega (arith, sized.0, same);
-      most = omega (arith, sized.1, same);
-      differ = (and_parts (list_all is_name keys) (all_differ keys) c.id.invariant).1;
-    }
+    let audited = c.args.audited in
+    let (ballots, before) = c.requires.kept in
+    let kept = subst (IsKept contests (One audited) ballots) (sym c.kept.view_is) before in
+    let contest = c.swap_remove-contest.result in
+    let there = slice_get_read contests (length contests) audited contest refl c.requires.within c.swap_remove-contest.ensures.value in
+    let parts = c.kept.inside.parts.items in
+    let within = within-parts parts contests (One audited) ballots audited kept.parted c.requires.within in
+    let part = slice_get_read parts (length parts) audited c.swap_remove.result refl within c.swap_remove.ensures.value in
+    let same = same_at parts audited c.swap_remove.result (Some (part_of ballots contest)) part (own-part contests audited ballots _ contest kept there) in
+    c.in_default.not-Some (part_of ballots contest) same
+
+pub ballots_with-requires-clause-sized : goal.ballots_with-requires-clause-sized
+ballots_with-requires-clause-sized c =
+    let contests = c.args.contests.items in
+    let contest = c.swap_remove-contest.result in
+    sized-only contests c.args.audited contest c.requires.sized
+    (slice_get_read contests (length contests) c.args.audited contest refl c.requires.within c.swap_remove-contest.ensures.value)
+
+pub ballots_with-requires-clause-ballots : goal.ballots_with-requires-clause-ballots
+ballots_with-requires-clause-ballots c =
+    let contests = c.args.contests.items in
+    let audited = c.args.audited in
+    let (ballots, before) = c.requires.kept in
+    let kept = subst (IsKept contests (One audited) ballots) (sym c.kept.view_is) before in
+    let contest = c.swap_remove-contest.result in
+    let there = slice_get_read contests (length contests) audited contest refl c.requires.within c.swap_remove-contest.ensures.value in
+    let own = own_taken contests audited ballots _ contest c.swap_remove-ids.result c.in-Some.part kept there c.swap_remove-ids.ensures.value
+    (sym c.in-Some.is ∙ c.swap_remove.ensures.value ∙ ap (get_or c.kept.inside.parts.items audited) c.in-Some.is) in
+    rw (own.noted, own.parted) (are_ballots contests (One audited) ballots _ audited contest kept there)
 
 pub returns : goal.returns
-returns c = λ chosen ballots there before.
+returns c = λ chosen ballots at before.
     let contests = c.args.contests.items in
-    let kept = subst (IsKept contests chosen ballots) (sym c.kept.view_is) before in
-    let same = same_at contests c.args.audited c.swap_remove.result chosen
-    (slice_get_read contests (length contests) c.args.audited c.swap_remove.result refl c.requires.within c.swap_remove.ensures.value) there in
-    let within = within-ids c.kept.inside.ids.items contests ballots c.args.audited kept.noted c.requires.within in
-    let ids = c.into_ids-ids.ensures ∙ same_at c.kept.inside.ids.items c.args.audited c.swap_remove-2.result (ballot_ids chosen.id ballots)
-    (slice_get_read c.kept.inside.ids.items (length c.kept.inside.ids.items) c.args.audited c.swap_remove-2.result refl within c.swap_remove-2.ensures.value)
-    (stood contests chosen ballots _ c.args.audited chosen kept there)
-    in
-    c.new.ensures
-    ∙ file-is chosen ballots _ _ _ _ _ (ap (λ (x : Contest). x.id) (c.id.view_is ∙ same)) (ap (λ (x : Contest). x.candidates) (c.id.view_is ∙ same)) ids
-    kept.placed kept.ranked
+    let audited = c.args.audited in
+    let kept = subst (IsKept contests (One audited) ballots) (sym c.kept.view_is) before in
+    let contest = c.swap_remove-contest.result in
+    let there = slice_get_read contests (length contests) audited contest refl c.requires.within c.swap_remove-contest.ensures.value in
+    let own = own_taken contests audited ballots _ contest c.swap_remove-ids.result c.in-Some.part kept there c.swap_remove-ids.ensures.value
+    (sym c.in-Some.is ∙ c.swap_remove.ensures.value ∙ ap (get_or c.kept.inside.parts.items audited) c.in-Some.is) in
+    c.ballots_with.ensures ∙ file-is contest ballots contest c.swap_remove-ids.result c.in-Some.part refl own.noted own.parted
+    ∙ ap (λ (x : Contest). file_of x ballots) (same_at contests audited contest chosen there at)

@@ -5,12 +5,12 @@ use Rattle.std.proofs.lemmas.List.{map_push, length_push}
 use Rattle.std.proofs.lemmas.List.Elements.{All-push, All-same}
 use Rattle.shared_witness.specs.declared.view.View.{View}
 use Rattle.shared_witness.specs.Moment.{times}
-use Rattle.bound_search.specs.Reached.{IsPieceSearched, IsEntry, IsDoneWith, IsBestFound}
+use Rattle.bound_search.specs.Reached.{AreLeftOpen, IsPieceSearched, IsEntry, IsDoneWith, IsBestFound}
 use Rattle.bound_search.specs.declared.ends.PieceEnd.{PieceEnd}
 use Rattle.bound_search.specs.declared.limits.TheConstants.{MOST_EXPANDED}
 use Rattle.bound_search.proofs.Racing.{over}
 use Rattle.bound_search.proofs.Views.{took_piece, took_none}
-use Rattle.bound_search.proofs.Sharing.{once_more, taken_now, left_now, entry_now, done_now, costly_now, paced_now, found_now, high_now, contains_got}
+use Rattle.bound_search.proofs.Sharing.{once_more, taken_now, left_now, entry_now, done_now, costly_now, paced_now, found_now, high_now, contains_got, none_skipped, open_now}
 use Rattle.bound_search.proofs.share.work.Goals as goal
 
 pub returns-then-piece-tails-clause-end : goal.returns-then-piece-tails-clause-end
@@ -34,10 +34,13 @@ returns-then-piece-tails-clause-end g c =
       done_with = subst (λ (u : View). All (IsDoneWith c.args.tallies.now.bag u (c.loop-turn.spent.items ++ c.loop-turn.skipped.items))
           c.loop-turn.ends.items) (sym is) inv.done_with;
       costly = inv.costly;
-      cause = inv.cause;
+      unclosed = inv.unclosed;
       paced = inv.paced;
       best = subst (λ (u : View). IsBestFound c.args.tallies.now.bag tails u.posted c.loop-turn.best) (sym is) inv.found;
     }
+
+pub note-requires : goal.note-requires
+note-requires g c = record { cause = none_skipped c.loop-turn.ends.items c.loop-turn.spent.items c.loop-turn.skipped.items c.loop-turn.invariant.unclosed }
 
 pub loop-turn-preserved : goal.loop-turn-preserved
 loop-turn-preserved g c =
@@ -60,6 +63,9 @@ loop-turn-preserved g c =
     let none_skipped : c.loop-turn.spent.items ≡ [] → skipped ≡ false = λ none.
     let empty : vec_len c.loop-turn.spent ≡ 0 = omega (arith, ap length none) in
     ap not (c.is_empty-is_spent.ensures ∙ ap (λ n. n == 0) empty) in
+    let some_spent = λ (number : ℕ) (rest : List ℕ) (some : c.loop-turn.spent.items ≡ number ∷ rest).
+    let full : (vec_len c.loop-turn.spent == 0) ≡ false = grind (arith, ap length some, c.loop-turn.spent.ok) in
+    ap not (c.is_empty-is_spent.ensures ∙ full) in
     let left : piece < pieces = omega (arith, c.take-piece.ensures.most, c.if-piece-tails.false, c.requires.pieces) in
     let take = took_piece pieces piece v t left c.take-piece.ensures.view in
     let inside : slice_get tails piece ≡ Some tail = slice_get_read tails pieces piece tail c.requires.pieces left c.index-tails-piece.is in
@@ -89,7 +95,10 @@ loop-turn-preserved g c =
           (done_now bag first nodes worker tails piece tail v t w spent noted s inside take skipped did notes ends inv.done_with);
       costly = costly_now bag first nodes worker tails piece tail v t w spent noted s inside take skipped did notes c.loop-turn.spent.items
           c.note.new.spent.items none_skipped c.in_ok-note.ensures.spent inv.costly;
-      cause = c.in_ok-note.ensures.cause;
+      unclosed = subst (λ (xs : List PieceEnd). AreLeftOpen xs c.note.new.spent.items c.note.new.skipped.items) (sym items)
+          (open_now bag first nodes worker tails piece tail v t w spent noted s inside take skipped did notes ends c.loop-turn.spent.items
+          c.note.new.spent.items c.loop-turn.skipped.items c.note.new.skipped.items inv.unclosed some_spent c.in_ok-searched.ensures.idle
+          c.in_ok-note.ensures.spent c.in_ok-note.ensures.skipped);
       paced = subst (λ (xs : List PieceEnd). sum_by (λ p. p.expanded) xs ≤ MOST_EXPANDED * (c.loop-turn.looks + s.looks)) (sym items)
           (paced_now bag first nodes worker tails piece tail v t w spent noted s inside take skipped did notes ends c.loop-turn.looks inv.paced);
       between = did.between;

@@ -1,7 +1,7 @@
-use Rattle.std.proofs.Common.{◌≡◌, ◌++◌, [], ◌+◌, ◌*◌, ◌≤◌, ℕ, All, length, map, sum_by}
+use Rattle.std.proofs.Common.{◌≡◌, ◌++◌, ◌+◌, ◌*◌, ◌≤◌, ℕ, All, length, map, sum_by}
 use Rattle.shared_witness.specs.View.{highest}
 use Rattle.shared_witness.specs.Moment.{times}
-use Rattle.bound_search.specs.Reached.{IsEntry, IsDoneWith, IsCostly, IsBestFound}
+use Rattle.bound_search.specs.Reached.{AreLeftOpen, IsEntry, IsDoneWith, IsCostly, IsBestFound}
 use Rattle.bound_search.specs.declared.limits.TheConstants.{MOST_EXPANDED}
 use Rattle.bound_search.proofs.share.work.Given as goal
 
@@ -19,7 +19,7 @@ invariant-loop-turn g l = record {
   entries : All (IsEntry l.fn.tallies.bag l.race.terms.first l.nodes l.worker l.tails) l.ends.items;
   done_with : All (IsDoneWith l.fn.tallies.bag l.seat.view (l.spent.items ++ l.skipped.items)) l.ends.items;
   costly : All (IsCostly l.fn.tallies.bag l.race.terms.first l.nodes l.tails) l.spent.items;
-  cause : l.spent.items ≡ [] → l.skipped.items ≡ [];
+  unclosed : AreLeftOpen l.ends.items l.spent.items l.skipped.items;
   paced : sum_by (λ p. p.expanded) l.ends.items ≤ MOST_EXPANDED * l.looks;
   between : l.seat.view.seen ≤ l.seat.view.posted;
   high : l.seat.view.posted ≤ highest;

@@ -12,5 +12,10 @@ returns c = record {
   hyphen_as_value = refl;
   value_left_empty = refl;
   file_too_many = refl;
+  poll_without_draws = refl;
+  poll_without_seed = refl;
+  round_with_seed = refl;
+  opening_with_draws = refl;
+  three_files = refl;
   no_command = refl;
 }

@@ -2,17 +2,18 @@ use Rattle.std.proofs.Common.{ap, subst, sym, ◌∙◌}
 use Rattle.std.proofs.lemmas.Result.{err_from_is_err_and}
 use Rattle.cli_base.specs.Due.{due}
 use Rattle.cli_base.proofs.Steps.{accounted_on}
-use Rattle.session_commands.specs.Audit.{asked_by, same_manifest, after_manifest}
-use Rattle.session_commands.specs.Judged.{IsStopped}
-use Rattle.session_commands.proofs.Audits.{manifest-only}
-use Rattle.session_commands.proofs.Going.{read_on, read_stopped, stopped_accounted}
+use Rattle.session_commands.specs.Audit.{after_manifest}
+use Rattle.session_commands.specs.Rounds.{same_manifest}
+use Rattle.input_files.specs.Judged.{IsStopped}
+use Rattle.session_commands.proofs.OneRound.{manifest-only}
+use Rattle.input_files.proofs.Going.{read_on, read_stopped, stopped_accounted}
 use Rattle.session_commands.proofs.audit.after_ballots.Goals as goal
 
 pub returns-clause-due : goal.returns-clause-due
 returns-clause-due g c =
-    let asked = asked_by c.args.task.now in
-    let judged = same_manifest asked c.args.session c.args.ballots.now in
-    read_on _ _ _ _ c.in_ok-bytes.bytes.items judged (λ bytes. after_manifest asked c.args.session c.args.ballots.now) c.in_ok-bytes.ensures.read _ _
+    let task = c.args.task.now in
+    let judged = same_manifest task.ballots task.manifest c.args.session c.args.ballots.now in
+    read_on _ _ _ _ c.in_ok-bytes.bytes.items judged (λ bytes. after_manifest task c.args.session c.args.ballots.now) c.in_ok-bytes.ensures.read _ _
     c.in_ok-cards.cards.manifest (due c.after_manifest.result)
     c.in_ok-bytes.ensures.held c.in_ok-bytes.ensures.later c.after_manifest.ensures.later
     (ap judged (sym c.deref.ensures.value) ∙ c.in_ok-cards.ensures.read) c.after_manifest.ensures.due
@@ -22,18 +23,18 @@ returns-clause-served g c = accounted_on _ _ _ _ c.in_ok-bytes.ensures.served c.
 
 pub returns-in_err-cards-clause-due : goal.returns-in_err-cards-clause-due
 returns-in_err-cards-clause-due g c =
-    let asked = asked_by c.args.task.now in
-    let judged = same_manifest (asked_by c.args.task.now) c.args.session c.args.ballots.now in
+    let task = c.args.task.now in
+    let judged = same_manifest task.ballots task.manifest c.args.session c.args.ballots.now in
     let p = err_from_is_err_and c.from_residual-in_err-cards.result c.from_residual-in_err-cards.ensures.1 in
     rw (p.1, p.2)
-    (read_stopped _ _ _ _ c.in_ok-bytes.bytes.items judged (λ bytes. after_manifest asked c.args.session c.args.ballots.now) c.in_ok-bytes.ensures.read
+    (read_stopped _ _ _ _ c.in_ok-bytes.bytes.items judged (λ bytes. after_manifest task c.args.session c.args.ballots.now) c.in_ok-bytes.ensures.read
     c.in_err-cards.field-0.0
     (subst (λ bytes. IsStopped (judged bytes) c.in_err-cards.field-0.0) c.deref.ensures.value c.in_err-cards.ensures.refused))
 
 pub returns-in_err-cards-clause-served : goal.returns-in_err-cards-clause-served
 returns-in_err-cards-clause-served g c =
-    let asked = asked_by c.args.task.now in
-    let judged = same_manifest asked c.args.session c.args.ballots.now in
+    let task = c.args.task.now in
+    let judged = same_manifest task.ballots task.manifest c.args.session c.args.ballots.now in
     let p = err_from_is_err_and c.from_residual-in_err-cards.result c.from_residual-in_err-cards.ensures.1 in
     rw (p.1, p.2) (stopped_accounted 2 _ _ (judged c.deref.result.now) c.in_err-cards.field-0.0
-    (manifest-only asked c.args.session c.args.ballots.now c.deref.result.now) c.in_err-cards.ensures.refused c.in_ok-bytes.ensures.served)
+    (manifest-only task.ballots task.manifest c.args.session c.args.ballots.now c.deref.result.now) c.in_err-cards.ensures.refused c.in_ok-bytes.ensures.served)

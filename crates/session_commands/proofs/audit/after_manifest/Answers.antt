@@ -1,39 +1,41 @@
 use Rattle.std.proofs.Common.{◌≡◌, ◌≢◌, refl, inr, Ok, None, IfSome, ap, is_none, length, subst, sym, ◌∙◌}
 use Rattle.std.proofs.lemmas.Result.{err_from_is_err_and}
 use Rattle.manifest.specs.Cards.{cards_of}
+use Rattle.session_state.specs.Claims.{margins_of}
 use Rattle.cli_base.specs.Due.{due, due_refusal, IsOneOrMemory}
 use Rattle.cli_base.proofs.Steps.{accounted_on, ended_accounted}
-use Rattle.contest_commands.specs.Check.{Checks}
-use Rattle.session_commands.specs.Audit.{asked_by, same_assertions, same_facts, after_assertions, after_check, after_facts}
-use Rattle.session_commands.specs.Inputs.{without_facts}
-use Rattle.session_commands.specs.Judged.{unless, IsStopped, IsTold}
+use Rattle.check_command.specs.Check.{Checks}
+use Rattle.session_commands.specs.Audit.{same_assertions, same_facts, after_assertions, after_check, after_facts}
+use Rattle.session_commands.specs.Refusals.{without_facts}
+use Rattle.input_files.specs.Judged.{unless, IsStopped, IsTold}
 use Rattle.cli_base.proofs.Statuses.{differ, status_in}
-use Rattle.session_commands.proofs.Audits.{assertions-only, facts-only}
+use Rattle.session_commands.proofs.Audits.{assertions-only}
+use Rattle.session_commands.proofs.OneRound.{facts-only}
 use Rattle.session_commands.proofs.Checked.{accepted_on, checked_on}
-use Rattle.session_commands.proofs.Going.{judged_on, judged_stopped, read_last, read_on, read_stopped, raised, stopped_accounted, unless-only}
-use Rattle.session_commands.proofs.Judging.{unless_passed, unless_stopped}
+use Rattle.input_files.proofs.Going.{judged_on, judged_stopped, read_last, read_on, read_stopped, raised, stopped_accounted, unless-only}
+use Rattle.input_files.proofs.Judging.{unless_passed, unless_stopped}
 use Rattle.session_commands.proofs.audit.after_manifest.Goals as goal
 
 pub returns-in_err-file-clause-due : goal.returns-in_err-file-clause-due
 returns-in_err-file-clause-due g c =
-    let asked = asked_by c.args.task.now in
+    let task = c.args.task.now in
     let session = c.args.session in
     let ballots = c.args.ballots.now in
     let batches = c.args.cards.now.manifest in
-    let judged = same_assertions asked session in
+    let judged = same_assertions task session in
     let p = err_from_is_err_and c.from_residual-in_err-file.result c.from_residual-in_err-file.ensures.1 in
     rw (p.1, p.2)
-    (read_stopped _ _ _ _ c.in_ok-bytes.bytes.items judged (λ bytes. after_assertions asked session ballots batches) c.in_ok-bytes.ensures.read
+    (read_stopped _ _ _ _ c.in_ok-bytes.bytes.items judged (λ bytes. after_assertions task session ballots batches) c.in_ok-bytes.ensures.read
     c.in_err-file.field-0.0
     (subst (λ bytes. IsStopped (judged bytes) c.in_err-file.field-0.0) c.deref.ensures.value c.in_err-file.ensures))
 
 pub returns-in_err-file-clause-served : goal.returns-in_err-file-clause-served
 returns-in_err-file-clause-served g c =
-    let asked = asked_by c.args.task.now in
+    let task = c.args.task.now in
     let p = err_from_is_err_and c.from_residual-in_err-file.result c.from_residual-in_err-file.ensures.1 in
     rw (p.1, p.2)
-    (stopped_accounted 1 _ _ (same_assertions asked c.args.session c.deref.result.now) c.in_err-file.field-0.0
-    (assertions-only asked c.args.session c.deref.result.now) c.in_err-file.ensures c.in_ok-bytes.ensures.served)
+    (stopped_accounted 1 _ _ (same_assertions task c.args.session c.deref.result.now) c.in_err-file.field-0.0
+    (assertions-only task c.args.session c.deref.result.now) c.in_err-file.ensures c.in_ok-bytes.ensures.served)
 
 pub returns-in_err-answer-clause-served : goal.returns-in_err-answer-clause-served
 returns-in_err-answer-clause-served g c =
@@ -45,19 +47,19 @@ returns-in_err-answer-clause-served g c =
 
 pub returns-in-Some-clause-due : goal.returns-in-Some-clause-due
 returns-in-Some-clause-due g c =
-    let asked = asked_by c.args.task.now in
+    let task = c.args.task.now in
     let session = c.args.session in
     let ballots = c.args.ballots.now in
     let batches = c.args.cards.now.manifest in
-    let judged = same_assertions asked session in
+    let judged = same_assertions task session in
     let file = c.in_ok-file.file in
     let is = ap judged (sym c.deref.ensures.value) ∙ c.in_ok-file.ensures in
     let no = c.in_ok-answer.ensures.accepted ∙ ap is_none c.in-Some.is in
-    let other = subst (λ found. IfSome found (λ answer. IsOneOrMemory (Checks asked.nodes ballots file) (due (Ok answer)))) c.in-Some.is
+    let other = subst (λ found. IfSome found (λ answer. IsOneOrMemory (Checks task.nodes ballots file) (due (Ok answer)))) c.in-Some.is
     c.in_ok-answer.ensures.other in
-    read_last _ _ _ _ c.in_ok-bytes.bytes.items judged (λ bytes. after_assertions asked session ballots batches) c.in_ok-bytes.ensures.read file
+    read_last _ _ _ _ c.in_ok-bytes.bytes.items judged (λ bytes. after_assertions task session ballots batches) c.in_ok-bytes.ensures.read file
     (due (Ok c.in-Some.answer)) is
-    (checked_on asked.nodes ballots file _ (after_check asked session ballots batches file) (due (Ok c.in-Some.answer)) no other)
+    (checked_on task.nodes ballots file _ (after_check task session ballots batches file) (due (Ok c.in-Some.answer)) no other)
 
 pub returns-in-Some-clause-served : goal.returns-in-Some-clause-served
 returns-in-Some-clause-served g c =
@@ -68,53 +70,53 @@ returns-in-Some-clause-served g c =
 
 pub returns-in_err-same_facts-clause-due : goal.returns-in_err-same_facts-clause-due
 returns-in_err-same_facts-clause-due g c =
-    let asked = asked_by c.args.task.now in
+    let task = c.args.task.now in
     let session = c.args.session in
     let ballots = c.args.ballots.now in
     let batches = c.args.cards.now.manifest in
-    let judged = same_assertions asked session in
+    let judged = same_assertions task session in
     let file = c.in_ok-file.file in
     let is = ap judged (sym c.deref.ensures.value) ∙ c.in_ok-file.ensures in
     let refusal = c.in_err-same_facts.field-0.0 in
-    let wrong = without_facts asked.session session (length (cards_of batches)) file in
+    let wrong = without_facts task.session session (length (cards_of batches)) file.contest (margins_of file) in
     let told : IsTold wrong (due_refusal refusal) =
-    subst (λ cards. IsTold (without_facts asked.session session cards file) (due_refusal refusal)) c.cards.ensures.all c.in_err-same_facts.ensures.refused in
+    subst (λ cards. IsTold (without_facts task.session session cards file.contest (margins_of file)) (due_refusal refusal)) c.cards.ensures.all c.in_err-same_facts.ensures.refused in
     let yes = c.in_ok-answer.ensures.accepted ∙ ap is_none c.in_default.is in
     let p = err_from_is_err_and c.from_residual-in_err-same_facts.result c.from_residual-in_err-same_facts.ensures.1 in
     rw (p.1, p.2)
-    (read_last _ _ _ _ c.in_ok-bytes.bytes.items judged (λ bytes. after_assertions asked session ballots batches) c.in_ok-bytes.ensures.read file
+    (read_last _ _ _ _ c.in_ok-bytes.bytes.items judged (λ bytes. after_assertions task session ballots batches) c.in_ok-bytes.ensures.read file
     (due_refusal refusal) is
-    (accepted_on asked.nodes ballots file _ (after_check asked session ballots batches file) (due_refusal refusal) yes
-    (judged_stopped _ (same_facts asked session batches file) (λ same. after_facts asked same ballots batches file) refusal
+    (accepted_on task.nodes ballots file _ (after_check task session ballots batches file) (due_refusal refusal) yes
+    (judged_stopped _ (same_facts task session batches file) (λ same. after_facts task same ballots batches file) refusal
     (unless_stopped wrong (Ok session) refusal told))))
 
 pub returns-in_err-same_facts-clause-served : goal.returns-in_err-same_facts-clause-served
 returns-in_err-same_facts-clause-served g c =
     let refusal = c.in_err-same_facts.field-0.0 in
-    let wrong = without_facts c.args.task.now.files.session.now c.args.session c.cards.result c.in_ok-file.file in
+    let wrong = without_facts c.args.task.now.session c.args.session c.cards.result c.in_ok-file.file.contest (margins_of c.in_ok-file.file) in
     let p = err_from_is_err_and c.from_residual-in_err-same_facts.result c.from_residual-in_err-same_facts.ensures.1 in
     rw (p.1, p.2)
     (stopped_accounted 1 _ _ (unless wrong (Ok c.args.session)) refusal
-    (unless-only wrong (Ok c.args.session) (facts-only c.args.task.now.files.session.now c.args.session c.cards.result c.in_ok-file.file) tt)
+    (unless-only wrong (Ok c.args.session) (facts-only c.args.task.now.session c.args.session c.cards.result c.in_ok-file.file.contest (margins_of c.in_ok-file.file)) tt)
     (unless_stopped wrong (Ok c.args.session) refusal c.in_err-same_facts.ensures.refused) c.in_ok-bytes.ensures.served)
 
 pub returns-clause-due : goal.returns-clause-due
 returns-clause-due g c =
-    let asked = asked_by c.args.task.now in
+    let task = c.args.task.now in
     let session = c.args.session in
     let ballots = c.args.ballots.now in
     let batches = c.args.cards.now.manifest in
-    let judged = same_assertions asked session in
+    let judged = same_assertions task session in
     let file = c.in_ok-file.file in
     let is = ap judged (sym c.deref.ensures.value) ∙ c.in_ok-file.ensures in
-    let wrong = without_facts asked.session session (length (cards_of batches)) file in
-    let right : wrong ≡ None = ap (λ cards. without_facts asked.session session cards file) (sym c.cards.ensures.all) ∙ c.in_ok-same_facts.ensures.same in
+    let wrong = without_facts task.session session (length (cards_of batches)) file.contest (margins_of file) in
+    let right : wrong ≡ None = ap (λ cards. without_facts task.session session cards file.contest (margins_of file)) (sym c.cards.ensures.all) ∙ c.in_ok-same_facts.ensures.same in
     let yes = c.in_ok-answer.ensures.accepted ∙ ap is_none c.in_default.is in
-    read_on _ _ _ _ c.in_ok-bytes.bytes.items judged (λ bytes. after_assertions asked session ballots batches) c.in_ok-bytes.ensures.read _ _ file
+    read_on _ _ _ _ c.in_ok-bytes.bytes.items judged (λ bytes. after_assertions task session ballots batches) c.in_ok-bytes.ensures.read _ _ file
     (due c.after_facts.result)
     c.in_ok-bytes.ensures.held c.in_ok-bytes.ensures.later c.after_facts.ensures.later is
-    (accepted_on asked.nodes ballots file _ (after_check asked session ballots batches file) (due c.after_facts.result) yes
-    (judged_on _ (same_facts asked session batches file) (λ same. after_facts asked same ballots batches file) session (due c.after_facts.result)
+    (accepted_on task.nodes ballots file _ (after_check task session ballots batches file) (due c.after_facts.result) yes
+    (judged_on _ (same_facts task session batches file) (λ same. after_facts task same ballots batches file) session (due c.after_facts.result)
     (unless_passed wrong (Ok session) right) c.after_facts.ensures.due))
 
 pub returns-clause-served : goal.returns-clause-served

@@ -1,34 +1,35 @@
 use Rattle.std.proofs.Common.{ap, subst, sym, ◌∙◌}
 use Rattle.std.proofs.lemmas.Result.{err_from_is_err_and}
 use Rattle.cli_base.specs.Due.{due}
-use Rattle.session_commands.specs.Audit.{asked_by, session_to_go_on, after_session}
-use Rattle.session_commands.specs.Judged.{IsStopped}
-use Rattle.session_commands.proofs.Audits.{session-only}
-use Rattle.session_commands.proofs.Going.{read_on, read_stopped, stopped_accounted}
+use Rattle.session_commands.specs.Audit.{after_session}
+use Rattle.session_commands.specs.Rounds.{session_to_go_on}
+use Rattle.input_files.specs.Judged.{IsStopped}
+use Rattle.session_commands.proofs.OneRound.{session-only}
+use Rattle.input_files.proofs.Going.{read_on, read_stopped, stopped_accounted}
 use Rattle.session_commands.proofs.audit.answer.Goals as goal
 
 pub returns-clause-due : goal.returns-clause-due
 returns-clause-due g c =
-    let asked = asked_by (record { files = c.args.files; draws = c.args.draws; nodes = c.args.nodes }) in
-    let judged = session_to_go_on asked in
-    read_on _ _ _ _ c.in_ok-bytes.bytes.items judged (λ bytes. after_session asked) c.in_ok-bytes.ensures.read _ _ c.in_ok-session.session
+    let task = c.args.task.now in
+    let judged = session_to_go_on task.session task.draws in
+    read_on _ _ _ _ c.in_ok-bytes.bytes.items judged (λ bytes. after_session task) c.in_ok-bytes.ensures.read _ _ c.in_ok-session.session
     (due c.after_session.result)
     c.in_ok-bytes.ensures.held c.in_ok-bytes.ensures.later c.after_session.ensures.later
     (ap judged (sym c.deref.ensures.value) ∙ c.in_ok-session.ensures.read) c.after_session.ensures.due
 
 pub returns-in_err-session-clause-due : goal.returns-in_err-session-clause-due
 returns-in_err-session-clause-due g c =
-    let asked = asked_by (record { files = c.args.files; draws = c.args.draws; nodes = c.args.nodes }) in
-    let judged = session_to_go_on asked in
+    let task = c.args.task.now in
+    let judged = session_to_go_on task.session task.draws in
     let p = err_from_is_err_and c.from_residual-in_err-session.result c.from_residual-in_err-session.ensures.1 in
     rw (p.1, p.2)
-    (read_stopped _ _ _ _ c.in_ok-bytes.bytes.items judged (λ bytes. after_session asked) c.in_ok-bytes.ensures.read c.in_err-session.field-0.0
+    (read_stopped _ _ _ _ c.in_ok-bytes.bytes.items judged (λ bytes. after_session task) c.in_ok-bytes.ensures.read c.in_err-session.field-0.0
     (subst (λ bytes. IsStopped (judged bytes) c.in_err-session.field-0.0) c.deref.ensures.value c.in_err-session.ensures.read))
 
 pub returns-in_err-session-clause-served : goal.returns-in_err-session-clause-served
 returns-in_err-session-clause-served g c =
-    let asked = asked_by (record { files = c.args.files; draws = c.args.draws; nodes = c.args.nodes }) in
-    let judged = session_to_go_on asked in
+    let task = c.args.task.now in
+    let judged = session_to_go_on task.session task.draws in
     let p = err_from_is_err_and c.from_residual-in_err-session.result c.from_residual-in_err-session.ensures.1 in
     rw (p.1, p.2) (stopped_accounted 4 _ _ (judged c.deref.result.now) c.in_err-session.field-0.0
-    (session-only asked c.deref.result.now) c.in_err-session.ensures.read c.in_ok-bytes.ensures.served)
+    (session-only task.session task.draws c.deref.result.now) c.in_err-session.ensures.read c.in_ok-bytes.ensures.served)

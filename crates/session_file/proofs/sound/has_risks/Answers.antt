@@ -1,6 +1,6 @@
 use Rattle.std.proofs.Common.{◌≡◌, ◌==◌, length, sym, ap, ap₂, ◌∙◌, arith, below_more}
 use Rattle.std.specs.Cmp.Lexicographic.{pointwise}
-use Rattle.audit_rounds.specs.Sessions.{risks_of}
+use Rattle.session_state.specs.Sessions.{risks_of}
 use Rattle.session_file.proofs.Printed.{all_printed, another, risk-at, too_few}
 use Rattle.session_file.proofs.sound.has_risks.Goals as goal
 

@@ -1,5 +1,5 @@
 use Rattle.std.proofs.Common.{◌≡◌, ℕ, ◌<◌, get_or}
-use Rattle.audit_rounds.specs.Sessions.{risks_of}
+use Rattle.session_state.specs.Sessions.{risks_of}
 use Rattle.session_file.proofs.sound.has_risks.Given as goal
 
 abbrev pub invariant-loop-i : goal.invariant-loop-i

@@ -1,5 +1,6 @@
 use Rattle.std.proofs.Common.{◌∙◌, ◌-◌, ◌+◌, ◌<◌, ◌≤◌, [], Some, length, get_or, sym, ap, subst, arith}
 use Rattle.std.specs.List.{slice_get, sum}
+use Rattle.std.proofs.lemmas.Option.{get_or_from_slice_get}
 use Rattle.ballot_reader.proofs.IdBytes.{read_at}
 use Rattle.manifest.specs.Cards.{cards_of}
 use Rattle.manifest.proofs.CardAt.{card, card-at, first_first, length-cards, length-firsts}
@@ -21,8 +22,8 @@ batch_of_card-batch-requires-clause-first c =
       first_first counts (omega (arith, m.some, m.batches.a_count_each)),
     )
 
-pub bounds-as_slice-batch : goal.bounds-as_slice-batch
-bounds-as_slice-batch c =
+pub at-requires : goal.at-requires
+at-requires c =
     omega (
       arith,
       c.batch_of_card-batch.ensures.within,
@@ -30,20 +31,6 @@ bounds-as_slice-batch c =
       ap length c.self.invariant.first_each,
       length-firsts 1 c.self.inside.counts.items,
       c.self.invariant.batches.a_count_each,
-      ap length c.as_slice-2.ensures.keys,
-    )
-
-pub offset_bounds-as_slice-batch : goal.offset_bounds-as_slice-batch
-offset_bounds-as_slice-batch c =
-    omega (
-      arith,
-      c.batch_of_card-batch.ensures.within,
-      ap length c.as_slice.ensures.value,
-      ap length c.self.invariant.first_each,
-      length-firsts 1 c.self.inside.counts.items,
-      c.self.invariant.batches.a_count_each,
-      ap length c.as_slice-2.ensures.keys,
-      c.as_slice-2.type_inv.1,
     )
 
 pub overflow_add-result : goal.overflow_add-result
@@ -53,7 +40,7 @@ overflow_add-result c =
       arith,
       c.requires.last,
       ap (λ b. length (cards_of b)) c.self.view_is,
-      length-cards c.self.inside.ids.keys c.self.inside.counts.items m.batches.a_count_each,
+      length-cards c.self.inside.ids c.self.inside.counts.items m.batches.a_count_each,
       m.batches.most,
     )
 
@@ -62,7 +49,7 @@ returns c =
     let m = c.self.invariant in
     let i = c.args.i in
     let b = c.batch_of_card-batch.result in
-    let ids = c.self.inside.ids.keys in
+    let ids = c.self.inside.ids in
     let counts = c.self.inside.counts.items in
     let firsts = c.self.inside.firsts.items in
     let same = m.batches.a_count_each in
@@ -72,10 +59,9 @@ returns c =
     let most : i ≤ sum counts = omega (arith, c.requires.last, ap (λ x. length (cards_of x)) c.self.view_is, length-cards ids counts same) in
     let begun = subst (λ fs. get_or fs b 0 ≤ i) values c.batch_of_card-batch.ensures.begun in
     let last = subst (λ fs. b + 1 < length fs → i < get_or fs (b + 1) 0) values c.batch_of_card-batch.ensures.last in
-    let id = read_at ids b c.index-as_slice-batch.result [] (omega (arith, below, same))
-    (c.index-as_slice-batch.is ∙ ap (λ keys. get_or keys b c.index-as_slice-batch.result) c.as_slice-2.ensures.keys) in
+    let id = get_or_from_slice_get ids b c.at.result [] c.at.ensures in
     let first = read_at firsts b c.index.result.now 0 (omega (arith, below, all, length-firsts 1 counts)) c.index.ensures in
     ap (λ x. slice_get (cards_of x) (i - 1)) (sym c.self.view_is)
     ∙ card-at ids counts firsts i b same m.first_each most below begun last
     ∙ ap (λ x. Some (card x (i - get_or firsts b 0 + 1))) id
-    ∙ ap (λ f. Some (card c.index-as_slice-batch.result (i - f + 1))) first
+    ∙ ap (λ f. Some (card c.at.result (i - f + 1))) first

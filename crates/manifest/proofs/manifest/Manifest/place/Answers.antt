@@ -1,4 +1,6 @@
 use Rattle.std.proofs.Common.{◌∙◌, ◌<◌, length, get_or, sym, ap, arith}
+use Rattle.irv_base.specs.Names.{is_same}
+use Rattle.irv_base.proofs.Positions.{stands_nowhere}
 use Rattle.ballot_reader.proofs.Differing.{among-set}
 use Rattle.manifest.specs.Cards.{cards_of, place_of}
 use Rattle.ballot_reader.proofs.IdBytes.{read_at}
@@ -9,14 +11,14 @@ use Rattle.manifest.proofs.manifest.Manifest.place.Goals as goal
 
 pub returns-in_default : goal.returns-in_default
 returns-in_default c =
-    place_none c.args.id.now c.self.inside.ids.keys c.self.inside.counts.items c.self.invariant.batches c.in_default.ensures.none
+    place_none c.args.id.now c.self.inside.ids c.self.inside.counts.items c.self.invariant.batches c.in_default.ensures.none
     ∙ ap (λ m. place_of (cards_of m) c.args.id.now) c.self.view_is
 
-pub returns-in_default-get_index_of : goal.returns-in_default-get_index_of
-returns-in_default-get_index_of c =
+pub returns-in_default-index_of : goal.returns-in_default-index_of
+returns-in_default-index_of c =
     let card = c.in-Some.card in
-    let ids = c.self.inside.ids.keys in
-    let absent = sym (among-set ids card.batch) ∙ sym c.in_default-get_index_of.ensures.found in
+    let ids = c.self.inside.ids in
+    let absent = sym (among-set ids card.batch) ∙ stands_nowhere (is_same card.batch) ids (sym c.in_default-index_of.ensures.index) in
     place_absent c.args.id.now card.batch card.k ids c.self.inside.counts.items c.self.invariant.batches
     (record { same = c.in-Some.ensures.named; first = c.in-Some.ensures.first; most = c.in-Some.ensures.most }) absent
     ∙ ap (λ m. place_of (cards_of m) c.args.id.now) c.self.view_is
@@ -24,13 +26,13 @@ returns-in_default-get_index_of c =
 pub returns-then-card-index : goal.returns-then-card-index
 returns-then-card-index c =
     let card = c.in-Some.card in
-    let i = c.in-Some-get_index_of.i in
+    let i = c.in-Some-index_of.i in
     let counts = c.self.inside.counts.items in
-    let below : i < length counts = omega (arith, c.in-Some-get_index_of.ensures.within, c.self.invariant.batches.a_count_each) in
+    let below : i < length counts = omega (arith, c.in-Some-index_of.ensures.within, c.self.invariant.batches.a_count_each) in
     let n = read_at counts i c.index.result.now 0 below c.index.ensures in
-    place_past c.args.id.now card.batch card.k i c.self.inside.ids.keys counts c.self.invariant.batches
+    place_past c.args.id.now card.batch card.k i c.self.inside.ids counts c.self.invariant.batches
     (record { same = c.in-Some.ensures.named; first = c.in-Some.ensures.first; most = c.in-Some.ensures.most })
-    (sym c.in-Some-get_index_of.ensures.index) (omega (arith, n, c.if-card-index.true))
+    (sym c.in-Some-index_of.ensures.index) (omega (arith, n, c.if-card-index.true))
     ∙ ap (λ m. place_of (cards_of m) c.args.id.now) c.self.view_is
 
 pub index-requires-2 : goal.index-requires-2
@@ -38,7 +40,7 @@ index-requires-2 c =
     let m = c.self.invariant in
     omega (
       arith,
-      c.in-Some-get_index_of.ensures.within,
+      c.in-Some-index_of.ensures.within,
       m.batches.a_count_each,
       ap length m.first_each,
       length-firsts 1 c.self.inside.counts.items,
@@ -48,10 +50,10 @@ index-requires-2 c =
 pub overflow_add-result : goal.overflow_add-result
 overflow_add-result c =
     let m = c.self.invariant in
-    let i = c.in-Some-get_index_of.i in
+    let i = c.in-Some-index_of.i in
     let counts = c.self.inside.counts.items in
     let firsts = c.self.inside.firsts.items in
-    let below : i < length counts = omega (arith, c.in-Some-get_index_of.ensures.within, m.batches.a_count_each) in
+    let below : i < length counts = omega (arith, c.in-Some-index_of.ensures.within, m.batches.a_count_each) in
     let below_firsts : i < length firsts = omega (arith, below, ap length m.first_each, length-firsts 1 counts) in
     let n = read_at counts i c.index.result.now 0 below c.index.ensures in
     let f = read_at firsts i c.index-2.result.now 0 below_firsts c.index-2.ensures in
@@ -61,15 +63,15 @@ pub returns : goal.returns
 returns c =
     let m = c.self.invariant in
     let card = c.in-Some.card in
-    let i = c.in-Some-get_index_of.i in
-    let ids = c.self.inside.ids.keys in
+    let i = c.in-Some-index_of.i in
+    let ids = c.self.inside.ids in
     let counts = c.self.inside.counts.items in
     let firsts = c.self.inside.firsts.items in
-    let below : i < length counts = omega (arith, c.in-Some-get_index_of.ensures.within, m.batches.a_count_each) in
+    let below : i < length counts = omega (arith, c.in-Some-index_of.ensures.within, m.batches.a_count_each) in
     let below_firsts : i < length firsts = omega (arith, below, ap length m.first_each, length-firsts 1 counts) in
     let n = read_at counts i c.index.result.now 0 below c.index.ensures in
     let f = read_at firsts i c.index-2.result.now 0 below_firsts c.index-2.ensures in
     place_found c.args.id.now card.batch card.k i ids counts firsts c.self.inside.cards c.index-2.result.now m
     (record { same = c.in-Some.ensures.named; first = c.in-Some.ensures.first; most = c.in-Some.ensures.most })
-    (sym c.in-Some-get_index_of.ensures.index) below (sym f) (omega (arith, n, c.if-card-index.false))
+    (sym c.in-Some-index_of.ensures.index) below (sym f) (omega (arith, n, c.if-card-index.false))
     ∙ ap (λ b. place_of (cards_of b) c.args.id.now) c.self.view_is

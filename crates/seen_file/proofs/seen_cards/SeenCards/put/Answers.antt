@@ -1,16 +1,15 @@
-use Rattle.std.proofs.Common.{◌≡◌, ◌∙◌, ◌++◌, ◌∷◌, [], false, is_err, Result, Ok, Err, OnOk, sym, ap}
-use Rattle.std.proofs.lemmas.Bool.{true≢false}
+use Rattle.std.proofs.Common.{◌≡◌, ◌∙◌, length, sym, ap, arith}
+use Rattle.std.specs.Prelude.{is_some}
 use Rattle.seen_file.specs.Seen.{seen_in}
-use Rattle.seen_file.proofs.Cards.{new_last, none-from}
+use Rattle.seen_file.proofs.Cards.{none-from, places-put}
 use Rattle.seen_file.proofs.seen_cards.SeenCards.put.Goals as goal
 
-on-ok : {T E : Type 0} (r : Result T E) (P : Type 0) → OnOk r P → is_err r ≡ false → P
-on-ok (Ok x) P h e = h
-on-ok (Err x) P h e = absurd (true≢false e)
-
-pub returns-clause-put : goal.returns-clause-put
-returns-clause-put c =
-    let entries = c.self.inside.entries.entries in
-    on-ok c.insert.result _ c.insert.ensures.entries (sym c.is_err.ensures.value ∙ c.if-is_err.false)
-    ∙ new_last entries c.args.card c.args.seen (none-from (seen_in entries c.args.card) (sym c.contains_key.ensures ∙ c.if-contains_key.false))
-    ∙ ap (λ es. es ++ (c.args.card, c.args.seen) ∷ []) c.self.view_is
+pub invariant_of-self-2 : goal.invariant_of-self-2
+invariant_of-self-2 c =
+    let entries = c.self.inside.entries.items in
+    let new = none-from (seen_in entries c.args.card)
+    (ap (λ es. is_some (seen_in es c.args.card)) c.self.view_is ∙ ap is_some (sym c.get.ensures) ∙ sym c.is_some.ensures ∙ c.if-is_some.false) in
+    let count : c.len-entries.result ≡ length entries = omega (arith, c.len-entries.ensures, c.self.inside.entries.ok) in
+    rw (c.in_ok-push.ensures.items, count)
+    (places-put entries c.self.inside.places.items c.reach.new.places.items c.args.card c.args.seen c.self.invariant new
+    c.reach.ensures.same c.in_ok-reach.ensures.within)

@@ -1,5 +1,0 @@
-use Rattle.audit_laws.proofs.OneCard.{seen, goes_on, signed_off}
-use Rattle.audit_laws.proofs.examples.one_card.Goals as goal
-
-pub returns : goal.returns
-returns c = record { seen = seen; goes_on = goes_on; signed_off = signed_off }

@@ -1,7 +1,0 @@
-use Rattle.std.proofs.Common.{refl}
-use Rattle.km_risk.specs.Printed.{printed_risk}
-use Rattle.audit_rounds.proofs.examples.two_claims.Goals as goal
-
-pub returns : goal.returns
-unfolding printed_risk
-returns c = record { first = refl; both = refl }

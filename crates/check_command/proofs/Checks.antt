@@ -1,0 +1,180 @@
+-- A check comes to one end, and what the checker names is among the candidates.
+use Rattle.std.proofs.Common.{◌≡◌, ℕ, ◌+◌, ◌<◌, Bool, true, false, not, ◌==◌, if◌then◌else◌, List, [], ◌∷◌, length, Option, None, Some, IfSome, Ok, Err, IsTrue, refl, sym, ap, subst, ◌∙◌}
+use Rattle.std.specs.Prelude.{⊤}
+use Rattle.std.specs.Bool.{MatchBool}
+use Rattle.irv_base.specs.Candidates.{candidates, all_but}
+use Rattle.irv_base.specs.Orders.{is_order}
+use Rattle.irv_base.proofs.Members.{Member, here, contains-from_member, from_filter, from_find, from_candidates, member-append_right}
+use Rattle.irv_base.proofs.Orders.{order_facts}
+use Rattle.assertions.specs.declared.assertion.Assertion.{Assertion}
+use Rattle.assertions.specs.declared.assertion.Claim.{Claim}
+use Rattle.assertions.specs.Assertions.{margin, is_proper}
+use Rattle.assertions.specs.Hardness.{refuter}
+use Rattle.assertions.specs.Suffixes.{alternative_orders}
+use Rattle.assertions.proofs.Endings.{alternative_orders_are}
+use Rattle.assertions.proofs.Refuters.{refuter-first}
+use Rattle.ballot_reader.specs.Ballots.{BallotFile}
+use Rattle.ballot_reader.specs.Grammar.{ballots_of}
+use Rattle.assertion_file.specs.Content.{Content}
+use Rattle.assertion_file.specs.Reading.{assertion_file_of}
+use Rattle.cover_checker.specs.Covers.{stands, standing_order, first_over, verdict_on as cover_verdict, or_spent, covered_is}
+use Rattle.cover_checker.specs.Outcomes.{IsWinner}
+use Rattle.cover_checker.specs.Findings.{Answer, is_about, has_other_margin, other_margin_from, unless_covered, refuted_by, elects, smallest_margin}
+use Rattle.cover_checker.specs.Checks.{findings, first_found, checked_is, Judges, IsAnswer}
+use Rattle.cover_checker.proofs.OneAnswer.{answer_is_one}
+use Rattle.cover_checker.proofs.Same.{from_about}
+use Rattle.cover_checker.specs.declared.checked.Checked.{Checked}
+use Rattle.cover_checker.specs.declared.checked.Checked.TheVariants.{OtherContest, OtherWinner, OtherMargin, Stands, NotLeast, NotAlternative, Harder, Accepted}
+use Rattle.cover_checker.specs.declared.checked.CheckFault.TheVariants.{Spent, Memory}
+use Rattle.cli_base.specs.Outcome.{Verdict, Answered, outcome}
+use Rattle.cli_base.specs.Script.{Agree, AreOfKind, IsOfKind, Same}
+use Rattle.cli_base.specs.declared.outcome.AnswerKind.TheVariants.{Done, Spent as SpentKind, Differs}
+use Rattle.cli_base.proofs.AmongKinds.{among}
+use Rattle.cli_base.proofs.Scripts.{some_is}
+use Rattle.command.specs.declared.check.CheckTask.{CheckTask}
+use Rattle.input_files.specs.Judged.{told}
+use Rattle.input_files.specs.Refusals.{refused_assertions, refused_ballots}
+use Rattle.input_files.proofs.Going.{go_on-agrees, go_on-kinds, told-only}
+use Rattle.check_command.specs.Check.{after_ballots, found_verdict, verdict_on, yes_text, Checks, kinds, script}
+use Rattle.check_command.specs.Laws.{AcceptedIsYes}
+use Rattle.check_command.specs.Named.{IsAmong}
+
+-- ---- what the checker names
+
+-- the answer names candidates, orders and assertions of n candidates
+abbrev Names : ℕ → Answer → Type 0
+Names n (Ok found) = IsAmong n found
+Names n (Err (Spent last)) = last < n
+Names n (Err Memory) = ⊤
+
+abbrev Each : (Answer → Type 0) → List (Option Answer) → Type 0
+Each P [] = ⊤
+Each P (found ∷ more) = IfSome found P × Each P more
+
+of_first : (P : Answer → Type 0) (found : List (Option Answer)) (otherwise : Answer) → Each P found → P otherwise → P (first_found found otherwise)
+of_first P [] otherwise each last = last
+of_first P (Some answer ∷ more) otherwise each last = each.0
+of_first P (None ∷ more) otherwise each last = of_first P more otherwise each.1 last
+
+if_not : (P : Answer → Type 0) (b : Bool) (answer : Answer) → P answer → IfSome (if b then None else Some answer) P
+if_not P true answer holds = tt
+if_not P false answer holds = holds
+
+names-margin : (n : ℕ) (records : List (List ℕ)) (at : ℕ) (claims : List Claim) → IfSome (other_margin_from records at claims) (Names n)
+names-margin n records at [] = tt
+names-margin n records at (claim ∷ claims) = by (has_other_margin records claim) (names-margin n records (at + 1) claims) where
+  by : (b : Bool) → IfSome (other_margin_from records (at + 1) claims) (Names n)
+      → IfSome (if b then Some (Ok (OtherMargin at (margin records claim.assertion))) else other_margin_from records (at + 1) claims) (Names n)
+  by true more = tt
+  by false more = more
+
+names-cover : (n winner nodes : ℕ) (list : List Assertion) → IfSome (unless_covered (covered_is n winner list nodes)) (Names n)
+names-cover n winner nodes list = by (first_over n winner list nodes) (standing_order n winner list) over-below standing-order where
+  over-below : (last : ℕ) → first_over n winner list nodes ≡ Some last → last < n
+  over-below last is = from_candidates (from_filter (λ c. not (c == winner)) (candidates n) (from_find _ last (all_but n winner) is).0).0
+
+  standing-order : (order : List ℕ) → standing_order n winner list ≡ Some order → IsTrue (is_order n order)
+  standing-order order is =
+      ((alternative_orders_are n winner order).0 (contains-from_member (from_find (stands list) order (alternative_orders n winner) is).0)).0
+
+  by : (over : Option ℕ) (standing : Option (List ℕ)) → ((last : ℕ) → over ≡ Some last → last < n) →
+      ((order : List ℕ) → standing ≡ Some order → IsTrue (is_order n order))
+      → IfSome (unless_covered (or_spent over (cover_verdict standing))) (Names n)
+  by (Some last) standing below order = below last refl
+  by None None below order = tt
+  by None (Some found) below order = order found refl
+
+names-elected : (n : ℕ) (b : Bool) → IfSome (if b then Some (Ok NotAlternative) else None) (Names n)
+names-elected n true = tt
+names-elected n false = tt
+
+names-harder : (n hardness : ℕ) (b : Bool) (found : Option Assertion) → ((a : Assertion) → found ≡ Some a → IsTrue (is_proper n a)) →
+    IfSome (if b then refuted_by hardness found else None) (Names n)
+names-harder n hardness true None proper = tt
+names-harder n hardness true (Some a) proper = proper a refl
+names-harder n hardness false found proper = tt
+
+winner-below : (n : ℕ) (records : List (List ℕ)) (winner : ℕ) → IsWinner n records winner → winner < n
+winner-below n records winner won =
+    let (before, e) = won.elects in
+    (order_facts n won.order won.permutation).below winner (subst (Member winner) (sym e) (member-append_right before here))
+
+names-judged : (nodes : ℕ) (ballots : BallotFile) (file : Content) → is_about ballots file ≡ true → (winner : ℕ) →
+    IsWinner (length ballots.candidates) ballots.rankings winner
+    → Names (length file.candidates) (checked_is nodes ballots.rankings file winner)
+names-judged nodes ballots file about winner is =
+    let n = length file.candidates in
+    let below : winner < n = subst (λ m. winner < m) (sym (ap length (from_about ballots file about).candidates))
+    (winner-below (length ballots.candidates) ballots.rankings winner is) in
+    of_first (Names n) (findings nodes ballots.rankings file winner) (Ok Accepted) (
+      if_not (Names n) (file.winner == winner) (Ok (OtherWinner winner)) below,
+      (
+        names-margin n ballots.rankings 1 file.claims,
+        (
+          names-cover n file.winner nodes _,
+          (
+            if_not (Names n) (smallest_margin file == file.margin) (Ok (NotLeast (smallest_margin file))) tt,
+            (
+              names-elected n (elects file.order file.winner),
+              (names-harder n _ _ (refuter n ballots.rankings file.order) (λ a found. (refuter-first n ballots.rankings file.order a found).proper), tt),
+            ),
+          ),
+        ),
+      ),
+    ) tt
+
+pub names : (nodes : ℕ) (ballots : BallotFile) (file : Content) (answer : Answer) → IsAnswer nodes ballots file answer → Names (length file.candidates) answer
+names nodes ballots file answer is = by (is_about ballots file) refl is where
+  by : (b : Bool) → is_about ballots file ≡ b → MatchBool b (Judges nodes ballots file answer) (answer ≡ Ok OtherContest) →
+      Names (length file.candidates) answer
+  by true about judges = subst (Names (length file.candidates)) judges.answer_is (names-judged nodes ballots file about judges.winner judges.tabulated)
+  by false about other = subst (Names (length file.candidates)) (sym other) tt
+
+-- ---- one end
+
+pub checks-one : (nodes : ℕ) (ballots : BallotFile) (file : Content) (v w : Verdict) → Checks nodes ballots file v → Checks nodes ballots file w → v ≡ w
+checks-one nodes ballots file v w (answer, is, told) (other, is', told') =
+    some_is (sym told ∙ ap (verdict_on file) (answer_is_one nodes ballots file answer other is is') ∙ told')
+
+-- and a check of these ballots does
+pub ballots-agree : (assertions : List ℕ) (nodes : ℕ) (ballots : BallotFile) → Agree Same (after_ballots assertions nodes ballots)
+ballots-agree assertions nodes ballots = λ bytes. go_on-agrees (told (refused_assertions assertions) (assertion_file_of bytes)) _
+    (λ file v w p q. ap outcome (checks-one nodes ballots file v w p q))
+
+pub agrees : (task : CheckTask) → Agree Same (script task)
+agrees task = λ bytes. go_on-agrees (told (refused_ballots task.ballots) (ballots_of bytes task.contest)) _
+    (λ ballots. ballots-agree task.assertions task.nodes ballots)
+
+-- a file that the checker accepts has no verdict but yes
+pub accepted_is_yes : AcceptedIsYes
+accepted_is_yes nodes ballots file verdict known = (only, λ is. (Ok Accepted, known, ap Some (sym is))) where
+  only : Checks nodes ballots file verdict → verdict ≡ Answered Done (yes_text file)
+  only (answer, is, told) = some_is (sym told ∙ ap (verdict_on file) (answer_is_one nodes ballots file answer (Ok Accepted) is known))
+
+-- ---- the kinds of its answers
+
+found-kind : (file : Content) (found : Checked) → IsOfKind kinds (found_verdict file found)
+found-kind file OtherContest = among kinds Differs refl
+found-kind file (OtherWinner winner) = among kinds Differs refl
+found-kind file (OtherMargin index found) = among kinds Differs refl
+found-kind file (Stands order) = among kinds Differs refl
+found-kind file (NotLeast found) = among kinds Differs refl
+found-kind file NotAlternative = among kinds Differs refl
+found-kind file (Harder assertion margin) = among kinds Differs refl
+found-kind file Accepted = among kinds Done refl
+
+pub answer-kind : (file : Content) (answer : Answer) (v : Verdict) → verdict_on file answer ≡ Some v → IsOfKind kinds v
+answer-kind file (Ok found) v told = subst (IsOfKind kinds) (some_is told) (found-kind file found)
+answer-kind file (Err (Spent last)) v told = subst (IsOfKind kinds) (some_is told) (among kinds SpentKind refl)
+answer-kind file (Err Memory) v told = absurd (cc told)
+
+pub checks-kind : (nodes : ℕ) (ballots : BallotFile) (file : Content) (v : Verdict) → Checks nodes ballots file v → IsOfKind kinds v
+checks-kind nodes ballots file v (answer, is, told) = answer-kind file answer v told
+
+pub ballots-kinds : (assertions : List ℕ) (nodes : ℕ) (ballots : BallotFile) → AreOfKind kinds (after_ballots assertions nodes ballots)
+ballots-kinds assertions nodes ballots = λ bytes. go_on-kinds kinds (told (refused_assertions assertions) (assertion_file_of bytes)) _
+    (told-only (refused_assertions assertions) (assertion_file_of bytes) (λ why. tt)) (λ file. checks-kind nodes ballots file)
+
+pub kinds_are : (task : CheckTask) → AreOfKind kinds (script task)
+kinds_are task = λ bytes. go_on-kinds kinds (told (refused_ballots task.ballots) (ballots_of bytes task.contest)) _
+    (told-only (refused_ballots task.ballots) (ballots_of bytes task.contest) (λ why. tt)) (λ ballots. ballots-kinds task.assertions task.nodes ballots)

@@ -1,0 +1,5 @@
+use Rattle.std.proofs.Common.{rules}
+use Rattle.check_command.proofs.check_texts.stands_text.Goals as goal
+
+pub returns : goal.returns
+returns c = search rules

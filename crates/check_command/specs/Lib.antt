@@ -1,0 +1,3 @@
+pub mod Check
+pub mod Named
+pub mod Laws

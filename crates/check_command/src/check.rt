@@ -1,0 +1,173 @@
+// `check BALLOTS ASSERTIONS`: whether an assertion file holds of a ballot file's contest, or the first difference.
+ghost use Rattle.std.specs.Prelude.{◌≡◌, ◌≤◌, ◌<◌, length, IsTrue};
+ghost use Rattle.irv_base.specs.Orders.{is_order};
+ghost use Rattle.desk.specs.Count.{Rose};
+ghost use Rattle.assertion_file.specs.Ids.{id_of};
+ghost use Rattle.cli_base.specs.Accounts.{IsAccountedFor};
+ghost use Rattle.cli_base.specs.Due.{due, IsOneOrMemory};
+ghost use Rattle.cli_base.specs.Outcome.{Answered};
+ghost use Rattle.cli_base.specs.Script.{ByDesk, MayOrMemory};
+ghost use Rattle.cli_base.specs.declared.outcome.AnswerKind.TheVariants.{Spent};
+ghost use Rattle.command.specs.Check.{IsWithinLimits};
+ghost use Rattle.report.specs.Ends.{spent_at};
+ghost use Rattle.report.specs.Texts.{order_text};
+ghost use Rattle.check_command.specs.Check.{Checks, script, after_ballots, differs, found_verdict, stands};
+ghost use Rattle.check_command.specs.Named.{IsAmong};
+
+use crate::check_texts::{has_margin, is_refuted_by, no, smallest_is, stands, winner_is, yes};
+use assertion_file::{AssertionFile, id_of};
+use ballot_reader::Ballots;
+use cli_base::{Answer, AnswerKind, Refusal};
+use command::{CheckTask, FileName};
+use cover_checker::{CheckFault, Checked, check as check_file};
+use desk::Desk;
+use input_files::{assertions_in, ballots_in, bytes_of};
+use irv_base::{Candidate, Order};
+use report::spent_at;
+use set_tallies::Counted;
+use std::alloc::Global;
+use std::thread::Threads;
+
+// The ballots are counted by this many.
+const WORKERS: u32 = 1;
+
+/// Whether the assertion file holds of the ballots of the contest.
+pub fn answer<R: AllocGlobal + Threads + Sync, D: Desk>(
+    rt: &R,
+    desk: &mut D,
+    task: &CheckTask,
+) -> Result<Answer, Refusal>
+    requires { IsWithinLimits task.now }
+    ensures held { D.held desk.new ≡ D.held desk.old }
+    ensures later { D.faults desk.old ≤ D.faults desk.new }
+    ensures due { MayOrMemory
+        (ByDesk (D.held desk.old) (Rose (D.faults desk.old) (D.faults desk.new)))
+        (script task.now) (due result) }
+    ensures served { IsAccountedFor 2 (D.served desk.old) (D.served desk.new) (due result).status }
+{
+    let alloc = rt.alloc();
+    let bytes = bytes_of(alloc, desk, &task.ballots)?;
+    let ballots = ballots_in(alloc, &task.ballots, &bytes, task.contest.as_ref())?;
+    after_ballots(rt, desk, &ballots, &task.assertions, task.nodes)
+}
+
+/// A check of ballots that are read: whether the assertion file of this name holds of them.
+pub fn after_ballots<R: AllocGlobal + Threads + Sync, D: Desk>(
+    rt: &R,
+    desk: &mut D,
+    ballots: &Ballots,
+    assertions: &FileName,
+    nodes: u32,
+) -> Result<Answer, Refusal>
+    ensures held { D.held desk.new ≡ D.held desk.old }
+    ensures later { D.faults desk.old ≤ D.faults desk.new }
+    ensures due { MayOrMemory
+        (ByDesk (D.held desk.old) (Rose (D.faults desk.old) (D.faults desk.new)))
+        (after_ballots assertions.now nodes ballots.now) (due result) }
+    ensures served { IsAccountedFor 1 (D.served desk.old) (D.served desk.new) (due result).status }
+{
+    let alloc = rt.alloc();
+    let bytes = bytes_of(alloc, desk, assertions)?;
+    let file = assertions_in(alloc, assertions, &bytes)?;
+    check(rt, ballots, &file, nodes)
+}
+
+/// Whether the file holds of the ballots, or the first difference.
+pub fn check<R: AllocGlobal + Threads + Sync>(
+    rt: &R,
+    ballots: &Ballots,
+    file: &AssertionFile,
+    nodes: u32,
+) -> Result<Answer, Refusal>
+    ensures { IsOneOrMemory (Checks nodes ballots.now file.now) (due result) }
+{
+    let alloc = rt.alloc();
+    let counted = Counted::of(
+        rt,
+        ballots.candidates().len() as u32,
+        ballots.rankings(),
+        WORKERS,
+    )?;
+    let mut tallies = counted.tallies()?;
+    match check_file(alloc, ballots, &mut tallies, file, nodes) {
+        Ok(found) => found_answer(alloc, file, found),
+        Err(fault) => match fault {
+            CheckFault::Spent { last } => spent_answer(alloc, file, last),
+            CheckFault::Memory => Err(Refusal::Memory),
+        },
+    }
+}
+
+// What is told of what the checker found.
+fn found_answer(alloc: Global, file: &AssertionFile, found: Checked) -> Result<Answer, Refusal>
+    requires { IsAmong (length (file.now).candidates) found }
+    ensures { IsOneOrMemory (λ verdict. verdict ≡ found_verdict file.now found) (due result) }
+{
+    let names = file.candidates();
+    match found {
+        Checked::OtherContest => difference(alloc, "contest differs"),
+        Checked::OtherWinner(winner) => {
+            let text = winner_is(alloc, id_of(names, winner))?;
+            difference(alloc, text.as_str())
+        }
+        Checked::OtherMargin { index, found } => {
+            let text = has_margin(alloc, index, found)?;
+            difference(alloc, text.as_str())
+        }
+        Checked::Stands(order) => standing_answer(alloc, file, &order),
+        Checked::NotLeast { found } => {
+            let text = smallest_is(alloc, found)?;
+            difference(alloc, text.as_str())
+        }
+        Checked::NotAlternative => difference(alloc, "order elects the winner"),
+        Checked::Harder { assertion, margin } => {
+            let text = is_refuted_by(alloc, names, &assertion, margin)?;
+            difference(alloc, text.as_str())
+        }
+        Checked::Accepted => {
+            let text = yes(alloc, file.claims().len(), file.margin())?;
+            Ok(Answer {
+                kind: AnswerKind::Done,
+                text: text.into_bytes(),
+            })
+        }
+    }
+}
+
+// The answer to a difference in words.
+fn difference(alloc: Global, text: &str) -> Result<Answer, Refusal>
+    ensures { IsOneOrMemory (λ verdict. verdict ≡ differs text.now) (due result) }
+{
+    let line = no(alloc, text)?;
+    Ok(Answer {
+        kind: AnswerKind::Differs,
+        text: line.into_bytes(),
+    })
+}
+
+/// The answer where no claim of the file refutes an order.
+pub fn standing_answer(
+    alloc: Global,
+    file: &AssertionFile,
+    order: &Order,
+) -> Result<Answer, Refusal>
+    requires { IsTrue (is_order (length (file.now).candidates) order.now) }
+    ensures { IsOneOrMemory (λ verdict.
+        verdict ≡ differs (stands (order_text (file.now).candidates order.now))) (due result) }
+{
+    let text = stands(alloc, file.candidates(), order)?;
+    difference(alloc, text.as_str())
+}
+
+/// The answer where the budget is spent at this candidate.
+pub fn spent_answer(alloc: Global, file: &AssertionFile, last: Candidate) -> Result<Answer, Refusal>
+    requires { last < length (file.now).candidates }
+    ensures { IsOneOrMemory (λ verdict.
+        verdict ≡ Answered Spent (spent_at (id_of (file.now).candidates last))) (due result) }
+{
+    let text = spent_at(alloc, id_of(file.candidates(), last))?;
+    Ok(Answer {
+        kind: AnswerKind::Spent,
+        text: text.into_bytes(),
+    })
+}

@@ -1,0 +1,16 @@
+use Rattle.std.proofs.Common.{refl}
+use Rattle.command.proofs.laws.limits.Goals as goal
+
+pub returns : goal.returns
+returns c = record {
+  default_workers = refl;
+  nodes = refl;
+  default_nodes = refl;
+  floor = refl;
+  default_floor = refl;
+  default_limit = refl;
+  default_gamma = refl;
+  trial_number = refl;
+  default_candidates = refl;
+  default_ballots = refl;
+}

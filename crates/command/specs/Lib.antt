@@ -1,0 +1,15 @@
+pub mod Limits
+pub mod Laws
+pub mod Search
+pub mod Tabulate
+pub mod Check
+pub mod Sample
+pub mod Plan
+pub mod Open
+pub mod Audit
+pub mod Report
+pub mod Poll
+pub mod OpenPlurality
+pub mod AuditPlurality
+pub mod Trial
+pub mod Trim

@@ -1,0 +1,14 @@
+-- What the limits of tasks are made of.
+use Rattle.std.specs.Prelude.{◌≤◌, ℕ, List, length}
+
+-- a file has a name
+abbrev pub IsNamed : List ℕ → Type 0
+IsNamed file = 1 ≤ length file
+
+-- a number from the one to the other
+abbrev pub IsFromTo : ℕ → ℕ → ℕ → Type 0
+IsFromTo least most n = (least ≤ n) × (n ≤ most)
+
+-- a number from 1 to so many
+abbrev pub IsUpTo : ℕ → ℕ → Type 0
+IsUpTo most n = IsFromTo 1 most n

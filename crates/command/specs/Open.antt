@@ -1,0 +1,16 @@
+-- The limits of what a session is opened with.
+use Rattle.std.specs.Prelude.{◌≡◌, true}
+use Rattle.irv_base.specs.declared.limits.TheConstants.{GREATEST_GAMMA, GREATEST_LIMIT}
+use Rattle.sampler.specs.Seeds.{is_seed}
+use Rattle.command.specs.Limits.{IsNamed, IsUpTo}
+use Rattle.command.specs.declared.limits.TheConstants.{MOST_NODES}
+use Rattle.command.specs.declared.open.OpenTask.{OpenTask}
+
+pub record IsWithinLimits (task : OpenTask) : Type 0 where
+  pub ballots : IsNamed task.ballots
+  pub manifest : IsNamed task.manifest
+  pub assertions : IsNamed task.assertions
+  pub seed : is_seed task.seed ≡ true
+  pub limit : IsUpTo GREATEST_LIMIT task.limit
+  pub gamma : IsUpTo GREATEST_GAMMA task.gamma
+  pub nodes : IsUpTo MOST_NODES task.nodes

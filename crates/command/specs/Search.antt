@@ -1,0 +1,11 @@
+-- The limits of what a search is asked for.
+use Rattle.irv_base.specs.declared.limits.TheConstants.{MOST_WORKERS}
+use Rattle.command.specs.Limits.{IsNamed, IsUpTo}
+use Rattle.command.specs.declared.limits.TheConstants.{MOST_NODES, MOST_FLOOR}
+use Rattle.command.specs.declared.search.SearchTask.{SearchTask}
+
+pub record IsWithinLimits (task : SearchTask) : Type 0 where
+  pub ballots : IsNamed task.ballots
+  pub workers : IsUpTo MOST_WORKERS task.workers
+  pub nodes : IsUpTo MOST_NODES task.nodes
+  pub floor : IsUpTo MOST_FLOOR task.floor

@@ -1,0 +1,13 @@
+-- The limits of what a trial is asked for.
+use Rattle.std.specs.Prelude.{◌≤◌}
+use Rattle.irv_base.specs.declared.limits.TheConstants.{FEWEST_CANDIDATES, MOST_CANDIDATES, MOST_RECORDS, MOST_WORKERS}
+use Rattle.command.specs.Limits.{IsFromTo, IsUpTo}
+use Rattle.command.specs.declared.limits.TheConstants.{MOST_NODES, MOST_TRIAL_NUMBER}
+use Rattle.command.specs.declared.trial.TrialTask.{TrialTask}
+
+pub record IsWithinLimits (task : TrialTask) : Type 0 where
+  pub number : task.number ≤ MOST_TRIAL_NUMBER
+  pub candidates : IsFromTo FEWEST_CANDIDATES MOST_CANDIDATES task.candidates
+  pub ballots : IsUpTo MOST_RECORDS task.ballots
+  pub workers : IsUpTo MOST_WORKERS task.workers
+  pub nodes : IsUpTo MOST_NODES task.nodes

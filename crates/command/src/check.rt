@@ -1,0 +1,17 @@
+// What a check is asked for.
+
+use crate::file_name::FileName;
+use irv_base::Name;
+
+/// Whether an assertion file holds of the ballots of a contest.
+#[derive(Drop)]
+pub struct CheckTask {
+    /// The ballot file.
+    pub ballots: FileName,
+    /// The assertion file.
+    pub assertions: FileName,
+    /// The contest, which may be left out where the file has only one.
+    pub contest: Option<Name>,
+    /// The most suffixes that may count for one candidate.
+    pub nodes: u32,
+}

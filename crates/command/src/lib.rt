@@ -1,0 +1,38 @@
+//! What a command is asked to do: a task a command, with the names of its files and its numbers, and their limits.
+#![tactic(auto)]
+
+mod audit;
+mod audit_plurality;
+mod check;
+mod file_name;
+pub mod laws;
+mod limits;
+mod open;
+mod open_plurality;
+mod plan;
+mod poll;
+mod report;
+mod sample;
+mod search;
+mod tabulate;
+mod trial;
+mod trim;
+
+pub use audit::AuditTask;
+pub use audit_plurality::AuditPluralityTask;
+pub use check::CheckTask;
+pub use file_name::FileName;
+pub use limits::{
+    DEFAULT_BALLOTS, DEFAULT_CANDIDATES, DEFAULT_FLOOR, DEFAULT_GAMMA, DEFAULT_LIMIT,
+    DEFAULT_NODES, DEFAULT_WORKERS, MOST_FLOOR, MOST_NODES, MOST_TRIAL_NUMBER,
+};
+pub use open::OpenTask;
+pub use open_plurality::OpenPluralityTask;
+pub use plan::PlanTask;
+pub use poll::PollTask;
+pub use report::ReportTask;
+pub use sample::SampleTask;
+pub use search::SearchTask;
+pub use tabulate::TabulateTask;
+pub use trial::TrialTask;
+pub use trim::TrimTask;

@@ -1,0 +1,26 @@
+// What a session is opened with.
+
+use crate::file_name::FileName;
+use irv_base::Name;
+use sampler::Seed;
+
+/// The session of an audit before its first round.
+#[derive(Drop)]
+pub struct OpenTask {
+    /// The ballot file.
+    pub ballots: FileName,
+    /// The manifest.
+    pub manifest: FileName,
+    /// The assertion file.
+    pub assertions: FileName,
+    /// The seed of the draws.
+    pub seed: Seed,
+    /// The contest, which may be left out where the file has only one.
+    pub contest: Option<Name>,
+    /// The risk limit, in millionths.
+    pub limit: u32,
+    /// The gamma, in thousandths.
+    pub gamma: u32,
+    /// The most suffixes that may count for one candidate in the check of the assertions.
+    pub nodes: u32,
+}

@@ -1,0 +1,16 @@
+// What a plan is asked for.
+
+use crate::file_name::FileName;
+
+/// How many draws a clean audit takes.
+#[derive(Drop)]
+pub struct PlanTask {
+    /// The manifest.
+    pub manifest: FileName,
+    /// The assertion file.
+    pub assertions: FileName,
+    /// The risk limit, in millionths.
+    pub limit: u32,
+    /// The gamma, in thousandths.
+    pub gamma: u32,
+}

@@ -1,0 +1,25 @@
+// What a ballot poll is asked for.
+
+use crate::file_name::FileName;
+use sampler::Seed;
+
+/// Whether the seen values of the drawn cards confirm the assertions of a file, with no card matched to its record.
+#[derive(Drop)]
+pub struct PollTask {
+    /// The manifest.
+    pub manifest: FileName,
+    /// The assertion file.
+    pub assertions: FileName,
+    /// The file of seen cards.
+    pub seen: FileName,
+    /// The seed of the draws.
+    pub seed: Seed,
+    /// How many draws.
+    pub draws: u32,
+    /// The risk limit, in millionths.
+    pub limit: u32,
+    /// The gamma, in thousandths.
+    pub gamma: u32,
+    /// The most suffixes that may count for one candidate in the check of the assertions.
+    pub nodes: u32,
+}

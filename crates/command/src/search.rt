@@ -1,0 +1,19 @@
+// What a search is asked for.
+
+use crate::file_name::FileName;
+use irv_base::Name;
+
+/// The assertions that confirm the winner of a contest, or why there are none.
+#[derive(Drop)]
+pub struct SearchTask {
+    /// The ballot file.
+    pub ballots: FileName,
+    /// The contest, which may be left out where the file has only one.
+    pub contest: Option<Name>,
+    /// How many threads search.
+    pub workers: u32,
+    /// The most suffixes that a race may expand for one piece, or a certificate count for one candidate.
+    pub nodes: u32,
+    /// The least margin of a search, in votes.
+    pub floor: u32,
+}

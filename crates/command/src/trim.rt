@@ -1,0 +1,17 @@
+// What a trim is asked for.
+
+use crate::file_name::FileName;
+use irv_base::Name;
+
+/// An assertion file that holds of the ballots of a contest, without the claims that can go.
+#[derive(Drop)]
+pub struct TrimTask {
+    /// The ballot file.
+    pub ballots: FileName,
+    /// The assertion file.
+    pub assertions: FileName,
+    /// The contest, which may be left out where the file has only one.
+    pub contest: Option<Name>,
+    /// The most suffixes that may count for one candidate.
+    pub nodes: u32,
+}

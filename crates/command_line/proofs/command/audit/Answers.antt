@@ -1,7 +1,0 @@
-use Rattle.command_line.specs.declared.command.Command.TheVariants.{Audit}
-use Rattle.command_line.proofs.command.audit.Goals as goal
-
-pub returns : goal.returns
-returns c = λ pieces fit shows i. Audit (c.in_ok-file.ensures _ shows.files.0 i) (c.in_ok-file-2.ensures _ shows.files.1.0 i)
-    (c.in_ok-file-3.ensures _ shows.files.1.1.0 i) (c.in_ok-file-4.ensures _ shows.files.1.1.1.0 i)
-    (c.in_ok-file-5.ensures _ shows.files.1.1.1.1.0 i) (c.number.ensures pieces fit shows.options.0 i) (c.number-2.ensures pieces fit shows.options.1.0 i)

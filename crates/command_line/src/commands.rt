@@ -1,0 +1,267 @@
+// A command with its arguments, as a line asks for it.
+ghost use Rattle.std.specs.Prelude.{◌≡◌, true, false, IfOk, IfSome};
+ghost use Rattle.clap.specs.Words.{rows_of, found_of};
+ghost use Rattle.command_line.specs.Words.{texts};
+ghost use Rattle.command_line.specs.Line.{is_line, are_right, pieces_of, command_of, meaning};
+ghost use Rattle.command_line.specs.OneForm.{AreOfLine, IsMeant};
+ghost use Rattle.command_line.specs.Laws.{IsChecked};
+
+use crate::arguments::{contest, file, number, seed};
+use crate::line::line_named;
+use crate::matches::matches_of;
+use crate::one_form::one_form;
+use crate::table::{ASSERTIONS, BALLOTS, CommandName, MANIFEST, OptionName, SEEN, SESSION};
+use clap::ArgMatches;
+use command::{
+    AuditPluralityTask, AuditTask, CheckTask, OpenPluralityTask, OpenTask, PlanTask, PollTask,
+    ReportTask, SampleTask, SearchTask, TabulateTask, TrialTask, TrimTask,
+};
+use irv_base::Memory;
+use std::alloc::{AllocError, Global};
+
+/// A command with what it is asked to do. Its files are named, and are read by nobody yet.
+#[derive(Drop)]
+pub enum Command {
+    /// The assertions that confirm the winner of a contest, or why there are none.
+    Search(SearchTask),
+    /// The rounds of a contest, or its first tie where that leaves open who has won.
+    Tabulate(TabulateTask),
+    /// Whether an assertion file holds of the ballots of a contest.
+    Check(CheckTask),
+    /// An assertion file without the claims that can go.
+    Trim(TrimTask),
+    /// The cards that a seed draws.
+    Sample(SampleTask),
+    /// How many draws a clean audit takes.
+    Plan(PlanTask),
+    /// The session of an audit before its first round.
+    Open(OpenTask),
+    /// The session with a round more.
+    Audit(AuditTask),
+    /// What a session says.
+    Report(ReportTask),
+    /// Whether what is on the drawn cards confirms the assertions, with no card matched to its record.
+    Poll(PollTask),
+    /// The session of an audit of first preferences, before its first round.
+    OpenPlurality(OpenPluralityTask),
+    /// The session of an audit of first preferences with a round more.
+    AuditPlurality(AuditPluralityTask),
+    /// What a search comes to of a contest whose records a number draws.
+    Trial(TrialTask),
+}
+
+fn search(alloc: Global, matches: &ArgMatches<'_>) -> Result<Command, AllocError>
+    ensures { IsMeant CommandName.Search (rows_of (found_of matches.now)) result }
+{
+    Ok(Command::Search(SearchTask {
+        ballots: file(alloc, BALLOTS, matches)?,
+        contest: contest(matches),
+        workers: number(OptionName::Workers, matches),
+        nodes: number(OptionName::Nodes, matches),
+        floor: number(OptionName::Floor, matches),
+    }))
+}
+
+fn tabulate(alloc: Global, matches: &ArgMatches<'_>) -> Result<Command, AllocError>
+    ensures { IsMeant CommandName.Tabulate (rows_of (found_of matches.now)) result }
+{
+    Ok(Command::Tabulate(TabulateTask {
+        ballots: file(alloc, BALLOTS, matches)?,
+        contest: contest(matches),
+        nodes: number(OptionName::Nodes, matches),
+    }))
+}
+
+fn check(alloc: Global, matches: &ArgMatches<'_>) -> Result<Command, AllocError>
+    ensures { IsMeant CommandName.Check (rows_of (found_of matches.now)) result }
+{
+    Ok(Command::Check(CheckTask {
+        ballots: file(alloc, BALLOTS, matches)?,
+        assertions: file(alloc, ASSERTIONS, matches)?,
+        contest: contest(matches),
+        nodes: number(OptionName::Nodes, matches),
+    }))
+}
+
+fn trim(alloc: Global, matches: &ArgMatches<'_>) -> Result<Command, AllocError>
+    ensures { IsMeant CommandName.Trim (rows_of (found_of matches.now)) result }
+{
+    Ok(Command::Trim(TrimTask {
+        ballots: file(alloc, BALLOTS, matches)?,
+        assertions: file(alloc, ASSERTIONS, matches)?,
+        contest: contest(matches),
+        nodes: number(OptionName::Nodes, matches),
+    }))
+}
+
+fn sample(alloc: Global, matches: &ArgMatches<'_>) -> Result<Command, AllocError>
+    requires { AreOfLine CommandName.Sample (rows_of (found_of matches.now)) }
+    ensures { IsMeant CommandName.Sample (rows_of (found_of matches.now)) result }
+{
+    Ok(Command::Sample(SampleTask {
+        manifest: file(alloc, MANIFEST, matches)?,
+        seed: seed(matches),
+        draws: number(OptionName::Draws, matches),
+    }))
+}
+
+fn plan(alloc: Global, matches: &ArgMatches<'_>) -> Result<Command, AllocError>
+    ensures { IsMeant CommandName.Plan (rows_of (found_of matches.now)) result }
+{
+    Ok(Command::Plan(PlanTask {
+        manifest: file(alloc, MANIFEST, matches)?,
+        assertions: file(alloc, ASSERTIONS, matches)?,
+        limit: number(OptionName::Limit, matches),
+        gamma: number(OptionName::Gamma, matches),
+    }))
+}
+
+fn open_session(alloc: Global, matches: &ArgMatches<'_>) -> Result<Command, AllocError>
+    requires { AreOfLine CommandName.Open (rows_of (found_of matches.now)) }
+    ensures { IsMeant CommandName.Open (rows_of (found_of matches.now)) result }
+{
+    Ok(Command::Open(OpenTask {
+        ballots: file(alloc, BALLOTS, matches)?,
+        manifest: file(alloc, MANIFEST, matches)?,
+        assertions: file(alloc, ASSERTIONS, matches)?,
+        seed: seed(matches),
+        contest: contest(matches),
+        limit: number(OptionName::Limit, matches),
+        gamma: number(OptionName::Gamma, matches),
+        nodes: number(OptionName::Nodes, matches),
+    }))
+}
+
+fn audit(alloc: Global, matches: &ArgMatches<'_>) -> Result<Command, AllocError>
+    ensures { IsMeant CommandName.Audit (rows_of (found_of matches.now)) result }
+{
+    Ok(Command::Audit(AuditTask {
+        session: file(alloc, SESSION, matches)?,
+        ballots: file(alloc, BALLOTS, matches)?,
+        manifest: file(alloc, MANIFEST, matches)?,
+        assertions: file(alloc, ASSERTIONS, matches)?,
+        seen: file(alloc, SEEN, matches)?,
+        draws: number(OptionName::Draws, matches),
+        nodes: number(OptionName::Nodes, matches),
+    }))
+}
+
+fn report(alloc: Global, matches: &ArgMatches<'_>) -> Result<Command, AllocError>
+    ensures { IsMeant CommandName.Report (rows_of (found_of matches.now)) result }
+{
+    Ok(Command::Report(ReportTask {
+        session: file(alloc, SESSION, matches)?,
+    }))
+}
+
+fn poll(alloc: Global, matches: &ArgMatches<'_>) -> Result<Command, AllocError>
+    requires { AreOfLine CommandName.Poll (rows_of (found_of matches.now)) }
+    ensures { IsMeant CommandName.Poll (rows_of (found_of matches.now)) result }
+{
+    Ok(Command::Poll(PollTask {
+        manifest: file(alloc, MANIFEST, matches)?,
+        assertions: file(alloc, ASSERTIONS, matches)?,
+        seen: file(alloc, SEEN, matches)?,
+        seed: seed(matches),
+        draws: number(OptionName::Draws, matches),
+        limit: number(OptionName::Limit, matches),
+        gamma: number(OptionName::Gamma, matches),
+        nodes: number(OptionName::Nodes, matches),
+    }))
+}
+
+fn open_plurality(alloc: Global, matches: &ArgMatches<'_>) -> Result<Command, AllocError>
+    requires { AreOfLine CommandName.OpenPlurality (rows_of (found_of matches.now)) }
+    ensures { IsMeant CommandName.OpenPlurality (rows_of (found_of matches.now)) result }
+{
+    Ok(Command::OpenPlurality(OpenPluralityTask {
+        ballots: file(alloc, BALLOTS, matches)?,
+        manifest: file(alloc, MANIFEST, matches)?,
+        seed: seed(matches),
+        contest: contest(matches),
+        limit: number(OptionName::Limit, matches),
+        gamma: number(OptionName::Gamma, matches),
+    }))
+}
+
+fn audit_plurality(alloc: Global, matches: &ArgMatches<'_>) -> Result<Command, AllocError>
+    ensures { IsMeant CommandName.AuditPlurality (rows_of (found_of matches.now)) result }
+{
+    Ok(Command::AuditPlurality(AuditPluralityTask {
+        session: file(alloc, SESSION, matches)?,
+        ballots: file(alloc, BALLOTS, matches)?,
+        manifest: file(alloc, MANIFEST, matches)?,
+        seen: file(alloc, SEEN, matches)?,
+        draws: number(OptionName::Draws, matches),
+    }))
+}
+
+fn trial(matches: &ArgMatches<'_>) -> Command
+    ensures { IsMeant CommandName.Trial (rows_of (found_of matches.now)) (Ok result) }
+{
+    Command::Trial(TrialTask {
+        number: number(OptionName::Number, matches),
+        candidates: number(OptionName::Candidates, matches),
+        ballots: number(OptionName::Ballots, matches),
+        workers: number(OptionName::Workers, matches),
+        nodes: number(OptionName::Nodes, matches),
+    })
+}
+
+// The command of the matches of its line.
+fn read_command(
+    alloc: Global,
+    name: CommandName,
+    matches: &ArgMatches<'_>,
+) -> Result<Command, AllocError>
+    requires { AreOfLine name (rows_of (found_of matches.now)) }
+    ensures { IsMeant name (rows_of (found_of matches.now)) result }
+{
+    match name {
+        CommandName::Search => search(alloc, matches),
+        CommandName::Tabulate => tabulate(alloc, matches),
+        CommandName::Check => check(alloc, matches),
+        CommandName::Trim => trim(alloc, matches),
+        CommandName::Sample => sample(alloc, matches),
+        CommandName::Plan => plan(alloc, matches),
+        CommandName::Open => open_session(alloc, matches),
+        CommandName::Audit => audit(alloc, matches),
+        CommandName::Report => report(alloc, matches),
+        CommandName::Poll => poll(alloc, matches),
+        CommandName::OpenPlurality => open_plurality(alloc, matches),
+        CommandName::AuditPlurality => audit_plurality(alloc, matches),
+        CommandName::Trial => Ok(trial(matches)),
+    }
+}
+
+// The command of a line that begins with the command's word.
+fn read_line(alloc: Global, name: CommandName, words: &[String]) -> Result<Command, Memory>
+    requires { are_right name (pieces_of name (texts words.now)) ≡ true }
+    ensures { IfOk result (λ command. command ≡ meaning name (pieces_of name (texts words.now))) }
+{
+    let form = one_form(alloc, name, words)?;
+    match matches_of(alloc, name, form.as_slice()) {
+        Ok(matches) => Ok(read_command(alloc, name, &matches)?),
+        Err(_) => Err(Memory),
+    }
+}
+
+/// The command that the words ask for. There is none exactly where they are no line.
+///
+/// # Errors
+///
+/// `Memory` alone, and only for words that are a line.
+pub fn read(alloc: Global, words: &[String]) -> Result<Option<Command>, Memory>
+    ensures read { IfOk result (λ command. command ≡ command_of (texts words.now)) }
+    // Files have names, and numbers are within their limits.
+    ensures checked { IfOk result (λ command. IfSome command IsChecked) }
+    ensures no_line { is_line (texts words.now) ≡ false → result ≡ Ok None }
+{
+    match words.split_first() {
+        Some((word, words)) => match line_named(word.as_str(), words) {
+            Some(name) => Ok(Some(read_line(alloc, name, words)?)),
+            None => Ok(None),
+        },
+        None => Ok(None),
+    }
+}

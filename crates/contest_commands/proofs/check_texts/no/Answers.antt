@@ -1,5 +1,0 @@
-use Rattle.std.proofs.Common.{rules}
-use Rattle.contest_commands.proofs.check_texts.no.Goals as goal
-
-pub returns : goal.returns
-returns c = search rules

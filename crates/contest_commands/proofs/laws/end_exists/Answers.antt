@@ -1,5 +1,0 @@
-use Rattle.contest_commands.proofs.Ends.{end_exists}
-use Rattle.contest_commands.proofs.laws.end_exists.Goals as goal
-
-pub returns : goal.returns
-returns c = end_exists

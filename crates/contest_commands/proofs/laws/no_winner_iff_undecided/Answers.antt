@@ -1,5 +1,0 @@
-use Rattle.contest_commands.proofs.Ends.{no_winner_iff_undecided}
-use Rattle.contest_commands.proofs.laws.no_winner_iff_undecided.Goals as goal
-
-pub returns : goal.returns
-returns c = no_winner_iff_undecided

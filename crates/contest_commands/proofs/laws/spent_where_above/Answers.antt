@@ -1,5 +1,0 @@
-use Rattle.contest_commands.proofs.Searches.{spent_where_above}
-use Rattle.contest_commands.proofs.laws.spent_where_above.Goals as goal
-
-pub returns : goal.returns
-returns c = spent_where_above

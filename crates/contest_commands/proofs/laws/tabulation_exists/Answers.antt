@@ -1,5 +1,0 @@
-use Rattle.contest_commands.proofs.Ends.{tabulation_exists}
-use Rattle.contest_commands.proofs.laws.tabulation_exists.Goals as goal
-
-pub returns : goal.returns
-returns c = tabulation_exists

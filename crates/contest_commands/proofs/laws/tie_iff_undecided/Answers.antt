@@ -1,5 +1,0 @@
-use Rattle.contest_commands.proofs.Ends.{tie_iff_undecided}
-use Rattle.contest_commands.proofs.laws.tie_iff_undecided.Goals as goal
-
-pub returns : goal.returns
-returns c = tie_iff_undecided

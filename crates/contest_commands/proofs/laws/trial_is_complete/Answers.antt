@@ -1,5 +1,0 @@
-use Rattle.contest_commands.proofs.TrialLaws.{trial_is_complete}
-use Rattle.contest_commands.proofs.laws.trial_is_complete.Goals as goal
-
-pub returns : goal.returns
-returns c = trial_is_complete

@@ -1,5 +1,0 @@
-use Rattle.contest_commands.proofs.Ends.{undecided_has_tie}
-use Rattle.contest_commands.proofs.laws.undecided_has_tie.Goals as goal
-
-pub returns : goal.returns
-returns c = undecided_has_tie

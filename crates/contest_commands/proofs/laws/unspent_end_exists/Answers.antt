@@ -1,5 +1,0 @@
-use Rattle.contest_commands.proofs.Ends.{unspent_end_exists}
-use Rattle.contest_commands.proofs.laws.unspent_end_exists.Goals as goal
-
-pub returns : goal.returns
-returns c = unspent_end_exists

@@ -1,0 +1,52 @@
+-- The contest that is searched: what a search has to know of it, its winner, and its first tie.
+use Rattle.std.specs.Prelude.{◌≢◌, ◌≤◌, ◌<◌, ℕ, List, [], length, All}
+use Rattle.irv_base.specs.Names.{Id}
+use Rattle.irv_base.specs.Tabulation.{AllElect, IsDecided, IsFirstTie}
+use Rattle.irv_base.specs.declared.limits.TheConstants.{MOST_RECORDS}
+use Rattle.ballot_reader.specs.Ballots.{AreCandidates, BallotFile}
+use Rattle.cover_checker.specs.Outcomes.{IsWinner}
+
+abbrev pub candidate_count : BallotFile → ℕ
+candidate_count ballots = length ballots.candidates
+
+-- ---- what a search has to know of it
+
+-- a contest of this id, these ids of candidates and the rankings of its records, without ids of ballots and places in a file
+abbrev pub contest_with : Id → List Id → List (List ℕ) → BallotFile
+contest_with id candidates rankings =
+    record { contest = id; candidates = candidates; ids = []; places = []; rankings = rankings }
+
+abbrev pub searched : BallotFile → BallotFile
+searched ballots = contest_with ballots.contest ballots.candidates ballots.rankings
+
+pub record IsWithinLimits (ballots : BallotFile) : Type 0 where
+  pub candidates : AreCandidates ballots.candidates
+  pub few : length ballots.rankings ≤ MOST_RECORDS
+  pub below : All (λ ranking. All (λ c. c < candidate_count ballots) ranking) ballots.rankings
+
+-- ---- a winner
+
+-- the tabulated order elects this candidate
+abbrev pub IsWon : BallotFile → ℕ → Type 0
+IsWon ballots winner = IsWinner (candidate_count ballots) ballots.rankings winner
+
+-- each way of breaking the ties of the contest elects this candidate
+abbrev pub IsElected : BallotFile → ℕ → Type 0
+IsElected ballots winner = AllElect (candidate_count ballots) ballots.rankings winner
+
+-- some ways of breaking its ties elect one candidate, and some another
+abbrev pub IsUndecided : BallotFile → Type 0
+IsUndecided ballots = IsDecided (candidate_count ballots) ballots.rankings → ⊥
+
+-- a candidate who isn't the winner
+pub record IsOther (ballots : BallotFile) (winner c : ℕ) : Type 0 where
+  pub candidate : c < candidate_count ballots
+  pub other : c ≢ winner
+
+-- ---- a tie
+
+-- the contest isn't decided; its first tie has this round, this set of those who share the least tally, and that tally
+pub record IsTie (ballots : BallotFile) (round tied votes : ℕ) : Type 0 where
+  pub counted : 1 ≤ round
+  pub first : IsFirstTie (candidate_count ballots) ballots.rankings round tied votes
+  pub undecided : IsUndecided ballots

@@ -1,0 +1,62 @@
+-- What a search of a contest finds.
+use Rattle.std.specs.Prelude.{◌≡◌, ◌≤◌, ◌<◌, ℕ, List, length, All, IsTrue}
+use Rattle.irv_base.specs.Orders.{is_order}
+use Rattle.set_tallies.specs.Bags.{Kept, IsOf}
+use Rattle.irv_tabulator.specs.Results.{IsTabulation}
+use Rattle.irv_tabulator.specs.declared.tabulated.Tabulated.{Tabulated}
+use Rattle.bound_search.specs.Race.{IsBest}
+use Rattle.bound_search.specs.declared.ends.RaceEnd.{RaceEnd}
+use Rattle.certifier.specs.declared.certificate.Certificate.{Certificate}
+use Rattle.ballot_reader.specs.Ballots.{BallotFile}
+use Rattle.contest_search.specs.Budget.{IsInBudget, IsSpent}
+use Rattle.contest_search.specs.Certificate.{IsCertificateOfDecided}
+use Rattle.contest_search.specs.Contest.{candidate_count, IsTie}
+use Rattle.contest_search.specs.declared.found.Found.{Found}
+use Rattle.contest_search.specs.declared.found.Found.TheVariants.{Certificate as CertificateFound, Tie, Spent}
+use Rattle.assertion_file.specs.Content.{Content, IsMargin, IsSoundClaim}
+
+-- the certificate, within the budget
+pub record IsFoundIn (nodes : ℕ) (ballots : BallotFile) (file : Content) : Type 0 where
+  pub is : IsCertificateOfDecided ballots file
+  pub budget : IsInBudget ballots is.winner nodes
+
+abbrev pub FoundIn : ℕ → BallotFile → Found → Type 0
+FoundIn nodes ballots (CertificateFound file) = IsFoundIn nodes ballots file
+FoundIn nodes ballots (Tie round tied votes) = IsTie ballots round tied votes
+FoundIn nodes ballots (Spent last order margin) = IsSpent nodes ballots last order margin
+
+-- ---- on the way
+
+-- the ballots are counted and tabulated
+pub record IsCounted (ballots : BallotFile) (bag : Kept) (t : Tabulated) : Type 0 where
+  pub two : 1 < candidate_count ballots
+  pub candidates : bag.n ≡ candidate_count ballots
+  pub records : IsOf bag ballots.rankings
+  pub tabulated : (records : List (List ℕ)) → IsOf bag records → IsTabulation bag.n records t
+
+-- the race over them ended so
+abbrev pub IsBestOf : Kept → Tabulated → RaceEnd → Type 0
+IsBestOf bag t end =
+    (records : List (List ℕ)) → IsOf bag records → IsBest bag.n records t.winner end
+
+-- what a certificate says of the ballots
+abbrev pub content_of : BallotFile → ℕ → Certificate → Content
+content_of ballots winner certificate = record {
+  contest = ballots.contest;
+  candidates = ballots.candidates;
+  records = length ballots.rankings;
+  winner = winner;
+  margin = certificate.margin;
+  order = certificate.order;
+  claims = certificate.claims.items;
+}
+
+-- it has what an assertion file of them keeps
+pub record IsPrintable (ballots : BallotFile) (winner : ℕ)
+    (certificate : Certificate) : Type 0 where
+  pub some_records : 1 ≤ length ballots.rankings
+  pub candidate : winner < candidate_count ballots
+  pub margin : IsMargin (length ballots.rankings) certificate.margin
+  pub order : IsTrue (is_order (candidate_count ballots) certificate.order)
+  pub claims : All (IsSoundClaim (candidate_count ballots) (length ballots.rankings))
+      certificate.claims.items

@@ -1,0 +1,31 @@
+-- How many nodes suffice for a search, and what the checker says of what it finds.
+use Rattle.std.specs.Prelude.{◌≡◌, ℕ, ◌≤◌, ◌-◌, ◌*◌, List, Option, Ok}
+use Rattle.assertions.specs.Suffixes.{factorial}
+use Rattle.irv_base.specs.Names.{Id}
+use Rattle.ballot_reader.specs.Ballots.{BallotFile}
+use Rattle.ballot_reader.specs.Grammar.{ballots_of}
+use Rattle.assertion_file.specs.Content.{Content}
+use Rattle.assertion_file.specs.Reading.{assertion_file_of}
+use Rattle.assertion_file.specs.Text.{assertion_file_text}
+use Rattle.cover_checker.specs.Checks.{IsAnswer}
+use Rattle.cover_checker.specs.Holds.{IsCertificateOf}
+use Rattle.cover_checker.specs.declared.checked.Checked.TheVariants.{Accepted}
+use Rattle.contest_search.specs.Budget.{nodes_for}
+use Rattle.contest_search.specs.Contest.{candidate_count, IsOther}
+use Rattle.contest_search.specs.Found.{IsFoundIn}
+
+-- No search needs more nodes for a candidate than twice the factorial of the number of the other candidates.
+abbrev pub NodesAreFew : Type 0
+NodesAreFew =
+    (ballots : BallotFile) (tabulated : List ℕ) (winner c : ℕ) → IsOther ballots winner c →
+    nodes_for ballots tabulated winner c ≤ 2 * factorial (candidate_count ballots - 1)
+
+-- What is found in ballots that were read is their canonical certificate, reads back from its text, and is accepted by the checker with
+-- the same nodes.
+abbrev pub FoundIsAccepted : Type 0
+FoundIsAccepted =
+    (nodes : ℕ) (bytes : List ℕ) (asked : Option Id) (ballots : BallotFile) (file : Content) →
+    ballots_of bytes asked ≡ Ok ballots → IsFoundIn nodes ballots file →
+    IsCertificateOf ballots file
+    × (assertion_file_of (assertion_file_text file) ≡ Ok file)
+    × IsAnswer nodes ballots file (Ok Accepted)

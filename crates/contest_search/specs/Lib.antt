@@ -1,0 +1,5 @@
+pub mod Contest
+pub mod Certificate
+pub mod Budget
+pub mod Found
+pub mod Laws

@@ -1,0 +1,167 @@
+// What a search finds: tabulation, the race for the best margin, and the certificate of that margin.
+ghost use Rattle.std.specs.Prelude.{◌≡◌, ◌≤◌, ℕ, IfOk};
+ghost use Rattle.irv_tabulator.specs.Results.{IsTabulation};
+ghost use Rattle.contest_search.specs.Contest.{candidate_count, IsUndecided};
+ghost use Rattle.irv_base.specs.declared.limits.TheConstants.{MOST_WORKERS};
+ghost use Rattle.contest_search.specs.Found.{FoundIn, IsCounted, IsBestOf, IsPrintable, content_of};
+
+use crate::searchable::Searchable;
+use assertion_file::AssertionFile;
+use assertions::Claim;
+use bound_search::{RaceEnd, RaceFault, race};
+use certifier::{CertFault, Certificate, certify};
+use desk::Gate;
+use irv_base::{CandSet, Candidate, Memory, Order};
+use irv_tabulator::{FirstTie, TabFault, Tabulated, tabulate};
+use set_tallies::Counted;
+use std::alloc::Global;
+use std::thread::Threads;
+
+/// How a search of a contest ends.
+#[derive(Drop)]
+pub enum Found {
+    /// The assertions that confirm the winner.
+    Certificate(AssertionFile),
+    /// The contest isn't decided: in this round, from 1, the candidates in the set share the least tally, in votes.
+    Tie {
+        round: u32,
+        tied: CandSet,
+        votes: u32,
+    },
+    /// More nodes than the budget has are needed for the orders that elect `last`. Beside it the closest order so far that elects
+    /// another candidate than the winner, and its hardness.
+    Spent {
+        last: Candidate,
+        order: Order,
+        margin: u32,
+    },
+}
+
+/// What a search of the contest finds, by so many workers, with so many nodes for each piece of the race and for each candidate who
+/// didn't win.
+pub fn find<R: AllocGlobal + Threads + Sync, G: Gate + Sync>(
+    rt: &R,
+    contest: &Searchable<'_>,
+    workers: u32,
+    nodes: u32,
+    gate: &G,
+) -> Result<Found, Memory>
+    requires { (1 ≤ workers) × (workers ≤ MOST_WORKERS) }
+    ensures { IfOk result (FoundIn nodes contest.now) }
+{
+    let alloc = rt.alloc();
+    let counted = Counted::of(
+        rt,
+        contest.candidates().len() as u32,
+        contest.rankings(),
+        workers,
+    )?;
+    let mut tallies = counted.tallies()?;
+    match tabulate(alloc, &mut tallies) {
+        Ok(tabulated) => race_of(rt, contest, &counted, &tabulated, workers, nodes, gate),
+        Err(TabFault::Memory) => Err(Memory),
+    }
+}
+
+// What a search of a contest that was tabulated finds.
+fn race_of<R: AllocGlobal + Threads + Sync, G: Gate + Sync>(
+    rt: &R,
+    contest: &Searchable<'_>,
+    counted: &Counted,
+    tabulated: &Tabulated,
+    workers: u32,
+    nodes: u32,
+    gate: &G,
+) -> Result<Found, Memory>
+    requires workers { (1 ≤ workers) × (workers ≤ MOST_WORKERS) }
+    requires counted { IsCounted contest.now counted.now.bag tabulated.now }
+    ensures { IfOk result (FoundIn nodes contest.now) }
+{
+    match race(rt, counted, tabulated, workers, nodes, gate) {
+        Ok(end) => {
+            if end.margin == 0 {
+                Ok(tie_of(contest, tabulated))
+            } else {
+                certificate_of(rt, contest, counted, tabulated, end, workers, nodes)
+            }
+        }
+        Err(fault) => match fault {
+            RaceFault::Spent { last, upper, order } => Ok(Found::Spent {
+                last,
+                order,
+                margin: upper,
+            }),
+            RaceFault::Memory => Err(Memory),
+        },
+    }
+}
+
+// The first tie of a contest that isn't decided. It has one.
+fn tie_of(contest: &Searchable<'_>, tabulated: &Tabulated) -> Found
+    requires tabulation { IsTabulation (candidate_count contest.now) (contest.now).rankings
+        tabulated.now }
+    requires undecided { IsUndecided contest.now }
+    ensures { (nodes : ℕ) → FoundIn nodes contest.now result }
+{
+    match tabulated.tie() {
+        Some(FirstTie { round, tied, tally }) => Found::Tie {
+            round,
+            tied,
+            votes: tally,
+        },
+        None => unreachable!(),
+    }
+}
+
+// The certificate of the best margin.
+fn certificate_of<R: AllocGlobal + Threads + Sync>(
+    rt: &R,
+    contest: &Searchable<'_>,
+    counted: &Counted,
+    tabulated: &Tabulated,
+    end: RaceEnd,
+    workers: u32,
+    nodes: u32,
+) -> Result<Found, Memory>
+    requires workers { (1 ≤ workers) × (workers ≤ MOST_WORKERS) }
+    requires counted { IsCounted contest.now counted.now.bag tabulated.now }
+    requires best { IsBestOf counted.now.bag tabulated.now end }
+    requires some { 1 ≤ end.margin }
+    ensures { IfOk result (FoundIn nodes contest.now) }
+{
+    let RaceEnd { margin, order, .. } = end;
+    match certify(rt, counted, tabulated, margin, workers, nodes) {
+        Ok(certificate) => {
+            let file = file_of(rt.alloc(), contest, tabulated.winner, certificate)?;
+            Ok(Found::Certificate(file))
+        }
+        Err(fault) => match fault {
+            CertFault::Spent { last } => Ok(Found::Spent {
+                last,
+                order,
+                margin,
+            }),
+            CertFault::Memory => Err(Memory),
+        },
+    }
+}
+
+// The assertion file of the contest, with the certificate's claims, margin and order.
+fn file_of(
+    alloc: Global,
+    contest: &Searchable<'_>,
+    winner: Candidate,
+    certificate: Certificate,
+) -> Result<AssertionFile, Memory>
+    requires { IsPrintable contest.now winner certificate }
+    ensures { IfOk result (λ file. file ≡ content_of contest.now winner certificate) }
+{
+    let Certificate {
+        claims,
+        margin,
+        order,
+    } = certificate;
+    let names = contest.candidates().to_vec(alloc)?;
+    let records = contest.rankings().len() as u32;
+    Ok(AssertionFile::new(*contest.id(), names, records, winner, margin, order, claims))
+}

@@ -1,0 +1,12 @@
+//! The laws of a search: each holds of every value that it names, and has no code.
+ghost use Rattle.contest_search.specs.Laws.{FoundIsAccepted, NodesAreFew};
+
+/// No search needs more nodes for a candidate than twice the factorial of the number of the other candidates.
+pub fn nodes_are_few()
+    ensures { NodesAreFew }
+{}
+
+/// What a search finds is the canonical certificate, reads back from its text, and is accepted by the checker.
+pub fn found_is_accepted()
+    ensures { FoundIsAccepted }
+{}

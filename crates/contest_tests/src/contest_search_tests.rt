@@ -1,0 +1,60 @@
+// What a search finds of contests that were worked by hand: a certificate, a tie, a budget that is spent.
+use crate::contests::{ONE, TWO, ZERO};
+use ballot_reader::read_ballots;
+use contest_search::{Found, Searchable, find};
+use desk::NoGate;
+
+// Five ballots 1, four 2,3 and three 3,2.
+const THREE_CANDIDATES: &[u8] = b"1
+Contest,1,3,1,2,3
+1,a_1,1
+1,a_2,1
+1,a_3,1
+1,a_4,1
+1,a_5,1
+1,a_6,2,3
+1,a_7,2,3
+1,a_8,2,3
+1,a_9,2,3
+1,a_10,3,2
+1,a_11,3,2
+1,a_12,3,2
+";
+
+#[test]
+fn three_candidates_are_certified(rt: HostRuntime) {
+    let ballots = read_ballots(rt.alloc(), THREE_CANDIDATES, None).expect(&rt, "ballots");
+    match find(&rt, &Searchable::of(&ballots), 2, 100_000, &NoGate) {
+        Ok(Found::Certificate(file)) => {
+            assert!(rt; file.winner() == ONE);
+            assert!(rt; file.margin() == 1);
+            assert!(rt; file.records() == 12);
+            assert!(rt; file.claims().len() == 3);
+            assert!(rt; file.order().candidates() == [ONE, ZERO, TWO].as_slice());
+        }
+        _ => assert!(rt; false),
+    }
+}
+
+#[test]
+fn three_candidates_are_spent(rt: HostRuntime) {
+    let ballots = read_ballots(rt.alloc(), THREE_CANDIDATES, None).expect(&rt, "ballots");
+    let found = find(&rt, &Searchable::of(&ballots), 1, 0, &NoGate);
+    assert!(rt; matches!(&found, Ok(Found::Spent { .. })));
+}
+
+#[test]
+fn one_against_one_is_a_tie(rt: HostRuntime) {
+    let file = b"1\nContest,7,2,A,B\n7,b_1,A\n7,b_2,B\n".as_slice();
+    let ballots = read_ballots(rt.alloc(), file, None).expect(&rt, "ballots");
+    let found = find(&rt, &Searchable::of(&ballots), 1, 100_000, &NoGate);
+    let is_first = matches!(
+        &found,
+        Ok(Found::Tie {
+            round: 1,
+            votes: 1,
+            ..
+        })
+    );
+    assert!(rt; is_first);
+}

@@ -1,0 +1,143 @@
+-- A command goes on with what a file says, or stops.
+use Rattle.std.proofs.Common.{◌≡◌, ◌⊎◌, inl, inr, ℕ, ◌+◌, ◌≤◌, List, Option, None, Some, IfSome, option_map, Result, Ok, Err, refl, sym, ap, subst, ◌∙◌, arith}
+use Rattle.std.specs.Prelude.{⊤}
+use Rattle.desk.specs.Count.{Rose}
+use Rattle.desk.specs.Desk.{File}
+use Rattle.desk.specs.declared.served.Served.{Served}
+use Rattle.cli_base.specs.Outcome.{Outcome, Verdict, Answered, Refused, outcome}
+use Rattle.cli_base.specs.Accounts.{IsAccountedFor}
+use Rattle.cli_base.specs.Due.{due_refusal}
+use Rattle.cli_base.specs.declared.outcome.AnswerKind.{AnswerKind}
+use Rattle.cli_base.specs.declared.outcome.Refusal.{Refusal as Stop}
+use Rattle.cli_base.specs.Script.{Bytes, Readings, Script, Read, ByDesk, May, MayOrMemory, Agree, AreOfKind, IsOfKind, Same}
+use Rattle.cli_base.proofs.Statuses.{status_in}
+use Rattle.cli_base.proofs.Steps.{accounted_as, gone_on}
+use Rattle.ballot_reader.specs.Ballots.{BallotFile}
+use Rattle.manifest.specs.Cards.{Batches}
+use Rattle.manifest.specs.Manifest.{manifest_of}
+use Rattle.manifest.specs.Linked.{first_without_card}
+use Rattle.input_files.specs.Cards.{cards_for, without_card}
+use Rattle.input_files.specs.Refusals.{no_card, refused_manifest}
+use Rattle.input_files.specs.Judged.{told, unless, then_judged, go_on, IsStopped}
+
+-- ---- a file is read and judged
+
+module _ {A : Type 0} (held : Option (List File)) (a b : ℕ) (name bytes : List ℕ) (judged : List ℕ → Result A Verdict) (next : List ℕ → A → Script)
+    (there : ByDesk held (Rose a b) name (Bytes bytes)) where
+  abbrev whole : Script
+  whole = Read name (λ bytes. go_on (judged bytes) (next bytes))
+
+  -- the rest reads on
+  pub read_on : (h : Option (List File)) (c : ℕ) (value : A) (due : Outcome) → h ≡ held → a ≤ b → b ≤ c → judged bytes ≡ Ok value →
+      MayOrMemory (ByDesk h (Rose b c)) (next bytes value) due → MayOrMemory (ByDesk held (Rose a c)) whole due
+  read_on h c value due same before after is may =
+      gone_on held h a b c name bytes (λ bytes. go_on (judged bytes) (next bytes)) due same before after there
+      (subst (λ j. MayOrMemory (ByDesk h (Rose b c)) (go_on j (next bytes)) due) (sym is) may)
+
+  -- the rest reads nothing more
+  pub read_last : (value : A) (due : Outcome) → judged bytes ≡ Ok value → MayOrMemory (ByDesk held (Rose a b)) (next bytes value) due →
+      MayOrMemory (ByDesk held (Rose a b)) whole due
+  read_last value due is (inl may) = inl (inr (bytes, there, subst (λ j. May (ByDesk held (Rose a b)) (go_on j (next bytes)) due) (sym is) may))
+  read_last value due is (inr memory) = inr memory
+
+  pub read_stopped : (refusal : Stop) → IsStopped (judged bytes) refusal → MayOrMemory (ByDesk held (Rose a b)) whole (due_refusal refusal)
+  read_stopped refusal (inl (verdict, is, due)) =
+      inl (inr (bytes, there, subst (λ j. May (ByDesk held (Rose a b)) (go_on j (next bytes)) (due_refusal refusal)) (sym is) (verdict, refl, due)))
+  read_stopped refusal (inr memory) = inr memory
+
+pub judged_on : {A : Type 0} (readings : Readings) (judged : Result A Verdict) (next : A → Script) (value : A) (due : Outcome) → judged ≡ Ok value →
+    MayOrMemory readings (next value) due → MayOrMemory readings (go_on judged next) due
+judged_on readings judged next value due is may = subst (λ j. MayOrMemory readings (go_on j next) due) (sym is) may
+
+pub judged_stopped : {A : Type 0} (readings : Readings) (judged : Result A Verdict) (next : A → Script) (refusal : Stop) → IsStopped judged refusal →
+    MayOrMemory readings (go_on judged next) (due_refusal refusal)
+judged_stopped readings judged next refusal (inl (verdict, is, due)) =
+    inl (subst (λ j. May readings (go_on j next) (due_refusal refusal)) (sym is) (verdict, refl, due))
+judged_stopped readings judged next refusal (inr memory) = inr memory
+
+-- ---- what the desk served
+
+-- of a command that isn't done, more files might have been begun
+pub raised : (rest n : ℕ) (a b : Served) (status : ℕ) → (status ≡ 0 → ⊥) → IsAccountedFor n a b status → IsAccountedFor (rest + n) a b status
+raised rest n a b status not_done so_far = record {
+  begins = let now = so_far.begins in omega (arith, now);
+  all_begun = λ is. absurd (not_done is);
+  missing = so_far.missing;
+  found = so_far.found;
+  too_long = so_far.too_long;
+  over = so_far.over;
+  short = so_far.short;
+  within = so_far.within;
+}
+
+-- ---- one end
+
+pub go_on-agrees : {A : Type 0} (judged : Result A Verdict) (next : A → Script) → ((value : A) → Agree Same (next value)) → Agree Same (go_on judged next)
+go_on-agrees (Ok value) next each = each value
+go_on-agrees (Err verdict) next each = λ v w p q. ap outcome (p ∙ sym q)
+
+-- ---- the kinds of answers
+
+-- a file is refused, and nothing is answered
+abbrev pub IsRefusal : Verdict → Type 0
+IsRefusal (Answered kind text) = ⊥
+IsRefusal (Refused name text) = ⊤
+
+abbrev pub OnlyRefuses : {A : Type 0} → Result A Verdict → Type 0
+OnlyRefuses (Ok value) = ⊤
+OnlyRefuses (Err verdict) = IsRefusal verdict
+
+refusal-kind : (kinds : List AnswerKind) (w v : Verdict) → IsRefusal w → v ≡ w → IsOfKind kinds v
+refusal-kind kinds (Answered kind text) v is e = absurd is
+refusal-kind kinds (Refused name text) v is e = subst (IsOfKind kinds) (sym e) tt
+
+pub go_on-kinds : {A : Type 0} (kinds : List AnswerKind) (judged : Result A Verdict) (next : A → Script) → OnlyRefuses judged →
+    ((value : A) → AreOfKind kinds (next value)) → AreOfKind kinds (go_on judged next)
+go_on-kinds kinds (Ok value) next only each = each value
+go_on-kinds kinds (Err verdict) next only each = λ v is. refusal-kind kinds verdict v only is
+
+pub told-only : {A Why : Type 0} (words : Why → Verdict) (read : Result A Why) → ((why : Why) → IsRefusal (words why)) → OnlyRefuses (told words read)
+told-only words (Ok value) each = tt
+told-only words (Err why) each = each why
+
+pub unless-only : {A : Type 0} (wrong : Option Verdict) (judged : Result A Verdict) → IfSome wrong IsRefusal → OnlyRefuses judged →
+    OnlyRefuses (unless wrong judged)
+unless-only None judged refusal only = only
+unless-only (Some verdict) judged refusal only = refusal
+
+pub then-only : {A B : Type 0} (first : Result A Verdict) (next : A → Result B Verdict) → OnlyRefuses first → ((value : A) → OnlyRefuses (next value)) →
+    OnlyRefuses (then_judged first next)
+then-only (Ok value) next only each = each value
+then-only (Err verdict) next only each = only
+
+-- ---- what the desk served of a file that is refused
+
+early : (rest : ℕ) (a b : Served) (status : ℕ) → (status ≡ 2) ⊎ (status ≡ 9) → IsAccountedFor 1 a b 0 → IsAccountedFor (rest + 1) a b status
+early rest a b status stopped first =
+    raised rest 1 a b status (λ is. omega (arith, is, stopped))
+    (accounted_as a b status (λ e. omega (arith, e, stopped)) (λ e. omega (arith, e, stopped)) first)
+
+refusal-status : (verdict : Verdict) (status : ℕ) → IsRefusal verdict → status ≡ status_in (outcome verdict) → status ≡ 2
+refusal-status (Answered kind text) status is e = absurd is
+refusal-status (Refused name text) status is e = e
+
+-- it stops the command, and the rest of its files isn't begun
+pub stopped_accounted : {A : Type 0} (rest : ℕ) (a b : Served) (judged : Result A Verdict) (refusal : Stop) → OnlyRefuses judged → IsStopped judged refusal →
+    IsAccountedFor 1 a b 0 →
+    IsAccountedFor (rest + 1) a b (due_refusal refusal).status
+stopped_accounted rest a b judged refusal only (inl (verdict, is, due)) first =
+    early rest a b _ (inl (refusal-status verdict _ (subst OnlyRefuses is only) (ap status_in due))) first
+stopped_accounted rest a b judged refusal only (inr memory) first = early rest a b _ (inr (ap status_in memory)) first
+
+-- ---- the cards of ballots
+
+placed-only : (name : List ℕ) (ballots : BallotFile) (batches : Batches) → IfSome (without_card name ballots batches) IsRefusal
+placed-only name ballots batches = by (first_without_card batches ballots) where
+  by : (first : Option ℕ) → IfSome (option_map (no_card name) first) IsRefusal
+  by None = tt
+  by (Some at) = tt
+
+pub cards-only : (name : List ℕ) (ballots : BallotFile) (manifest bytes : List ℕ) → OnlyRefuses (cards_for name ballots manifest bytes)
+cards-only name ballots manifest bytes =
+    then-only (told (refused_manifest manifest) (manifest_of bytes)) _ (told-only (refused_manifest manifest) (manifest_of bytes) (λ why. tt))
+    (λ batches. unless-only (without_card name ballots batches) _ (placed-only name ballots batches) tt)

@@ -1,0 +1,62 @@
+-- What is judged of files, one thing after the other.
+use Rattle.std.proofs.Common.{◌≡◌, ◌∙◌, inl, inr, ℕ, List, Option, None, Some, ok_or, Result, Ok, Err, refl, sym, ap, ap₂, subst}
+use Rattle.cli_base.specs.Outcome.{Outcome, Verdict, outcome, file_refusal, broken_at}
+use Rattle.cli_base.specs.Due.{due_refusal, IsOrMemory}
+use Rattle.cli_base.specs.declared.outcome.Refusal.{Refusal as Stop}
+use Rattle.cli_base.specs.declared.outcome.RefusalKind.TheVariants.{Input}
+use Rattle.input_files.specs.Judged.{told, unless, then_judged, IsTold, IsStopped, IsJudged}
+
+-- ---- one file
+
+-- a rule refuses it
+pub refused_by_rule : {A Why : Type 0} (words : Why → Verdict) (name word : List ℕ) (read : Result A Why) (why : Why) (rule text : List ℕ) (at : ℕ)
+    (refusal : Stop) →
+    read ≡ Err why → outcome (words why) ≡ file_refusal Input name (broken_at rule at) →
+    word ≡ name → text ≡ rule → IsOrMemory (file_refusal Input word (broken_at text at)) (due_refusal refusal) → IsStopped (told words read) refusal
+refused_by_rule words name word read why rule text at refusal is shown called named (inl due) =
+    inl (words why, ap (told words) is, due ∙ ap₂ (λ n t. file_refusal Input n (broken_at t at)) called named ∙ sym shown)
+refused_by_rule words name word read why rule text at refusal is shown called named (inr memory) = inr memory
+
+-- what is told of it is what it says
+pub said : {A Why : Type 0} (words : Why → Verdict) (read : Result A Why) (value : A) → told words read ≡ Ok value → read ≡ Ok value
+said words (Ok x) value is = cc
+said words (Err why) value is = absurd (cc is)
+
+-- ---- what is wrong comes first
+
+pub unless_stopped : {A : Type 0} (wrong : Option Verdict) (judged : Result A Verdict) (refusal : Stop) → IsTold wrong (due_refusal refusal) →
+    IsStopped (unless wrong judged) refusal
+unless_stopped None judged refusal memory = inr memory
+unless_stopped (Some verdict) judged refusal (inl due) = inl (verdict, refl, due)
+unless_stopped (Some verdict) judged refusal (inr memory) = inr memory
+
+pub unless_passed : {A : Type 0} (wrong : Option Verdict) (judged : Result A Verdict) → wrong ≡ None → unless wrong judged ≡ judged
+unless_passed wrong judged none = ap (λ w. unless w judged) none
+
+pub unless_judged : {A : Type 0} (wrong : Option Verdict) (judged : Result A Verdict) (result : Result A Stop) → wrong ≡ None → IsJudged judged result →
+    IsJudged (unless wrong judged) result
+unless_judged wrong judged result none is = subst (λ j. IsJudged j result) (sym (unless_passed wrong judged none)) is
+
+-- ---- one after the other
+
+pub then_passed : {A B : Type 0} (first : Result A Verdict) (next : A → Result B Verdict) (value : A) → first ≡ Ok value → then_judged first next ≡ next value
+then_passed first next value is = ap (λ f. then_judged f next) is
+
+pub then_stopped : {A B : Type 0} (first : Result A Verdict) (next : A → Result B Verdict) (refusal : Stop) → IsStopped first refusal →
+    IsStopped (then_judged first next) refusal
+then_stopped first next refusal (inl (verdict, is, due)) = inl (verdict, ap (λ f. then_judged f next) is, due)
+then_stopped first next refusal (inr memory) = inr memory
+
+pub next_stopped : {A B : Type 0} (first : Result A Verdict) (next : A → Result B Verdict) (value : A) (refusal : Stop) → first ≡ Ok value →
+    IsStopped (next value) refusal → IsStopped (then_judged first next) refusal
+next_stopped first next value refusal is stopped = subst (λ j. IsStopped j refusal) (sym (then_passed first next value is)) stopped
+
+-- ---- nothing is said
+
+pub refused_or : {A : Type 0} (content : Option A) (verdict : Verdict) (refusal : Stop) → content ≡ None → IsOrMemory (outcome verdict) (due_refusal refusal) →
+    IsStopped (ok_or content verdict) refusal
+refused_or content verdict refusal none (inl due) = inl (verdict, ap (λ s. ok_or s verdict) none, due)
+refused_or content verdict refusal none (inr memory) = inr memory
+
+pub told_as : (wrong : Option Verdict) (verdict : Verdict) (due : Outcome) → wrong ≡ Some verdict → IsOrMemory (outcome verdict) due → IsTold wrong due
+told_as wrong verdict due is told = subst (λ w. IsTold w due) (sym is) told

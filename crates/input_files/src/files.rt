@@ -1,0 +1,113 @@
+// What the bytes of a file say, one function for each kind of file.
+ghost use Rattle.std.specs.Prelude.{◌≡◌, ◌≤◌, length, option_copied};
+ghost use Rattle.desk.specs.Count.{Rose};
+ghost use Rattle.irv_base.specs.declared.limits.TheConstants.{ROOM};
+ghost use Rattle.assertion_file.specs.Reading.{assertion_file_of};
+ghost use Rattle.ballot_reader.specs.Grammar.{ballots_of};
+ghost use Rattle.manifest.specs.Manifest.{manifest_of};
+ghost use Rattle.seen_file.specs.Reading.{seen_of};
+ghost use Rattle.cli_base.specs.Accounts.{IsAccountedFor};
+ghost use Rattle.cli_base.specs.Due.{IsRead, status_so_far};
+ghost use Rattle.cli_base.specs.Script.{ByDesk};
+ghost use Rattle.input_files.specs.Judged.{IsJudged, told};
+ghost use Rattle.input_files.specs.Refusals.{refused_assertions, refused_ballots, refused_manifest, refused_seen};
+
+use assertion_file::{AssertionFile, FileFault, read_file};
+use ballot_reader::{BallotFault, Ballots, read_ballots};
+use cli_base::{Refusal, read_file as read_whole, refuse_at};
+use command::FileName;
+use desk::Desk;
+use irv_base::Name;
+use manifest::{Manifest, ManifestFault, read_manifest};
+use seen_file::{SeenCards, SeenFault, read_seen};
+use std::alloc::Global;
+
+/// All bytes of the file with this name, or why the call stops there.
+pub fn bytes_of<D: Desk>(alloc: Global, desk: &mut D, file: &FileName) -> Result<Vec<u8>, Refusal>
+    ensures held { D.held desk.new ≡ D.held desk.old }
+    ensures later { D.faults desk.old ≤ D.faults desk.new }
+    ensures read { IsRead
+        (ByDesk (D.held desk.old) (Rose (D.faults desk.old) (D.faults desk.new))) file.now result }
+    ensures served { IsAccountedFor 1
+        (D.served desk.old) (D.served desk.new) (status_so_far result) }
+{
+    read_whole(alloc, desk, file.as_str())
+}
+
+/// The ballots of the contest with this id, or of the only one, in the bytes of the file with this name; or the rule that refuses them.
+pub fn ballots_in(
+    alloc: Global,
+    file: &FileName,
+    bytes: &[u8],
+    contest: Option<&Name>,
+) -> Result<Ballots, Refusal>
+    ensures { IsJudged (told (refused_ballots file.now)
+        (ballots_of bytes.now (option_copied contest.entry))) result }
+{
+    match read_ballots(alloc, bytes, contest) {
+        Ok(ballots) => Ok(ballots),
+        Err(BallotFault::Refused { rule, at }) => Err(refuse_at(
+            alloc,
+            file.as_str(),
+            rule.name(),
+            u64::from(at),
+        )),
+        Err(BallotFault::Memory) => Err(Refusal::Memory),
+    }
+}
+
+/// The manifest in the bytes of the file with this name, or the rule that refuses them.
+pub fn manifest_in(alloc: Global, file: &FileName, bytes: &[u8]) -> Result<Manifest, Refusal>
+    ensures { IsJudged (told (refused_manifest file.now) (manifest_of bytes.now)) result }
+{
+    match read_manifest(alloc, bytes) {
+        Ok(manifest) => Ok(manifest),
+        Err(ManifestFault::Refused { rule, at }) => Err(refuse_at(
+            alloc,
+            file.as_str(),
+            rule.name(),
+            u64::from(at),
+        )),
+        Err(ManifestFault::Memory) => Err(Refusal::Memory),
+    }
+}
+
+/// The assertions in the bytes of the file with this name, or the rule that refuses them.
+pub fn assertions_in(alloc: Global, file: &FileName, bytes: &[u8]) -> Result<AssertionFile, Refusal>
+    ensures { IsJudged (told (refused_assertions file.now) (assertion_file_of bytes.now)) result }
+{
+    match read_file(alloc, bytes) {
+        Ok(assertions) => Ok(assertions),
+        Err(FileFault::Refused { rule, at }) => Err(refuse_at(
+            alloc,
+            file.as_str(),
+            rule.name(),
+            at,
+        )),
+        Err(FileFault::Memory) => Err(Refusal::Memory),
+    }
+}
+
+/// What is seen of the manifest's cards in the bytes of the file with this name, or the rule that refuses them.
+pub fn seen_in(
+    alloc: Global,
+    file: &FileName,
+    manifest: &Manifest,
+    candidates: &[Name],
+    bytes: &[u8],
+) -> Result<SeenCards, Refusal>
+    requires { length candidates.now ≤ ROOM }
+    ensures { IsJudged (told (refused_seen file.now)
+        (seen_of manifest.now candidates.now bytes.now)) result }
+{
+    match read_seen(alloc, bytes, manifest, candidates) {
+        Ok(seen) => Ok(seen),
+        Err(SeenFault::Refused { rule, at }) => Err(refuse_at(
+            alloc,
+            file.as_str(),
+            rule.name(),
+            u64::from(at),
+        )),
+        Err(SeenFault::Memory) => Err(Refusal::Memory),
+    }
+}

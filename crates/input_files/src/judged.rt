@@ -1,0 +1,27 @@
+// What is wrong with a file is told by its name.
+ghost use Rattle.std.specs.Prelude.{◌≡◌, List, ℕ, IfOk, string_bytes};
+ghost use Rattle.cli_base.specs.Due.{due_refusal, IsOrMemory};
+ghost use Rattle.cli_base.specs.Outcome.{Refused, outcome};
+ghost use Rattle.input_files.specs.Refusals.{no_record_text};
+
+use cli_base::{Refusal, RefusalKind, refuse};
+use command::FileName;
+use std::alloc::{AllocError, Global};
+
+/// A refusal of the file with this name, for the reason that the text tells.
+pub fn refuse_for(alloc: Global, file: &FileName, text: Result<String, AllocError>) -> Refusal
+    ensures { (message : List ℕ) → IfOk text (λ text. string_bytes text ≡ message)
+        → IsOrMemory (outcome (Refused file.now message)) (due_refusal result) }
+{
+    match text {
+        Ok(text) => refuse(alloc, RefusalKind::Input, file.as_str(), text.as_str()),
+        Err(_) => Refusal::Memory,
+    }
+}
+
+/// A seen file has no record of the card of draw `k`.
+pub fn no_record_text(alloc: Global, card: u32, k: u32) -> Result<String, AllocError>
+    ensures { IfOk result (λ text. string_bytes text ≡ no_record_text card k) }
+{
+    format!(in alloc; "V4 card {card} draw {k}")
+}

@@ -1,0 +1,10 @@
+//! The bytes of a file that a command has read, judged: what they say, or a refusal that names the file, the rule and the place.
+#![tactic(auto)]
+
+mod cards;
+mod files;
+mod judged;
+
+pub use cards::{Cards, cards_for};
+pub use files::{assertions_in, ballots_in, bytes_of, manifest_in, seen_in};
+pub use judged::{no_record_text, refuse_for};

@@ -1,0 +1,123 @@
+// The ids of batches, and which batch has one.
+ghost use Rattle.std.specs.Prelude.{◌≡◌, ◌≤◌, ◌<◌, ◌++◌, ◌∷◌, [], Some, IfOk, IfSome, OnOk, false, length, position, slice_get};
+ghost use Rattle.irv_base.specs.Names.{is_among, is_same};
+ghost use Rattle.ballot_reader.specs.Ids.{digest};
+ghost use Rattle.manifest.specs.BatchIds.{place_in};
+
+use irv_base::{Memory, Name};
+use std::alloc::Global;
+use std::collections::BTreeMap;
+use std::hash::{FoldHasher, Hasher};
+use std::marker::Model;
+
+/// The ids of batches, none of which stands twice.
+///
+/// Each id has a place in a table, and the first one of a place is found there. Which ids share a place can be foreseen, and a file may
+/// have many of these: those that come later to their place are kept in order, so that none is slow to find.
+///
+/// To a contract it is the list of the ids.
+#[derive(Drop)]
+pub struct BatchIds {
+    ids: Vec<Name>,
+    // at each place the number of the first id that has it, counted from 1, or 0
+    table: Vec<u32>,
+    // the indices of those that came later to their place
+    later: BTreeMap<Vec<u8>, u32>,
+    alloc: Global,
+}
+
+impl Model for BatchIds {
+    ghost use Rattle.std.specs.Prelude.{List};
+    ghost use Rattle.std.specs.BTreeMap.{get_by};
+    ghost use Rattle.std.specs.Cmp.Lexicographic.{slice_cmp};
+    ghost use Rattle.std.specs.Ordering.{nat_cmp};
+    ghost use Rattle.irv_base.specs.Names.{Id};
+    ghost use Rattle.manifest.specs.BatchIds.{IsTable};
+
+    ghost Value = { List Id };
+
+    ghost view = { λ b. b.ids.items };
+
+    ghost invariant = { λ b. IsTable b.ids.items b.table.items
+        (λ id. get_by (λ key. slice_cmp nat_cmp id key.items) b.later) };
+}
+
+fn digest(id: &[u8]) -> u64
+    ensures { result ≡ digest id.now }
+{
+    let mut hasher = FoldHasher::default();
+    hasher.write(id);
+    hasher.finish()
+}
+
+// The place of an id in a table of so many.
+fn place_in(places: usize, id: &[u8]) -> usize
+    requires { 1 ≤ places }
+    ensures place { result ≡ place_in places id.now }
+    ensures within { result < places }
+{
+    (digest(id) % places as u64) as usize
+}
+
+impl BatchIds {
+    /// No ids, with a table of one place more than `places`.
+    pub fn nothing(alloc: Global, places: usize) -> Result<BatchIds, Memory>
+        ensures { IfOk result (λ ids. ids ≡ []) }
+    {
+        Ok(BatchIds {
+            ids: Vec::new(alloc),
+            table: vec![in alloc; 0; places.saturating_add(1)]?,
+            later: BTreeMap::new(alloc),
+            alloc,
+        })
+    }
+
+    /// The id with index `i`.
+    pub fn at(&self, i: usize) -> Name
+        requires { i < length self.now }
+        ensures { slice_get self.now i ≡ Some result }
+    {
+        self.ids[i]
+    }
+
+    /// The index of the id, if it is one of them.
+    pub fn index_of(&self, id: &Name) -> Option<usize>
+        ensures index { result ≡ position (is_same id.now) self.now }
+        ensures within { IfSome result (λ i. i < length self.now) }
+    {
+        let first = self.table[place_in(self.table.len(), id.bytes())];
+        if first == 0 {
+            return None;
+        }
+        let i = first as usize - 1;
+        if self.ids[i] == *id {
+            return Some(i);
+        }
+        match self.later.get(id.bytes()) {
+            Some(i) => Some(*i as usize),
+            None => None,
+        }
+    }
+
+    /// Puts an id last that isn't one of them. As many as `u32::MAX` are want of memory.
+    pub fn push(&mut self, id: Name) -> Result<(), Memory>
+        requires { is_among self.old id ≡ false }
+        ensures { OnOk result (self.new ≡ self.old ++ id ∷ []) }
+    {
+        let index = self.ids.len();
+        if index >= u32::MAX as usize {
+            return Err(Memory);
+        }
+        self.ids.reserve(1)?;
+        let place = place_in(self.table.len(), id.bytes());
+        if self.table[place] == 0 {
+            self.table[place] = index as u32 + 1;
+            self.ids.push_reserved(id);
+            return Ok(());
+        }
+        let key = Vec::from_slice(self.alloc, id.bytes())?;
+        self.later.insert(key, index as u32)?;
+        self.ids.push_reserved(id);
+        Ok(())
+    }
+}

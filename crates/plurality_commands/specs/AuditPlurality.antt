@@ -1,0 +1,66 @@
+-- `plurality SESSION BALLOTS MANIFEST SEEN`: the session of a plurality contest goes on by a round.
+use Rattle.std.specs.Prelude.{ℕ, List, [], ◌∷◌, length, Result, Ok}
+use Rattle.ballot_reader.specs.Ballots.{BallotFile}
+use Rattle.manifest.specs.Cards.{Batches, cards_of}
+use Rattle.manifest.specs.Linked.{linked_of}
+use Rattle.session_state.specs.Content.{Content}
+use Rattle.command.specs.declared.audit_plurality.AuditPluralityTask.{AuditPluralityTask}
+use Rattle.cli_base.specs.Outcome.{Verdict}
+use Rattle.cli_base.specs.Script.{Script, Read}
+use Rattle.cli_base.specs.declared.outcome.AnswerKind.{AnswerKind}
+use Rattle.cli_base.specs.declared.outcome.AnswerKind.TheVariants.{Done, Tie, Unconfirmed}
+use Rattle.input_files.specs.Judged.{then_judged, unless, go_on}
+use Rattle.plurality.specs.Plural.{Outcome, values_of}
+use Rattle.session_commands.specs.Refusals.{other_digest, without_facts}
+use Rattle.session_commands.specs.Rounds.{same_ballots, same_manifest, session_to_go_on, with_seen}
+use Rattle.plurality_commands.specs.Outcome.{if_won}
+
+module _ (task : AuditPluralityTask) where
+  -- the session goes on, and is one of no assertion file: it has the digest of no bytes
+  abbrev pub plural_session : List ℕ → Result Content Verdict
+  plural_session bytes =
+      then_judged (session_to_go_on task.session task.draws bytes) (λ session.
+      unless (other_digest task.session session.digests.assertions []) (Ok session))
+
+  -- the session has the cards, the contest and the margins that the ballots give
+  abbrev pub same_facts :
+      Content → BallotFile → Batches → Outcome → Result Content Verdict
+  same_facts session ballots batches outcome =
+      unless
+      (without_facts task.session session (length (cards_of batches)) ballots.contest
+      outcome.margins)
+      (Ok session)
+
+  -- ---- the files, the last one first
+
+  -- what is seen of the cards is read, and the session goes on by the claims of the outcome
+  abbrev pub after_facts : Content → BallotFile → Batches → Outcome → Script
+  after_facts session ballots batches outcome =
+      with_seen task.session task.seen task.draws session (values_of outcome) batches
+      (linked_of batches ballots) ballots.candidates
+
+  -- the session has to be one of the inputs
+  abbrev pub after_count : Content → BallotFile → Batches → Outcome → Script
+  after_count session ballots batches outcome =
+      go_on (same_facts session ballots batches outcome) (λ same.
+      after_facts same ballots batches outcome)
+
+  -- once the ballots have their cards, they are counted
+  abbrev pub after_manifest : Content → BallotFile → Batches → Script
+  after_manifest session ballots batches = if_won ballots (after_count session ballots batches)
+
+  abbrev pub after_ballots : Content → BallotFile → Script
+  after_ballots session ballots = Read task.manifest (λ bytes.
+      go_on (same_manifest task.ballots task.manifest session ballots bytes)
+      (after_manifest session ballots))
+
+  abbrev pub after_session : Content → Script
+  after_session session = Read task.ballots (λ bytes.
+      go_on (same_ballots task.ballots session bytes) (after_ballots session))
+
+  abbrev pub script : Script
+  script = Read task.session (λ bytes. go_on (plural_session bytes) after_session)
+
+-- the kinds of its answers
+abbrev pub kinds : List AnswerKind
+kinds = Done ∷ Tie ∷ Unconfirmed ∷ []

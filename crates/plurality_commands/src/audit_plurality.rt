@@ -1,0 +1,205 @@
+// `plurality SESSION BALLOTS MANIFEST SEEN`: the session of a plurality contest goes on by a round.
+ghost use Rattle.std.specs.Prelude.{◌≡◌, ◌≤◌, length, None, Ok, IfOk, IfErr};
+ghost use Rattle.desk.specs.Count.{Rose};
+ghost use Rattle.irv_base.specs.declared.limits.TheConstants.{MOST_DRAWS};
+ghost use Rattle.manifest.specs.Cards.{cards_of};
+ghost use Rattle.manifest.specs.Linked.{linked_of};
+ghost use Rattle.cli_base.specs.Accounts.{IsAccountedFor};
+ghost use Rattle.cli_base.specs.Due.{due, due_refusal};
+ghost use Rattle.cli_base.specs.Script.{ByDesk, MayOrMemory};
+ghost use Rattle.input_files.specs.Judged.{IsJudged, IsTold};
+ghost use Rattle.session_state.specs.Inputs.{HasFacts};
+ghost use Rattle.session_commands.specs.Refusals.{without_facts};
+ghost use Rattle.session_commands.specs.Rounds.{MayGoOn};
+ghost use Rattle.plurality_commands.specs.AuditPlurality.{after_ballots, after_count, after_facts, after_manifest, after_session, plural_session, script};
+ghost use Rattle.plurality_commands.specs.Outcome.{outcome_in};
+
+use crate::no_winner::no_winner;
+use ballot_reader::Ballots;
+use cli_base::{Answer, Refusal, RefusalKind, refuse};
+use command::AuditPluralityTask;
+use desk::Desk;
+use input_files::{Cards, bytes_of};
+use plurality::{Plural, plurality};
+use session_commands::{
+    RoundTask, same_ballots, same_digest, same_manifest, session_to_go_on, with_seen,
+};
+use session_state::{InputFault, Session, same_facts as same_inputs};
+use std::alloc::Global;
+
+/// The session with one round more, up to so many draws in all, by the claims of the ballots' outcome.
+pub fn answer<D: Desk>(
+    alloc: Global,
+    desk: &mut D,
+    task: &AuditPluralityTask,
+) -> Result<Answer, Refusal>
+    requires { task.now.draws ≤ MOST_DRAWS }
+    ensures held { D.held desk.new ≡ D.held desk.old }
+    ensures later { D.faults desk.old ≤ D.faults desk.new }
+    ensures due { MayOrMemory
+        (ByDesk (D.held desk.old) (Rose (D.faults desk.old) (D.faults desk.new)))
+        (script task.now) (due result) }
+    ensures served { IsAccountedFor 4 (D.served desk.old) (D.served desk.new) (due result).status }
+{
+    let bytes = bytes_of(alloc, desk, &task.session)?;
+    let session = plural_session(alloc, task, &bytes)?;
+    after_session(alloc, desk, task, session)
+}
+
+// The session in the bytes of its file, which goes on and has no assertion file.
+fn plural_session(
+    alloc: Global,
+    task: &AuditPluralityTask,
+    bytes: &[u8],
+) -> Result<Session, Refusal>
+    requires { task.now.draws ≤ MOST_DRAWS }
+    ensures read { IsJudged (plural_session task.now bytes.now) result }
+    ensures fewer { IfOk result (MayGoOn task.now.draws) }
+{
+    let session = session_to_go_on(alloc, &task.session, task.draws, bytes)?;
+    same_digest(alloc, &task.session, &session.digests().assertions, &[])?;
+    Ok(session)
+}
+
+// The ballots of the session's contest are read.
+fn after_session<D: Desk>(
+    alloc: Global,
+    desk: &mut D,
+    task: &AuditPluralityTask,
+    session: Session,
+) -> Result<Answer, Refusal>
+    requires { MayGoOn task.now.draws session }
+    ensures held { D.held desk.new ≡ D.held desk.old }
+    ensures later { D.faults desk.old ≤ D.faults desk.new }
+    ensures due { MayOrMemory
+        (ByDesk (D.held desk.old) (Rose (D.faults desk.old) (D.faults desk.new)))
+        (after_session task.now session) (due result) }
+    ensures served { IsAccountedFor 3 (D.served desk.old) (D.served desk.new) (due result).status }
+{
+    let bytes = bytes_of(alloc, desk, &task.ballots)?;
+    let ballots = same_ballots(alloc, &task.ballots, &session, &bytes)?;
+    after_ballots(alloc, desk, task, session, &ballots)
+}
+
+// The manifest is read, in which each ballot has a card.
+fn after_ballots<D: Desk>(
+    alloc: Global,
+    desk: &mut D,
+    task: &AuditPluralityTask,
+    session: Session,
+    ballots: &Ballots,
+) -> Result<Answer, Refusal>
+    requires { MayGoOn task.now.draws session }
+    ensures held { D.held desk.new ≡ D.held desk.old }
+    ensures later { D.faults desk.old ≤ D.faults desk.new }
+    ensures due { MayOrMemory
+        (ByDesk (D.held desk.old) (Rose (D.faults desk.old) (D.faults desk.new)))
+        (after_ballots task.now session ballots.now) (due result) }
+    ensures served { IsAccountedFor 2 (D.served desk.old) (D.served desk.new) (due result).status }
+{
+    let bytes = bytes_of(alloc, desk, &task.manifest)?;
+    let cards = same_manifest(
+        alloc,
+        &task.ballots,
+        &task.manifest,
+        &session,
+        ballots,
+        &bytes,
+    )?;
+    count(alloc, desk, task, session, ballots, &cards)
+}
+
+// The ballots are counted, once they have their cards.
+fn count<D: Desk>(
+    alloc: Global,
+    desk: &mut D,
+    task: &AuditPluralityTask,
+    session: Session,
+    ballots: &Ballots,
+    cards: &Cards,
+) -> Result<Answer, Refusal>
+    requires may { MayGoOn task.now.draws session }
+    requires linked { cards.now.linked ≡ linked_of cards.now.manifest ballots.now }
+    ensures held { D.held desk.new ≡ D.held desk.old }
+    ensures later { D.faults desk.old ≤ D.faults desk.new }
+    ensures due { MayOrMemory
+        (ByDesk (D.held desk.old) (Rose (D.faults desk.old) (D.faults desk.new)))
+        (after_manifest task.now session ballots.now cards.now.manifest) (due result) }
+    ensures served { IsAccountedFor 1 (D.served desk.old) (D.served desk.new) (due result).status }
+{
+    match plurality(alloc, ballots) {
+        Ok(plural) => after_count(alloc, desk, task, session, ballots, cards, &plural),
+        Err(fault) => no_winner(alloc, ballots, fault),
+    }
+}
+
+// The session has to be one of the cards, and of the margins of the outcome; then it goes on by the claims of the outcome.
+fn after_count<D: Desk>(
+    alloc: Global,
+    desk: &mut D,
+    task: &AuditPluralityTask,
+    session: Session,
+    ballots: &Ballots,
+    cards: &Cards,
+    plural: &Plural,
+) -> Result<Answer, Refusal>
+    requires may { MayGoOn task.now.draws session }
+    requires linked { cards.now.linked ≡ linked_of cards.now.manifest ballots.now }
+    requires counted { outcome_in ballots.now ≡ Ok plural.now }
+    ensures held { D.held desk.new ≡ D.held desk.old }
+    ensures later { D.faults desk.old ≤ D.faults desk.new }
+    ensures due { MayOrMemory
+        (ByDesk (D.held desk.old) (Rose (D.faults desk.old) (D.faults desk.new)))
+        (after_count task.now session ballots.now cards.now.manifest plural.now) (due result) }
+    ensures served { IsAccountedFor 1 (D.served desk.old) (D.served desk.new) (due result).status }
+{
+    same_facts(
+        alloc,
+        task,
+        &session,
+        cards.manifest.cards(),
+        ballots,
+        plural,
+    )?;
+    let round = RoundTask {
+        session: &task.session,
+        seen: &task.seen,
+        draws: task.draws,
+    };
+    with_seen(
+        alloc,
+        desk,
+        &round,
+        session,
+        plural,
+        cards,
+        ballots.candidates(),
+    )
+}
+
+// The session has so many cards, and the contest and the margins of the ballots' outcome.
+fn same_facts(
+    alloc: Global,
+    task: &AuditPluralityTask,
+    session: &Session,
+    cards: u32,
+    ballots: &Ballots,
+    plural: &Plural,
+) -> Result<(), Refusal>
+    ensures facts { IfOk result (λ _.
+        HasFacts session.now cards ballots.now.contest plural.now.margins) }
+    ensures same { IfOk result (λ _.
+        without_facts task.now.session session.now cards ballots.now.contest plural.now.margins
+        ≡ None) }
+    ensures refused { IfErr result (λ refusal.
+        IsTold (without_facts task.now.session session.now cards
+        ballots.now.contest plural.now.margins) (due_refusal refusal)) }
+{
+    let same = session.cards() == cards
+        && session.contest().bytes() == ballots.contest().bytes()
+        && session.margins() == plural.margins();
+    if same {
+        return Ok(());
+    }
+    Err(refuse(alloc, RefusalKind::Input, task.session.as_str(), "S5"))
+}

@@ -1,0 +1,7 @@
+//! Tests of plurality contests, from the count of first preferences up to the commands, by their public calls.
+#![tactic(auto)]
+
+#[cfg(test)]
+mod outcome_tests;
+#[cfg(test)]
+mod plurality_commands_tests;

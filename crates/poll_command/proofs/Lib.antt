@@ -1,0 +1,6 @@
+pub mod Covering
+pub mod Ending
+pub mod Answered
+pub mod Polls
+pub mod Polled
+pub mod Lines

@@ -1,0 +1,4 @@
+pub mod Table
+pub mod Poll
+pub mod Said
+pub mod Examples

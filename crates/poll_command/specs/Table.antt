@@ -1,0 +1,52 @@
+-- What a poll tells: its numbers, the counts and the risk of each claim, and whether all claims are confirmed.
+use Rattle.std.specs.Prelude.{ℕ, Bool, true, false, List, [], ◌∷◌, ◌++◌, codes}
+use Rattle.std.specs.Fmt.{decimal}
+use Rattle.irv_base.specs.Names.{Id}
+use Rattle.assertions.specs.declared.assertion.Claim.{Claim}
+use Rattle.assertion_file.specs.Content.{Content}
+use Rattle.report.specs.Risks.{risk_text, state_text}
+use Rattle.report.specs.Texts.{assertion_text}
+use Rattle.polling.specs.Polls.{is_risk_within}
+use Rattle.polling.specs.declared.counts.PollCounts.{PollCounts}
+
+abbrev pub head_lines : ℕ → ℕ → ℕ → ℕ → List ℕ
+head_lines cards draws limit gamma =
+    codes "cards " ++ decimal cards ++ codes "\ndraws " ++ decimal draws
+    ++ codes "\nlimit " ++ decimal limit ++ codes "\ngamma " ++ decimal gamma ++ codes "\n"
+
+-- ---- a claim
+
+-- how many draws have each seen value, from 0 to 2
+abbrev pub counts_text : PollCounts → List ℕ
+counts_text counts =
+    decimal counts.n0 ++ codes " " ++ decimal counts.n1 ++ codes " " ++ decimal counts.n2
+
+abbrev pub claim_line : List ℕ → PollCounts → ℕ → Bool → List ℕ
+claim_line assertion counts risk confirmed =
+    assertion ++ codes " counts " ++ counts_text counts ++ codes " risk " ++ risk_text risk
+    ++ codes " " ++ state_text confirmed ++ codes "\n"
+
+-- each claim with its counts and its risk; it is confirmed where the risk is at most limit millionths
+abbrev pub claim_lines : List Id → ℕ → List Claim → List PollCounts → List ℕ → List ℕ
+claim_lines ids limit [] counts risks = []
+claim_lines ids limit (claim ∷ claims) [] risks = []
+claim_lines ids limit (claim ∷ claims) (n ∷ counts) [] = []
+claim_lines ids limit (claim ∷ claims) (n ∷ counts) (risk ∷ risks) =
+    claim_line (assertion_text ids claim.assertion) n risk (is_risk_within limit risk)
+    ++ claim_lines ids limit claims counts risks
+
+-- ---- all of them
+
+abbrev pub yes_or_no : Bool → List ℕ
+yes_or_no true = codes "yes"
+yes_or_no false = codes "no"
+
+abbrev pub last_line : Bool → List ℕ
+last_line confirmed = codes "confirmed " ++ yes_or_no confirmed ++ codes "\n"
+
+-- over so many cards and draws; the limit is in millionths, gamma in thousandths
+module _ (file : Content) (cards draws limit gamma : ℕ) where
+  abbrev pub poll_table : List PollCounts → List ℕ → Bool → List ℕ
+  poll_table counts risks confirmed =
+      head_lines cards draws limit gamma
+      ++ claim_lines file.candidates limit file.claims counts risks ++ last_line confirmed

@@ -1,0 +1,4 @@
+pub mod ValueCounts
+pub mod Limit
+pub mod IsCounted
+pub mod TwoCards

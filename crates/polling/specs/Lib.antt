@@ -1,0 +1,4 @@
+pub mod Polls
+pub mod PollLimit
+pub mod Laws
+pub mod Examples

@@ -1,0 +1,70 @@
+-- The risk limit of a poll: `PollLimit`, at the end, is what is promised; the records before it are the premises. What the terms are
+-- (`AreTerms`) and what is read of the cards (`AreReadings`) stands in `session_state/specs/RiskOfValues.antt` and `Readings.antt`, which
+-- assertions prove a winner (`Cover`) and which cards don't elect it (`MayElectAnother`) in `audit_laws/specs/Claims.antt` and
+-- `RiskLimit.antt`, when a poll confirms (`is_confirmed`) in `polling/specs/Polls.antt`.
+--
+-- A manifest of the cards and assertions are published. Cards are drawn by their numbers, each time from all of them; a drawn card is
+-- looked for, and its ranking is read by hand. After any draw the poll may be looked at. Suppose that the cards don't elect the winner
+-- that the assertions prove, or that a tie among them could be broken so that they don't. Then of all sequences of n cards those are few
+-- on which the poll confirms all assertions, at whichever draw. Nothing is asked of records, and nothing of margins.
+--
+-- Assertions, limit and gamma are given first, and the sequences are counted after: so in a poll they are fixed and published before
+-- the seed is known. Two choices of gamma together confirm on more sequences than either: of two cards that are in truth a tie, at a
+-- limit of 250,600 millionths and seven draws, 32 with gamma 1 and 12 with gamma 500, and one or the other 34 of 128, where the limit
+-- allows 32. There is one seed: a poll that is begun anew with another one is the same poll's second try. At how many draws it is
+-- looked at may be left open.
+--
+-- It is the counting law of a comparison with another factor (`PollIsComparison` and `FactorLaw` in `polling/specs/Laws.antt`,
+-- `ProductCountingLaw` in `km_risk/specs/Laws.antt`). It is a count, and speaks of no chance: that one sequence is drawn as easily as
+-- another is up to the seed.
+use Rattle.std.specs.Prelude.{◌≢◌, ℕ, ◌*◌, ◌^◌, ◌≤◌, List, length, map, take, sum_by, All, AllPairs, Contains, IsTrue}
+use Rattle.assertions.specs.declared.assertion.Assertion.{Assertion}
+use Rattle.assertions.specs.Assorter.{assorter_value}
+use Rattle.km_risk.specs.Exact.{millionths_in_one}
+use Rattle.km_risk.specs.Reach.{IsSequence}
+use Rattle.assorters.specs.declared.seen.Seen.{Seen}
+use Rattle.assorters.specs.Cards.{IsAssorter}
+use Rattle.session_state.specs.Readings.{AreReadings}
+use Rattle.session_state.specs.RiskOfValues.{AreTerms}
+use Rattle.audit_laws.specs.Claims.{Cover}
+use Rattle.audit_laws.specs.RiskLimit.{MayElectAnother}
+use Rattle.polling.specs.Polls.{is_confirmed}
+
+-- ---- what is counted
+
+module _ (limit gamma : ℕ) (values : List (List ℕ → ℕ)) (actual : List (List ℕ)) where
+  -- the poll can confirm all claims after some of these draws: some cards may be missing, and the others are read as they are
+  pub record MayBeConfirmed (draws : List ℕ) : Type 0 where
+    pub seen : List Seen
+    pub readings : AreReadings actual seen
+    pub so_far : ℕ
+    pub few : so_far ≤ length draws
+    pub confirmed : IsTrue (is_confirmed limit gamma values seen (take so_far draws))
+
+  -- it can on each of these sequences of n cards, no two of which are the same
+  pub record AreConfirmed (n : ℕ) (sequences : List (List ℕ)) : Type 0 where
+    pub drawn : All (IsSequence (length actual) n) sequences
+    pub differ : AllPairs ◌≢◌ sequences
+    pub each : All MayBeConfirmed sequences
+
+-- ---- what is promised
+
+-- of claims with values from 0 to 2, where one isn't true of the actual rankings: its values are at most 1 in the mean
+abbrev pub PollValuesLimit : Type 0
+PollValuesLimit =
+    (limit gamma n : ℕ) (values : List (List ℕ → ℕ)) (actual sequences : List (List ℕ))
+    (value : List ℕ → ℕ) →
+    AreTerms limit gamma → All IsAssorter values → Contains values value →
+    sum_by value actual ≤ length actual →
+    AreConfirmed limit gamma values actual n sequences →
+    length sequences * millionths_in_one ≤ limit * length actual ^ n
+
+-- of assertions that prove a winner, where the actual rankings may elect another candidate
+abbrev pub PollLimit : Type 0
+PollLimit =
+    (candidates winner limit gamma n : ℕ) (assertions : List Assertion)
+    (actual sequences : List (List ℕ)) →
+    Cover candidates winner assertions → AreTerms limit gamma →
+    MayElectAnother candidates winner (length actual) actual →
+    AreConfirmed limit gamma (map assorter_value assertions) actual n sequences →
+    length sequences * millionths_in_one ≤ limit * length actual ^ n

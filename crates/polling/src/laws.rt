@@ -1,0 +1,30 @@
+//! What a poll promises: each law holds of every value that it names, and has no code.
+ghost use Rattle.std.specs.Prelude.{ℕ};
+ghost use Rattle.polling.specs.Laws.{FactorLaw, PollIsComparison, PolledIsCounted};
+ghost use Rattle.polling.specs.PollLimit.{PollLimit, PollValuesLimit};
+
+/// Where the actual rankings of the cards may elect another candidate than a set of assertions proves, the poll can confirm
+/// all of them on at most `limit` millionths of all sequences of `n` cards.
+pub fn poll_limit()
+    ensures { PollLimit }
+{}
+
+/// The same of any claims, where one isn't true of the actual rankings.
+pub fn poll_values_limit()
+    ensures { PollValuesLimit }
+{}
+
+/// A poll that confirms claims by the draws of a seed is among those that the limit counts.
+pub fn polled_is_counted()
+    ensures { PolledIsCounted }
+{}
+
+/// A poll prints the risk of a comparison at one card and a margin of one vote.
+pub fn poll_is_comparison()
+    ensures { PollIsComparison }
+{}
+
+/// The factor of a draw there.
+pub fn factor()
+    ensures { (gamma s : ℕ) → FactorLaw gamma s }
+{}

@@ -1,0 +1,13 @@
+//! Ballot polling: the assertions of a file are audited by what is seen of drawn cards alone, where no card can be matched
+//! with its record (Stark, SHANGRLA, section 3).
+#![tactic(auto)]
+
+mod counts;
+mod end;
+pub mod examples;
+mod fault;
+pub mod laws;
+
+pub use counts::{PollCounts, poll_risk};
+pub use end::{PollEnd, poll};
+pub use fault::PollFault;

@@ -1,0 +1,145 @@
+-- Status 0 of a trim comes with the trimmed file.
+use Rattle.std.proofs.Common.{◌≡◌, ◌≤◌, ℕ, List, length, Some, Result, Ok, Err, refl, sym, subst}
+use Rattle.desk.specs.Desk.{File}
+use Rattle.ballot_reader.specs.Ballots.{BallotFile}
+use Rattle.ballot_reader.specs.Grammar.{ballots_of}
+use Rattle.assertion_file.specs.Content.{Content, HasNames, IsSound, IsSoundClaim, candidate_count}
+use Rattle.assertion_file.specs.Reading.{assertion_file_of}
+use Rattle.assertion_file.specs.Text.{assertion_file_text}
+use Rattle.assertion_file.proofs.Printed.{printed_reads_back}
+use Rattle.assertion_file.proofs.SoundFiles.{read_is_sound, read_keeps}
+use Rattle.cover_checker.specs.Checks.{IsAnswer}
+use Rattle.cover_checker.specs.Findings.{Answer}
+use Rattle.cover_checker.specs.declared.checked.Checked.TheVariants.{OtherContest, OtherWinner, OtherMargin, Stands, NotLeast, NotAlternative, Harder, Accepted}
+use Rattle.cover_checker.specs.declared.checked.CheckFault.TheVariants.{Spent, Memory}
+use Rattle.trimmer.specs.Trimmed.{trimmed}
+use Rattle.trimmer.specs.declared.fault.TrimFault.{TrimFault}
+use Rattle.trimmer.specs.declared.fault.TrimFault.TheVariants.{Spent as TrimSpent, Memory as TrimMemory}
+use Rattle.assertions.specs.declared.assertion.Claim.{Claim}
+use Rattle.trimmer.specs.Laws.{IsPartOf}
+use Rattle.trimmer.proofs.Accepted.{all-part, trimmed_is_accepted}
+use Rattle.trimmer.proofs.Kept.{trimmed_is_irredundant}
+use Rattle.trimmer.proofs.Lefts.{trimmed_is_part}
+use Rattle.cli_base.specs.Outcome.{Answered}
+use Rattle.cli_base.specs.Script.{Script, Ends, AsHeld, ComesTo, limit}
+use Rattle.cli_base.specs.declared.outcome.AnswerKind.TheVariants.{Done}
+use Rattle.input_files.specs.Refusals.{refused_assertions, refused_ballots}
+use Rattle.trim_command.specs.Trim.{Trims, after_ballots, trim_verdict, verdict_on}
+use Rattle.raire_cli.specs.Answers.{asked, asked_by}
+use Rattle.raire_cli.specs.Trims.{AsksForTrim, AreTrimFiles, IsTrimmedOf}
+use Rattle.raire_cli.proofs.Accepted.{accepted_answer}
+use Rattle.raire_cli.proofs.Said.{said}
+
+-- what is printed is what is left
+left_of : (file : Content) (r : Result Content TrimFault) (text : List ℕ) → trim_verdict file r ≡ Some (Answered Done text) →
+    (left : Content) × (r ≡ Ok left) × (text ≡ assertion_file_text left)
+left_of file (Ok left) text told = (left, refl, cc)
+left_of file (Err (TrimSpent claim last)) text told = absurd (cc told)
+left_of file (Err TrimMemory) text told = absurd (cc told)
+
+-- a trim that has an answer has accepted its file
+trimmed_answer : (nodes : ℕ) (file : Content) (answer : Answer) (text : List ℕ) → verdict_on nodes file answer ≡ Some (Answered Done text) →
+    answer ≡ Ok Accepted
+trimmed_answer nodes file (Ok OtherContest) text told = accepted_answer file (Ok OtherContest) text told
+trimmed_answer nodes file (Ok (OtherWinner winner)) text told = accepted_answer file (Ok (OtherWinner winner)) text told
+trimmed_answer nodes file (Ok (OtherMargin index found)) text told = accepted_answer file (Ok (OtherMargin index found)) text told
+trimmed_answer nodes file (Ok (Stands order)) text told = accepted_answer file (Ok (Stands order)) text told
+trimmed_answer nodes file (Ok (NotLeast found)) text told = accepted_answer file (Ok (NotLeast found)) text told
+trimmed_answer nodes file (Ok NotAlternative) text told = accepted_answer file (Ok NotAlternative) text told
+trimmed_answer nodes file (Ok (Harder assertion margin)) text told = accepted_answer file (Ok (Harder assertion margin)) text told
+trimmed_answer nodes file (Ok Accepted) text told = refl
+trimmed_answer nodes file (Err (Spent last)) text told = accepted_answer file (Err (Spent last)) text told
+trimmed_answer nodes file (Err Memory) text told = accepted_answer file (Err Memory) text told
+
+-- a part of the claims of a file that was read reads back
+part_sound : (file : Content) (claims : List Claim) → IsPartOf claims file.claims → IsSound file → IsSound (record file { claims = claims })
+part_sound file claims part sound = record {
+  fewest = sound.fewest;
+  most = sound.most;
+  differ = sound.differ;
+  some_records = sound.some_records;
+  most_records = sound.most_records;
+  winner = sound.winner;
+  order = sound.order;
+  margin = sound.margin;
+  claims = all-part (IsSoundClaim (candidate_count file) file.records) part sound.claims;
+}
+
+part_names : (file : Content) (claims : List Claim) → HasNames file → HasNames (record file { claims = claims })
+part_names file claims names = record { contest = names.contest; candidates = names.candidates }
+
+pub trimmed_reads_back : (bytes : List ℕ) (nodes : ℕ) (file left : Content) → assertion_file_of bytes ≡ Ok file → trimmed nodes file ≡ Ok left →
+    assertion_file_of (assertion_file_text left) ≡ Ok left
+trimmed_reads_back bytes nodes file left read is =
+    let (part, same) = trimmed_is_part nodes file left is in
+    let (sound, names) = read_keeps bytes file read in
+    subst (λ content. assertion_file_of (assertion_file_text content) ≡ Ok content) (sym same)
+    (printed_reads_back (record file { claims = left.claims }) (part_sound file left.claims part sound) (part_names file left.claims names))
+
+module _ (words : List (List ℕ)) (files : List File) (asks : AsksForTrim words) (text : List ℕ) where
+  -- what a trim that answers has read, and what is left of it
+  pub record Left : Type 0 where
+    pub ballots : BallotFile
+    pub file : Content
+    pub are : AreTrimFiles asks.task files ballots file
+    pub is_short : length are.ballot_bytes ≤ limit
+    pub accepts : IsAnswer asks.task.nodes ballots file (Ok Accepted)
+    pub left : Content
+    pub is : trimmed asks.task.nodes file ≡ Ok left
+    pub shown : text ≡ assertion_file_text left
+
+  leaves : (ballots : BallotFile) (file : Content) (are : AreTrimFiles asks.task files ballots file) → length are.ballot_bytes ≤ limit →
+      Trims asks.task.nodes ballots file (Answered Done text) → Left
+  leaves ballots file are short (answer, found, told) =
+      let nodes : ℕ = asks.task.nodes in
+      let yes = trimmed_answer nodes file answer text told in
+      let (left, is, shown) = left_of file (trimmed nodes file) text (subst (λ a. verdict_on nodes file a ≡ Some (Answered Done text)) yes told) in
+      record {
+        ballots = ballots;
+        file = file;
+        are = are;
+        is_short = short;
+        accepts = subst (IsAnswer nodes ballots file) yes found;
+        left = left;
+        is = is;
+        shown = shown;
+      }
+
+  abbrev with_ballots : List ℕ → BallotFile → Script
+  with_ballots bytes ballots = after_ballots asks.task.assertions asks.task.nodes ballots
+
+  pub left_by : ComesTo (AsHeld files) (asked words) (Answered Done text) → Left
+  left_by comes =
+      let task = asks.task in
+      let is = said files task.ballots (refused_ballots task.ballots) (λ bytes. ballots_of bytes task.contest) with_ballots Done text (λ why. tt)
+      (subst (λ command. ComesTo (AsHeld files) (asked_by command) (Answered Done text)) asks.asked comes) in
+      let its = said files task.assertions (refused_assertions task.assertions) assertion_file_of (λ bytes file. Ends (Trims task.nodes is.value file)) Done
+      text (λ why. tt) is.rest in
+      leaves is.value its.value
+      (record { ballot_bytes = is.bytes; ballots_held = is.held; ballots_say = is.is; bytes = its.bytes; held = its.held; say = its.is }) is.is_short its.rest
+
+  pub reads_back : (l : Left) → assertion_file_of (assertion_file_text l.left) ≡ Ok l.left
+  reads_back l = trimmed_reads_back l.are.bytes asks.task.nodes l.file l.left l.are.say l.is
+
+  pub accepted_left : (l : Left) → IsAnswer asks.task.nodes l.ballots l.left (Ok Accepted)
+  accepted_left l = trimmed_is_accepted asks.task.nodes l.ballots l.file l.left (read_is_sound l.are.bytes l.file l.are.say) l.accepts l.is
+
+  pub printed_of : ComesTo (AsHeld files) (asked words) (Answered Done text) →
+      (left : Content) × IsTrimmedOf words files left × (text ≡ assertion_file_text left)
+  printed_of comes =
+      let l = left_by comes in
+      let (part, same) = trimmed_is_part asks.task.nodes l.file l.left l.is in (
+        l.left,
+        record {
+          asks = asks;
+          ballots = l.ballots;
+          file = l.file;
+          are = l.are;
+          reads_back = reads_back l;
+          accepted = accepted_left l;
+          part = part;
+          same = same;
+          needed = trimmed_is_irredundant asks.task.nodes l.file l.left l.is;
+        },
+        l.shown,
+      )

@@ -1,0 +1,46 @@
+-- What a round adds to the session of an audit, whatever the claims of the session are.
+use Rattle.std.specs.Prelude.{◌≡◌, ◌<◌, ◌≤◌, ℕ, List, length, map, take, All, None, IsTrue}
+use Rattle.manifest.specs.declared.recorded.Recorded.{Recorded}
+use Rattle.assorters.specs.Cards.{discrepancy_of}
+use Rattle.assorters.specs.declared.seen.Seen.{Seen}
+use Rattle.km_risk.specs.Exact.{is_within}
+use Rattle.seen_file.specs.Seen.{Entry}
+use Rattle.session_state.specs.Content.{Content, with_round}
+use Rattle.session_state.specs.Draws.{Audited, IsSessionOf, round_to}
+use Rattle.audit_session.specs.Going.{all_seen, drawn_cards}
+use Rattle.audit_session.specs.Refusals.{last_draws, without_record}
+
+-- the session so far, what is recorded of each card, and what is seen of some cards
+module _ (session : Content) (recorded : List Recorded) (entries : List Entry) where
+  abbrev pub cards : ℕ
+  cards = length recorded
+
+  -- what is seen of each card
+  abbrev pub seen : List Seen
+  seen = all_seen entries cards
+
+  -- the cards that its seed draws
+  abbrev pub drawn : ℕ → List ℕ
+  drawn draws = drawn_cards session.seed cards draws
+
+  -- with these claims
+  module _ (claims : List Audited) where
+    -- this is the session with a round to so many draws
+    pub record IsNextRound (draws : ℕ) (next : Content) : Type 0 where
+      pub more : last_draws session.session.rounds < draws
+      -- what is seen of each drawn card is told
+      pub all_told : without_record session.seed cards entries draws ≡ None
+      -- nothing else changes
+      pub added : next ≡ with_round session
+          (round_to session.session.gamma claims recorded seen (drawn draws) draws)
+      -- all rounds, earlier ones too, have the counts and the risks of the cards that the seed draws and of what is seen of them
+      pub of_draws : IsSessionOf session.session.limit session.session.gamma claims recorded seen
+          (drawn draws) next.session
+
+    -- after some of the draws the exact risk of each claim was within the limit
+    abbrev pub WereWithin : ℕ → Type 0
+    WereWithin draws = All
+        (λ claim. (k : ℕ) × (k ≤ draws)
+        × IsTrue (is_within cards claim.margin session.session.gamma session.session.limit
+        (map (discrepancy_of claim.value recorded seen) (take k (drawn draws)))))
+        claims

@@ -1,0 +1,97 @@
+-- What it means that a poll confirms the claims of an assertion file, by what is seen of drawn cards alone.
+use Rattle.std.specs.Prelude.{◌≡◌, ◌⊎◌, ◌↔◌, ℕ, Bool, List, length, Option, None, Some, IfSome, Ok, IsTrue}
+use Rattle.desk.specs.Desk.{File, held_bytes}
+use Rattle.assertion_file.specs.Content.{Content, candidate_count}
+use Rattle.assertion_file.specs.Reading.{assertion_file_of}
+use Rattle.manifest.specs.Cards.{Batches, cards_of}
+use Rattle.manifest.specs.Manifest.{manifest_of}
+use Rattle.seen_file.specs.Reading.{seen_of}
+use Rattle.seen_file.specs.Seen.{Entry}
+use Rattle.session_state.specs.Claims.{values_of}
+use Rattle.audit_session.specs.Going.{all_seen, drawn_cards}
+use Rattle.audit_session.specs.Refusals.{unseen_draw}
+use Rattle.audit_laws.specs.Claims.{Cover, claimed}
+use Rattle.polling.specs.Polls.{is_confirmed}
+use Rattle.cli_base.specs.Ends.{Writing, Took}
+use Rattle.command.specs.declared.poll.PollTask.{PollTask}
+use Rattle.command_line.specs.Line.{command_of}
+use Rattle.command_line.specs.declared.commands.Command.TheVariants.{Poll}
+use Rattle.poll_command.specs.Poll.{poll_text}
+
+-- the words ask for a poll
+pub record AsksForPoll (words : List (List ℕ)) : Type 0 where
+  pub task : PollTask
+  pub asked : command_of words ≡ Some (Poll task)
+
+-- ---- its files
+
+-- the bytes of its three files
+pub record PollBytes : Type 0 where
+  pub manifest : List ℕ
+  pub assertions : List ℕ
+  pub seen : List ℕ
+
+-- the files of the words are held, and have these bytes
+pub record ArePollFiles (task : PollTask) (files : List File) (bytes : PollBytes) : Type 0 where
+  pub manifest : held_bytes task.manifest files ≡ Some bytes.manifest
+  pub assertions : held_bytes task.assertions files ≡ Some bytes.assertions
+  pub seen : held_bytes task.seen files ≡ Some bytes.seen
+
+-- the cards, the assertions, and what is seen of some cards
+pub record PollInputs : Type 0 where
+  pub batches : Batches
+  pub file : Content
+  pub entries : List Entry
+
+-- the bytes say so
+pub record SayPoll (bytes : PollBytes) (inputs : PollInputs) : Type 0 where
+  pub manifest : manifest_of bytes.manifest ≡ Ok inputs.batches
+  pub assertions : assertion_file_of bytes.assertions ≡ Ok inputs.file
+  pub seen : seen_of inputs.batches inputs.file.candidates bytes.seen ≡ Ok inputs.entries
+
+-- ---- the poll
+
+module _ (task : PollTask) (inputs : PollInputs) where
+  abbrev pub cards : ℕ
+  cards = length (cards_of inputs.batches)
+
+  -- the cards that the seed draws
+  abbrev pub drawn : ℕ → List ℕ
+  drawn draws = drawn_cards task.seed cards draws
+
+  -- the printed risk of each claim, of what is seen of the drawn cards, is within the limit
+  abbrev pub confirms : Bool
+  confirms =
+      is_confirmed task.limit task.gamma (values_of inputs.file) (all_seen inputs.entries cards)
+      (drawn task.draws)
+
+-- the poll of the words
+pub record IsPollOf (words : List (List ℕ)) (files : List File) : Type 0 where
+  pub asks : AsksForPoll words
+  pub bytes : PollBytes
+  pub held : ArePollFiles asks.task files bytes
+  pub inputs : PollInputs
+  pub say : SayPoll bytes inputs
+  -- the claims refute each order that elects another candidate than the file says
+  pub cover : Cover (candidate_count inputs.file) inputs.file.winner (claimed inputs.file)
+  -- what is seen of each drawn card is told
+  pub all_told :
+      unseen_draw asks.task.seed (cards asks.task inputs) inputs.entries asks.task.draws ≡ None
+
+-- its counts and risks, as they are told
+abbrev pub told_of : {words : List (List ℕ)} {files : List File} → IsPollOf words files → List ℕ
+told_of poll =
+    poll_text poll.asks.task poll.inputs.batches poll.inputs.file poll.inputs.entries
+
+abbrev pub is_confirmed_by : {words : List (List ℕ)} {files : List File} →
+    IsPollOf words files → Bool
+is_confirmed_by poll = confirms poll.asks.task poll.inputs
+
+-- ---- what `run` promises
+
+-- Status 0 and 10 of a poll: `out` tells the poll of the words and files. It is 0 exactly where that confirms each claim.
+abbrev pub IsPolled : Option (List File) → List (List ℕ) → ℕ → Writing → Type 0
+IsPolled held words status out =
+    IfSome held (λ files. AsksForPoll words → (status ≡ 0) ⊎ (status ≡ 10) →
+    (poll : IsPollOf words files) × Took out (told_of poll)
+    × ((status ≡ 0) ↔ IsTrue (is_confirmed_by poll)))

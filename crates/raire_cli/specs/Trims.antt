@@ -1,0 +1,63 @@
+-- What it means that a trim prints an assertion file.
+use Rattle.std.specs.Prelude.{◌≡◌, ℕ, List, ◌∷◌, ◌++◌, map, Option, Some, IfSome, Ok, IsTrue}
+use Rattle.desk.specs.Desk.{File, held_bytes}
+use Rattle.assertions.specs.declared.assertion.Claim.{Claim}
+use Rattle.assertions.specs.Suffixes.{IsAlternative}
+use Rattle.ballot_reader.specs.Ballots.{BallotFile}
+use Rattle.ballot_reader.specs.Grammar.{ballots_of}
+use Rattle.assertion_file.specs.Content.{Content, candidate_count}
+use Rattle.assertion_file.specs.Reading.{assertion_file_of}
+use Rattle.assertion_file.specs.Text.{assertion_file_text}
+use Rattle.cover_checker.specs.Checks.{IsAnswer}
+use Rattle.cover_checker.specs.Covers.{stands}
+use Rattle.cover_checker.specs.declared.checked.Checked.TheVariants.{Accepted}
+use Rattle.trimmer.specs.Laws.{IsPartOf}
+use Rattle.cli_base.specs.Ends.{Writing, Took}
+use Rattle.command.specs.declared.trim.TrimTask.{TrimTask}
+use Rattle.command_line.specs.Line.{command_of}
+use Rattle.command_line.specs.declared.commands.Command.TheVariants.{Trim}
+
+-- the words ask for a trim
+pub record AsksForTrim (words : List (List ℕ)) : Type 0 where
+  pub task : TrimTask
+  pub asked : command_of words ≡ Some (Trim task)
+
+-- its files are held, and say this
+pub record AreTrimFiles (task : TrimTask) (files : List File) (ballots : BallotFile)
+    (file : Content) : Type 0 where
+  pub ballot_bytes : List ℕ
+  pub ballots_held : held_bytes task.ballots files ≡ Some ballot_bytes
+  pub ballots_say : ballots_of ballot_bytes task.contest ≡ Ok ballots
+  pub bytes : List ℕ
+  pub held : held_bytes task.assertions files ≡ Some bytes
+  pub say : assertion_file_of bytes ≡ Ok file
+
+-- without this claim an order stands that elects another candidate
+abbrev pub IsNeeded : Content → List Claim → List Claim → Type 0
+IsNeeded file before behind =
+    (order : List ℕ) × IsAlternative (candidate_count file) file.winner order
+    × IsTrue (stands (map (λ claim. claim.assertion) (before ++ behind)) order)
+
+-- this is the assertion file of the words, trimmed
+pub record IsTrimmedOf (words : List (List ℕ)) (files : List File) (left : Content) : Type 0 where
+  pub asks : AsksForTrim words
+  pub ballots : BallotFile
+  pub file : Content
+  pub are : AreTrimFiles asks.task files ballots file
+  -- what is printed of it says the same when it is read
+  pub reads_back : assertion_file_of (assertion_file_text left) ≡ Ok left
+  -- a check of the same ballots with the same nodes accepts it
+  pub accepted : IsAnswer asks.task.nodes ballots left (Ok Accepted)
+  -- its claims are among those that were read, in their order, and all else is the same
+  pub part : IsPartOf left.claims file.claims
+  pub same : left ≡ record file { claims = left.claims }
+  -- each of its claims is needed
+  pub needed : (before : List Claim) (claim : Claim) (behind : List Claim) →
+      left.claims ≡ before ++ claim ∷ behind → IsNeeded file before behind
+
+-- ---- what `run` promises
+
+-- Status 0 of a trim: `out` has the assertion file of the words without the claims that can go.
+abbrev pub IsTrimmed : Option (List File) → List (List ℕ) → ℕ → Writing → Type 0
+IsTrimmed held words status out = IfSome held (λ files. AsksForTrim words → status ≡ 0 →
+    (left : Content) × IsTrimmedOf words files left × Took out (assertion_file_text left))

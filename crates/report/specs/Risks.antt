@@ -1,0 +1,25 @@
+-- What is told of a claim in an audit: its risk, its counts, and whether it is confirmed.
+use Rattle.std.specs.Prelude.{ℕ, ◌-◌, ◌/◌, ◌%◌, Bool, true, false, List, ◌++◌, length, replicate, codes}
+use Rattle.std.specs.Fmt.{decimal}
+use Rattle.km_risk.specs.declared.limits.TheConstants.{ONE}
+use Rattle.km_risk.specs.declared.draws.Counts.{Counts}
+
+abbrev pub zero_digit : ℕ
+zero_digit = 0x30
+
+-- a number in so many digits, with zeros in front
+abbrev pub in_digits : ℕ → ℕ → List ℕ
+in_digits digits n = replicate (digits - length (decimal n)) zero_digit ++ decimal n
+
+-- the units of a risk, divided by those of one: 18 digits stand after the point
+abbrev pub risk_text : ℕ → List ℕ
+risk_text units = decimal (units / ONE) ++ codes "." ++ in_digits 18 (units % ONE)
+
+abbrev pub counts_text : Counts → List ℕ
+counts_text counts =
+    decimal counts.n0 ++ codes " " ++ decimal counts.n1 ++ codes " " ++ decimal counts.n2
+    ++ codes " " ++ decimal counts.n3 ++ codes " " ++ decimal counts.n4
+
+abbrev pub state_text : Bool → List ℕ
+state_text true = codes "confirmed"
+state_text false = codes "unconfirmed"

@@ -1,0 +1,44 @@
+// What is told of a claim in an audit: its risk, its counts, and whether it is confirmed.
+ghost use Rattle.std.specs.Prelude.{◌≡◌, ◌++◌, IfOk, string_bytes};
+ghost use Rattle.report.specs.Risks.{counts_text, risk_text, state_text};
+
+use km_risk::{Counts, ONE};
+use std::alloc::{AllocError, Global};
+
+/// Adds a risk, which is given in units of 10^-18, as a number with 18 digits after its point.
+pub fn add_risk(text: &mut String, units: u64) -> Result<(), AllocError>
+    ensures { IfOk result (λ _. string_bytes text.new ≡ string_bytes text.old ++ risk_text units) }
+{
+    let ones = units / ONE;
+    let rest = units % ONE;
+    write!(text, "{ones}.{rest:018}")
+}
+
+/// Adds how many draws have each discrepancy, from 0 to 4, with a blank between each two.
+pub fn add_counts(text: &mut String, counts: &Counts) -> Result<(), AllocError>
+    ensures { IfOk result (λ _. string_bytes text.new ≡
+        string_bytes text.old ++ counts_text counts.now) }
+{
+    let Counts { n0, n1, n2, n3, n4 } = *counts;
+    write!(text, "{n0} {n1} {n2} {n3} {n4}")
+}
+
+/// How many draws have each discrepancy, as a text of its own.
+pub fn counts_text(alloc: Global, counts: &Counts) -> Result<String, AllocError>
+    ensures { IfOk result (λ text. string_bytes text ≡ counts_text counts.now) }
+{
+    let mut text = String::new(alloc);
+    add_counts(&mut text, counts)?;
+    Ok(text)
+}
+
+/// Whether a claim is confirmed, in a word.
+pub fn state_text(confirmed: bool) -> &'static str
+    ensures { result.now ≡ state_text confirmed }
+{
+    if confirmed {
+        "confirmed"
+    } else {
+        "unconfirmed"
+    }
+}

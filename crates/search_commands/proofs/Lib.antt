@@ -1,0 +1,9 @@
+pub mod Ties
+mod Going
+pub mod Searches
+pub mod Tabulations
+mod Stopped
+pub mod Ends
+mod TrialCandidates
+pub mod Tried
+mod TrialLaws

@@ -1,0 +1,5 @@
+use Rattle.std.proofs.Common.{rules, append_assoc}
+use Rattle.search_commands.proofs.search_texts.full_count_lines.Goals as goal
+
+pub returns : goal.returns
+returns c = search (rules, append_assoc)

@@ -1,0 +1,13 @@
+use Rattle.std.proofs.Common.{◌∙◌}
+use Rattle.search_commands.proofs.TrialCandidates.{named_are_candidates, below_named}
+use Rattle.search_commands.proofs.trials.answer.Goals as goal
+
+pub new-contest-requires-clause-candidates : goal.new-contest-requires-clause-candidates
+new-contest-requires-clause-candidates g c =
+    named_are_candidates c.args.task.now.candidates c.deref.result.now (c.deref.ensures.value ∙ c.in_ok-names.ensures)
+    c.requires.candidates.0 c.requires.candidates.1
+
+pub new-contest-requires-clause-below : goal.new-contest-requires-clause-below
+new-contest-requires-clause-below g c =
+    below_named c.args.task.now.candidates c.deref.result.now c.in_ok-records.records.items c.deref-2.result.now
+    (c.deref.ensures.value ∙ c.in_ok-names.ensures) c.deref-2.ensures.value c.in_ok-records.ensures.below

@@ -1,0 +1,88 @@
+-- How a search and a tabulation end, and that a trial is a search.
+use Rattle.std.specs.Prelude.{◌⊎◌, ◌↔◌, ℕ, ◌≤◌, ◌<◌, ◌-◌, ◌*◌, List}
+use Rattle.assertions.specs.Suffixes.{factorial}
+use Rattle.irv_base.specs.declared.limits.TheConstants.{FEWEST_CANDIDATES}
+use Rattle.ballot_reader.specs.Ballots.{BallotFile}
+use Rattle.cli_base.specs.Outcome.{Verdict, Answered, One}
+use Rattle.cli_base.specs.declared.outcome.AnswerKind.{AnswerKind}
+use Rattle.cli_base.specs.declared.outcome.AnswerKind.TheVariants.{Done, Tie, Spent}
+use Rattle.command.specs.declared.trial.TrialTask.{TrialTask}
+use Rattle.contest_search.specs.Budget.{certificate_nodes, IsInBudget}
+use Rattle.contest_search.specs.Contest.{candidate_count, IsElected, IsOther, IsUndecided, IsWon}
+use Rattle.search_commands.specs.Ends.{HasTie, HasSpent}
+use Rattle.search_commands.specs.Search.{Finds}
+use Rattle.search_commands.specs.Tabulate.{HasStopped, Tabulates}
+use Rattle.search_commands.specs.Trial.{contest_of, HasLines, Tries}
+
+-- ---- the ends of a search and of a tabulation
+
+-- A contest that isn't decided has a first tie to tell.
+abbrev pub UndecidedHasTie : Type 0
+UndecidedHasTie =
+    (ballots : BallotFile) → FEWEST_CANDIDATES ≤ candidate_count ballots → IsUndecided ballots →
+    (text : List ℕ) × HasTie ballots text
+
+-- Whatever its nodes and its floor, a search has an end.
+abbrev pub EndExists : Type 0
+EndExists =
+    (nodes least : ℕ) (ballots : BallotFile) → FEWEST_CANDIDATES ≤ candidate_count ballots →
+    (verdict : Verdict) × Finds nodes least ballots verdict
+
+-- Where the nodes suffice for the certificate, it has one at which it isn't spent.
+abbrev pub UnspentEndExists : Type 0
+UnspentEndExists =
+    (nodes least : ℕ) (ballots : BallotFile) (winner : ℕ) →
+    FEWEST_CANDIDATES ≤ candidate_count ballots → IsWon ballots winner →
+    IsInBudget ballots winner nodes →
+    (verdict : Verdict) × Finds nodes least ballots verdict
+    × (One (HasSpent nodes ballots) Spent verdict → ⊥)
+
+-- A search that isn't spent ends with a tie exactly where its contest isn't decided.
+abbrev pub TieIffUndecided : Type 0
+TieIffUndecided =
+    (nodes least : ℕ) (ballots : BallotFile) (verdict : Verdict) → Finds nodes least ballots verdict →
+    (One (HasSpent nodes ballots) Spent verdict → ⊥) →
+    (One (HasTie ballots) Tie verdict ↔ IsUndecided ballots)
+
+-- A tabulation has an end at which it isn't spent, whatever its nodes.
+abbrev pub TabulationExists : Type 0
+TabulationExists =
+    (nodes : ℕ) (ballots : BallotFile) → FEWEST_CANDIDATES ≤ candidate_count ballots →
+    (verdict : Verdict) × Tabulates nodes ballots verdict
+    × (One (HasStopped nodes ballots) Spent verdict → ⊥)
+
+-- It then names no winner exactly where its contest isn't decided.
+abbrev pub NoWinnerIffUndecided : Type 0
+NoWinnerIffUndecided =
+    (nodes : ℕ) (ballots : BallotFile) (verdict : Verdict) → Tabulates nodes ballots verdict →
+    (One (HasStopped nodes ballots) Spent verdict → ⊥) →
+    (One (HasTie ballots) Tie verdict ↔ IsUndecided ballots)
+
+-- ---- nodes
+
+-- Where the certificate of a decided contest needs more nodes for a candidate, a search is spent.
+abbrev pub SpentWhereAbove : Type 0
+SpentWhereAbove =
+    (nodes least : ℕ) (ballots : BallotFile) (winner c : ℕ) (verdict : Verdict) →
+    IsWon ballots winner → IsElected ballots winner → IsOther ballots winner c →
+    nodes < certificate_nodes ballots winner c → Finds nodes least ballots verdict →
+    One (HasSpent nodes ballots) Spent verdict
+
+-- ---- a trial
+
+-- one of the verdicts is an answer of this kind
+abbrev pub IsAmongKinds : (Verdict → Type 0) → AnswerKind → Type 0
+IsAmongKinds verdicts kind = (text : List ℕ) × verdicts (Answered kind text)
+
+-- A trial may have an answer of a kind exactly where a search of its contest at floor 1 may: no margin is below that floor.
+abbrev pub TrialIsASearch : Type 0
+TrialIsASearch =
+    (task : TrialTask) (kind : AnswerKind) → FEWEST_CANDIDATES ≤ task.candidates →
+    IsAmongKinds (Tries task) kind ↔ IsAmongKinds (Finds task.nodes 1 (contest_of task)) kind
+
+-- With twice the factorial of the number of the other candidates as nodes it has its lines, or a tie.
+abbrev pub TrialIsComplete : Type 0
+TrialIsComplete =
+    (task : TrialTask) (verdict : Verdict) → 2 * factorial (task.candidates - 1) ≤ task.nodes →
+    Tries task verdict →
+    One (HasLines task) Done verdict ⊎ One (HasTie (contest_of task)) Tie verdict

@@ -1,0 +1,5 @@
+pub mod Ends
+pub mod Search
+pub mod Tabulate
+pub mod Trial
+pub mod Laws

@@ -1,0 +1,52 @@
+// The answers of a contest without a certificate.
+ghost use Rattle.std.specs.Prelude.{◌≡◌, ◌<◌, ◌≤◌, length, IsTrue};
+ghost use Rattle.irv_base.specs.Orders.{is_order};
+ghost use Rattle.irv_base.specs.declared.limits.TheConstants.{ROOM};
+ghost use Rattle.cli_base.specs.Due.{due, IsOneOrMemory};
+ghost use Rattle.cli_base.specs.Outcome.{Answered};
+ghost use Rattle.cli_base.specs.declared.outcome.AnswerKind.TheVariants.{Spent, Tie};
+ghost use Rattle.report.specs.Ends.{spent_text, tie_text};
+
+use cli_base::{Answer, AnswerKind, Refusal};
+use irv_base::{CandSet, Candidate, Name, Order};
+use report::{spent_text, tie_text};
+use std::alloc::Global;
+
+/// The answer of a contest that isn't decided, which tells the round of its first tie, those who share the least tally, and that tally.
+pub(crate) fn first_tie(
+    alloc: Global,
+    names: &[Name],
+    round: u32,
+    tied: CandSet,
+    votes: u32,
+) -> Result<Answer, Refusal>
+    requires { length names.now ≤ ROOM }
+    ensures { IsOneOrMemory (λ verdict.
+        verdict ≡ Answered Tie (tie_text names.now round tied votes)) (due result) }
+{
+    let text = tie_text(alloc, names, round, tied, votes)?;
+    Ok(Answer {
+        kind: AnswerKind::Tie,
+        text: text.into_bytes(),
+    })
+}
+
+/// The answer where the budget is spent at this candidate, which tells the order that was best so far, and its hardness.
+pub(crate) fn spent(
+    alloc: Global,
+    names: &[Name],
+    last: Candidate,
+    order: &Order,
+    margin: u32,
+) -> Result<Answer, Refusal>
+    requires candidate { last < length names.now }
+    requires order { IsTrue (is_order (length names.now) order.now) }
+    ensures { IsOneOrMemory (λ verdict.
+        verdict ≡ Answered Spent (spent_text names.now last order.now margin)) (due result) }
+{
+    let text = spent_text(alloc, names, last, order, margin)?;
+    Ok(Answer {
+        kind: AnswerKind::Spent,
+        text: text.into_bytes(),
+    })
+}

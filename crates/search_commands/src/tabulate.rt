@@ -1,0 +1,169 @@
+// `tabulate FILE`: the rounds of a ballot file's contest, or its first tie where that leaves open who has won.
+ghost use Rattle.std.specs.Prelude.{◌≡◌, ◌≤◌};
+ghost use Rattle.irv_tabulator.specs.Results.{IsTabulation, IsTieOf};
+ghost use Rattle.contest_search.specs.Contest.{candidate_count, IsElected, IsTie};
+ghost use Rattle.contest_search.specs.Found.{IsCounted};
+ghost use Rattle.desk.specs.Count.{Rose};
+ghost use Rattle.cli_base.specs.Accounts.{IsAccountedFor};
+ghost use Rattle.cli_base.specs.Script.{ByDesk, MayOrMemory};
+ghost use Rattle.command.specs.Tabulate.{IsWithinLimits};
+ghost use Rattle.search_commands.specs.Tabulate.{Tabulates, IsStopped, script};
+ghost use Rattle.cli_base.specs.Due.{due, IsOneOrMemory};
+
+use crate::answers::{first_tie, spent};
+use ballot_reader::Ballots;
+use bound_search::{RaceFault, race};
+use cli_base::{Answer, AnswerKind, Refusal};
+use command::TabulateTask;
+use desk::{Desk, Gate};
+use input_files::{ballots_in, bytes_of};
+use irv_base::{Candidate, Order};
+use irv_tabulator::{FirstTie, TabFault, Tabulated, tabulate};
+use report::tabulation;
+use set_tallies::Counted;
+use std::alloc::Global;
+use std::thread::Threads;
+
+// Ballots are counted, and a tie is raced for, by this many.
+const WORKERS: u32 = 1;
+
+/// The rounds of the contest, or its first tie where the contest isn't decided. With a tie a race by one worker tells which; the task
+/// has what it may spend on each of its pieces.
+pub fn answer<R: AllocGlobal + Threads + Sync, D: Desk, G: Gate + Sync>(
+    rt: &R,
+    desk: &mut D,
+    task: &TabulateTask,
+    gate: &G,
+) -> Result<Answer, Refusal>
+    requires { IsWithinLimits task.now }
+    ensures held { D.held desk.new ≡ D.held desk.old }
+    ensures later { D.faults desk.old ≤ D.faults desk.new }
+    ensures due { MayOrMemory
+        (ByDesk (D.held desk.old) (Rose (D.faults desk.old) (D.faults desk.new)))
+        (script task.now) (due result) }
+    ensures served { IsAccountedFor 1 (D.served desk.old) (D.served desk.new) (due result).status }
+{
+    let alloc = rt.alloc();
+    let bytes = bytes_of(alloc, desk, &task.ballots)?;
+    let ballots = ballots_in(alloc, &task.ballots, &bytes, task.contest.as_ref())?;
+    tabulate_all(rt, &ballots, task.nodes, gate)
+}
+
+// The answer to the ballots of the contest.
+fn tabulate_all<R: AllocGlobal + Threads + Sync, G: Gate + Sync>(
+    rt: &R,
+    ballots: &Ballots,
+    nodes: u32,
+    gate: &G,
+) -> Result<Answer, Refusal>
+    ensures { IsOneOrMemory (Tabulates nodes ballots.now) (due result) }
+{
+    let alloc = rt.alloc();
+    let counted = Counted::of(
+        rt,
+        ballots.candidates().len() as u32,
+        ballots.rankings(),
+        WORKERS,
+    )?;
+    let mut tallies = counted.tallies()?;
+    match tabulate(alloc, &mut tallies) {
+        Ok(tabulated) => told(rt, ballots, &counted, &tabulated, nodes, gate),
+        Err(TabFault::Memory) => Err(Refusal::Memory),
+    }
+}
+
+// The answer to the tabulation. Without a tie it needs no race.
+fn told<R: AllocGlobal + Threads + Sync, G: Gate + Sync>(
+    rt: &R,
+    ballots: &Ballots,
+    counted: &Counted,
+    tabulated: &Tabulated,
+    nodes: u32,
+    gate: &G,
+) -> Result<Answer, Refusal>
+    requires { IsCounted ballots.now counted.now.bag tabulated.now }
+    ensures { IsOneOrMemory (Tabulates nodes ballots.now) (due result) }
+{
+    match tabulated.tie() {
+        None => rounds(rt.alloc(), ballots, tabulated, nodes),
+        Some(tie) => decide(rt, ballots, counted, tabulated, &tie, nodes, gate),
+    }
+}
+
+// The answer where the contest has a tie.
+fn decide<R: AllocGlobal + Threads + Sync, G: Gate + Sync>(
+    rt: &R,
+    ballots: &Ballots,
+    counted: &Counted,
+    tabulated: &Tabulated,
+    tie: &FirstTie,
+    nodes: u32,
+    gate: &G,
+) -> Result<Answer, Refusal>
+    requires counted { IsCounted ballots.now counted.now.bag tabulated.now }
+    requires tie { IsTieOf (candidate_count ballots.now) (ballots.now).rankings tie.now }
+    ensures { IsOneOrMemory (Tabulates nodes ballots.now) (due result) }
+{
+    let alloc = rt.alloc();
+    match race(rt, counted, tabulated, WORKERS, nodes, gate) {
+        Ok(end) => {
+            if end.margin == 0 {
+                tied_answer(alloc, ballots, tie, nodes)
+            } else {
+                rounds(alloc, ballots, tabulated, nodes)
+            }
+        }
+        Err(fault) => match fault {
+            RaceFault::Spent { last, upper, order } => stopped_answer(
+                alloc, ballots, last, upper, &order, nodes,
+            ),
+            RaceFault::Memory => Err(Refusal::Memory),
+        },
+    }
+}
+
+// The rounds of a contest that is decided.
+fn rounds(
+    alloc: Global,
+    ballots: &Ballots,
+    tabulated: &Tabulated,
+    nodes: u32,
+) -> Result<Answer, Refusal>
+    requires is { IsTabulation (candidate_count ballots.now) (ballots.now).rankings tabulated.now }
+    requires decided { IsElected ballots.now tabulated.now.winner }
+    ensures { IsOneOrMemory (Tabulates nodes ballots.now) (due result) }
+{
+    let text = tabulation(alloc, ballots, tabulated)?;
+    Ok(Answer {
+        kind: AnswerKind::Done,
+        text: text.into_bytes(),
+    })
+}
+
+// The first tie of a contest that isn't decided, told by the ids of its candidates.
+fn tied_answer(
+    alloc: Global,
+    ballots: &Ballots,
+    tie: &FirstTie,
+    nodes: u32,
+) -> Result<Answer, Refusal>
+    requires { IsTie ballots.now tie.now.round tie.now.tied tie.now.tally }
+    ensures { IsOneOrMemory (Tabulates nodes ballots.now) (due result) }
+{
+    first_tie(alloc, ballots.candidates(), tie.round, tie.tied, tie.tally)
+}
+
+// The answer where the race is spent at this candidate.
+fn stopped_answer(
+    alloc: Global,
+    ballots: &Ballots,
+    last: Candidate,
+    margin: u32,
+    order: &Order,
+    nodes: u32,
+) -> Result<Answer, Refusal>
+    requires { IsStopped nodes ballots.now last order.now margin }
+    ensures { IsOneOrMemory (Tabulates nodes ballots.now) (due result) }
+{
+    spent(alloc, ballots.candidates(), last, order, margin)
+}

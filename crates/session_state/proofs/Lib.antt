@@ -1,0 +1,10 @@
+pub mod Rounds
+pub mod SignedOff
+pub mod Replayed
+pub mod PartlySeen
+pub mod Added
+pub mod Facts
+pub mod Claims
+pub mod Different
+pub mod Found
+pub mod RiskOfValues

@@ -1,4 +1,0 @@
-pub mod Text
-pub mod Forms
-pub mod Laws
-pub mod Examples

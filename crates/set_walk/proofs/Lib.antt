@@ -1,0 +1,15 @@
+pub mod Agreeing
+pub mod Anew
+pub mod Walking
+pub mod Firsts
+pub mod Bests
+pub mod Orders
+pub mod Standing
+pub mod Claims
+pub mod Diving
+pub mod Places
+pub mod Exact
+pub mod Counted
+pub mod Enough
+pub mod Ends
+pub mod Few

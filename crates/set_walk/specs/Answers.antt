@@ -1,0 +1,22 @@
+-- What a walk by sets answers.
+use Rattle.std.specs.Prelude.{◌≡◌, ◌↔◌, ℕ, Bool, nat_lt, if◌then◌else◌, List, length, Option, Some, None, Result, Ok, Err, Contains, ⊤}
+use Rattle.set_walk.specs.Walks.{counted, standing, first_by_sets}
+use Rattle.set_walk.specs.declared.walk.WalkEnd.{WalkEnd}
+use Rattle.set_walk.specs.declared.walk.WalkEnd.TheVariants.{Found, Ended}
+use Rattle.set_walk.specs.declared.walk.WalkFault.{WalkFault}
+use Rattle.set_walk.specs.declared.walk.WalkFault.TheVariants.{Spent, Memory}
+
+-- the first order that walks, where no more sets count than the budget has
+abbrev pub first_within : ℕ → ℕ → ℕ → (ℕ → ℕ → Bool) → Result (Option (List ℕ)) WalkFault
+first_within n winner sets goes =
+    if nat_lt sets (length (counted n winner goes)) then Err Spent
+    else Ok (first_by_sets n winner goes)
+
+-- the walk answers that, with the sets that stand where no order walks; of want of memory nothing is said
+abbrev pub IsWalk : ℕ → ℕ → ℕ → (ℕ → ℕ → Bool) → Result WalkEnd WalkFault → Type 0
+IsWalk n winner sets goes (Ok (Found order)) = first_within n winner sets goes ≡ Ok (Some order)
+IsWalk n winner sets goes (Ok (Ended seen)) =
+    (first_within n winner sets goes ≡ Ok None)
+    × ((set : ℕ) → (Contains seen.keys set ↔ Contains (standing n winner goes) set))
+IsWalk n winner sets goes (Err Spent) = first_within n winner sets goes ≡ Err Spent
+IsWalk n winner sets goes (Err Memory) = ⊤

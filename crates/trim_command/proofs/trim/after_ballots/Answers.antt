@@ -1,0 +1,29 @@
+use Rattle.std.proofs.Common.{◌≡◌, ℕ, List, rules, ap, sym, ◌∙◌}
+use Rattle.assertion_file.specs.Reading.{assertion_file_of}
+use Rattle.assertion_file.proofs.SoundFiles.{read_is_sound}
+use Rattle.cli_base.specs.Due.{due}
+use Rattle.cli_base.specs.Script.{Ends}
+use Rattle.cli_base.proofs.Steps.{ended_accounted}
+use Rattle.input_files.specs.Judged.{told}
+use Rattle.input_files.specs.Refusals.{refused_assertions}
+use Rattle.input_files.proofs.Going.{read_last}
+use Rattle.trim_command.specs.Trim.{Trims}
+use Rattle.trim_command.proofs.Trims.{told-ok}
+use Rattle.trim_command.proofs.trim.after_ballots.Goals as goal
+
+pub returns-clause-due : goal.returns-clause-due
+returns-clause-due g c =
+    let judged = λ (bytes : List ℕ). told (refused_assertions c.args.assertions.now) (assertion_file_of bytes) in
+    read_last _ _ _ _ c.in_ok-bytes.bytes.items judged (λ bytes file. Ends (Trims c.args.nodes c.args.ballots.now file)) c.in_ok-bytes.ensures.read
+    c.in_ok-file.file (due c.of_file.result) (ap judged (sym c.deref.ensures.value) ∙ c.in_ok-file.ensures) c.of_file.ensures
+
+pub returns-clause-served : goal.returns-clause-served
+returns-clause-served g c =
+    ended_accounted _ _ (Trims c.args.nodes c.args.ballots.now c.in_ok-file.file) (due c.of_file.result) c.of_file.ensures c.in_ok-bytes.ensures.served
+
+pub of_file-requires : goal.of_file-requires
+of_file-requires g c = (
+  search rules,
+  read_is_sound c.deref.result.now c.in_ok-file.file
+      (told-ok (refused_assertions c.args.assertions.now) (assertion_file_of c.deref.result.now) c.in_ok-file.file c.in_ok-file.ensures),
+)

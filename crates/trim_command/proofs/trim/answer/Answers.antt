@@ -1,0 +1,24 @@
+use Rattle.std.proofs.Common.{◌≡◌, ℕ, List, Option, ap, sym, ◌∙◌}
+use Rattle.irv_base.specs.Names.{Id}
+use Rattle.ballot_reader.specs.Grammar.{ballots_of}
+use Rattle.cli_base.specs.Due.{due}
+use Rattle.cli_base.proofs.Steps.{accounted_on}
+use Rattle.input_files.specs.Judged.{told}
+use Rattle.input_files.specs.Refusals.{refused_ballots}
+use Rattle.input_files.proofs.Going.{read_on}
+use Rattle.trim_command.specs.Trim.{after_ballots}
+use Rattle.trim_command.proofs.trim.answer.Goals as goal
+
+-- the ballots are read, and then the assertions
+pub returns-clause-due : goal.returns-clause-due
+returns-clause-due g c =
+    let task = c.args.task.now in
+    let read = λ (bytes : List ℕ) (contest : Option Id). told (refused_ballots task.ballots) (ballots_of bytes contest) in
+    read_on _ _ _ _ c.in_ok-bytes.bytes.items (λ bytes. read bytes task.contest) (λ bytes ballots. after_ballots task.assertions task.nodes ballots)
+    c.in_ok-bytes.ensures.read _ _ c.in_ok-ballots.ballots (due c.after_ballots.result) c.in_ok-bytes.ensures.held c.in_ok-bytes.ensures.later
+    c.after_ballots.ensures.later
+    (ap (λ bytes. read bytes task.contest) (sym c.deref.ensures.value) ∙ ap (read c.deref.result.now) (sym c.as_ref.ensures.value) ∙ c.in_ok-ballots.ensures)
+    c.after_ballots.ensures.due
+
+pub returns-clause-served : goal.returns-clause-served
+returns-clause-served g c = accounted_on _ _ _ _ c.in_ok-bytes.ensures.served c.after_ballots.ensures.served

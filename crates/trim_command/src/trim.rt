@@ -1,0 +1,121 @@
+// `trim BALLOTS ASSERTIONS`: an assertion file that a check accepts, without the claims that can go.
+ghost use Rattle.std.specs.Prelude.{◌≡◌, ◌≤◌, ◌<◌, Ok, Some, length};
+ghost use Rattle.desk.specs.Count.{Rose};
+ghost use Rattle.assertion_file.specs.Content.{IsSound, candidate_count};
+ghost use Rattle.assertion_file.specs.Ids.{id_of};
+ghost use Rattle.cover_checker.specs.Covers.{covered_is};
+ghost use Rattle.cover_checker.specs.Findings.{assertions_of};
+ghost use Rattle.cover_checker.specs.declared.cover.Verdict.TheVariants.{Covered};
+ghost use Rattle.trimmer.specs.Trimmed.{trimmed};
+ghost use Rattle.cli_base.specs.Accounts.{IsAccountedFor};
+ghost use Rattle.cli_base.specs.Due.{due, IsOneOrMemory};
+ghost use Rattle.cli_base.specs.Outcome.{Answered};
+ghost use Rattle.cli_base.specs.Script.{ByDesk, MayOrMemory};
+ghost use Rattle.cli_base.specs.declared.outcome.AnswerKind.TheVariants.{Spent};
+ghost use Rattle.command.specs.Trim.{IsWithinLimits};
+ghost use Rattle.report.specs.Ends.{spent_at};
+ghost use Rattle.trim_command.specs.Trim.{Trims, after_ballots, script, trim_verdict};
+
+use assertion_file::{AssertionFile, id_of, print_file};
+use ballot_reader::Ballots;
+use check_command::check::check;
+use cli_base::{Answer, AnswerKind, Refusal};
+use command::{FileName, TrimTask};
+use desk::Desk;
+use input_files::{assertions_in, ballots_in, bytes_of};
+use irv_base::Candidate;
+use report::spent_at;
+use std::alloc::Global;
+use std::thread::Threads;
+use trimmer::{TrimFault, trim};
+
+/// The assertion file without the claims that can go, where a check accepts it; else what the check says.
+pub fn answer<R: AllocGlobal + Threads + Sync, D: Desk>(
+    rt: &R,
+    desk: &mut D,
+    task: &TrimTask,
+) -> Result<Answer, Refusal>
+    requires { IsWithinLimits task.now }
+    ensures held { D.held desk.new ≡ D.held desk.old }
+    ensures later { D.faults desk.old ≤ D.faults desk.new }
+    ensures due { MayOrMemory
+        (ByDesk (D.held desk.old) (Rose (D.faults desk.old) (D.faults desk.new)))
+        (script task.now) (due result) }
+    ensures served { IsAccountedFor 2 (D.served desk.old) (D.served desk.new) (due result).status }
+{
+    let alloc = rt.alloc();
+    let bytes = bytes_of(alloc, desk, &task.ballots)?;
+    let ballots = ballots_in(alloc, &task.ballots, &bytes, task.contest.as_ref())?;
+    after_ballots(rt, desk, &ballots, &task.assertions, task.nodes)
+}
+
+// The same of ballots that are read.
+fn after_ballots<R: AllocGlobal + Threads + Sync, D: Desk>(
+    rt: &R,
+    desk: &mut D,
+    ballots: &Ballots,
+    assertions: &FileName,
+    nodes: u32,
+) -> Result<Answer, Refusal>
+    ensures held { D.held desk.new ≡ D.held desk.old }
+    ensures later { D.faults desk.old ≤ D.faults desk.new }
+    ensures due { MayOrMemory
+        (ByDesk (D.held desk.old) (Rose (D.faults desk.old) (D.faults desk.new)))
+        (after_ballots assertions.now nodes ballots.now) (due result) }
+    ensures served { IsAccountedFor 1 (D.served desk.old) (D.served desk.new) (due result).status }
+{
+    let alloc = rt.alloc();
+    let bytes = bytes_of(alloc, desk, assertions)?;
+    let file = assertions_in(alloc, assertions, &bytes)?;
+    of_file(rt, ballots, &file, nodes)
+}
+
+// The same of a file that is read.
+fn of_file<R: AllocGlobal + Threads + Sync>(
+    rt: &R,
+    ballots: &Ballots,
+    file: &AssertionFile,
+    nodes: u32,
+) -> Result<Answer, Refusal>
+    requires { IsSound file.now }
+    ensures { IsOneOrMemory (Trims nodes ballots.now file.now) (due result) }
+{
+    let checked = check(rt, ballots, file, nodes)?;
+    if checked.kind == AnswerKind::Done {
+        accepted(rt.alloc(), file, nodes)
+    } else {
+        Ok(checked)
+    }
+}
+
+// The answer to a file that the checker accepts.
+fn accepted(alloc: Global, file: &AssertionFile, nodes: u32) -> Result<Answer, Refusal>
+    requires { covered_is (candidate_count file.now) file.now.winner (assertions_of file.now) nodes
+        ≡ Ok Covered }
+    ensures { IsOneOrMemory (λ verdict.
+        trim_verdict file.now (trimmed nodes file.now) ≡ Some verdict) (due result) }
+{
+    match trim(alloc, file, nodes) {
+        Ok(left) => Ok(Answer {
+            kind: AnswerKind::Done,
+            text: print_file(alloc, &left)?,
+        }),
+        Err(fault) => match fault {
+            TrimFault::Spent { claim: _, last } => spent_answer(alloc, file, last),
+            TrimFault::Memory => Err(Refusal::Memory),
+        },
+    }
+}
+
+// The answer where the nodes don't suffice for a trial, at this candidate.
+fn spent_answer(alloc: Global, file: &AssertionFile, last: Candidate) -> Result<Answer, Refusal>
+    requires { last < length (file.now).candidates }
+    ensures { IsOneOrMemory (λ verdict.
+        verdict ≡ Answered Spent (spent_at (id_of (file.now).candidates last))) (due result) }
+{
+    let text = spent_at(alloc, id_of(file.candidates(), last))?;
+    Ok(Answer {
+        kind: AnswerKind::Spent,
+        text: text.into_bytes(),
+    })
+}

@@ -1,0 +1,80 @@
+-- A trimmed file is accepted where the file that was read is.
+use Rattle.std.proofs.Common.{◌≡◌, ℕ, ◌≤◌, List, [], map, Ok, All, Contains, refl, sym, subst, arith, true}
+use Rattle.std.proofs.lemmas.List.Elements.{All-contains}
+use Rattle.irv_base.proofs.Members.{contains-from_member, member-from_contains}
+use Rattle.assertions.specs.declared.assertion.Claim.{Claim}
+use Rattle.assertions.specs.Refutation.{refutes, covers}
+use Rattle.assertions.specs.Suffixes.{IsAlternative}
+use Rattle.assertions.proofs.Elections.{from_covers}
+use Rattle.assertions.proofs.Endings.{alternative-member}
+use Rattle.assertions.proofs.Lows.{low-refuter}
+use Rattle.ballot_reader.specs.Ballots.{BallotFile}
+use Rattle.assertion_file.specs.Content.{Content, IsSound, IsSoundClaim, candidate_count}
+use Rattle.cover_checker.specs.Checks.{IsAnswer}
+use Rattle.cover_checker.specs.Holds.{Holds}
+use Rattle.cover_checker.specs.declared.checked.Checked.TheVariants.{Accepted}
+use Rattle.cover_checker.specs.declared.cover.Verdict.TheVariants.{Covered}
+use Rattle.cover_checker.proofs.Best.{its-margin}
+use Rattle.cover_checker.proofs.Exactly.{accepted-covered}
+use Rattle.cover_checker.proofs.Held.{accepted-held, held-accepted, refuting_claim, all-from_members}
+use Rattle.cover_checker.proofs.Nothing.{HasItsMargin}
+use Rattle.cover_checker.proofs.Verdicts.{covered_iff_covers}
+use Rattle.trimmer.specs.Laws.{IsPartOf}
+use Rattle.trimmer.specs.Trimmed.{trimmed, covered_by}
+use Rattle.trimmer.proofs.Kept.{part-member}
+use Rattle.trimmer.proofs.Lefts.{assertion_in, from_trimmed, left-part, left-covered}
+
+pub all-part : (P : Claim → Type 0) {part whole : List Claim} → IsPartOf part whole → All P whole → All P part
+all-part P {part} {whole} p h = all-from_members P part (λ claim m. All-contains P whole claim h (contains-from_member (part-member p claim m)))
+
+module _ (ballots : BallotFile) (file : Content) (claims : List Claim) (sound : IsSound file) (h : Holds ballots file) (part : IsPartOf claims file.claims)
+    (covering : covers (candidate_count file) file.winner (map assertion_in claims) ≡ true) where
+  abbrev left : Content
+  left = record file { claims = claims }
+
+  refuted : (order : List ℕ) → IsAlternative (candidate_count file) file.winner order →
+      (claim : Claim) × Contains claims claim × (refutes claim.assertion order ≡ true)
+  refuted order alternative =
+      let m = alternative-member (candidate_count file) file.winner alternative.1.0 order alternative.0 alternative.1.1 alternative.1.2 in
+      let (a, k, r) = from_covers (candidate_count file) file.winner (map assertion_in claims) order covering m in
+      refuting_claim claims order a k r
+
+  -- the file's order is refuted by a claim of its margin: no true assertion that refutes it has a larger one
+  reached : (claim : Claim) × Contains claims claim × (claim.margin ≡ file.margin)
+  reached =
+      let (claim, k, r) = refuted file.order h.alternative in
+      let was : Contains file.claims claim = contains-from_member (part-member part claim (member-from_contains claim claims k)) in
+      let proper : IsSoundClaim (candidate_count file) file.records claim =
+      All-contains (IsSoundClaim (candidate_count file) file.records) file.claims claim sound.claims was in
+      let its = its-margin ballots.rankings claim proper.margin.some
+      (All-contains (HasItsMargin ballots.rankings) file.claims claim h.margins was) in
+      let below = low-refuter (candidate_count file) ballots.rankings file.order claim.assertion proper.proper r in
+      let above = All-contains (λ claim. file.margin ≤ claim.margin) file.claims claim h.smallest was in
+      (claim, k, omega (arith, its, below, above, h.hardest))
+
+  pub part-holds : Holds ballots left
+  part-holds = record {
+    contest = h.contest;
+    candidates = h.candidates;
+    records = h.records;
+    winner = h.winner;
+    margins = all-part (HasItsMargin ballots.rankings) part h.margins;
+    cover = refuted;
+    reached = reached;
+    smallest = all-part (λ claim. file.margin ≤ claim.margin) part h.smallest;
+    alternative = h.alternative;
+    hardest = h.hardest;
+  }
+
+pub trimmed_is_accepted : (nodes : ℕ) (ballots : BallotFile) (file left : Content) → IsSound file → IsAnswer nodes ballots file (Ok Accepted) →
+    trimmed nodes file ≡ Ok left → IsAnswer nodes ballots left (Ok Accepted)
+trimmed_is_accepted nodes ballots file left sound h e =
+    let t = from_trimmed nodes file left e in
+    let covered : covered_by nodes file left.claims ≡ Ok Covered =
+    left-covered nodes file [] file.claims left.claims t.claims (accepted-covered nodes ballots file sound h) in
+    let covering : covers (candidate_count file) file.winner (map assertion_in left.claims) ≡ true =
+    (covered_iff_covers (candidate_count file) file.winner nodes (map assertion_in left.claims) Covered covered).0 refl in
+    let part : IsPartOf left.claims file.claims = left-part nodes file [] file.claims left.claims t.claims in
+    let holds = part-holds ballots file left.claims sound (accepted-held nodes ballots file sound h) part covering in
+    subst (λ content. IsAnswer nodes ballots content (Ok Accepted)) (sym t.same)
+    (held-accepted nodes ballots (record file { claims = left.claims }) holds covered)

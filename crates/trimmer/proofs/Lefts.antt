@@ -1,0 +1,90 @@
+-- What is left of the later claims, once they have been tried.
+use Rattle.std.proofs.Common.{◌≡◌, ◌⊎◌, inl, inr, ℕ, ◌+◌, List, [], ◌∷◌, ◌++◌, length, Result, Ok, Err, refl, sym, ap, subst, ◌∙◌, append_assoc}
+use Rattle.assertions.specs.declared.assertion.Assertion.{Assertion}
+use Rattle.assertions.specs.declared.assertion.Claim.{Claim}
+use Rattle.assertion_file.specs.Content.{Content}
+use Rattle.cover_checker.specs.declared.cover.Verdict.{Verdict}
+use Rattle.cover_checker.specs.declared.cover.Verdict.TheVariants.{Covered, Stands}
+use Rattle.cover_checker.specs.declared.cover.CoverFault.{CoverFault}
+use Rattle.cover_checker.specs.declared.cover.CoverFault.TheVariants.{Spent as CoverSpent, Memory as CoverMemory}
+use Rattle.trimmer.specs.declared.fault.TrimFault.{TrimFault}
+use Rattle.trimmer.specs.Laws.{IsPartOf, nothing, kept, dropped}
+use Rattle.trimmer.specs.Trimmed.{can_go, unless_it_goes, with_claims, covered_by, tried, left_of, trimmed}
+
+abbrev pub assertion_in : Claim → Assertion
+assertion_in claim = claim.assertion
+
+-- the others cover, and it is dropped, or an order stands, and it is kept
+abbrev pub Goes : Claim → List Claim → List Claim → Result Verdict CoverFault → Type 0
+Goes claim later left result = (left ≡ later) × (result ≡ Ok Covered)
+
+abbrev pub Stays : Claim → List Claim → List Claim → Result Verdict CoverFault → Type 0
+Stays claim later left result = (left ≡ claim ∷ later) × ((order : List ℕ) × (result ≡ Ok (Stands order)))
+
+from_trial : (number : ℕ) (claim : Claim) (later left : List Claim) (result : Result Verdict CoverFault) →
+    unless_it_goes claim later (can_go number result) ≡ Ok left → Goes claim later left result ⊎ Stays claim later left result
+from_trial number claim later left (Ok Covered) e = inl (cc, refl)
+from_trial number claim later left (Ok (Stands order)) e = inr (cc, (order, refl))
+from_trial number claim later left (Err (CoverSpent last)) e = cc
+from_trial number claim later left (Err CoverMemory) e = cc
+
+module _ (nodes : ℕ) (file : Content) where
+  -- what became of a claim that was tried after the later ones
+  abbrev pub Fate : List Claim → Claim → List Claim → List Claim → Type 0
+  Fate earlier claim later left =
+      Goes claim later left (covered_by nodes file (earlier ++ later)) ⊎ Stays claim later left (covered_by nodes file (earlier ++ later))
+
+  pub fate : (earlier : List Claim) (claim : Claim) (later left : List Claim) → left_of nodes file earlier (claim ∷ later) ≡ Ok left →
+      (rest : List Claim) × (left_of nodes file (earlier ++ claim ∷ []) later ≡ Ok rest) × Fate earlier claim rest left
+  fate earlier claim later left e = go (left_of nodes file (earlier ++ claim ∷ []) later) e where
+    go : (r : Result (List Claim) TrimFault) → tried nodes file earlier claim r ≡ Ok left →
+        (rest : List Claim) × (r ≡ Ok rest) × Fate earlier claim rest left
+    go (Ok rest) e = (rest, refl, from_trial (length earlier + 1) claim rest left (covered_by nodes file (earlier ++ rest)) e)
+    go (Err fault) e = cc
+
+  -- what is left is a part
+  pub left-part : (earlier later left : List Claim) → left_of nodes file earlier later ≡ Ok left → IsPartOf left later
+  left-part earlier [] left e = let same : [] ≡ left = cc in subst (λ part. IsPartOf part []) same nothing
+  left-part earlier (claim ∷ later) left e =
+      let (rest, f, g) = fate earlier claim later left e in
+      let part = left-part (earlier ++ claim ∷ []) later rest f in
+      elim g [
+        | inl goes ↦ subst (λ part. IsPartOf part (claim ∷ later)) (sym goes.0) (dropped part)
+        | inr stays ↦ subst (λ part. IsPartOf part (claim ∷ later)) (sym stays.0) (kept part)
+      ]
+
+  one_more : (earlier : List Claim) (claim : Claim) (later : List Claim) → (earlier ++ claim ∷ []) ++ later ≡ earlier ++ claim ∷ later
+  one_more earlier claim later = append_assoc earlier (claim ∷ []) later
+
+  -- what is left covers as all did
+  pub left-covered : (earlier later left : List Claim) → left_of nodes file earlier later ≡ Ok left → covered_by nodes file (earlier ++ later) ≡ Ok Covered →
+      covered_by nodes file (earlier ++ left) ≡ Ok Covered
+  left-covered earlier [] left e h = let same : [] ≡ left = cc in subst (λ left. covered_by nodes file (earlier ++ left) ≡ Ok Covered) same h
+  left-covered earlier (claim ∷ later) left e h =
+      let (rest, f, g) = fate earlier claim later left e in
+      elim g [
+        | inl goes ↦ ap (λ left. covered_by nodes file (earlier ++ left)) goes.0 ∙ goes.1
+        | inr stays ↦
+            ap (λ left. covered_by nodes file (earlier ++ left)) stays.0 ∙ ap (covered_by nodes file) (sym (one_more earlier claim rest))
+            ∙ left-covered (earlier ++ claim ∷ []) later rest f (ap (covered_by nodes file) (one_more earlier claim later) ∙ h)
+      ]
+
+-- ---- the trimmed file
+pub record IsTrimmed (nodes : ℕ) (file left : Content) : Type 0 where
+  pub claims : left_of nodes file [] file.claims ≡ Ok left.claims
+  pub same : left ≡ record file { claims = left.claims }
+
+pub from_trimmed : (nodes : ℕ) (file left : Content) → trimmed nodes file ≡ Ok left → IsTrimmed nodes file left
+from_trimmed nodes file left e = go (left_of nodes file [] file.claims) refl e where
+  go : (r : Result (List Claim) TrimFault) → left_of nodes file [] file.claims ≡ r → with_claims file r ≡ Ok left → IsTrimmed nodes file left
+  go (Ok claims) f e =
+      let same : record file { claims = claims } ≡ left = cc in
+      let its : claims ≡ left.claims = ap (λ (content : Content). content.claims) same in
+      record { claims = f ∙ ap Ok its; same = sym same ∙ ap (λ claims. record file { claims = claims }) its }
+  go (Err fault) f e = cc
+
+pub trimmed_is_part : (nodes : ℕ) (file left : Content) → trimmed nodes file ≡ Ok left → IsPartOf left.claims file.claims
+    × (left ≡ record file { claims = left.claims })
+trimmed_is_part nodes file left e =
+    let t = from_trimmed nodes file left e in
+    (left-part nodes file [] file.claims left.claims t.claims, t.same)

@@ -1,0 +1,12 @@
+pub mod Lefts
+pub mod Steps
+pub mod Below
+pub mod Walking
+pub mod Puts
+pub mod Sims
+pub mod Parted
+pub mod Nexts
+pub mod Trials
+pub mod Kept
+pub mod Accepted
+pub mod Enough

@@ -1,0 +1,66 @@
+-- From the counts with a claim of a file to those without it.
+use Rattle.std.proofs.Common.{◌≡◌, ℕ, ◌+◌, ◌<◌, Bool, true, false, not, ◌&&◌, MatchBool, List, ◌++◌, length, map, take, get_or, Option, Some, Ok, refl, ap, subst, ◌∙◌}
+use Rattle.assertions.specs.declared.assertion.Assertion.{Assertion}
+use Rattle.assertions.specs.declared.assertion.Claim.{Claim}
+use Rattle.assertions.specs.Refutation.{refutes}
+use Rattle.assertion_file.specs.Content.{Content, candidate_count}
+use Rattle.cover_checker.specs.Covers.{stands}
+use Rattle.cover_checker.specs.declared.cover.Verdict.{Verdict}
+use Rattle.cover_checker.specs.declared.cover.Verdict.TheVariants.{Covered, Stands}
+use Rattle.trimmer.specs.Counts.{CountWith, Scanned}
+use Rattle.trimmer.specs.Trimmed.{can_go, covered_by}
+use Rattle.trimmer.specs.declared.scan.Scan.{Scan}
+use Rattle.trimmer.specs.declared.scan.Scan.TheVariants.{Covered as ScanCovered, Stands as ScanStands}
+use Rattle.trimmer.proofs.Lefts.{assertion_in}
+use Rattle.trimmer.proofs.Parted.{stands-parted, take-midst}
+use Rattle.trimmer.proofs.Trials.{next-counts, next-covered, next-stands}
+
+pub goes-verdict : (verdict : Verdict) → can_go 0 (Ok verdict) ≡ Ok true → verdict ≡ Covered
+goes-verdict Covered h = refl
+goes-verdict (Stands order) h = cc
+
+pub match-true : (b : Bool) (P Q : Type 0) → b ≡ true → P → MatchBool b P Q
+match-true true P Q e p = p
+match-true false P Q e p = cc
+
+pub match-false : (b : Bool) (P Q : Type 0) → b ≡ false → Q → MatchBool b P Q
+match-false false P Q e q = q
+match-false true P Q e q = cc
+
+-- what is scanned, by other names
+pub scanned-moved : (nodes n m winner other : ℕ) (list same : List Assertion) (claim its : Option Assertion) (counts : List ℕ) (scan : Scan) →
+    n ≡ m → winner ≡ other → list ≡ same → claim ≡ its → Scanned nodes n winner list claim counts scan → Scanned nodes m other same its counts scan
+scanned-moved nodes n m winner other list same claim its counts scan a b c d h =
+    subst (λ its. Scanned nodes m other same its counts scan) d (subst (λ list. Scanned nodes m other list claim counts scan) c
+    (subst (λ w. Scanned nodes m w list claim counts scan) b (subst (λ n. Scanned nodes n winner list claim counts scan) a h)))
+
+module _ (nodes : ℕ) (file : Content) (place : ℕ) (later : List Claim) (counts : List ℕ) (d : Claim) (some : 0 < candidate_count file)
+    (below : place < length file.claims) (were : CountWith nodes file (take (place + 1) file.claims ++ later) counts) where
+  abbrev claim : Assertion
+  claim = (get_or file.claims place d).assertion
+
+  abbrev others : List Assertion
+  others = map assertion_in (take place file.claims ++ later)
+
+  parted : (s : List ℕ) → stands (map assertion_in (take (place + 1) file.claims ++ later)) s ≡ (stands others s && not (refutes claim s))
+  parted s =
+      ap (λ claims. stands (map assertion_in claims) s) (take-midst file.claims place d later below)
+      ∙ stands-parted (take place file.claims) (get_or file.claims place d) later s
+
+  pub goes-on : (more : List ℕ) → Scanned nodes (candidate_count file) file.winner others (Some claim) counts (ScanCovered more) →
+      (covered_by nodes file (take place file.claims ++ later) ≡ Ok Covered) × CountWith nodes file (take place file.claims ++ later) more
+  goes-on more scanned = (
+    next-covered nodes (candidate_count file) file.winner (map assertion_in (take (place + 1) file.claims ++ later)) others claim some parted counts were.0
+        were.1 more scanned,
+    (
+      next-counts nodes (candidate_count file) file.winner (map assertion_in (take (place + 1) file.claims ++ later)) others claim some parted counts were.0
+          were.1 more scanned,
+      scanned.1,
+    ),
+  )
+
+  pub stays-on : Scanned nodes (candidate_count file) file.winner others (Some claim) counts ScanStands →
+      (order : List ℕ) × (covered_by nodes file (take place file.claims ++ later) ≡ Ok (Stands order))
+  stays-on scanned =
+      next-stands nodes (candidate_count file) file.winner (map assertion_in (take (place + 1) file.claims ++ later)) others claim some parted counts were.0
+      were.1 scanned

@@ -1,0 +1,61 @@
+-- What is known of a trimmed file.
+use Rattle.std.specs.Prelude.{◌≡◌, ◌≢◌, ◌≤◌, ◌-◌, ◌*◌, ℕ, List, [], ◌∷◌, ◌++◌, map, Ok, Err, IsTrue, IsFalse}
+use Rattle.assertions.specs.declared.assertion.Claim.{Claim}
+use Rattle.assertions.specs.Refutation.{covers}
+use Rattle.assertions.specs.Suffixes.{IsAlternative, factorial}
+use Rattle.ballot_reader.specs.Ballots.{BallotFile}
+use Rattle.assertion_file.specs.Content.{Content, IsSound, candidate_count}
+use Rattle.cover_checker.specs.Covers.{stands}
+use Rattle.cover_checker.specs.Checks.{IsAnswer}
+use Rattle.cover_checker.specs.declared.checked.Checked.TheVariants.{Accepted}
+use Rattle.trimmer.specs.Trimmed.{trimmed}
+use Rattle.trimmer.specs.declared.fault.TrimFault.TheVariants.{Spent}
+
+-- the one list is the other without some of its claims, in the same order
+pub data IsPartOf : List Claim → List Claim → Type 0 where
+  nothing : IsPartOf [] []
+  kept : {claim : Claim} {part whole : List Claim} → IsPartOf part whole →
+      IsPartOf (claim ∷ part) (claim ∷ whole)
+  dropped : {claim : Claim} {part whole : List Claim} → IsPartOf part whole →
+      IsPartOf part (claim ∷ whole)
+
+-- a check accepts the trimmed file where it accepts the one that was read
+abbrev pub TrimmedIsAccepted : Type 0
+TrimmedIsAccepted =
+    (nodes : ℕ) (ballots : BallotFile) (file left : Content) → IsSound file →
+    IsAnswer nodes ballots file (Ok Accepted) → trimmed nodes file ≡ Ok left →
+    IsAnswer nodes ballots left (Ok Accepted)
+
+-- the claims are a part of those that were read, and all else is the same
+abbrev pub TrimmedIsPart : Type 0
+TrimmedIsPart =
+    (nodes : ℕ) (file left : Content) → trimmed nodes file ≡ Ok left →
+    IsPartOf left.claims file.claims × (left ≡ record file { claims = left.claims })
+
+-- for each claim an alternative order stands that no other claim refutes
+abbrev pub TrimmedIsIrredundant : Type 0
+TrimmedIsIrredundant =
+    (nodes : ℕ) (file left : Content) → trimmed nodes file ≡ Ok left →
+    (before : List Claim) (claim : Claim) (behind : List Claim) →
+    left.claims ≡ before ++ claim ∷ behind →
+    (order : List ℕ) × IsAlternative (candidate_count file) file.winner order
+    × IsTrue (stands (map (λ other. other.assertion) (before ++ behind)) order)
+
+-- no other part of the claims than all of them refutes each alternative order
+abbrev pub NoPartCovers : Type 0
+NoPartCovers =
+    (nodes : ℕ) (file left : Content) → trimmed nodes file ≡ Ok left →
+    (part : List Claim) → IsPartOf part left.claims → part ≢ left.claims →
+    IsFalse (covers (candidate_count file) file.winner (map (λ claim. claim.assertion) part))
+
+-- trimmed again it stays as it is, where no budget is spent
+abbrev pub TrimmedStays : Type 0
+TrimmedStays =
+    (nodes : ℕ) (file left again : Content) → trimmed nodes file ≡ Ok left →
+    trimmed nodes left ≡ Ok again → again ≡ left
+
+-- with 2 * (n - 1)! nodes no trial of n candidates is spent
+abbrev pub TrimIsNeverSpent : Type 0
+TrimIsNeverSpent =
+    (nodes : ℕ) (file : Content) → 2 * factorial (candidate_count file - 1) ≤ nodes →
+    (claim last : ℕ) → trimmed nodes file ≢ Err (Spent claim last)

@@ -1,0 +1,4 @@
+pub mod Opened
+pub mod Counts
+pub mod Trimmed
+pub mod Laws

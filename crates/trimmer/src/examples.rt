@@ -1,0 +1,19 @@
+//! Worked examples: what is left of three claims, computed by the checker.
+ghost use Rattle.std.specs.Prelude.{◌≡◌, Ok, Err, take, drop};
+ghost use Rattle.assertion_file.specs.Examples as files;
+ghost use Rattle.trimmer.specs.Trimmed.{trimmed};
+
+use crate::TrimFault;
+
+/// NEN(2,0,{0,2}) can go, since NEB(1,2) refutes all that it does. The other two are needed: with the NEB alone 2,1,0 stands,
+/// and with the NEN alone 1,0,2. To see that, two suffixes count for a candidate.
+pub fn three_candidates()
+    ensures trimmed { trimmed 2 files.three_candidates
+        ≡ Ok (record files.three_candidates { claims = take 2 files.three_candidates.claims }) }
+    ensures spent { trimmed 1 files.three_candidates ≡ Err (TrimFault.Spent 2 0) }
+{}
+
+/// One claim of two candidates is needed.
+pub fn two_candidates()
+    ensures { trimmed 1 files.two_candidates ≡ Ok files.two_candidates }
+{}

@@ -1,0 +1,49 @@
+// Why a file can't be trimmed.
+ghost use Rattle.std.specs.Prelude.{◌≡◌};
+ghost use Rattle.trimmer.specs.declared.fault.TrimFault.TheVariants.{Memory as WantOfMemory};
+
+use irv_base::{Candidate, Memory};
+use std::alloc::AllocFailed;
+use std::error::Error;
+use std::fmt;
+
+/// Why an assertion file isn't trimmed.
+#[derive(Clone, Copy, Debug, PartialEq, Eq)]
+pub enum TrimFault {
+    /// Whether the others cover without the claim with this number, from 1, isn't known: `last` is the least alternative winner
+    /// for whom more suffixes count than the budget has. Of the claims for which that is so, it is the first that is tried.
+    Spent { claim: u64, last: Candidate },
+    /// Memory could not be had.
+    Memory,
+}
+
+impl fmt::Display for TrimFault {
+    fn fmt<W: fmt::Write>(&self, f: &mut fmt::Formatter<W>) -> fmt::Result {
+        match self {
+            TrimFault::Spent { claim, last } => write!(
+                f,
+                "without claim {} more suffixes than the budget has count for candidate {}",
+                claim, last.0
+            ),
+            TrimFault::Memory => write!(f, "{Memory}"),
+        }
+    }
+}
+
+impl Error for TrimFault {}
+
+impl From<Memory> for TrimFault {
+    ghost from_gives = { λ _ fault. fault ≡ WantOfMemory };
+
+    fn from(_: Memory) -> Self {
+        TrimFault::Memory
+    }
+}
+
+impl<T: Drop> From<AllocFailed<T>> for TrimFault {
+    ghost from_gives = { λ _ fault. fault ≡ WantOfMemory };
+
+    fn from(_: AllocFailed<T>) -> Self {
+        TrimFault::Memory
+    }
+}

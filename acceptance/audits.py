@@ -19,7 +19,7 @@ import compare
 import plain
 import plain_audit
 from draws import Draws
-from limits import GREATEST_GAMMA, GREATEST_LIMIT, MOST_CANDIDATES, MOST_DRAWS, MOST_NUMBER, MOST_RECORDS, MOST_SEED_BYTES, MOST_WORKERS
+from limits import GREATEST_GAMMA, GREATEST_LIMIT, MOST_CANDIDATES, MOST_DRAWS, MOST_NODES, MOST_NUMBER, MOST_RECORDS, MOST_SEED_BYTES, MOST_WORKERS
 
 UNIT = plain_audit.UNIT
 
@@ -191,6 +191,9 @@ def county(runs):
             runs.differ(["sample"], f"{number} lines", text[:1000])
 
 
+POLL_WORDS = ["poll", "manifest.csv", "a.json", "s.csv"]
+
+
 def words(runs):
     """Lines whose seeds, draws and the like are out of their ranges, or that lack what must be given."""
     for line in [
@@ -204,6 +207,11 @@ def words(runs):
         ["plan", "manifest.csv", "a.json", f"--gamma={GREATEST_GAMMA + 1}"], ["plan", "manifest.csv"], ["report"], ["report", "a", "b"],
         ["search", "a.raire", "--workers", "0"], ["search", "a.raire", f"--workers={MOST_WORKERS + 1}"], ["search", "a.raire", "--workers"],
         ["search", "a.raire", "--workers=2", "--workers=2"], ["search", "--workers", "a.raire"], ["check", "a.raire", "a.json", "--workers=1"],
+        *([*POLL_WORDS, *more] for more in [
+            ["--seed=1"], ["--draws=1"], ["--seed=1", f"--draws={MOST_DRAWS + 1}"], *(["--seed=1", "--draws=1", word] for word in [
+                "a word too many", "--limit=0", f"--limit={GREATEST_LIMIT + 1}", f"--gamma={GREATEST_GAMMA + 1}", f"--nodes={MOST_NODES + 1}", "--contest=9",
+            ]),
+        ]),
     ]:
         if runs.run(line)[0] != 1:
             runs.differ(line, 1, plain_audit.run(line))

@@ -1,9 +1,8 @@
 #!/usr/bin/env python3
-"""Files whose author picked ids with one digest, and names and cards that crowd in a table, by a hash with a known seed.
+"""Files whose author picked ids and names with one digest, and cards that crowd in a table, by a hash with a known seed.
 
 acceptance/colliding.py PROGRAM runs commands on such files and on honest ones of the same size. Status and standard error have to
-be the same. The processor time has to be within ten times that of the honest file for ids and members; for batches and seen cards,
-which are found by a hash with a known seed, it is told alone. The last line says how many were.
+be the same, and the processor time has to be within ten times that of the honest file. The last line says how many were.
 """
 import os
 import resource
@@ -34,17 +33,8 @@ def word(data, at):
     return int.from_bytes(data[at:at + 8], "little")
 
 
-def after_eight(state, number):
-    """The state after a number of eight bytes."""
-    return folded(state ^ number, MULTIPLIER ^ 16)
-
-
 def after_four(state, number):
     return folded(state ^ number ^ number << 32, MULTIPLIER ^ 8)
-
-
-def after_byte(state, byte):
-    return folded(state ^ byte * 0x10101, MULTIPLIER ^ 2)
 
 
 def group(state, groups):
@@ -69,25 +59,6 @@ def alike_front():
         if all(0x21 <= byte <= 0x7E and byte not in b'",' for byte in state):
             return (front + state).decode()
     raise AssertionError("no front leads to a text")
-
-
-def crowded_names(count):
-    """Names of nine bytes that all begin in a 64th of the groups of a table for them."""
-    groups = 1 << (count // 9).bit_length()
-    names = []
-    start = after_eight(SEED, 9)
-    for number in range(len(LETTERS) ** 4):
-        front, state = b"batch", start
-        for k in (2, 1, 0):
-            front += bytes([LETTERS[number // len(LETTERS) ** k % len(LETTERS)]])
-        for byte in front:
-            state = after_byte(state, byte)
-        for last in LETTERS:
-            if group(after_byte(state, last), groups) < groups // 64:
-                names.append((front + bytes([last])).decode())
-                if len(names) == count:
-                    return names
-    raise AssertionError("too few names")
 
 
 def crowded_cards(most):
@@ -135,8 +106,7 @@ class Runs:
             raise AssertionError(f"{' '.join(words)}: {status} {told}")
         return printed
 
-    def pair(self, shows, honest, colliding, is_told=False):
-        """Runs both. Where the times are told alone, they aren't judged."""
+    def pair(self, shows, honest, colliding):
         self.count += 1
         long, status, told, _ = self.timed(honest)
         try:
@@ -148,7 +118,7 @@ class Runs:
         if answer != [status, told]:
             self.failed += 1
             print(f"{shows}: wanted {status} {told!r}, got {answer}")
-        elif not is_told and longer > MOST_TIMES * max(long, LEAST_SECONDS):
+        elif longer > MOST_TIMES * max(long, LEAST_SECONDS):
             self.failed += 1
             print(f"{shows}: more than {MOST_TIMES} times as long")
 
@@ -171,15 +141,15 @@ def ballots(runs):
 
 
 def batches(runs):
-    honest, crowded = [f"batch{number:04}" for number in range(BATCHES)], crowded_names(BATCHES)
-    for name, names in (("honest", honest), ("colliding", crowded)):
+    for name, front in (("honest", f"{'batch':>024}"), ("colliding", alike_front())):
+        names = [f"{front}{number:08x}" for number in range(BATCHES)]
         write_manifest(name, names)
         write_ballots(f"{name}.raire", [f"{batch}_1" for batch in names])
     sample = ["--seed=1", "--draws=3"]
-    runs.pair("names of batches", ["sample", "honest", *sample], ["sample", "colliding", *sample], is_told=True)
+    runs.pair("names of batches", ["sample", "honest", *sample], ["sample", "colliding", *sample])
     write("assertions", [runs.made(["search", "honest.raire"])])
     opened = (["open", f"{name}.raire", name, "assertions", "--seed=1"] for name in ("honest", "colliding"))
-    runs.pair("ballots of batches", *opened, is_told=True)
+    runs.pair("ballots of batches", *opened)
 
 
 def cards(runs):
@@ -192,7 +162,7 @@ def cards(runs):
     for name, seen in (("honest", range(1, len(crowded) + 1)), ("colliding", crowded)):
         write(name, (f"b{(card - 1) // MOST_BATCH_CARDS}_{(card - 1) % MOST_BATCH_CARDS + 1},ballot,a\n" for card in seen))
     audited = (["audit", "session", *files, name, "--draws=1"] for name in ("honest", "colliding"))
-    runs.pair("seen cards", *audited, is_told=True)
+    runs.pair("seen cards", *audited)
 
 
 def members(runs):

@@ -20,13 +20,27 @@ TOP = os.path.dirname(os.path.dirname(os.path.abspath(__file__)))
 
 # Of each kind of file the commands that read it, with other files whole.
 COMMANDS = {
-    "ballots.raire": [["tabulate", "ballots.raire"], ["open", "ballots.raire", "whole.csv", "whole.json", "--seed=1"]],
-    "assertions.json": [["check", "whole.raire", "assertions.json"], ["plan", "whole.csv", "assertions.json"]],
-    "manifest.csv": [["sample", "manifest.csv", "--seed=1", "--draws=5"], ["open", "whole.raire", "manifest.csv", "whole.json", "--seed=1"]],
+    "ballots.raire": [
+        ["tabulate", "ballots.raire"], ["open", "ballots.raire", "whole.csv", "whole.json", "--seed=1"],
+        ["plurality", "ballots.raire", "whole.csv", "--seed=1"],
+    ],
+    "assertions.json": [
+        ["check", "whole.raire", "assertions.json"], ["trim", "whole.raire", "assertions.json"], ["plan", "whole.csv", "assertions.json"],
+        ["poll", "whole.csv", "assertions.json", "whole_seen.csv", "--seed=1", "--draws=5"],
+    ],
+    "manifest.csv": [
+        ["sample", "manifest.csv", "--seed=1", "--draws=5"], ["open", "whole.raire", "manifest.csv", "whole.json", "--seed=1"],
+        ["poll", "manifest.csv", "whole.json", "whole_seen.csv", "--seed=1", "--draws=5"], ["plurality", "whole.raire", "manifest.csv", "--seed=1"],
+    ],
     "session.json": [
         ["report", "session.json"], ["audit", "session.json", "whole.raire", "whole.csv", "whole.json", "whole_seen.csv", "--draws=20"],
     ],
-    "seen.csv": [["audit", "opened.json", "whole.raire", "whole.csv", "whole.json", "seen.csv", "--draws=20"]],
+    "plural.json": [["plurality", "plural.json", "whole.raire", "whole.csv", "whole_seen.csv", "--draws=20"]],
+    "seen.csv": [
+        ["plurality", "plural_opened.json", "whole.raire", "whole.csv", "seen.csv", "--draws=20"],
+        ["audit", "opened.json", "whole.raire", "whole.csv", "whole.json", "seen.csv", "--draws=20"],
+        ["poll", "whole.csv", "whole.json", "seen.csv", "--seed=7", "--draws=20"],
+    ],
 }
 WORDS = {
     "csv": [b",", b"\n", b"\r\n", b"\r", b'"', b'""', b" ", b"\t", b"\xef\xbb\xbf", b"\0", b"\xff", b"0", b"1", b"-1", b"1000001", b"Contest",
@@ -67,11 +81,12 @@ def damaged(draws, data, words):
 
 
 def whole_files(draws):
-    """An audit with a session of one round, and its files once more under names that nothing damages."""
+    """Audits with a session of one round each, and their files once more under names that nothing damages."""
     while True:
         audits.Made(draws)
         status, text, _ = plain_audit.run(["search", "ballots.raire"])
-        if status == 0:
+        opened = plain_audit.run(["plurality", "ballots.raire", "manifest.csv", "--seed=7"])
+        if status == opened[0] == 0:
             break
     audits.write("assertions.json", text)
     names = {"ballots.raire": "whole.raire", "manifest.csv": "whole.csv", "assertions.json": "whole.json", "seen.csv": "whole_seen.csv"}
@@ -81,6 +96,9 @@ def whole_files(draws):
     audits.write("opened.json", plain_audit.run(["open", "whole.raire", "whole.csv", "whole.json", "--seed=7"])[1])
     words = ["audit", "opened.json", "whole.raire", "whole.csv", "whole.json", "seen.csv", "--draws=9"]
     audits.write("session.json", plain_audit.run(words)[1])
+    audits.write("plural_opened.json", opened[1])
+    words = ["plurality", "plural_opened.json", "whole.raire", "whole.csv", "seen.csv", "--draws=9"]
+    audits.write("plural.json", plain_audit.run(words)[1])
 
 
 def tried(job):

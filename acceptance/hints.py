@@ -99,7 +99,7 @@ OF_ASSERTIONS = [
     (CHANGED('"records":3', '"records":0'), "F6", "It says 0 records"),
     (CHANGED('"records":3', '"records":5'), "F7", "The assertions are about 5 ballots, and the manifest has 4 cards"),
 ]
-# Seen cards, by `audit` with four draws, of cards 1, 2, 3 and 4 (seed 10).
+# Seen cards, by `audit` and by `poll` with four draws, of cards 1, 2, 3 and 4 (seed 10).
 OF_SEEN = [
     (BALLOTS, "V1", 'It begins with "1", as a ballot file does'),
     ("b_1;ballot\n", "V1", "It has 1 field; its semicolons have to be commas. Record 1, line 1: b_1;ballot"),
@@ -115,7 +115,7 @@ SCRIPTS = ("agree", "batches", "boxes", "cards", "convert", "export", "release",
 # Words; which of them is wrong.
 OF_WORDS = [
     (["serch", "x"], '"serch" is no command; nearly right is "search"'),
-    (["x"], '"x" is no command; they are audit, check, open, plan, report, sample, search, tabulate, trial'),
+    (["x"], '"x" is no command; they are audit, check, open, plan, plurality, poll, report, sample, search, tabulate, trial, trim'),
     *[([script, "x"], f'"{script}" is no command; it is a script of its own: ./{script}') for script in SCRIPTS],
     (["audit", "--draw", "5"], '"--draw" is no option of audit; nearly right is "--draws"'),
     (["search", "-x", "b"], '"-x" is no option of search; it has --contest, --workers, --nodes, --floor'),
@@ -131,6 +131,17 @@ OF_WORDS = [
     (["check"], "check takes BALLOTS ASSERTIONS, and none of these stands here"),
     (["sample", "b", "--draws", "1"], "sample wants --seed"),
     (["search", ""], "a file has no name"),
+    (["poll", "m", "a", "s", "--draws", "1"], "poll wants --seed"),
+    (["poll", "m", "a", "--seed", "1", "--draws", "1"], "poll takes MANIFEST ASSERTIONS SEEN, and 2 of these stand here"),
+    (["poll", "m", "a", "s", "--seed=1", "--draws=1", "--contest=1"],
+     '"--contest=1" is no option of poll; it has --seed, --draws, --limit, --gamma, --nodes'),
+    (["plurality", "b", "m"], "plurality wants --seed"),
+    (["plurality", "b", "--seed=1"], "plurality takes BALLOTS MANIFEST, and 1 of these stands here"),
+    (["plurality", "b", "m", "--seed", "1", "--draws", "1"],
+     '"--draws" is no option of plurality; it has --seed, --contest, --limit, --gamma'),
+    (["plurality", "s", "b", "m", "--draws", "1"], "plurality takes SESSION BALLOTS MANIFEST SEEN, and 3 of these stand here"),
+    (["plurality", "s", "b", "m", "v"], "plurality wants --draws"),
+    (["plurality", "s", "b", "m", "v", "--draws", "0"], '"0" is no value of --draws, which is 1 to 100000'),
 ]
 
 
@@ -169,10 +180,10 @@ def write(name, text):
 
 
 def rules_are_told(tried):
-    """Each rule of formats.md has one cause, and each limit of that page is the one that acceptance/ knows."""
+    """Each rule of formats.md has a cause, in the first row of faults.md that begins with it, and each limit of that page is the one that acceptance/ knows."""
     rules = {cells[0] for cells in table.rows("formats.md") if re.fullmatch("[BFMSV][0-9]+", cells[0])}
-    stand = [match[1] for cells in table.rows("faults.md") if len(cells) == 4 and (match := table.KEYS.match(cells[1]))]
-    tried.see("each rule stands in faults.md once", sorted(rules) == sorted(key for key in stand if key in rules), sorted(stand))
+    stand = {match[1] for cells in table.rows("faults.md") if len(cells) == 4 and (match := table.KEYS.match(cells[1]))}
+    tried.see("each rule stands in faults.md", rules == {key for key in stand if re.fullmatch("[BFMSV][0-9]+", key)}, sorted(stand))
     known = {name: number for name, number in vars(limits).items() if name.isupper()}
     for name, number in table.limits().items():
         tried.see(f"{name} is {number}", known.get(name, int(number.replace(",", ""))) == int(number.replace(",", "")))
@@ -201,17 +212,34 @@ def audits_are_told(tried):
     write("open.json", session.decode())
     for text, rule, told in OF_SEEN:
         tried.breaks("seen.csv", text, rule, told, "audit", "open.json", *files, "seen.csv", "--draws=4")
+        tried.breaks("seen.csv", text, rule, told, "poll", *files[1:], "seen.csv", "--seed=10", "--draws=4")
     cards = dict.fromkeys(line.split(",")[2] for line in tried.ran(["sample", "manifest.csv", "--seed=10", "--draws=9"])[1].decode().split())
     left = [card for card in cards if card != "b_1"]
     told = f"Not read yet ({len(left)} of the {len(cards)} cards that are drawn): {' '.join(left)}"
     tried.see("several cards are unread", len(left) > 1)
     tried.breaks("seen.csv", SEEN, "V4", told, "audit", "open.json", *files, "seen.csv", "--draws=9")
+    tried.breaks("seen.csv", SEEN, "V4", told, "poll", *files[1:], "seen.csv", "--seed=10", "--draws=9")
     swapped = ["audit", "open.json", "manifest.csv", "ballots.raire", "assertions.json", "seen.csv", "--draws=9"]
     tried.says(swapped, f'S2: {table.causes()["S2"]}. "ballots.raire" has the first digest; see the order of the files. {END}')
     write("other.json", ASSERTIONS)
     tried.says(["report", "other.json"], f"S1: {table.causes()['S1']}. It is an assertion file. {END}")
     write("again.json", "")
     tried.says(["report", "again.json"], f"S1: {table.causes()['S1']}. The file is empty; a > behind the command empties its file first. {END}")
+
+
+def pluralities_are_told(tried):
+    """A session of plurality is none of audit, and the other way round."""
+    files = ["ballots.raire", "manifest.csv"]
+    status, session, err = tried.ran(["plurality", *files, "--seed=10"])
+    tried.see("an audit of first preferences is opened, and nothing more is said", (status, err) == (0, ""), err)
+    write("first.json", session.decode())
+    tried.breaks("seen.csv", "b_1,ballot,Anne\n", "V5", '"Anne" is no candidate; the contest has "Ann". Record 1, line 1: b_1,ballot,Anne',
+                 "plurality", "first.json", *files, "seen.csv", "--draws=4")
+    head = f"S2: {table.causes()['S2']}."
+    told = "The session was opened with an assertion file; audit goes on with it"
+    tried.says(["plurality", "open.json", *files, "seen.csv", "--draws=4"], f"{head} {told}. {END}")
+    told = "The session is one of plurality, which has no assertion file; plurality goes on with it"
+    tried.says(["audit", "first.json", *files, "assertions.json", "seen.csv", "--draws=4"], f"{head} {told}. {END}")
 
 
 def words_are_told(tried):
@@ -289,7 +317,7 @@ def main():
     folder = tempfile.mkdtemp()
     os.chdir(folder)
     tried = Tried(program, folder)
-    for cases in (rules_are_told, files_are_told, audits_are_told, words_are_told, answers_are_left, cards_are_counted):
+    for cases in (rules_are_told, files_are_told, audits_are_told, pluralities_are_told, words_are_told, answers_are_left, cards_are_counted):
         cases(tried)
     os.chdir("/")
     shutil.rmtree(folder)

@@ -20,6 +20,8 @@ import plain_audit
 from limits import MOST_FILE_BYTES as LARGEST, MOST_LISTED, MOST_RECORDS
 
 MOST_SECONDS = 10
+# A trim takes a time that grows with the square of the number of assertions, so it isn't given more of them.
+MOST_TRIMMED = 10_000
 MIB = 2**20
 WITH_LINE = {1, 2, 7, 9, 11, 12}
 WITH_TEXT = {0, 3, 4, 5, 6, 10}
@@ -30,14 +32,18 @@ LINES = {
     "tabulate": ["tabulate", "ballots.raire"],
     "search": ["search", "ballots.raire"],
     "check": ["check", "ballots.raire", "assertions.json"],
+    "trim": ["trim", "ballots.raire", "assertions.json"],
     "sample": ["sample", "manifest.csv", "--seed=2024", "--draws=3"],
     "plan": ["plan", "manifest.csv", "assertions.json"],
     "open": ["open", "ballots.raire", "manifest.csv", "assertions.json", "--seed=2024"],
     "audit": ["audit", "session.json", "ballots.raire", "manifest.csv", "assertions.json", "seen.csv", "--draws=5"],
     "report": ["report", "session.json"],
+    "poll": ["poll", "manifest.csv", "assertions.json", "seen.csv", "--seed=2024", "--draws=5"],
     "trial": ["trial", "--number=0", "--candidates=2", "--ballots=1"],
+    "plurality": ["plurality", "ballots.raire", "manifest.csv", "--seed=2024"],
+    "plurality, a round": ["plurality", "plural.json", "ballots.raire", "manifest.csv", "seen.csv", "--draws=5"],
 }
-FILES = {"ballots.raire", "manifest.csv", "assertions.json", "session.json", "seen.csv"}
+FILES = {"ballots.raire", "manifest.csv", "assertions.json", "session.json", "plural.json", "seen.csv"}
 
 
 def good_files():
@@ -45,6 +51,7 @@ def good_files():
     audits.write("manifest.csv", audits.MANIFEST)
     audits.write("assertions.json", audits.ASSERTIONS)
     audits.write("session.json", audits.session_with([audits.FIRST], False))
+    audits.write("plural.json", plain_audit.run(LINES["plurality"])[1])
     audits.write("seen.csv", audits.SEEN)
 
 
@@ -52,7 +59,7 @@ class Runs:
     def __init__(self, program):
         self.program, self.count, self.failed = os.path.abspath(program), 0, 0
         commands = audits.Runs(program).commands
-        self.lines = {name: line for name, line in LINES.items() if name in commands}
+        self.lines = {name: line for name, line in LINES.items() if line[0] in commands}
 
     def wrong(self, shows, told):
         self.failed += 1
@@ -215,6 +222,7 @@ ASSERTIONS = [
     ("lists", in_json("note", b"[" + repeated(b"[],", 30_000_000) + b"0]"), {6, 9}),
     ("one member again and again", b"{" + repeated(b'"margin":1,', 50_000_000 // 11 * 11) + in_json("note", b"1")[1:], {6}),
     ("assertions", in_json("assertions", b"[" + NEB * ((LARGEST - 500) // len(NEB) - 1) + NEB[:-1] + b"]"), {0, 6, 9}),
+    ("assertions, some", in_json("assertions", b"[" + NEB * (MOST_TRIMMED - 1) + NEB[:-1] + b"]"), {0, 6, 9}),
     ("candidates", in_json("candidates", b"[" + repeated(b'"1",', 50_000_000) + b'"2"]'), {2, 9}),
     ("a byte too many", repeated(b" ", LARGEST + 1), {11}),
 ]
@@ -238,9 +246,10 @@ MANIFESTS = COMMA_SEPARATED + [
 # Of each kind of file the commands that are given malicious ones, with the statuses that may come beside those of the table. All go to the
 # first command; a further one, which reads them likewise, gets few of those that have to be refused.
 MALICIOUS = {
-    "ballots.raire": (BALLOTS, {"tabulate": set(), "open": {2, 6}}), "assertions.json": (ASSERTIONS, {"check": set(), "plan": {0, 2}}),
-    "manifest.csv": (MANIFESTS, {"sample": set(), "open": {2}}), "session.json": (SESSIONS, {"report": set(), "audit": {2}}),
-    "seen.csv": (SEEN, {"audit": set()}),
+    "ballots.raire": (BALLOTS, {"tabulate": set(), "open": {2, 6}, "plurality": {2, 3}}), "plural.json": (SESSIONS, {"plurality, a round": {2}}),
+    "assertions.json": (ASSERTIONS, {"check": set(), "trim": {0, 2}, "plan": {0, 2}, "poll": {0, 2}}),
+    "manifest.csv": (MANIFESTS, {"sample": set(), "open": {2}, "poll": {2}, "plurality": {2}}), "session.json": (SESSIONS, {"report": set(), "audit": {2}}),
+    "seen.csv": (SEEN, {"audit": set(), "poll": set(), "plurality, a round": set()}),
 }
 
 
@@ -251,6 +260,8 @@ def malicious(runs):
                 file.write(data)
             for command, more in commands.items():
                 is_first = command == next(iter(commands))
+                if command == "trim" and shows == "assertions":
+                    continue
                 if command in runs.lines and (is_first or statuses != {2} or shows == "brackets"):
                     words = ["malicious" if word == name else word for word in runs.lines[command]]
                     runs.run(f"{command}: {shows}", words, statuses | (more if 11 not in statuses else set()))
@@ -268,8 +279,8 @@ def memory(runs):
         claim = b'[{"kind":"NEB","loser":"2","margin":%d,"winner":"1"}]' % margin
         file.write(in_json("assertions", claim).replace(b'"7"', b'"1"').replace(b'"margin":1', b'"margin":%d' % margin).replace(b'"records":1', b'"records":%d' % MOST_RECORDS))
     large = {
-        "tabulate": ["large.raire"], "search": ["large.raire"], "check": ["large.raire", "large.json"],
-        "open": ["large.raire", "large.csv", "large.json", "--seed=1"],
+        "tabulate": ["large.raire"], "search": ["large.raire"], "check": ["large.raire", "large.json"], "trim": ["large.raire", "large.json"],
+        "open": ["large.raire", "large.csv", "large.json", "--seed=1"], "plurality": ["large.raire", "large.csv", "--seed=1"],
     }
     for size in (16, 24, 32, 64, 128, 256, 1024):
         for line in runs.lines.values():

@@ -3,7 +3,7 @@
 
 acceptance/page.py PROGRAM [AUDITS] first tries words, programs and files that are refused, and what the page says of sessions
 and seen cards. Then it makes pages of so many generated audits, 40 if no number is given, and compares their numbers
-with what the commands print; and of as many generated contests, whose bars it measures. PROGRAM is asked; for commands that it
+with what the commands print; of as many audits of plurality contests and as many polls; and of as many generated contests, whose bars it measures. PROGRAM is asked; for commands that it
 doesn't have, plain_audit.py. Then the example audits, contests of many candidates and one with names that are no names are opened in
 a browser (the package chromium-headless-shell or chromium, or google-chrome): narrow, wide, dark and as in print, nothing may overlap
 or be cut, and contrast, texts beside drawings and what a keyboard reaches have to hold. With a folder as third word the screenshots
@@ -12,6 +12,7 @@ are left there.
 import html
 import itertools
 import json
+import math
 import os
 import re
 import shutil
@@ -495,6 +496,141 @@ def counts(shows, tried):
     tried.see("a session tells the records from the count", "2 wins by 3 ballots of b.raire" in text_of(page), top_of(page) if page else "")
 
 
+TIED = "1\nContest,Library board,3,Ito,Mendez,Okafor\nLibrary board,Main_1,Mendez\nLibrary board,Main_2,Okafor\n"
+
+
+def pluralities(shows, tried):
+    """An audit of a plurality contest is shown by its first preferences, without rounds, orders or a tree."""
+    library = os.path.join(TOP, "examples", "library")
+    files = {name: os.path.join(library, name) for name in sorted(os.listdir(library))}
+    leads = "Ito leads by the records of 88 ballots, with 46 first preferences: at least 26 more than each other candidate."
+    behind, unread = "Ito leads: Mendez is 27 behind, Okafor is 26 behind. Nobody stands first on 3 ballots.", "give the ballot file too to read it"
+    holds, alone = "The assertions hold of these records: the program opened this audit again", "Counted by this page alone. Give the manifest too"
+    said, session, ballots, manifest = "SIGNED OFF in round 2, after 24 draws", "session.json", "ballots.raire", "manifest.csv"
+    for words, kind, told, untold in [
+        ([*files], "signed", [leads, behind, holds, "Main_40 Draws 12 Recorded no record Seen nobody ranked"], [unread, alone]),
+        ([session, ballots, manifest], "said", [leads, behind, holds], [unread, alone]), ([session, ballots], "said", [leads, behind, alone], [unread, holds]),
+        ([session], "said", [unread], [holds, alone]), ([session, manifest, "seen.csv"], "said", [unread, "session, ballot file and manifest are given too"], [holds, alone]),
+    ]:
+        status, page, err = shows.run(*map(files.get, words))
+        text, found = (text_of(page), states_of(page)) if status == 0 else (err, [])
+        tried.see(f"the state of the library by {words}", [each[0] for each in found] == [kind] and found[0][2].startswith(said), (found, err))
+        tried.see(f"the library by {words}", all(each in text for each in told) and not any(each in text for each in untold), text[:900])
+        tried.see("it is called a plurality contest", text.startswith("Audit of a plurality contest Contest Library board"), text[:200])
+        runoff = ("Round 1 Ito", "is eliminated", "Every other way", "assertion file", "instant-runoff", "Clean draws", "Cuts")
+        tried.see(f"nothing of a runoff is there: {words}", not any(each in text for each in runoff), [each for each in runoff if each in text])
+    refused_pluralities(shows, tried, files)
+    counted_pluralities(shows, tried, files)
+
+
+def changed(path, name, *pairs):
+    """A copy with other words in it."""
+    with open(path) as file:
+        text = file.read()
+    for old, new in pairs:
+        text = text.replace(old, new)
+    write(name, text)
+    return plain_audit.digest(text.encode())
+
+
+def refused_pluralities(shows, tried, files):
+    """Files that don't belong to the session of a plurality contest."""
+    other = changed(files["ballots.raire"], "other.raire", ("Main_3,Mendez", "Main_3,Okafor"))
+    write("tie.raire", TIED)
+    with open(files["session.json"]) as file:
+        had = json.load(file)["ballots"]
+    changed(files["session.json"], "margins.json", ("[27,26]", "[26,27]"), ('"risks":[111334294195113147,121703134987918451]', '"risks":[121703134987918451,111334294195113147]'),
+            ('"risks":[37148684597317507,42457326958628976]', '"risks":[42457326958628976,37148684597317507]'))
+    changed(files["session.json"], "of_other.json", (had, other))
+    changed(files["session.json"], "of_tie.json", (had, plain_audit.digest(TIED.encode())))
+    changed(files["seen.csv"], "read.csv", ("Main_1,ballot,Ito", "Main_1,ballot,Mendez"))
+    changed(files["seen.csv"], "less.csv", ("Main_1,ballot,Ito\n", ""))
+    audits.write("assertions.json", audits.ASSERTIONS)
+    three = [files["ballots.raire"], files["manifest.csv"]]
+    for words, status, told in [
+        ([files["session.json"], "other.raire"], 1, "show: other.raire isn't the ballot file of "), (["margins.json", *three], 1, f"show: {three[0]} doesn't have the margins of margins.json"),
+        (["of_other.json", "other.raire"], 1, "show: other.raire doesn't have the margins of of_other.json"),
+        (["of_tie.json", "tie.raire"], 1, "show: tie.raire doesn't have the margins of of_tie.json"),
+        ([files["session.json"], "assertions.json"], 1, "show: assertions.json isn't the assertion file of "),
+        ([files["session.json"], *three, "--nodes=5"], 1, "show: --nodes is the budget of a check"),
+        ([files["session.json"], *three, "read.csv"], 1, "show: read.csv doesn't give the rounds of "),
+        ([files["session.json"], *three, "less.csv"], 2, "raire: less.csv: V4 card "),
+    ]:
+        got = shows.run(*words)
+        tried.see(f"{words} are refused", got[0] == status and got[1] == "" and got[2].startswith(told), got)
+
+
+def counted_pluralities(shows, tried, files):
+    """A full count of first preferences, with a winner and with a tie."""
+    changed(files["ballots.raire"], "counted.raire", (",Okafor\n", ",Mendez\n"), ("3,Ito,Mendez,Mendez\n", "3,Ito,Mendez,Okafor\n"))
+    write("tie_counted.raire", TIED)
+    for name, head, count in [
+        ("counted.raire", "Ito wins by 88 ballots of counted.raire.", "Ito 46 Mendez 39 Okafor 0 Ito leads: Mendez is 7 behind, Okafor is 46 behind. Nobody stands first on 3 ballots."),
+        ("tie_counted.raire", "tie_counted.raire leaves open who wins.", "Ito 0 Mendez 1 Okafor 1 Mendez and Okafor have 1 first preference each, and nobody has more."),
+    ]:
+        page = shows.run(*files.values(), name)[1]
+        text, found = text_of(page), states_of(page)
+        tried.see(f"the state by {name}", [kind for kind, _, _ in found] == ["counted", "signed"] and found[0][2].startswith(f"COUNTED IN FULL: {head}"), found)
+        tried.see(f"the first preferences of {name}", count in text.partition("The full count ")[2], text.partition("The full count ")[2][:400])
+
+
+SEED = "2026-11-03 dice 3 1 6 2 5 4 4 6"
+
+
+def harbor():
+    """The harbor's files for a poll: each card is seen as it is recorded, and the one without a record has nobody ranked."""
+    ballots, manifest, assertions = (os.path.join(TOP, "examples", "harbor", name) for name in ("ballots.raire", "manifest.csv", "assertions.json"))
+    with open(ballots) as file:
+        rows = [row.split(",") for row in file.read().splitlines()[2:]]
+    write("seen.csv", "".join(",".join([card, "ballot", *ranking]) + "\n" for _, card, *ranking in rows) + "H3_42,ballot\n")
+    return [manifest, assertions, "seen.csv"]
+
+
+def polls(shows, tried):
+    """A poll is shown by its counts and risks; one that isn't confirmed says nothing about who won."""
+    files, terms = harbor(), [f"--seed={SEED}", "--gamma=500"]
+    with open(files[1]) as file:
+        printed = file.read()
+    write("part.json", re.sub(r'"assertions":\[({[^}]*}).*?],"candidates"', r'"assertions":[\1],"candidates"', printed))
+    write("more.json", re.sub(r'"records":[0-9]*', '"records":9999', printed))
+    draw, unpolled, confirms = "Draw further cards with the same seed, or count in full.", [files[0], "part.json", "seen.csv"], "The poll confirms Heron as the winner"
+    for words, kinds, said, judged in [
+        ([*files, "--draws=100"], ["open"], f"OPEN: not confirmed by a poll after 100 draws: 1 of 5 assertions is above the limit of 0.05. This says nothing about who won. {draw}", True),
+        ([*files, "--draws=150"], ["signed"], f"CONFIRMED BY A POLL after 150 draws. {confirms}: each assertion has a risk of at most 0.05 by the drawn cards.", True),
+        ([files[0], "more.json", "seen.csv", "--draws=150"], ["signed"], "CONFIRMED BY A POLL after 150 draws.", True),
+        ([*files, "--draws=150", "--limit=200000"], ["signed", "unusual"], "CONFIRMED BY A POLL after 150 draws.", True),
+        ([*files, "--draws=1000"], ["unsigned"], "NOT CONFIRMED BY A POLL, and no cards left: 3 of 5 assertions are above", True),
+        ([*unpolled, "--draws=150"], ["unsigned"], "NOT POLLED: the assertions don’t prove the winner of their file (no: order ", False),
+        ([*files, "--draws=150", "--nodes=1"], ["unaudited"], "NOT POLLED: the budget ended before it was known whether the assertions prove the winner of their file (spent, ", False),
+    ]:
+        status, page, err = shows.run(*words, *terms)
+        found = states_of(page) if status == 0 else []
+        tried.see(f"the state of the poll {words}", [kind for kind, _, _ in found] == kinds and found[0][2].startswith(said), (found, err))
+        text = text_of(page) if status == 0 else ""
+        tried.see(f"who won is said where it is confirmed: {words}", (confirms in text) == ("signed" in kinds) and " wins" not in text and "Heron leads" not in text, text[:500])
+        tried.see(f"what the poll judged: {words}", ("seen file, judged by the program" in text) == judged == ("nothing was polled" not in text), text[-900:])
+        tried.see(f"no margin is told: {words}", "Margin" not in text and "more than" not in text and "Clean draws" not in text, text[:900])
+    refused_polls(shows, tried, files, terms)
+
+
+def refused_polls(shows, tried, files, terms):
+    """What the program refuses of a poll, and words that are no poll."""
+    harbor_files = {name: os.path.join(TOP, "examples", "harbor", name) for name in ("ballots.raire", "session.json")}
+    changed("seen.csv", "less.csv", ("H1_1,ballot", "H9_1,ballot"))
+    write("one.csv", "H1_1,ballot\n")
+    tells = "show: --seed, --draws, --limit and --gamma are of a poll: give --seed, --draws, a manifest"
+    for words, status, told in [
+        ([*files, *terms], 1, tells), ([*files, "--draws=9"], 1, tells), ([*files, "--limit=9"], 1, tells), ([*files[:2], *terms, "--draws=9"], 1, tells),
+        *(([*files, other, *terms, "--draws=9"], 1, tells) for other in harbor_files.values()), ([harbor_files["ballots.raire"], "--gamma=9"], 1, tells),
+        ([*files, "--seed=", "--draws=9"], 1, "show: --seed wants a value"), ([*files, "--seed=\t", "--draws=9"], 1, "show: --seed wants 1 to 64 characters"),
+        ([*files, *terms, "--draws=0"], 1, "show: --draws wants a number from 1 to 100000"), ([*files, *terms, "--limit=1000000"], 1, "show: --limit wants a number from 1 to 999999"),
+        ([*files, "--seed=1", "--gamma=501"], 1, "show: --gamma wants a number from 1 to 500"), ([*files, *terms, "--draws=9", "--draws=9"], 1, "show: --draws stands twice"),
+        ([*files[:2], "less.csv", *terms, "--draws=150"], 2, "raire: less.csv: V2 at "), ([*files[:2], "one.csv", *terms, "--draws=150"], 2, "raire: one.csv: V4 card "),
+    ]:
+        got = shows.run(*words)
+        tried.see(f"{words} are refused", got[0] == status and got[1] == "" and got[2].startswith(told), got)
+
+
 def cards(shows, tried):
     """Cards, records and the cards without a record stand on top, and a batch that no ballot names."""
     town = os.path.join(TOP, "examples", "town")
@@ -534,12 +670,16 @@ def names(shows, tried):
     write("winner.json", printed.replace(f'"winner":"{one}"}}\n', f'"winner":"{two}"}}\n'))
     write("tie.raire", f"1\nContest,7,3,{','.join(ids)}\n7,b_1,{one}\n7,b_2,{two}\n")
     whole = ["ballots.raire", "manifest.csv", "assertions.json", "session.json", "seen.csv"]
+    write("firsts.json", plain_audit.run(["plurality", "ballots.raire", "manifest.csv", "--seed=1"])[1])
+    write("firsts.json", plain_audit.run(["plurality", "firsts.json", "ballots.raire", "manifest.csv", "seen.csv", "--draws=30"])[1])
     for order in itertools.permutations(ids):
         write("order.json", re.sub(r'"order":\[.*?\]', f'"order":{json.dumps(order)}', printed))
         if "refuted by" in plain_audit.run(["check", "ballots.raire", "order.json"])[1]:
             break
     for files in [
         ["ballots.raire"], ["assertions.json"], whole, *(["ballots.raire", f"{name}.json"] for name in ("less", "winner", "order")), ["tie.raire"], [*whole, "tie.raire"],
+        *(["manifest.csv", f"{name}.json", "seen.csv", "--seed=1", "--draws=30"] for name in ("assertions", "less")),
+        *(["ballots.raire", "manifest.csv", "firsts.json", "seen.csv", *others] for others in ([], ["tie.raire"])),
     ]:
         status, page, err = shows.run(*files, "names.csv")
         text = text_of(page).partition("What this page is made of")[0] if status == 0 else err
@@ -644,6 +784,76 @@ def numbers(shows, tried, draws):
     tried.see("all branches are cut", ", 0 orders standing" in text)
 
 
+def plurality_numbers(shows, tried, draws):
+    """A page of a generated audit of a plurality contest has the numbers of the program's own texts."""
+    made = audits.Made(draws)
+    opened = plain_audit.run(["plurality", "ballots.raire", "manifest.csv", f"--seed={1 + draws.below(99)}"])
+    if opened[0] != 0:
+        return
+    write("session.json", opened[1])
+    for number in (1 + draws.below(30), 31 + draws.below(90)):
+        write("session.json", plain_audit.run(["plurality", "session.json", "ballots.raire", "manifest.csv", "seen.csv", f"--draws={number}"])[1])
+    status, page, err = shows.run("ballots.raire", "manifest.csv", "session.json", "seen.csv")
+    text = text_of(page) if status == 0 else ""
+    tried.see("an audit of a plurality contest is shown", status == 0 and "ended with the same bytes" in text, err)
+    votes = [sum(ranking[:1] == (c,) for ranking in map(tuple, made.rankings)) for c in range(len(made.ids))]
+    winner, rows = max(range(len(votes)), key=votes.__getitem__), text.partition("The assertions No.")[2].partition("The session")[0] or text
+    tried.see("who leads", f"{made.ids[winner]} leads by the records of {plural(sum(1 for _ in made.rankings), 'ballot')}, with {plural(votes[winner], 'first preference')}: " in text, text[:600])
+    report = plain_audit.run(["report", "session.json"])[1].splitlines()
+    tried.see(report[-1], ("SIGNED OFF in round" in text.replace("NOT SIGNED OFF", "")) == report[-1].endswith("yes"))
+    last = max(at for at, line in enumerate(report) if line.startswith("round"))
+    losers = [c for c in range(len(votes)) if c != winner]
+    for line, c in zip(report[last + 1:-1], losers, strict=True):
+        _, j, _, margin, _, *counts, _, risk, state = line.split(" ")
+        wanted = (
+            f"{made.ids[winner]} has more first preferences than {made.ids[c]} {made.ids[winner]} has {plural(votes[winner], 'first preference')}, {made.ids[c]} {votes[c]:,} "
+            f"Margin {int(margin):,} Draws by discrepancy, −2 to +2 {', '.join(counts)} Risk {short(risk)} Confirmed {'in round' if state == 'confirmed' else 'not yet'}"
+        )
+        tried.see(line, f"{j} {wanted}" in rows and int(margin) == votes[winner] - votes[c], (wanted, rows[:900]))
+        tried.see(f"behind: {line}", f"{made.ids[c]} is {int(margin):,} behind" in text)
+
+
+def poll_numbers(shows, tried, draws):
+    """A page of a generated poll has the numbers of the program's own lines."""
+    audits.Made(draws)
+    status, found, _ = plain_audit.run(["search", "ballots.raire"])
+    if status != 0:
+        return
+    write("assertions.json", found)
+    words = ["manifest.csv", "assertions.json", "seen.csv", f"--seed={1 + draws.below(99)}", f"--draws={1 + draws.below(300)}", f"--gamma={1 + draws.below(500)}"]
+    words += [f"--limit={1 + draws.below(400_000)}"] if draws.below(2) else []
+    answer, lines, _ = plain_audit.run(["poll", *words])
+    status, page, err = shows.run(*words)
+    text = text_of(page) if status == 0 else ""
+    tried.see("a poll is shown", status == 0, err)
+    *terms, last = (line for line in lines.splitlines() if " counts " not in line)
+    tried.see(last, ("CONFIRMED BY A POLL after" in text) == last.endswith("yes") == (answer == 0), text[:300])
+    for line in terms:
+        name, number = line.split(" ")
+        shown = {"limit": f"Risk limit {int(number) / 10**6:.6f}".rstrip("0"), "gamma": f"Gamma {number} thousandths"}.get(name, f"{name.capitalize()} {int(number):,}")
+        tried.see(line, shown in text.partition(" The poll Seed ")[2], text[-900:])
+    rows, limit = page.partition("<tbody>")[2].partition("</tbody>")[0].split("</tr>")[:-1], int(terms[2].removeprefix("limit "))
+    for line, row in zip((line for line in lines.splitlines() if " counts " in line), rows, strict=True):
+        see_poll_row(tried, line, row, limit)
+
+
+def see_poll_row(tried, line, row, limit):
+    """The row has the line's claim, counts, risk and state, and its bar ends before the limit just where the claim is confirmed."""
+    kind, winner, loser, *_ = line.split(" ")
+    counts, risk, state = re.fullmatch(r".* counts (\d+ \d+ \d+) risk (\S+) (\w+)", line).groups()
+    text = " ".join(html.unescape(re.sub("<[^>]*>", " ", row)).split())
+    claim = f"{winner} can't be eliminated before {loser} " if kind == "NEB" else f"{winner} can't be eliminated while "
+    told = f"for it {', '.join(counts.split(' '))} Risk {short(risk)} Confirmed {'yes' if state == 'confirmed' else 'no'}"
+    tried.see(line, claim in text and text.endswith(told), text)
+    width = float(re.search(r"width:([0-9.]+)%", row)[1])
+    exact = 100 * max(0, 1 - math.log(10**18 / int(risk.replace(".", ""))) / (4 * math.log(10**6 / limit)))
+    tried.see(f"its bar: {line}", abs(width - exact) < 0.001 and (width <= 75.001 if state == "confirmed" else width >= 74.999), row)
+
+
+def plural(number, one):
+    return f"{number:,} {one if number == 1 else one + 's'}"
+
+
 def short(risk):
     """A printed risk in 4 or 6 digits, rounded up."""
     units = int(risk.replace(".", ""))
@@ -696,23 +906,32 @@ def look(browser, page, name, folder, keep):
     return wrong
 
 
+def example(name):
+    """The files of an example."""
+    folder = os.path.join(TOP, "examples", name)
+    return [os.path.join(folder, name) for name in sorted(os.listdir(folder))]
+
+
 def looks(shows, tried, folder, keep):
     found = browsers()
     tried.see("a browser is there: apt-get install chromium-headless-shell", found)
     if not found:
         return
     browser = found[0]
-    town, village = (os.path.join(TOP, "examples", name) for name in ("town", "village"))
+    town = os.path.join(TOP, "examples", "town")
     pages = {
-        "town": shows.run(*(os.path.join(town, name) for name in sorted(os.listdir(town)))),
+        "town": shows.run(*example("town")),
         "names": shows.run(*names_that_are_none(folder)),
         "many": shows.run(*many_candidates(folder)),
         "most": shows.run(*most_candidates(shows, folder)),
         "tie": shows.run(os.path.join(TOP, "examples", "tie.raire")),
-        "village": shows.run(*(os.path.join(village, name) for name in sorted(os.listdir(village)))),
+        "village": shows.run(*example("village")),
         "session": shows.run(os.path.join(town, "session.json")),
         "seen": shows.run(os.path.join(town, "manifest.csv"), os.path.join(town, "seen.csv")),
         "later": shows.run(*gone_on_with()),
+        "library": shows.run(*example("library")),
+        "poll": shows.run(*harbor(), f"--seed={SEED}", "--gamma=500", "--draws=100"),
+        "confirmed": shows.run(*harbor(), f"--seed={SEED}", "--gamma=500", "--draws=150"),
     }
     for other in found[1:]:
         wrong = look(other, pages["town"][1], "narrow", folder, None)
@@ -769,6 +988,7 @@ def bars(shows, tried, draws, count):
     tried.see("contests are shown", all(status == 0 for status, _, _ in pages), [err for _, _, err in pages if err][:1])
     drawn = [(contest, page) for contest, (_, page, _) in zip(contests, pages) if 'class="bars"' in page]
     tried.see("most of them have rounds", len(drawn) > count // 3, len(drawn))
+    drawn.append(("the library", shows.run(*example("library"))[1]))
     for width in (LOOKS["narrow"][0], LOOKS["wide"][0]):
         for at in range(0, len(drawn), 50):
             part = drawn[at:at + 50]
@@ -844,10 +1064,11 @@ def main():
     program, count = sys.argv[1], int(sys.argv[2]) if len(sys.argv) > 2 else 40
     keep = os.path.abspath(sys.argv[3]) if len(sys.argv) > 3 else None
     tried, draws, here = Tried(), Draws(23), os.getcwd()
+    made = (numbers, plurality_numbers, poll_numbers)
     with tempfile.TemporaryDirectory() as tools:
         shows = Shows(program, tools)
-        cases = (refusals, words, programs, sessions, promises, belonging, seen_alone, kinds, states, later, bytes_of_sessions, counts, cards, names, ties)
-        makers = [lambda case=case: case(shows, tried) for case in cases] + [lambda: numbers(shows, tried, draws)] * count
+        cases = (refusals, words, programs, sessions, promises, belonging, seen_alone, kinds, states, later, bytes_of_sessions, counts, pluralities, polls, cards, names, ties)
+        makers = [lambda case=case: case(shows, tried) for case in cases] + [lambda case=case: case(shows, tried, draws) for case in made] * count
         makers += [lambda: without_browser(tried), lambda: bars(shows, tried, draws, count), lambda: looks(shows, tried, os.getcwd(), keep)]
         for maker in makers:
             with tempfile.TemporaryDirectory() as folder:

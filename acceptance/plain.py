@@ -414,6 +414,15 @@ def standing_count(contest, last, claims, before):
     )
 
 
+def unproved(contest, winner, claims, nodes):
+    """The status and the text where an order stands, or the budget ends before that is known; None where the claims prove the winner."""
+    standing = least_standing(contest, winner, claims)
+    for last in range(contest.n):
+        if last != winner and standing_count(contest, last, claims, standing) > nodes:
+            return 4, f"spent\ncandidate {contest.ids[last]}\n"
+    return (6, f"no: order {','.join(contest.ids[c] for c in standing)} stands\n") if standing else None
+
+
 def difference(contest, file, nodes):
     """The status and the text of the first difference, or None."""
     if (file["contest"], file["candidates"], file["records"]) != (contest.name, contest.ids, contest.records):
@@ -425,12 +434,9 @@ def difference(contest, file, nodes):
     for number, (assertion, claimed) in enumerate(claims, 1):
         if contest.margin(assertion) != claimed:
             return 6, f"no: assertion {number} has margin {contest.margin(assertion)}\n"
-    standing = least_standing(contest, winner, claims)
-    for last in range(contest.n):
-        if last != winner and standing_count(contest, last, claims, standing) > nodes:
-            return 4, f"spent\ncandidate {contest.ids[last]}\n"
-    if standing:
-        return 6, f"no: order {','.join(contest.ids[c] for c in standing)} stands\n"
+    told = unproved(contest, winner, claims, nodes)
+    if told:
+        return told
     smallest = min(margin for _, margin in claims)
     if smallest != file["margin"]:
         return 6, f"no: smallest margin is {smallest}\n"

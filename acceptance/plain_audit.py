@@ -15,6 +15,9 @@ import re
 import sys
 
 import plain
+import plain_plurality
+import plain_poll
+import plain_trim
 from limits import (
     DEFAULT_NODES, FEWEST_CANDIDATES, GREATEST_GAMMA, GREATEST_LIMIT, MOST_BATCH_BYTES, MOST_BATCH_CARDS, MOST_CANDIDATES, MOST_CARDS,
     MOST_CONTESTS, MOST_DRAWS, MOST_FILE_BYTES, MOST_FLOOR, MOST_LISTED, MOST_NODES, MOST_NUMBER, MOST_RECORDS, MOST_SEED_BYTES,
@@ -250,6 +253,8 @@ def seen_of(data, manifest, ids):
 def value(assertion, ranking):
     """2 for the winner, 0 for the loser, else 1."""
     kind, w, l = assertion[:3]
+    if kind == "FIRST":
+        return plain_plurality.lead(w, l, ranking)
     if kind == "NEN":
         top = next((c for c in ranking if c in assertion[3]), None)
         return {w: 2, l: 0}.get(top, 1)
@@ -416,6 +421,13 @@ def check(options, ballots, assertions):
     return judged(assertions, plain.judge, contest, read(assertions), options.get("nodes", DEFAULT_NODES))
 
 
+def trim(options, ballots, assertions):
+    contest = judged(ballots, ballots_of, read(ballots), options.get("contest"))
+    data, nodes = read(assertions), options.get("nodes", DEFAULT_NODES)
+    accepted(contest, assertions, data, nodes)
+    return plain_trim.printed(data, nodes)
+
+
 def sample(options, path):
     manifest = judged(path, manifest_of, read(path))
     lines = []
@@ -438,6 +450,21 @@ def plan(options, manifest_path, path):
     return 0, "".join(lines) + ("all: full count\n" if most is None else f"all: {most} draws\n")
 
 
+def poll(options, manifest_path, path, seen_path):
+    manifest = judged(manifest_path, manifest_of, read(manifest_path))
+    file = judged(path, plain.read_assertions, read(path))
+    contest = plain.Contest(file["contest"], file["candidates"], [])
+    told = plain.unproved(contest, contest.ids.index(file["winner"]), file["assertions"], options.get("nodes", DEFAULT_NODES))
+    if told:
+        return told
+    seen = judged(seen_path, seen_of, read(seen_path), manifest, contest.ids)
+    see_all(seen_path, options["seed"], manifest.cards, seen, options["draws"])
+    cards = [seen[drawn(options["seed"], k, manifest.cards)] for k in range(1, options["draws"] + 1)]
+    values = [[0 if card == MISSING else value(assertion, card) for card in cards] for assertion, _ in file["assertions"]]
+    names = [plain.shown(contest, assertion) for assertion, _ in file["assertions"]]
+    return plain_poll.printed(names, values, manifest.cards, options["draws"], options.get("limit", 50_000), options.get("gamma", 100))
+
+
 def accepted(contest, path, data, nodes):
     """The assertion file, or the end of the call with what a check of it finds first."""
     status, text = judged(path, plain.judge, contest, data, nodes)
@@ -450,6 +477,15 @@ def digest(data):
     return hashlib.sha256(data).hexdigest()
 
 
+def opened(options, contest, cards, margins, ballots, manifest, assertions):
+    """A session without rounds, of files with these bytes."""
+    return {
+        "assertions": digest(assertions), "ballots": digest(ballots), "cards": cards.cards, "contest": contest.name,
+        "gamma": options.get("gamma", 100), "limit": options.get("limit", 50_000), "manifest": digest(manifest), "margins": margins,
+        "rounds": [], "seed": options["seed"], "signed_off": False, "version": 1,
+    }
+
+
 def open_session(options, ballots, manifest, assertions):
     bytes_of_ballots = read(ballots)
     contest = judged(ballots, ballots_of, bytes_of_ballots, options.get("contest"))
@@ -458,13 +494,8 @@ def open_session(options, ballots, manifest, assertions):
     judged(ballots, linked, contest, cards)
     bytes_of_assertions = read(assertions)
     file = accepted(contest, assertions, bytes_of_assertions, options.get("nodes", DEFAULT_NODES))
-    session = {
-        "assertions": digest(bytes_of_assertions), "ballots": digest(bytes_of_ballots), "cards": cards.cards,
-        "contest": contest.name, "gamma": options.get("gamma", 100), "limit": options.get("limit", 50_000),
-        "manifest": digest(bytes_of_manifest), "margins": [margin for _, margin in file["assertions"]], "rounds": [],
-        "seed": options["seed"], "signed_off": False, "version": 1,
-    }
-    return 0, session_text(session)
+    margins = [margin for _, margin in file["assertions"]]
+    return 0, session_text(opened(options, contest, cards, margins, bytes_of_ballots, bytes_of_manifest, bytes_of_assertions))
 
 
 def same(path, data, wanted):
@@ -481,12 +512,17 @@ def counts_of(session, recorded, seen, assertion, draws):
     return counts
 
 
+def see_all(path, seed, cards, seen, draws):
+    """V4, where the card of a draw has no record."""
+    for k in range(1, draws + 1):
+        card = drawn(seed, k, cards)
+        if card not in seen:
+            raise refused(path, f"V4 card {card} draw {k}")
+
+
 def advance(session, session_path, seen_path, recorded, claims, seen, draws):
     """The session with one more round, or V4 or S3."""
-    for k in range(1, draws + 1):
-        card = drawn(session["seed"], k, session["cards"])
-        if card not in seen:
-            raise refused(seen_path, f"V4 card {card} draw {k}")
+    see_all(seen_path, session["seed"], session["cards"], seen, draws)
     for i, done in enumerate(session["rounds"], 1):
         for j, (assertion, _) in enumerate(claims, 1):
             had, found = done["counts"][j - 1], counts_of(session, recorded, seen, assertion, done["draws"])
@@ -502,24 +538,56 @@ def advance(session, session_path, seen_path, recorded, claims, seen, draws):
     return {**further, "signed_off": is_signed_off(further)}
 
 
-def audit(options, session_path, ballots, manifest, assertions, seen):
-    session = session_of(read(session_path))
+def to_go_on(path, draws):
+    """The session in a file, if its last round had fewer draws."""
+    session = session_of(read(path))
     if session is None:
-        raise refused(session_path, "S1")
+        raise refused(path, "S1")
     had = session["rounds"][-1]["draws"] if session["rounds"] else 0
-    if options["draws"] <= had:
-        raise refused(session_path, f"S4 had {had}")
-    data = same(ballots, read(ballots), session["ballots"])
-    contest = judged(ballots, ballots_of, data, session["contest"])
+    if draws <= had:
+        raise refused(path, f"S4 had {had}")
+    return session
+
+
+def placed(session, ballots, manifest):
+    """The contest and the cards of a session, and what is recorded of them."""
+    contest = judged(ballots, ballots_of, same(ballots, read(ballots), session["ballots"]), session["contest"])
     cards = judged(manifest, manifest_of, same(manifest, read(manifest), session["manifest"]))
-    recorded = judged(ballots, linked, contest, cards)
-    data = same(assertions, read(assertions), session["assertions"])
-    claims = accepted(contest, assertions, data, options.get("nodes", DEFAULT_NODES))["assertions"]
+    return contest, cards, judged(ballots, linked, contest, cards)
+
+
+def further_round(session, session_path, contest, cards, recorded, claims, seen, draws):
+    """The session with a round more, where its facts are those of the other files."""
     if session["cards"] != cards.cards or session["margins"] != [margin for _, margin in claims]:
         raise refused(session_path, "S5")
     cards_seen = judged(seen, seen_of, read(seen), cards, contest.ids)
-    further = advance(session, session_path, seen, recorded, claims, cards_seen, options["draws"])
+    further = advance(session, session_path, seen, recorded, claims, cards_seen, draws)
     return 0 if further["signed_off"] else 10, session_text(further)
+
+
+def audit(options, session_path, ballots, manifest, assertions, seen):
+    session = to_go_on(session_path, options["draws"])
+    contest, cards, recorded = placed(session, ballots, manifest)
+    data = same(assertions, read(assertions), session["assertions"])
+    claims = accepted(contest, assertions, data, options.get("nodes", DEFAULT_NODES))["assertions"]
+    return further_round(session, session_path, contest, cards, recorded, claims, seen, options["draws"])
+
+
+def open_plurality(options, ballots, manifest):
+    bytes_of_ballots = read(ballots)
+    contest = judged(ballots, ballots_of, bytes_of_ballots, options.get("contest"))
+    bytes_of_manifest = read(manifest)
+    cards = judged(manifest, manifest_of, bytes_of_manifest)
+    judged(ballots, linked, contest, cards)
+    margins = [margin for _, margin in plain_plurality.claims(contest)]
+    return 0, session_text(opened(options, contest, cards, margins, bytes_of_ballots, bytes_of_manifest, b""))
+
+
+def audit_plurality(options, session_path, ballots, manifest, seen):
+    session = to_go_on(session_path, options["draws"])
+    same(session_path, b"", session["assertions"])
+    contest, cards, recorded = placed(session, ballots, manifest)
+    return further_round(session, session_path, contest, cards, recorded, plain_plurality.claims(contest), seen, options["draws"])
 
 
 def risk_text(units):
@@ -585,21 +653,31 @@ COMMANDS = {
     "tabulate": (tabulate, 1, "", "contest nodes"),
     "search": (search, 1, "", "contest workers nodes floor"),
     "check": (check, 2, "", "contest nodes"),
+    "trim": (trim, 2, "", "contest nodes"),
     "sample": (sample, 1, "seed draws", ""),
     "plan": (plan, 2, "", "limit gamma"),
     "open": (open_session, 3, "seed", "contest limit gamma nodes"),
     "audit": (audit, 5, "draws", "nodes"),
     "report": (report, 1, "", ""),
+    "poll": (poll, 3, "seed draws", "limit gamma nodes"),
     "trial": (trial, 0, "number", "candidates ballots workers nodes"),
+    "plurality": (open_plurality, 2, "seed", "contest limit gamma"),
 }
+
+# a word's second line, of another number of files
+SECOND = {"plurality": (audit_plurality, 4, "draws", "")}
 
 
 def line_of(words):
     """The call of a line with its files and the values of its options, or None where the words are no line."""
-    if not words or words[0] not in COMMANDS:
-        return None
-    call, count, must, may = COMMANDS[words[0]]
-    files, options, rest = [], {}, list(words[1:])
+    forms = [table[words[0]] for table in (COMMANDS, SECOND) if words and words[0] in table]
+    return next(filter(None, (line_in(form, words[1:]) for form in forms)), None)
+
+
+def line_in(form, words):
+    """The same of the words after a command's word, by one of its forms."""
+    call, count, must, may = form
+    files, options, rest = [], {}, list(words)
     while rest:
         word = rest.pop(0)
         if word == "--":

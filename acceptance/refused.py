@@ -82,6 +82,10 @@ LINES = {
     "search, missing": ["search", "none"],
     "check": ["check", "row1.raire", "row1.json"],
     "check, other": ["check", "ballots.raire", "row1.json"],
+    "trim": ["trim", "row1.raire", "row1.json"],
+    "trim, other": ["trim", "ballots.raire", "row1.json"],
+    "poll": ["poll", "manifest.csv", "assertions.json", "seen.csv", "--seed=2024", "--draws=40"],
+    "poll, an order stands": ["poll", "manifest.csv", "unproved.json", "seen.csv", "--seed=2024", "--draws=5"],
     "words": ["search", "row1.raire", "--floor"],
 }
 
@@ -155,6 +159,7 @@ def main():
         library = built(folder)
         os.chdir(folder)
         hostile.good_files()
+        audits.write("unproved.json", hostile.in_json("assertions", b"[]").decode())
         for name in ("row1.raire", "row1.json", "county.raire", "tie.raire"):
             shutil.copy(os.path.join(TOP, "examples", name), name)
         for shows, words in lines.items():

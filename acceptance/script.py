@@ -61,6 +61,7 @@ class Copy:
         shutil.copy(os.path.join(TOP, "raire"), folder)
         shutil.copy(os.path.join(TOP, "crates.txt"), folder)
         shutil.copytree(os.path.join(TOP, "docs", "help"), os.path.join(folder, "docs", "help"))
+        shutil.copytree(os.path.join(TOP, "build"), os.path.join(folder, "build"))
         for crate in crates():
             for part in ("src", "specs", "proofs"):
                 os.makedirs(os.path.join(folder, "crates", crate, part))
@@ -120,13 +121,31 @@ def builds(copy):
     yield "crates are proved before the program is made", [line.split()[:3] for line in noted] == [["raire", "all", "check"], ["raire", "run", "--"]]
     at_once = int(noted[0].split()[-1])
     yield "side by side, as far as there are processors", min(2, os.cpu_count()) <= at_once <= os.cpu_count()
-    yield "progress is told", all(f" of {len(wanted)}: {crate}\n" in err for crate in wanted)
+    yield "progress is told", all(re.search(f" of {len(wanted)}: {crate}(; about .* left)?\n", err) for crate in wanted)
     yield "nothing is built again", copy.run("--build") == (0, "", "") and not os.path.exists(copy.notes)
     status, out, err = copy.run("bad")
     yield "bad words are followed by a pointer", (status, out) == (1, "bad\n") and err.startswith("raire: ./raire help")
     with open(os.path.join(copy.folder, "crates", "desk", "src", "lib.rt"), "w") as file:
         file.write("// newer\n")
     yield "a newer source builds again", copy.run("--build")[:2] == (0, "") and os.path.exists(copy.notes)
+
+
+def minutes_left():
+    """What is told of the time that is left, by a clock of the test's own: at the pace of what is done, and nothing of a crate that was built before."""
+    sys.path.insert(0, os.path.join(TOP, "build"))
+    import progress
+
+    build = progress.Build(2)
+    build.before, build.below = 60.0, {"low": set(), "side": {"low"}, "top": {"low", "side"}}
+    build.seconds = {"low": 60.0, "side": 120.0, "top": 360.0}
+    yield "a whole build is a chain", build.ends() == {"low": 120.0, "side": 240.0, "top": 600.0}
+    yield "half as fast", build.tell("low", 240.0) == "4:00  1 of 3: low; about 16 minutes left"
+    yield "at the same pace", build.tell("side", 480.0) == "8:00  2 of 3: side; about 12 minutes left"
+    yield "the last one", build.tell("top", 1200.0) == "20:00  3 of 3: top"
+    build.told, build.latest, build.before = [], 0.0, 0.0
+    build.seconds = {"low": 60.0, "side": 120.0, "top": 360.0}
+    yield "what was built before takes no time", build.tell("low", 0.1) == "0:00  1 of 3: low"
+    yield "and the pace is that of the others", build.tell("side", 60.0) == "1:00  2 of 3: side; about 3 minutes left"
 
 
 def places_of(path):
@@ -182,23 +201,24 @@ def options_are_told(program):
     for page in sorted(os.listdir(pages)):
         command = page[: -len(".txt")]
         with open(os.path.join(pages, page)) as file:
-            script, *head = file.readline().replace("[", "").replace("]", "").split()
-        if command == "raire" or script != "./raire":
-            continue
-        values = {"ID": "1", "N": "2", "SEED": "1"}
-        words = [values.get(word, word if word == command or word.startswith("-") else "no_such_file") for word in head]
-        ran = subprocess.run([program, *words], capture_output=True, text=True)
-        yield f"the line of {page} is one", ran.returncode != 1
-        for option in {"--floor"} - set(head):
-            ran = subprocess.run([program, *words, option, "1"], capture_output=True, text=True)
-            yield f"{command} has no {option}", ran.returncode == 1
+            heads = [line.replace("[", "").replace("]", "").split() for line in file.read().split("\n\n")[0].splitlines()]
+        for script, *head in heads:
+            if command == "raire" or script != "./raire":
+                continue
+            values = {"ID": "1", "N": "2", "SEED": "1"}
+            words = [values.get(word, word if word == command or word.startswith("-") else "no_such_file") for word in head]
+            ran = subprocess.run([program, *words], capture_output=True, text=True)
+            yield f"the line {' '.join(head)} of {page} is one", ran.returncode != 1
+            for option in {"--floor"} - set(head):
+                ran = subprocess.run([program, *words, option, "1"], capture_output=True, text=True)
+                yield f"{command} has no {option}", ran.returncode == 1
 
 
 def main():
     failed = tried = 0
     with tempfile.TemporaryDirectory() as folder:
         copy = Copy(folder)
-        for cases in (helps(copy), builds(copy), options_are_told(sys.argv[1]), pictures_are_drawn(), pages_are_true()):
+        for cases in (helps(copy), builds(copy), minutes_left(), options_are_told(sys.argv[1]), pictures_are_drawn(), pages_are_true()):
             for shows, holds in cases:
                 tried += 1
                 if not holds:

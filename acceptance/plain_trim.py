@@ -1,0 +1,80 @@
+"""The trimmed file by its definition alone: every order, every suffix, no index.
+
+From the last claim to the first each is left out, and goes exactly where the others still refute every order that elects another
+candidate. The nodes of a trial are those of `check`, of the claims that are left without the one that is tried.
+"""
+import itertools
+import json
+
+import plain
+
+
+class Spent(Exception):
+    """The nodes don't suffice for a trial: of this claim, counted from 1, at this candidate."""
+
+    def __init__(self, claim, last):
+        super().__init__(claim, last)
+        self.claim, self.last = claim, last
+
+
+class Walked:
+    """Of each order and each suffix of a contest that elects another candidate which claims refute it, as bits by their places."""
+
+    def __init__(self, n, winner, claims):
+        self.n, self.winner = n, winner
+        self.suffixes = {}
+        for last in range(n):
+            if last != winner:
+                others = [c for c in range(n) if c != last]
+                ending = [front + (last,) for size in range(n) for front in itertools.permutations(others, size)]
+                ending.sort(key=lambda suffix: suffix[::-1])
+                self.suffixes[last] = [(suffix, self.refuters(suffix, claims)) for suffix in ending]
+
+    @staticmethod
+    def refuters(suffix, claims):
+        return sum(1 << at for at, (assertion, _) in enumerate(claims) if plain.refutes(assertion, suffix))
+
+    def covers(self, left, nodes):
+        """Whether the claims with these bits refute every order; or the candidate for whom more suffixes count than there are nodes."""
+        for last, suffixes in self.suffixes.items():
+            count = 0
+            for suffix, by in suffixes:
+                if by & left:
+                    continue
+                if len(suffix) == self.n:
+                    return False
+                count += 1
+                if count > nodes:
+                    raise LookupError(last)
+        return True
+
+
+def trimmed(n, winner, claims, nodes):
+    """The places of the claims that are left."""
+    walked, left = Walked(n, winner, claims), (1 << len(claims)) - 1
+    for at in reversed(range(len(claims))):
+        try:
+            if walked.covers(left & ~(1 << at), nodes):
+                left &= ~(1 << at)
+        except LookupError as over:
+            raise Spent(at + 1, over.args[0]) from None
+    return [at for at in range(len(claims)) if left >> at & 1]
+
+
+def printed(data, nodes):
+    """Status and text of `raire trim`, of an assertion file that a check accepts."""
+    file = plain.read_assertions(data)
+    ids = file["candidates"]
+    try:
+        left = trimmed(len(ids), ids.index(file["winner"]), file["assertions"], nodes)
+    except Spent as spent:
+        return 4, f"spent\ncandidate {ids[spent.last]}\n"
+    value = json.loads(data)
+    kept = {name: value[name] for name in ("candidates", "contest", "margin", "order", "records", "version", "winner")}
+    return 0, json.dumps({**kept, "assertions": [shown(value["assertions"][at], ids) for at in left]}, sort_keys=True, separators=(",", ":")) + "\n"
+
+
+def shown(assertion, ids):
+    """The members of an assertion that are printed, those left in the contest's order."""
+    members = {name: assertion[name] for name in ("kind", "loser", "margin", "winner")}
+    return members if assertion["kind"] == "NEB" else {**members, "rest": sorted(assertion["rest"], key=ids.index)}

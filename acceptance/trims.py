@@ -1,0 +1,77 @@
+#!/usr/bin/env python3
+"""Compares trims of the built program with the plain trimmer.
+
+acceptance/trims.py PROGRAM [CONTESTS] makes so many contests of 2 to 7 candidates, 1,000 if no number is given. Each that is decided is searched, its file
+trimmed and trimmed again, with many nodes and with few. What is printed has to be accepted by `check`, and refused with
+`no: order .. stands` where any one claim is left out of it.
+"""
+import json
+import os
+import subprocess
+import sys
+import tempfile
+
+import compare
+from draws import Draws
+from limits import DEFAULT_NODES
+from plain_trim import printed
+
+
+def ran(program, *words):
+    done = subprocess.run([program, *words], capture_output=True, text=True)
+    return done.returncode, done.stdout, done.stderr
+
+
+def faults(program, ballots, found, folder, draws):
+    """What differs from the definition, of the assertions that a search found."""
+    path, again = os.path.join(folder, "found.json"), os.path.join(folder, "trimmed.json")
+    with open(path, "w") as file:
+        file.write(found)
+    for nodes in (DEFAULT_NODES, 1 + draws.below(40)):
+        checked, words = ran(program, "check", ballots, path, f"--nodes={nodes}"), (f"--nodes={nodes}",)
+        wanted = (checked if checked[0] else (*printed(found.encode(), nodes), ""))
+        got = ran(program, "trim", ballots, path, *words)
+        if got != wanted:
+            yield f"trim at {nodes} nodes: wanted {wanted}, got {got}"
+        elif got[0] == 0:
+            yield from faults_of_trimmed(program, ballots, got[1], again, words)
+
+
+def faults_of_trimmed(program, ballots, text, path, words):
+    value = json.loads(text)
+    with open(path, "w") as file:
+        file.write(text)
+    if ran(program, "check", ballots, path, *words)[0] != 0:
+        yield "the trimmed file isn't accepted"
+    status, same, _ = ran(program, "trim", ballots, path)
+    if status == 0 and same != text:
+        yield "trimmed again it changes"
+    for at in range(len(value["assertions"])):
+        with open(path, "w") as file:
+            json.dump({**value, "assertions": value["assertions"][:at] + value["assertions"][at + 1:]}, file)
+        status, said, _ = ran(program, "check", ballots, path)
+        if status != 6 or not (said.startswith("no: order ") and said.endswith(" stands\n")):
+            yield f"without assertion {at + 1} of the trimmed file: {status} {said}"
+
+
+def main():
+    program, contests = sys.argv[1], int(sys.argv[2]) if len(sys.argv) > 2 else 1000
+    draws, agree, failed = Draws(19), 0, 0
+    with tempfile.TemporaryDirectory() as folder:
+        for number in range(contests):
+            # One in fifty has seven candidates: all their suffixes take a while.
+            n = 7 if number % 50 == 49 else 2 + number % 5
+            ids = [str(11 + c) for c in range(n)]
+            ballots = os.path.join(folder, "ballots.raire")
+            compare.write(ballots, ids, compare.contest_of(draws, n, 20 + draws.below(100)))
+            status, found, _ = ran(program, "search", ballots)
+            told = [] if status else list(faults(program, ballots, found, folder, draws))
+            for fault in told:
+                print(f"contest {number + 1}: {fault}")
+            agree, failed = agree + (not told), failed + bool(told)
+    print(f"{agree} contests agree, {failed} don't")
+    sys.exit(1 if failed else 0)
+
+
+if __name__ == "__main__":
+    main()

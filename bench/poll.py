@@ -1,0 +1,144 @@
+#!/usr/bin/env python3
+"""Times `raire poll`, and tells how many draws a poll takes beside a comparison.
+
+    bench/poll.py            a poll of 1,000,000 cards, 30 assertions and 10,000 draws, beside one of the same files and one draw: what the draws
+                             take stands last, the least of five runs each
+    bench/poll.py draws      for margins of a contest of two candidates and 10,000 cards, each of them for one or the other: the draws of a clean
+                             comparison by `raire plan`, and the draws after which half, and nine in ten, of 200 seeds are confirmed by a
+                             poll; the program confirms each at that draw, and not before. A dash stands where they aren't within 20,000 draws
+"""
+import math
+import os
+import subprocess
+import sys
+import tempfile
+
+from search import PROGRAM, TOP, run
+
+import plain_audit  # noqa: E402
+import plain_poll  # noqa: E402
+from draws import Draws  # noqa: E402
+
+CARDS, BATCHES, CANDIDATES, CLAIMS, DRAWS, SEED = 1_000_000, 4_000, 10, 30, 10_000, "2024"
+PERCENTS, GAMMAS, LIMIT, SEEDS, MOST = (1, 2, 5, 10, 20, 25, 30, 40, 50, 60, 80), (100, 500), 50_000, 200, 20_000
+
+
+# ---- what a poll takes
+
+def write_large():
+    """A manifest, what is seen of the drawn cards, and assertions, those of a contest and some of them once more."""
+    draws, size = Draws(20), CARDS // BATCHES
+    rankings = [
+        ",".join(str(15 + c) for c in dict.fromkeys(min(draws.below(CANDIDATES), draws.below(CANDIDATES)) for _ in range(1 + draws.below(5))))
+        for _ in range(20_000)
+    ]
+    with open("manifest.csv", "w") as file:
+        file.write("batch,cards\n" + "".join(f"{99813 + k}_1,{size}\n" for k in range(BATCHES)))
+    with open("seen.csv", "w") as file:
+        for place in sorted({plain_audit.drawn(SEED, k, CARDS) - 1 for k in range(1, DRAWS + 1)}):
+            file.write(f"{99813 + place // size}_1_{place % size + 1},ballot,{rankings[draws.below(len(rankings))]}\n")
+    names = ",".join(str(15 + c) for c in range(CANDIDATES))
+    with open("ballots.raire", "w") as file:
+        file.write(f"1\nContest,339,{CANDIDATES},{names}\n" + "".join(f"339,a_{at},{ranking}\n" for at, ranking in enumerate(rankings)))
+    found = subprocess.run([PROGRAM, "search", "ballots.raire"], stdout=subprocess.PIPE, text=True, check=True).stdout
+    head, claims = found.split("[", 1)
+    claims, tail = claims.split('],"candidates"', 1)
+    claims = claims.replace("},{", "}\n{").split("\n")
+    claims = (claims * CLAIMS)[:max(CLAIMS, len(claims))]
+    with open("assertions.json", "w") as file:
+        file.write(f"{head}[{','.join(claims)}],\"candidates\"{tail}")
+    return len(claims)
+
+
+def time_large():
+    claims = write_large()
+    words = [PROGRAM, "poll", "manifest.csv", "assertions.json", "seen.csv", f"--seed={SEED}"]
+    one, many = (min(run([*words, f"--draws={draws}"]) for _ in range(5)) for draws in (1, DRAWS))
+    print(f"{CARDS:,} cards, {claims} assertions: one draw {one[0]:.3f} s, {DRAWS:,} draws {many[0]:.3f} s, {many[1] / 1e6:.0f} MB, status {many[2]}")
+    print(f"the draws take {many[0] - one[0]:.3f} s")
+
+
+# ---- how many draws
+
+def write_contest(cards, margin):
+    """Two candidates, of whom the first has so many votes more; the seen file has all cards."""
+    first = (cards + margin) // 2
+    with open("manifest.csv", "w") as file:
+        file.write(f"batch,cards\nb,{cards}\n")
+    with open("seen.csv", "w") as file:
+        file.writelines(f"b_{at + 1},ballot,{'A' if at < first else 'B'}\n" for at in range(cards))
+    with open("assertions.json", "w") as file:
+        claim = f'{{"kind":"NEB","loser":"B","margin":{margin},"winner":"A"}}'
+        rest = f'"candidates":["A","B"],"contest":"c","margin":{margin},"order":["A","B"],"records":{cards},"version":1,"winner":"A"'
+        file.write(f'{{"assertions":[{claim}],{rest}}}\n')
+    return first
+
+
+def lowered(gamma):
+    """The printed risk after so many draws for the first candidate, and none for the other."""
+    units = [plain_poll.UNIT]
+    for _ in range(MOST):
+        units.append(-(-units[-1] * (500 + gamma) // (1000 + gamma)))
+    return units
+
+
+def is_within(units, against, gamma):
+    """Whether the printed risk, raised by so many draws for the other candidate, is within the limit."""
+    for _ in range(against):
+        if units > LIMIT * 10**12:
+            return False
+        units = -(-units * (500 + gamma) // gamma)
+    return units <= LIMIT * 10**12
+
+
+def first_draw(seed, cards, first, gamma, units):
+    """The first draw after which the assertion is confirmed, or None. Where the least units are raised above the limit no further one is."""
+    against = 0
+    for k in range(1, MOST + 1):
+        against += plain_audit.drawn(seed, k, cards) > first
+        if is_within(units[k - against], against, gamma):
+            return k
+        if not is_within(units[-1], against, gamma):
+            return None
+    return None
+
+
+def is_first(seed, draws, gamma):
+    words = [PROGRAM, "poll", "manifest.csv", "assertions.json", "seen.csv", f"--seed={seed}", f"--gamma={gamma}", f"--limit={LIMIT}"]
+    return [subprocess.run([*words, f"--draws={at}"], stdout=subprocess.DEVNULL).returncode for at in (draws - 1, draws) if at] == [10, 0][-min(draws, 2):]
+
+
+def polls(cards, first, gamma):
+    """The draws that half and nine in ten of the seeds take, as texts."""
+    units = lowered(gamma)
+    found = [(first_draw(seed, cards, first, gamma, units), seed) for seed in range(SEEDS)]
+    took = sorted((draws, seed) for draws, seed in found if draws)
+    told = []
+    for share in (0.5, 0.9):
+        at = math.ceil(share * SEEDS) - 1
+        if at < len(took) and not is_first(took[at][1], took[at][0], gamma):
+            sys.exit(f"the program says otherwise: {took[at]}, gamma {gamma}")
+        told.append(f"{took[at][0]:,}" if at < len(took) else "-")
+    return told
+
+
+def tell_draws():
+    cards = 10_000
+    print(f"{'margin':>7} {'comparison':>11}" + "".join(f" {f'poll {gamma}: half':>15} {'9 in 10':>8}" for gamma in GAMMAS))
+    for percent in PERCENTS:
+        first = write_contest(cards, cards * percent // 100)
+        plan = subprocess.run([PROGRAM, "plan", "manifest.csv", "assertions.json"], stdout=subprocess.PIPE, text=True).stdout.split()
+        texts = [text for gamma in GAMMAS for text in polls(cards, first, gamma)]
+        print(f"{percent:>6}% {plan[-2]:>11}" + "".join(f" {half:>15} {most:>8}" for half, most in zip(texts[::2], texts[1::2])), flush=True)
+
+
+def main():
+    tell = tell_draws if sys.argv[1:] == ["draws"] else time_large
+    with tempfile.TemporaryDirectory() as folder:
+        os.chdir(folder)
+        tell()
+        os.chdir(TOP)
+
+
+if __name__ == "__main__":
+    main()

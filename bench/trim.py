@@ -1,0 +1,51 @@
+#!/usr/bin/env python3
+"""Times `raire trim` beside `raire check`, on the assertions that `raire search` prints of contests that are made the same at every run.
+
+For each contest it prints how many assertions there are and how many are left, the seconds of `check` and of `trim`, the peak
+memory of `trim` and its status: 4 where the nodes don't suffice for a trial. The least of three runs counts.
+
+    bench/trim.py              10 candidates and 200,000 ballots; 8, 10 and 12 nearly equal ones
+    bench/trim.py equal 11     one near-equal contest of so many candidates and 100,000 ballots
+"""
+import json
+import subprocess
+import sys
+import tempfile
+
+from search import PROGRAM, least, write_ballots
+
+CONTESTS = [(10, 200_000, False), (8, 100_000, True), (10, 100_000, True), (12, 100_000, True)]
+
+
+def assertions_in(text):
+    return len(json.loads(text)["assertions"]) if text else 0
+
+
+def time_contest(candidates, ballots, is_equal):
+    with tempfile.NamedTemporaryFile(suffix=".raire") as file, tempfile.NamedTemporaryFile(suffix=".json") as found:
+        write_ballots(file.name, candidates, ballots, is_equal)
+        searched = subprocess.run([PROGRAM, "search", file.name], capture_output=True)
+        name = f"{'near-equal ' if is_equal else ''}{candidates}, {ballots:,} ballots"
+        if searched.returncode != 0:
+            print(f"{name:<28} search ends with {searched.returncode}")
+            return
+        found.write(searched.stdout)
+        found.flush()
+        check, _, _ = least(PROGRAM, "check", file.name, found.name)
+        trim, peak, status = least(PROGRAM, "trim", file.name, found.name)
+        left = subprocess.run([PROGRAM, "trim", file.name, found.name], capture_output=True).stdout if status == 0 else b""
+        print(
+            f"{name:<28} {assertions_in(searched.stdout):>10} {assertions_in(left):>6} {check:>8.3f} {trim:>8.3f} {peak / 1e6:>8.1f} {status:>6}",
+            flush=True,
+        )
+
+
+def main():
+    words = sys.argv[1:]
+    print(f"{'contest':<28} {'assertions':>10} {'left':>6} {'check':>8} {'trim':>8} {'peak MB':>8} {'status':>6}")
+    for contest in [(int(words[1]), 100_000, True)] if words[:1] == ["equal"] else CONTESTS:
+        time_contest(*contest)
+
+
+if __name__ == "__main__":
+    main()

@@ -70,6 +70,8 @@ def found(call, path, said):
         return rules.no_json(data, "an assertion file") if rule == "F1" else found_of_assertions(call, data, rule, at)
     if rule == "S1":
         return rules.no_session(data)
+    if rule == "S2" and rules.NO_ASSERTIONS in rest:
+        return rules.other_audit(call.command)
     if rule == "S2":
         return rules.other_bytes(rest[1], [files[name] for name in files if name != "SESSION"])
     return []
@@ -86,18 +88,27 @@ def found_of_seen(call, data, rule, at):
     if rule == "V3":
         return rules.stood_before(data, at, 1)
     if rule == "V4":
-        return rules.unread(rules.data_of(files["SESSION"]), rules.data_of(files["MANIFEST"]), data, int(call.options["draws"]))
+        return rules.unread(seed_of(call), rules.data_of(files["MANIFEST"]), data, int(call.options["draws"]))
     record = rules.record_at(data, at)
     if rule == "V2":
         return [rules.no_card(record.fields[0], rules.batches_of(rules.data_of(files["MANIFEST"]))), rules.where(record)]
-    return rules.no_candidate(record, record.fields[2:], rules.heads_of(rules.data_of(files["BALLOTS"]))[contest_of(call)][0])
+    return rules.no_candidate(record, record.fields[2:], candidates_of(call))
 
 
 def contest_of(call):
     """The contest that is meant: of an audit that of its session."""
-    if call.command == "audit":
-        return rules.json_members(rules.data_of(call.files["SESSION"]))["contest"]
-    return call.options.get("contest")
+    return rules.json_members(rules.data_of(call.files["SESSION"]))["contest"] if "SESSION" in call.files else call.options.get("contest")
+
+
+def seed_of(call):
+    return rules.json_members(rules.data_of(call.files["SESSION"]))["seed"] if "SESSION" in call.files else call.options["seed"]
+
+
+def candidates_of(call):
+    """Those of the ballot file, or of the assertion file where there are no ballots."""
+    if "BALLOTS" not in call.files:
+        return rules.json_members(rules.data_of(call.files["ASSERTIONS"]))["candidates"]
+    return rules.heads_of(rules.data_of(call.files["BALLOTS"]))[contest_of(call)][0]
 
 
 FOUND = {"no such file": rules.no_such_file, "too long": rules.size, "read fault": rules.unreadable}

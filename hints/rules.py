@@ -256,12 +256,12 @@ def seen_record(data, at):
     return [told, where(record)]
 
 
-def unread(session, manifest, seen, draws):
+def unread(seed, manifest, seen, draws):
     """V4: all drawn cards that have no record, in the order of their first draws."""
     sys.path.append(os.path.join(os.path.dirname(os.path.dirname(os.path.abspath(__file__))), "acceptance"))
     import plain_audit
 
-    cards, seed = plain_audit.Manifest(batches_of(manifest)), json_members(session)["seed"]
+    cards = plain_audit.Manifest(batches_of(manifest))
     read = {record.fields[0] for record in records(seen)}
     drawn = dict.fromkeys(cards.card(plain_audit.drawn(seed, k, cards.cards)) for k in range(1, draws + 1))
     left = [card for card in drawn if card not in read]
@@ -382,6 +382,17 @@ def other_bytes(expected, paths):
     """S2: which file of the call has the digest of the session."""
     named = [path for path in paths if hashlib.sha256(data_of(path)).hexdigest() == expected]
     return [f"{quoted(named[0])} has the first digest; see the order of the files"] if named else []
+
+
+# The digest of no bytes: what a session of plurality has in place of that of an assertion file.
+NO_ASSERTIONS = hashlib.sha256(b"").hexdigest()
+
+
+def other_audit(command):
+    """S2, where a session of plurality is given to audit, or the other way round."""
+    if command == "plurality":
+        return ["The session was opened with an assertion file; audit goes on with it"]
+    return ["The session is one of plurality, which has no assertion file; plurality goes on with it"]
 
 
 # ---- files that can't be read

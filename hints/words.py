@@ -1,4 +1,4 @@
-"""The words of a command line, by the first line of each page of docs/help: what they ask for, or which of them is wrong."""
+"""The words of a command line, by the first lines of each page of docs/help: what they ask for, or which of them is wrong."""
 import os
 import re
 from typing import NamedTuple
@@ -30,27 +30,28 @@ class Call(NamedTuple):
 
 
 def pages():
-    """The name, the first line and the text of each page but the one of all commands."""
+    """The name, the first lines and the text of each page but the one of all commands."""
     for page in sorted(os.listdir(os.path.join(DOCS, "help"))):
         if page != "raire.txt":
             with open(os.path.join(DOCS, "help", page), encoding="utf-8") as file:
                 text = file.read()
-            yield page.removesuffix(".txt"), text.partition("\n")[0], text
+            yield page.removesuffix(".txt"), text.partition("\n\n")[0].splitlines(), text
 
 
 def forms():
-    """The files and options of each command."""
+    """Of each command the forms of its lines, mostly one: its files and options."""
     found = {}
-    for name, head, text in pages():
-        if head.startswith("./raire "):
-            files = re.findall("[A-Z]+", re.sub(r"--\w+ [A-Z]+", "", head))
-            found[name] = Form(files, dict(options_of(head, text)))
+    for name, heads, text in pages():
+        for head in heads:
+            if head.startswith("./raire "):
+                files = re.findall("[A-Z]+", re.sub(r"--\w+ [A-Z]+", "", head))
+                found.setdefault(name, []).append(Form(files, dict(options_of(head, text))))
     return found
 
 
 def scripts():
     """What has a page and is no command: the scripts beside ./raire."""
-    return [name for name, head, _ in pages() if head.startswith(f"./{name} ")]
+    return [name for name, heads, _ in pages() if heads[0].startswith(f"./{name} ")]
 
 
 def options_of(head, text):
@@ -82,9 +83,26 @@ def call_of(words):
     if not words or words[0] not in commands:
         told = quoted(words[0]) if words else "nothing"
         raise Wrong(f"{told} is no command; " + meant(words[0] if words else "", commands, "they are " + ", ".join(commands)))
-    command, form = words[0], commands[words[0]]
+    wrong = []
+    for form in sorted(commands[words[0]], key=lambda form: likeness(form, words[1:]), reverse=True):
+        try:
+            return call_by(form, words[0], words[1:])
+        except Wrong as told:
+            wrong.append(told)
+    raise wrong[0]
+
+
+def likeness(form, words):
+    """How much words are like a line of this form: how many of its options they name, then how near they come to its number of files."""
+    named = [word[2:].partition("=") for word in words if word.startswith("--")]
+    files = sum(not word.startswith("-") for word in words) - sum(not equals for _, equals, _ in named)
+    return sum(name in form.options for name, _, _ in named), -abs(files - len(form.files))
+
+
+def call_by(form, command, words):
+    """What the words ask for by this form of the command's line."""
     files, options = [], {}
-    rest = list(words[1:])
+    rest = list(words)
     while rest:
         word = rest.pop(0)
         if word == "--":

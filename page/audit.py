@@ -9,6 +9,7 @@ from files import told
 from texts import superscript
 
 UNIT = plain_audit.UNIT
+NO_BYTES = plain_audit.digest(b"")  # what a session of a plurality contest has for the digest of an assertion file
 WIDTH, HEIGHT, LEFT, RIGHT, TOP, BOTTOM = 640, 300, 60, 610, 16, 262
 
 
@@ -28,6 +29,10 @@ def session_of(file):
     if session is None:
         raise told(f"{file.path} is a session to the program, and this page can't read it: {why_no_session(file.data)}")
     return session
+
+
+def is_of_plurality(session):
+    return session["assertions"] == NO_BYTES
 
 
 def why_no_session(data):

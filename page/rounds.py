@@ -43,14 +43,14 @@ def rounds_of(text, ids, names):
     return {"records": records, "rounds": rounds, "winner": names.of(remaining[0])}
 
 
-def scale_of(tabulations):
+def scale_of(rounds):
     """One scale for all bars of a page: the most votes, how many letters the longest numbers beside the bars have, and whether names are long."""
     shown = [
         (votes, f"{votes:,}", f" +{each['gained'][c]:,}" if each["gained"][c] else "")
-        for tabulation in tabulations for each in tabulation["rounds"] for c, votes in each["votes"].items()
+        for each in rounds for c, votes in each["votes"].items()
     ]
     return {
         "most": max(1, *(votes for votes, _, _ in shown)), "votes": 1 + max(len(number + plus) for _, number, plus in shown),
         "number": 1 + max(max(len(number), len(plus)) for _, number, plus in shown),
-        "is_long": any(len(c) > LONGEST_BESIDE for tabulation in tabulations for c in tabulation["rounds"][0]["votes"]),
+        "is_long": any(len(c) > LONGEST_BESIDE for each in rounds for c in each["votes"]),
     }

@@ -1,11 +1,12 @@
 """The state of an audit, for the top of a page. A mark and a frame tell it too, for those who see no colours or no words."""
 import audit
 import plain_audit
-from limits import MOST_DRAWS
+from limits import GREATEST_GAMMA, MOST_DRAWS
 from texts import millionths, plural
 
 MARKS = {"unaudited": "○", "open": "◐", "unsigned": "✗", "said": "?", "signed": "✓", "against": "▲", "counted": "■", "unusual": "!"}
 MOST_USUAL_LIMIT, USUAL_GAMMAS = 100_000, range(50, 201)
+ANY_GAMMA = range(1, GREATEST_GAMMA + 1)  # of a poll: which is best depends on how close its assertions are
 
 
 def told(kind, head, text):
@@ -15,7 +16,9 @@ def told(kind, head, text):
 def states(parts):
     """What stands on top: whether there is an audit and how far it is, what speaks against it, and what is unusual of its terms."""
     session, counted = parts["session"], parts["counted"]
-    found = [of_count(counted, parts["tabulation"])] if counted else []
+    if parts["poll"]:
+        return of_poll(parts["poll"], parts["assertions"]["winner"])
+    found = [of_count(counted, parts["tabulation"] or parts["firsts"])] if counted else []
     if not session:
         return found or [of_no_session(parts)]
     found.append(of_session(parts, session, counted))
@@ -36,12 +39,37 @@ def of_no_session(parts):
 
 def of_count(counted, recorded):
     """What a full count says, and whether the records say the same."""
-    if "rounds" not in counted:
+    if "winner" not in counted:
         return told("counted", "COUNTED IN FULL:", f"{counted['file']} leaves open who wins.")
     text = f"{counted['winner']} wins by {plural(counted['records'], 'ballot')} of {counted['file']}."
-    if "rounds" in recorded and recorded["winner"] != counted["winner"]:
+    if "winner" in recorded and recorded["winner"] != counted["winner"]:
         text += f" The records elect {recorded['winner']}: they are wrong, or the count is."
     return told("counted", "COUNTED IN FULL:", text + " Whether these are all ballots is for those who watched the count to say.")
+
+
+def of_poll(poll, winner):
+    """Whether a poll confirms the winner. One that doesn't says nothing about who won."""
+    if "claims" not in poll:
+        return [not_polled(poll)]
+    limit, draws, claims = millionths(poll["limit"]), plural(poll["draws"], "draw"), poll["claims"]
+    above = sum(not claim["is_confirmed"] for claim in claims)
+    missing = f"{above} of {plural(len(claims), 'assertion')} {'is' if above == 1 else 'are'} above the limit of {limit}. This says nothing about who won."
+    if poll["status"] == 0:
+        text = f"The poll confirms {winner} as the winner: each assertion has a risk of at most {limit} by the drawn cards."
+        state = told("signed", f"CONFIRMED BY A POLL after {draws}.", text)
+    elif poll["draws"] >= MOST_DRAWS or len(audit.draws_by_card(poll, poll["draws"])) == poll["cards"]:
+        state = told("unsigned", "NOT CONFIRMED BY A POLL, and no cards left:", f"{missing} Count in full.")
+    else:
+        state = told("open", f"OPEN: not confirmed by a poll after {draws}:", f"{missing} Draw further cards with the same seed, or count in full.")
+    return [state, *unusual(poll, ANY_GAMMA)]
+
+
+def not_polled(poll):
+    """The program asks first whether the assertions prove the winner."""
+    shown = ", ".join(poll["shown"])
+    if poll["status"] == 6:
+        return told("unsigned", "NOT POLLED:", f"the assertions don’t prove the winner of their file ({shown}).")
+    return told("unaudited", "NOT POLLED:", f"the budget ended before it was known whether the assertions prove the winner of their file ({shown}).")
 
 
 def of_session(parts, session, counted):
@@ -70,11 +98,11 @@ WANTED = "Give all its files, and what was read from the cards, to have the prog
 OTHERWISE = "The program ran the whole audit again, and ended with other bytes."
 
 
-def unusual(session):
+def unusual(session, gammas=USUAL_GAMMAS):
     """Terms that few audits have; who sees them asks for the reason."""
     terms = []
     if session["limit"] > MOST_USUAL_LIMIT:
         terms.append(f"a risk limit of {millionths(session['limit'])}, which is above {millionths(MOST_USUAL_LIMIT)}")
-    if session["gamma"] not in USUAL_GAMMAS:
-        terms.append(f"a gamma of {session['gamma']} thousandths, which is outside {USUAL_GAMMAS[0]} to {USUAL_GAMMAS[-1]}")
+    if session["gamma"] not in gammas:
+        terms.append(f"a gamma of {session['gamma']} thousandths, which is outside {gammas[0]} to {gammas[-1]}")
     return [told("unusual", "UNUSUAL TERMS:", ", and ".join(terms) + ".")] if terms else []

@@ -6,21 +6,26 @@ import jinja2
 
 import audit
 import files
+import firsts
 import orders
 import plain
 import plain_audit
+import polled
 import rounds
 import state
 from files import broken_to_page, Refusal, told
-from limits import MOST_NODES
+from limits import GREATEST_GAMMA, GREATEST_LIMIT, MOST_DRAWS, MOST_NODES
 from names import Names
 from program import TOP, Program
 from texts import listed, millionths, ordinal, plural, shown
 
 HELP = os.path.join(TOP, "docs", "help", "show.txt")
-OPTIONS = ("--contest", "--nodes")
+NUMBERS = {"--nodes": MOST_NODES, "--draws": MOST_DRAWS, "--limit": GREATEST_LIMIT, "--gamma": GREATEST_GAMMA}
+POLL = ("--seed", "--draws", "--limit", "--gamma")
+OPTIONS = ("--contest", "--nodes", *POLL)
 UNWRITTEN = Refusal(8, "show: the page could not be written\n")
 MOST_LISTED = 100
+POLLED = ("manifest", "assertions", "seen")
 UNCOUNTED = ("no: contest differs", "no: winner is", "no: assertion", "tie")
 
 
@@ -56,8 +61,11 @@ def see_values(options):
             raise told(f"{name} wants a value")
     if not plain.is_id(options.get("--contest", "1")):
         raise told("--contest wants the id of a contest")
-    if plain_audit.number_in(options.get("--nodes", "1"), 1, MOST_NODES) is None:
-        raise told(f"--nodes wants a number from 1 to {MOST_NODES}")
+    if not plain_audit.is_seed(options.get("--seed", "1")):
+        raise told("--seed wants 1 to 64 characters from space to ~")
+    for name, most in NUMBERS.items():
+        if plain_audit.number_in(options.get(name, "1"), 1, most) is None:
+            raise told(f"{name} wants a number from 1 to {most}")
 
 
 def see_output(paths):
@@ -77,8 +85,8 @@ class Page:
     def __init__(self, given, options, program):
         self.files, self.options, self.program, self.notes = given, options, program, []
         self.parts = dict.fromkeys((
-            "session", "contest", "tabulation", "counted", "assertions", "verdict", "tree", "plan", "manifest", "claims", "seen_file", "other_form",
-            "is_replayed",
+            "session", "contest", "tabulation", "firsts", "counted", "assertions", "verdict", "tree", "plan", "manifest", "claims", "seen_file",
+            "other_form", "is_plurality", "is_opened", "is_replayed", "poll",
         ))
         self.names = Names(given.get("names"))
         self.judged = set(files.KINDS) - files.NOT_THE_PROGRAMS  # the kinds that the program judges; seen cards once it has run the audit again
@@ -107,7 +115,7 @@ class Page:
         if self.options.get("--contest", session["contest"]) != session["contest"]:
             raise told(f"{file.path} is about contest {session['contest']}, and not {self.options['--contest']}")
         self.options["--contest"] = session["contest"]
-        self.parts["session"] = session
+        self.parts.update(session=session, is_plurality=audit.is_of_plurality(session))
         if plain_audit.session_text(session).encode() != file.data:
             self.parts["other_form"] = {"added": audit.added(file)}
 
@@ -142,12 +150,23 @@ class Page:
     def read_ballots(self):
         if not self.has("ballots"):
             return
-        status, text = self.program.must_run("tabulate", [self.path("ballots")], *self.contest_words())
+        is_plurality = self.parts["is_plurality"]
+        status, text = self.program.must_run("tabulate", [self.path("ballots")], *self.contest_words(), is_shown=not is_plurality)
         contests = self.contests()
         name = self.options.get("--contest") or next(iter(contests))
         self.names.see(contests[name])
-        self.parts["tabulation"] = self.tabulation(status, text, contests[name])
         self.parts["contest"], self.parts["ids"] = name, contests[name]
+        if is_plurality:
+            self.read_firsts()
+        else:
+            self.parts["tabulation"] = self.tabulation(status, text, contests[name])
+
+    def read_firsts(self):
+        """Who stands first on how many ballots, as this page counts them: the differences have to be the session's margins."""
+        contest = self.read_contest()
+        if [margin for _, margin in firsts.claims_of(contest)] != self.parts["session"]["margins"]:
+            raise told(f"{self.path('ballots')} doesn't have the margins of {self.path('session')}")
+        self.parts["firsts"] = firsts.count_of(contest, self.shown(contest.ids))
 
     def tabulation(self, status, text, ids):
         """The rounds; or the tie that leaves open who wins; or that the budget ended before it was known whether the ties do."""
@@ -159,14 +178,15 @@ class Page:
         """The ballots that were counted in full: those of the same contest, as a ballot file has them."""
         if not self.has("counted"):
             return
-        path, name = self.path("counted"), self.parts["contest"]
-        status, text = self.program.must_run("tabulate", [path], f"--contest={name}")
+        path, name, is_plurality = self.path("counted"), self.parts["contest"], self.parts["is_plurality"]
+        status, text = self.program.must_run("tabulate", [path], f"--contest={name}", is_shown=not is_plurality)
         if self.contests("counted")[name] != self.parts["ids"]:
             raise told(f"{path} has other candidates than {self.path('ballots')}")
-        counted = {**self.tabulation(status, text, self.parts["ids"]), "file": self.files["counted"].name}
-        if "rounds" not in counted:
-            counted["records"] = len(plain_audit.ballots_of(self.files["counted"].data, name).cast)
-        self.parts["counted"] = counted
+        count = {} if is_plurality else self.tabulation(status, text, self.parts["ids"])
+        if "rounds" not in count:
+            contest = plain_audit.ballots_of(self.files["counted"].data, name)
+            count = firsts.count_of(contest, self.shown(contest.ids)) if is_plurality else {**count, "records": contest.records}
+        self.parts["counted"] = {**count, "file": self.files["counted"].name}
 
     def check(self):
         """Whether the assertion file holds of the ballots, in the program's words."""
@@ -192,7 +212,7 @@ class Page:
         self.parts["manifest"] = {"cards": self.manifest.cards, "batches": audit.sizes(self.manifest)}
         if self.has("ballots"):
             self.link()
-        if self.has("assertions"):
+        if self.has("assertions") and not self.is_poll():
             self.read_plan(path)
 
     def see_cards(self, cards):
@@ -200,7 +220,7 @@ class Page:
         session, file, path = self.parts["session"], self.parts["assertions"], self.path("manifest")
         if session and session["cards"] != cards:
             raise told(f"{self.path('session')} is about {plural(session['cards'], 'card')}, and {path} has {cards:,}")
-        if file and not self.has("ballots") and file["records"] > cards:
+        if file and not self.has("ballots") and not self.is_poll() and file["records"] > cards:
             raise told(f"{self.path('assertions')} is about {plural(file['records'], 'ballot')}, and {path} has {plural(cards, 'card')}")
 
     def read_contest(self):
@@ -232,21 +252,46 @@ class Page:
         _, text = self.program.must_run("plan", [path, self.path("assertions")], *limits)
         self.parts["plan"] = [line.rpartition(": ")[2] for line in text.splitlines()]
 
+    def is_poll(self):
+        return not self.options.keys().isdisjoint(POLL)
+
+    def read_poll(self):
+        """The poll, by the program: all draws anew."""
+        if not self.is_poll():
+            return
+        words = [f"{name}={self.options[name]}" for name in POLL if name in self.options]
+        status, text = self.program.must_run("poll", [self.path(kind) for kind in POLLED], *words, *self.nodes_words())
+        poll = {**polled.poll_of(status, text), "seed": self.options["--seed"]}
+        if status in polled.COUNTED:
+            self.judged.add("seen")
+        else:
+            poll["shown"] = [self.names.in_line(line, self.candidates()) for line in poll["lines"]]
+        self.parts["poll"] = poll
+
     def nodes_words(self):
         return [f"--nodes={self.options['--nodes']}"] if "--nodes" in self.options else []
 
+    def audit_kinds(self):
+        """The files with which an audit is opened."""
+        return ("ballots", "manifest") if self.parts["is_plurality"] else ("ballots", "manifest", "assertions")
+
+    def audit_commands(self):
+        """The commands that open an audit and go on with it."""
+        return ("plurality", "plurality") if self.parts["is_plurality"] else ("open", "audit")
+
     def replay(self):
         """The whole audit once more, by the program: it has to end with the bytes of the session."""
-        session, kinds = self.parts["session"], ("ballots", "manifest", "assertions")
+        session, kinds = self.parts["session"], self.audit_kinds()
         if not session or not self.has(*kinds):
             return
-        if self.parts["verdict"]["status"]:
+        if self.parts["verdict"] and self.parts["verdict"]["status"]:
             raise told(f"{self.path('session')} is no audit of {self.path('assertions')}: a check says {', '.join(self.parts['verdict']['lines'])}")
         paths = [self.path(kind) for kind in kinds]
         terms = [f"--{name}={session[name]}" for name in ("limit", "gamma", "seed")]
-        _, text = self.program.must_run("open", paths, *terms, *self.contest_words(), *self.nodes_words())
+        _, text = self.program.must_run(self.audit_commands()[0], paths, *terms, *self.contest_words(), *self.nodes_words())
         if text != plain_audit.session_text({**session, "rounds": [], "signed_off": False}):
             raise told(f"{self.path('session')} isn't the session that these files open")
+        self.parts["is_opened"] = True
         if self.has("seen"):
             self.replay_rounds(text, paths)
 
@@ -256,7 +301,7 @@ class Page:
             for done in session["rounds"]:
                 scratch.write(text)
                 words = [scratch.path, *paths, self.path("seen")]
-                _, text = self.program.must_run("audit", words, f"--draws={done['draws']}", *self.nodes_words(), is_shown=False)
+                _, text = self.program.must_run(self.audit_commands()[1], words, f"--draws={done['draws']}", *self.nodes_words(), is_shown=False)
         if text != plain_audit.session_text(session):
             raise told(f"{self.path('seen')} doesn't give the rounds of {self.path('session')}")
         if session["rounds"]:
@@ -278,13 +323,13 @@ class Page:
             raise broken_to_page(self.path("seen"), broken) from None
         missing = sum(found == plain_audit.MISSING for found in seen.values())
         self.parts["seen_file"] = {"cards": len(seen), "missing": missing, "has_manifest": self.manifest is not None, "has_candidates": bool(ids)}
-        if self.parts["session"] and self.has("ballots", "manifest", "assertions"):
+        if self.parts["session"] and self.has(*self.audit_kinds()):
             self.compare_seen(seen)
 
     def compare_seen(self, seen):
         """The cards that were drawn and seen otherwise than recorded."""
         session = self.parts["session"]
-        claims = plain.read_assertions(self.files["assertions"].data)["assertions"]
+        claims = firsts.claims_of(self.ballots) if self.parts["is_plurality"] else plain.read_assertions(self.files["assertions"].data)["assertions"]
         last = session["rounds"][-1] if session["rounds"] else {"draws": 0, "counts": [[0] * 5] * len(claims)}
         draws_of = audit.draws_by_card(session, last["draws"])
         unseen = [card for card in draws_of if card not in seen]
@@ -298,11 +343,11 @@ class Page:
     def note_unjudged(self):
         """What this page has made of seen cards that the program has not judged."""
         if self.has("seen") and "seen" not in self.judged:
-            seen = self.parts["seen_file"]
+            seen, why = self.parts["seen_file"], "nothing was polled" if self.is_poll() else "it does that in an audit, of a session and all its files"
             judged = ["V1", *["V2"] * seen["has_manifest"], "V3", *["V5"] * seen["has_candidates"]]
             self.notes.append(
-                f"The program didn’t judge the seen file {self.path('seen')}: it does that in an audit, of a session and all its files. By this page’s own "
-                f"reading {', '.join(judged[:-1])} and {judged[-1]} of docs/formats.md are kept."
+                f"The program didn’t judge the seen file {self.path('seen')}: {why}. By this page’s own reading "
+                f"{', '.join(judged[:-1])} and {judged[-1]} of docs/formats.md are kept."
             )
 
     def shown(self, ids):
@@ -323,9 +368,10 @@ class Page:
     def make_claims(self):
         """A row an assertion: words, margin, what it cuts, its draws and its risk."""
         file, tabulation, verdict = self.named_assertions(), self.parts["tabulation"], self.parts["verdict"]
-        states = audit.state(self.parts["session"]) if self.parts["session"] else None
+        states = audit.state(self.parts["session"]) if self.parts["session"] else (self.parts["poll"] or {}).get("claims")
         if not file:
-            self.list_claims([{"margin": state["margin"], "state": state, "words": None} for state in states or []])
+            words = self.words_of_claims(states)
+            self.list_claims([{"margin": state["margin"], "state": state, "words": each} for state, each in zip(states or [], words)])
             return
         tree = orders.Tree(file["candidates"], file["winner"], file["assertions"])
         counted = verdict and "rounds" in tabulation and not verdict["lines"][0].startswith(UNCOUNTED)
@@ -334,11 +380,16 @@ class Page:
         self.parts["tree"] = tree
         self.list_claims([
             {
-                "claim": claim, "words": in_words(claim, first), "margin": claim["margin"], "cuts": tree.cuts_of[j],
+                "claim": claim, "words": in_words(claim, first, self.is_poll()), "margin": claim["margin"], "cuts": tree.cuts_of[j],
                 "orders": tree.orders_of[j], "plan": plan[j] if plan else None, "state": states[j] if states else None,
             }
             for j, claim in enumerate(file["assertions"])
         ])
+
+    def words_of_claims(self, states):
+        """What the claims of a session without an assertion file say: those of a plurality contest, once its ballots are given."""
+        count = self.parts["firsts"]
+        return [firsts.in_words(count, c) for c in count["behind"]] if count else [None] * len(states or [])
 
     def list_claims(self, claims):
         """All of them, and those that the page has room for: the highest risks, or else the smallest margins."""
@@ -350,12 +401,20 @@ class Page:
 
     def see_options(self):
         """Each option has to have a meaning for the files that are given."""
-        if "--nodes" in self.options and not self.has("ballots", "assertions"):
+        if self.is_poll():
+            self.see_poll()
+        elif "--nodes" in self.options and not self.has("ballots", "assertions"):
             raise told("--nodes is the budget of a check: give a ballot file and an assertion file")
         if "--contest" in self.options and not {"ballots", "assertions", "session"} & set(self.files):
             raise told("--contest wants a file that is about a contest")
         if self.has("names") and not {"ballots", "assertions"} & set(self.files):
             raise told(f"{self.path('names')} names candidates: give a ballot file or an assertion file too")
+
+    def see_poll(self):
+        """A poll has its seed, its draws and its three files, and none that a comparison has."""
+        is_whole = {"--seed", "--draws"} <= set(self.options) and self.has(*POLLED)
+        if not is_whole or {"ballots", "session"} & set(self.files):
+            raise told(f"{listed(POLL)} are of a poll: give --seed, --draws, a manifest, an assertion file, a seen file, and neither ballot file nor session")
 
     def read(self):
         self.see_options()
@@ -365,19 +424,23 @@ class Page:
         self.read_count()
         self.check()
         self.read_manifest()
+        self.read_poll()
         self.replay()
         self.read_seen()
         self.note_unjudged()
         self.make_claims()
 
 
-def in_words(claim, first):
-    """What an assertion says, in two parts: the claim, and the votes it rests on."""
+def in_words(claim, first, is_polled):
+    """What an assertion says, in two parts: the claim, and the votes it rests on or, of a poll, the cards that speak for it and against it."""
     w, l, margin = claim["winner"], claim["loser"], claim["margin"]
     if claim["kind"] == "NEN":
         left = [c for c in claim["rest"] if c not in (w, l)]
         standing = f"only {w} and {l} are" if not left else f"just {', '.join(sorted(claim['rest'], key=claim['rest'].index))} are"
-        return f"{w} can't be eliminated while {standing} left", f"{w} then has {plural(margin, 'vote')} more than {l}"
+        votes = polled.in_words(claim) if is_polled else f"{w} then has {plural(margin, 'vote')} more than {l}"
+        return f"{w} can't be eliminated while {standing} left", votes
+    if is_polled:
+        return f"{w} can't be eliminated before {l}", polled.in_words(claim)
     if first is None:
         return f"{w} can't be eliminated before {l}", f"it has {plural(margin, 'vote')} more than {l} can get while {w} stands"
     votes = f"{w} has {plural(first[w], 'first vote')}, {l} at most {first[w] - margin:,} while {w} stands"
@@ -391,12 +454,18 @@ def filled(page):
     )
     made.filters.update(plural=plural, ordinal=ordinal, risk=audit.risk_text, short=audit.short, millionths=millionths, number=shown, listed=listed)
     session = page.parts["session"]
-    tabulations = [each for each in (page.parts["tabulation"], page.parts["counted"]) if each and "rounds" in each]
+    drawn = rounds_drawn(page.parts)
     return made.get_template("page.html").render(
         page.parts, files=page.files, judged=page.judged, notes=page.notes, asked=page.program.asked, program=page.program.told(),
         chart=audit.chart(session, [row["number"] for row in page.parts["listed"]]) if session else None, title=title(page), most_counted=orders.MOST_COUNTED,
-        states=state.states(page.parts), scale=rounds.scale_of(tabulations) if tabulations else None, names=page.names.by_id,
+        states=state.states(page.parts), scale=rounds.scale_of(drawn) if drawn else None, names=page.names.by_id,
     )
+
+
+def rounds_drawn(parts):
+    """All that has bars: the rounds of records and full count, or their first preferences."""
+    counts = [each for each in (parts["tabulation"], parts["firsts"], parts["counted"]) if each]
+    return [each for count in counts for each in count.get("rounds", [count] if "votes" in count else [])]
 
 
 def title(page):

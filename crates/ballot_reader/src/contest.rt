@@ -1,14 +1,11 @@
 // The record of a contest.
 ghost use Rattle.std.specs.Prelude.{◌≡◌, ◌≤◌, IfOk, length, option_map, take};
-ghost use Rattle.csv.specs.Records.{fields_of};
-ghost use Rattle.csv_rows.specs.Fields.{trimmed_fields};
 ghost use Rattle.std.specs.List.{list_any};
 ghost use Rattle.ballot_reader.specs.Grammar.{names_of, has_id, contest_of};
 
 use crate::count::number_up_to;
 use crate::fault::BRule;
 use crate::limits::MOST_LISTED;
-use csv::ByteRecord;
 use csv_rows::Fields;
 use indexmap::IndexSet;
 use irv_base::{Memory, Name};
@@ -72,12 +69,11 @@ pub fn contest_of(
     alloc: Global,
     earlier: &[Contest],
     at: u32,
-    row: &ByteRecord,
+    mut fields: Fields<'_>,
 ) -> Result<Result<Contest, BRule>, Memory>
     ensures { IfOk result (λ contest.
-        contest ≡ contest_of earlier.now at (trimmed_fields (fields_of row.now))) }
+        contest ≡ contest_of earlier.now at fields.entry) }
 {
-    let mut fields = Fields::of(row);
     let (Some(word), Some(id), Some(number)) = (fields.next(), fields.next(), fields.next()) else {
         return Ok(Err(BRule::B2));
     };

@@ -1,11 +1,8 @@
 // The first record: the number of contests.
 ghost use Rattle.std.specs.Prelude.{◌≡◌};
-ghost use Rattle.csv.specs.Records.{fields_of};
-ghost use Rattle.csv_rows.specs.Fields.{trimmed_fields};
 ghost use Rattle.ballot_reader.specs.Grammar.{contest_count, number_up_to};
 
 use crate::limits::MOST_CONTESTS;
-use csv::ByteRecord;
 use csv_rows::{Fields, number_of};
 
 /// The number from 1 to `most` that is written so.
@@ -19,10 +16,10 @@ pub fn number_up_to(most: u32, text: &[u8]) -> Option<u32>
 }
 
 /// The number of contests that a record's first field names.
-pub fn contest_count(row: &ByteRecord) -> Option<u32>
-    ensures { result ≡ contest_count (trimmed_fields (fields_of row.now)) }
+pub fn contest_count(mut fields: Fields<'_>) -> Option<u32>
+    ensures { result ≡ contest_count fields.entry }
 {
-    let Some(number) = Fields::of(row).next() else {
+    let Some(number) = fields.next() else {
         return None;
     };
     number_up_to(MOST_CONTESTS, number)

@@ -1,7 +1,5 @@
 // What is kept of the ballots that are read.
 ghost use Rattle.std.specs.Prelude.{ℕ, ◌≡◌, ◌<◌, ◌++◌, ◌∷◌, [], List, Ok, Err, Some, None, IfOk, IfErr, IfSome, IsTrue, length, position, replicate, slice_get, slice_set, not, true, if◌then◌else◌};
-ghost use Rattle.csv.specs.Records.{fields_of};
-ghost use Rattle.csv_rows.specs.Fields.{trimmed_fields};
 ghost use Rattle.irv_base.specs.Names.{Id, all_differ, is_among, is_name};
 ghost use Rattle.ballot_reader.specs.Grammar.{Ballot, ballot_for, ballot_in, ballot_of, has_id};
 ghost use Rattle.ballot_reader.specs.Kept.{IsKept, KeepsAudited, RefusesRecord, WantsAudited, contest_ids, is_wanted, parts_from};
@@ -12,7 +10,6 @@ use crate::fault::{BRule, BallotFault};
 use crate::noted::Noted;
 use crate::part::{Part, keep};
 use crate::wanted::Wanted;
-use csv::ByteRecord;
 use csv_rows::Fields;
 use irv_base::{MOST_RECORDS, Memory, Name};
 use std::alloc::Global;
@@ -41,16 +38,15 @@ fn is_id(bytes: &[u8]) -> bool
 }
 
 // The head of a ballot's record, or the first of the rules B6, B4 and B7 that it breaks.
-fn head_of<'r>(contests: &[Contest], row: &'r ByteRecord) -> Result<Head<'r>, BRule>
+fn head_of<'r>(contests: &[Contest], mut fields: Fields<'r>) -> Result<Head<'r>, BRule>
     ensures within { IfOk result (λ head. head.contest < length contests.now) }
     ensures follows { IfOk result (λ head. (earlier : List Ballot) → (at : ℕ)
-        → ballot_in contests.now earlier at (trimmed_fields (fields_of row.now))
+        → ballot_in contests.now earlier at fields.entry
         ≡ ballot_for earlier at head.id.now head.preferences
         (slice_get contests.now head.contest)) }
     ensures broken { IfErr result (λ rule. (earlier : List Ballot) → (at : ℕ)
-        → ballot_in contests.now earlier at (trimmed_fields (fields_of row.now)) ≡ Err rule) }
+        → ballot_in contests.now earlier at fields.entry ≡ Err rule) }
 {
-    let mut fields = Fields::of(row);
     let (Some(of), Some(id)) = (fields.next(), fields.next()) else {
         return Err(BRule::B6);
     };
@@ -172,12 +168,12 @@ impl Kept {
         })
     }
 
-    /// Judges the record number `at`, which is a ballot's, and keeps what is to be kept of it.
+    /// Judges the record number `at`, which is a ballot's and has these fields, and keeps what is to be kept of it.
     pub fn add(
         &mut self,
         contests: &[Contest],
         at: u32,
-        row: &ByteRecord,
+        fields: Fields<'_>,
     ) -> Result<(), BallotFault>
         requires differ { IsTrue (all_differ (contest_ids contests.now)) }
         requires noted { length self.now.ids ≡ length contests.now }
@@ -186,12 +182,11 @@ impl Kept {
         ensures kept { IfOk result (λ _. (wanted : WantedContests) → (ballots : List Ballot)
             → IsKept contests.now wanted ballots self.old
             → (ballot : Ballot)
-            × (ballot_of contests.now ballots at (trimmed_fields (fields_of row.now)) ≡ Ok ballot)
+            × (ballot_of contests.now ballots at fields.entry ≡ Ok ballot)
             × IsKept contests.now wanted (ballots ++ ballot ∷ []) self.new) }
         ensures refused { IfErr result (λ fault. (wanted : WantedContests) → (ballots : List Ballot)
             → IsKept contests.now wanted ballots self.old
-            → RefusesRecord
-            (ballot_of contests.now ballots at (trimmed_fields (fields_of row.now))) at fault) }
+            → RefusesRecord (ballot_of contests.now ballots at fields.entry) at fault) }
     {
         if self.count >= MOST_RECORDS {
             return Err(BallotFault::Refused {
@@ -199,7 +194,7 @@ impl Kept {
                 at,
             });
         }
-        let head = match head_of(contests, row) {
+        let head = match head_of(contests, fields) {
             Ok(head) => head,
             Err(rule) => return Err(BallotFault::Refused { rule, at }),
         };

@@ -1,7 +1,7 @@
 // Ids on pages, that can be told from many others without a comparison.
 ghost use Rattle.std.specs.Prelude.{◌≡◌, ◌<◌, ℕ, IfOk, OnOk, IsTrue, false, not};
 ghost use Rattle.irv_base.specs.Names.{Id};
-ghost use Rattle.ballot_reader.specs.Ids.{bit, digest, is_marked_on, is_paged, last_byte, page_number};
+ghost use Rattle.ballot_reader.specs.Ids.{bit, digest, is_marked_on, is_paged, last_byte, number_behind, page_number};
 ghost use Rattle.ballot_reader.specs.declared.page.TheConstants.{PAGE_BITS};
 
 use crate::page::{PAGE_BITS, Page};
@@ -9,6 +9,9 @@ use irv_base::Memory;
 use std::alloc::Global;
 use std::collections::BTreeMap;
 use std::hash::{FoldHasher, Hasher};
+
+// So many bytes at the end of an id are counted, and the others digested.
+const COUNTED_BYTES: usize = 5;
 
 /// The bits of last bytes on each page. One page lies open: ids that were counted up stand on the page of the one before. The others
 /// are in order, so that no choice of ids makes them slow to find.
@@ -40,12 +43,23 @@ fn last_byte(id: &[u8]) -> u8
     id[id.len() - 1]
 }
 
+// The number that these bytes are, the first of them most significant.
+fn number_of(bytes: &[u8]) -> u64
+    ensures { result ≡ number_behind 0 bytes.now }
+{
+    let mut n: u64 = 0;
+    for i in 0..bytes.len() {
+        n = n.wrapping_mul(1 << 8).wrapping_add(u64::from(bytes[i]));
+    }
+    n
+}
+
 // The number of an id's page.
 fn page_number(id: &[u8]) -> u64
     ensures { result ≡ page_number id.now }
 {
-    let all_but_last = &id[..id.len().saturating_sub(1)];
-    digest(all_but_last) ^ u64::from(last_byte(id) / PAGE_BITS)
+    let front = id.len().saturating_sub(COUNTED_BYTES);
+    digest(&id[..front]).wrapping_add(number_of(&id[front..]) / u64::from(PAGE_BITS))
 }
 
 // The bit of an id on its page.

@@ -1,6 +1,5 @@
 // Reading a ballot file.
 ghost use Rattle.std.specs.Prelude.{◌≡◌, ◌<◌, ◌≤◌, ◌+◌, ◌∷◌, [], List, Option, Ok, Some, IfOk, IfErr, IfSome, IfNone, IsTrue, None, OnOk, length, map, drop, not, position, slice_get, option_copied};
-ghost use Rattle.csv_rows.specs.Fields.{numbered};
 ghost use Rattle.csv_rows.specs.Rows.{Fields as FieldList};
 ghost use Rattle.irv_base.specs.Names.{Id, all_differ};
 ghost use Rattle.ballot_reader.specs.declared.limits.TheConstants.{MOST_CONTESTS};
@@ -18,8 +17,7 @@ use crate::kept::{Kept, contest_place};
 use crate::noted::Noted;
 use crate::part::Part;
 use crate::wanted::Wanted;
-use csv::ByteRecord;
-use csv_rows::{Rows, without_mark};
+use csv_rows::{Records, without_mark};
 use irv_base::{FEWEST_CANDIDATES, MOST_CANDIDATES, MOST_RECORDS, Memory, Name};
 use std::alloc::Global;
 
@@ -33,27 +31,26 @@ const RECORD_BYTES: usize = 40;
 fn contests_left(
     alloc: Global,
     n: u32,
-    rows: &mut Rows<'_>,
-    row: &mut ByteRecord,
+    records: &mut Records<'_>,
 ) -> Result<Vec<Contest>, BallotFault>
     requires { n ≤ MOST_CONTESTS }
     ensures read { IfOk result (λ contests.
-        contests_in n [] 2 (numbered rows.old) ≡ Ok contests.items) }
-    ensures rest { IfOk result (λ _. numbered rows.new ≡ drop n (numbered rows.old)) }
+        contests_in n [] 2 records.old.left ≡ Ok contests.items) }
+    ensures rest { IfOk result (λ _. records.new.left ≡ drop n records.old.left) }
     ensures all { IfOk result (λ contests. length contests.items ≡ n) }
     ensures differ { IfOk result (λ contests. IsTrue (all_differ (contest_ids contests.items))) }
-    ensures refused { IfErr result (Refuses (contests_in n [] 2 (numbered rows.old))) }
+    ensures refused { IfErr result (Refuses (contests_in n [] 2 records.old.left)) }
 {
     let mut contests = Vec::new(alloc);
     for i in 0..n {
         let at = FIRST_CONTEST + i;
-        if !rows.read_numbered(row)? {
+        if !records.read()? {
             return Err(BallotFault::Refused {
                 rule: BRule::B2,
                 at,
             });
         }
-        match contest_of(alloc, &contests, at, row)? {
+        match contest_of(alloc, &contests, at, records.fields())? {
             Ok(contest) => contests.push(contest)?,
             Err(rule) => return Err(BallotFault::Refused { rule, at }),
         }
@@ -143,22 +140,21 @@ fn ballots_left(
     contests: &[Contest],
     wanted: Wanted,
     room: usize,
-    rows: &mut Rows<'_>,
-    row: &mut ByteRecord,
+    records: &mut Records<'_>,
 ) -> Result<Kept, BallotFault>
     requires few { length contests.now ≤ MOST_CONTESTS }
     requires differ { IsTrue (all_differ (contest_ids contests.now)) }
     requires sized { WantsAudited contests.now wanted }
     ensures read { IfOk result (λ kept. (ballots : List Ballot)
-        × (ballots_after contests.now [] (2 + length contests.now) (numbered rows.old) ≡ Ok ballots)
+        × (ballots_after contests.now [] (2 + length contests.now) records.old.left ≡ Ok ballots)
         × IsKept contests.now wanted ballots kept) }
     ensures refused { IfErr result
-        (Refuses (ballots_after contests.now [] (2 + length contests.now) (numbered rows.old))) }
+        (Refuses (ballots_after contests.now [] (2 + length contests.now) records.old.left)) }
 {
     let mut kept = Kept::nothing(alloc, contests, wanted, room)?;
     let mut at = FIRST_CONTEST + contests.len() as u32;
-    'records: while rows.read_numbered(row)? {
-        kept.add(contests, at, row)?;
+    'records: while records.read()? {
+        kept.add(contests, at, records.fields())?;
         at += 1;
     }
     Ok(kept)
@@ -221,18 +217,17 @@ fn ballots_behind(
     n: u32,
     asked: Option<&Name>,
     room: usize,
-    rows: &mut Rows<'_>,
-    row: &mut ByteRecord,
+    records: &mut Records<'_>,
 ) -> Result<Ballots, BallotFault>
     requires { n ≤ MOST_CONTESTS }
     ensures read { IfOk result (λ ballots.
-        ballots_behind (Some n) (option_copied asked.entry) (numbered rows.old) ≡ Ok ballots) }
+        ballots_behind (Some n) (option_copied asked.entry) records.old.left ≡ Ok ballots) }
     ensures refused { IfErr result
-        (Refuses (ballots_behind (Some n) (option_copied asked.entry) (numbered rows.old))) }
+        (Refuses (ballots_behind (Some n) (option_copied asked.entry) records.old.left)) }
 {
-    let contests = contests_left(alloc, n, rows, row)?;
+    let contests = contests_left(alloc, n, records)?;
     let audited = audited_place(&contests, asked)?;
-    let kept = ballots_left(alloc, &contests, Wanted::One(audited), room, rows, row)?;
+    let kept = ballots_left(alloc, &contests, Wanted::One(audited), room, records)?;
     Ok(file_of(contests, audited, kept))
 }
 
@@ -241,31 +236,30 @@ fn contests_behind(
     alloc: Global,
     n: u32,
     room: usize,
-    rows: &mut Rows<'_>,
-    row: &mut ByteRecord,
+    records: &mut Records<'_>,
 ) -> Result<Vec<Ballots>, BallotFault>
     requires { n ≤ MOST_CONTESTS }
     ensures read { IfOk result (λ files.
-        contests_behind (Some n) (numbered rows.old) ≡ Ok files.items) }
-    ensures refused { IfErr result (Refuses (contests_behind (Some n) (numbered rows.old))) }
+        contests_behind (Some n) records.old.left ≡ Ok files.items) }
+    ensures refused { IfErr result (Refuses (contests_behind (Some n) records.old.left)) }
 {
-    let contests = contests_left(alloc, n, rows, row)?;
+    let contests = contests_left(alloc, n, records)?;
     see_all_audited(&contests)?;
-    let kept = ballots_left(alloc, &contests, Wanted::All, room, rows, row)?;
+    let kept = ballots_left(alloc, &contests, Wanted::All, room, records)?;
     Ok(files_of(alloc, contests, kept)?)
 }
 
 // The number of contests in the first record.
-fn first_count(rows: &mut Rows<'_>, row: &mut ByteRecord) -> Result<u32, BallotFault>
+fn first_count(records: &mut Records<'_>) -> Result<u32, BallotFault>
     ensures few { IfOk result (λ n. n ≤ MOST_CONTESTS) }
     ensures read { IfOk result (λ n. (first : FieldList)
-        × (numbered rows.old ≡ first ∷ numbered rows.new) × (contest_count first ≡ Some n)) }
+        × (records.old.left ≡ first ∷ records.new.left) × (contest_count first ≡ Some n)) }
     ensures refused { IfErr result (λ fault. (asked : Option Id)
-        → Refuses (ballots_from asked (numbered rows.old)) fault) }
-    ensures refused_all { IfErr result (Refuses (contests_from (numbered rows.old))) }
+        → Refuses (ballots_from asked records.old.left) fault) }
+    ensures refused_all { IfErr result (Refuses (contests_from records.old.left)) }
 {
-    if rows.read_numbered(row)? {
-        if let Some(n) = contest_count(row) {
+    if records.read()? {
+        if let Some(n) = contest_count(records.fields()) {
             return Ok(n);
         }
     }
@@ -306,10 +300,9 @@ pub fn read_ballots(
         ballots_of bytes.now (option_copied contest.entry) ≡ Ok ballots) }
     ensures refused { IfErr result (Refuses (ballots_of bytes.now (option_copied contest.entry))) }
 {
-    let mut rows = Rows::of(alloc, without_mark(bytes));
-    let mut row = ByteRecord::new(alloc);
-    let n = first_count(&mut rows, &mut row)?;
-    ballots_behind(alloc, n, contest, room_for(bytes), &mut rows, &mut row)
+    let mut records = Records::of(alloc, without_mark(bytes));
+    let n = first_count(&mut records)?;
+    ballots_behind(alloc, n, contest, room_for(bytes), &mut records)
 }
 
 /// Reads all contests of a ballot file, in their order there, each as `read_ballots` reads it by its id.
@@ -320,8 +313,7 @@ pub fn read_contests(alloc: Global, bytes: &[u8]) -> Result<Vec<Ballots>, Ballot
     ensures read { IfOk result (λ files. contests_of bytes.now ≡ Ok files.items) }
     ensures refused { IfErr result (Refuses (contests_of bytes.now)) }
 {
-    let mut rows = Rows::of(alloc, without_mark(bytes));
-    let mut row = ByteRecord::new(alloc);
-    let n = first_count(&mut rows, &mut row)?;
-    contests_behind(alloc, n, room_for(bytes), &mut rows, &mut row)
+    let mut records = Records::of(alloc, without_mark(bytes));
+    let n = first_count(&mut records)?;
+    contests_behind(alloc, n, room_for(bytes), &mut records)
 }

@@ -1,5 +1,8 @@
 pub mod Reading
 pub mod Dropped
+pub mod Cuts
+pub mod Blanks
 pub mod Ends
 pub mod Numbers
+pub mod Plain
 pub mod Single

@@ -34,3 +34,10 @@ pub record IsBetweenRecords (reader : Reader (Bor (List ℕ))) : Type 0 where
   pub ready : Ready reader
   pub between : ends_at_end (reader_state reader) ≡ false
   pub known : IsSome (bytes_left reader)
+
+-- ---- records one after the other
+
+-- the record that was read last, and those that are still to be read
+pub record Reading : Type 0 where
+  pub row : Fields
+  pub left : List Fields

@@ -1,6 +1,7 @@
 //! Worked examples, computed by the checker: numbers, fields and records on both sides of their rules.
-ghost use Rattle.std.specs.Prelude.{◌≡◌, [], ◌∷◌, ◌++◌, Some, None, codes};
+ghost use Rattle.std.specs.Prelude.{◌≡◌, [], ◌∷◌, ◌++◌, Some, None, true, false, codes};
 ghost use Rattle.csv_rows.specs.Fields.{byte_order_mark, numbered, trimmed, without_mark};
+ghost use Rattle.csv_rows.specs.Lines.{behind_line, fields_in, is_plain};
 ghost use Rattle.csv_rows.specs.Numbers.{number_of};
 
 /// Up to ten digits are a number, leading zeros among them; eleven aren't, nor is a sign.
@@ -34,4 +35,17 @@ pub fn marks()
     ensures two { without_mark (byte_order_mark ++ byte_order_mark) ≡ byte_order_mark }
     ensures behind { without_mark (codes "1" ++ byte_order_mark) ≡ codes "1" ++ byte_order_mark }
     ensures cut_off { without_mark (0xEF ∷ 0xBB ∷ []) ≡ 0xEF ∷ 0xBB ∷ [] }
+{}
+
+/// The fields of a line end at its commas and at its end, which is a carriage return or a line feed; one field is empty where none
+/// stands. A text with a double quote or the first byte of a mark isn't plain.
+pub fn lines()
+    ensures fields { fields_in (codes "a,,b" ++ 0x0D ∷ codes "c,d") ≡ codes "a" ∷ [] ∷ codes "b" ∷ [] }
+    ensures behind { behind_line (codes "a,,b" ++ 0x0D ∷ codes "c,d") ≡ codes "c,d" }
+    ensures last_comma { fields_in (codes "a,") ≡ codes "a" ∷ [] ∷ [] }
+    ensures empty { fields_in (0x0A ∷ codes "a") ≡ [] ∷ [] }
+    ensures no_end { behind_line (codes "a,b") ≡ [] }
+    ensures plain { is_plain (codes "a,\t~") ≡ true }
+    ensures quote { is_plain (codes "a,\"b\"") ≡ false }
+    ensures mark { is_plain byte_order_mark ≡ false }
 {}

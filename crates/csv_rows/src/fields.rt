@@ -3,27 +3,35 @@ ghost use Rattle.std.specs.Prelude.{◌≡◌, length};
 ghost use Rattle.std.specs.Iterator.{YieldsFirstRef, item_count};
 ghost use Rattle.csv.specs.Records.{fields_of};
 ghost use Rattle.csv_rows.specs.Fields.{trimmed_fields};
+ghost use Rattle.csv_rows.specs.Lines.{fields_in};
 
-use crate::trim::trimmed;
+use crate::line_fields::LineFields;
+use crate::record_fields::RecordFields;
 use csv::ByteRecord;
 use std::marker::Model;
+
+/// Where fields stand.
+#[derive(Drop)]
+pub enum Place<'r> {
+    /// In a record that `csv` read.
+    Record(RecordFields<'r>),
+    /// In a line of a plain text.
+    Line(LineFields<'r>),
+}
 
 /// The fields of a record that are still to come, without the spaces and tabs round them.
 #[derive(Drop)]
 pub struct Fields<'r> {
-    row: &'r ByteRecord,
-    at: usize,
+    place: Place<'r>,
 }
 
 impl<'r> Model for Fields<'r> {
-    ghost use Rattle.std.specs.Prelude.{drop};
-    ghost use Rattle.csv.specs.Records.{fields_of};
     ghost use Rattle.csv_rows.specs.Rows.{Fields as FieldList};
-    ghost use Rattle.csv_rows.specs.Fields.{trimmed_fields};
+    ghost use Rattle.csv_rows.specs.Places.{fields_at};
 
     ghost Value = { FieldList };
 
-    ghost view = { λ fields. trimmed_fields (drop fields.at (fields_of fields.row.now)) };
+    ghost view = { λ fields. fields_at fields.place };
 }
 
 impl<'r> Fields<'r> {
@@ -31,14 +39,28 @@ impl<'r> Fields<'r> {
     pub fn of(row: &'r ByteRecord) -> Fields<'r>
         ensures { result ≡ trimmed_fields (fields_of row.now) }
     {
-        Fields { row, at: 0 }
+        Fields {
+            place: Place::Record(RecordFields::of(row)),
+        }
+    }
+
+    /// All fields of the first line of a plain text.
+    pub(crate) fn of_line(text: &'r [u8]) -> Fields<'r>
+        ensures { result ≡ trimmed_fields (fields_in text.now) }
+    {
+        Fields {
+            place: Place::Line(LineFields::of(text)),
+        }
     }
 
     /// How many are still to come.
     pub fn len(&self) -> usize
         ensures { result ≡ length self.now }
     {
-        self.row.len().saturating_sub(self.at)
+        match &self.place {
+            Place::Record(fields) => fields.len(),
+            Place::Line(fields) => fields.len(),
+        }
     }
 }
 
@@ -50,8 +72,9 @@ impl<'r> Iterator for Fields<'r> {
     ghost remaining = { item_count (λ fields. fields) };
 
     fn next(&mut self) -> Option<&'r [u8]> {
-        let field = self.row.get(self.at)?;
-        self.at += 1;
-        Some(trimmed(field))
+        match &mut self.place {
+            Place::Record(fields) => fields.next(),
+            Place::Line(fields) => fields.next(),
+        }
     }
 }

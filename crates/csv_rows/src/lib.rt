@@ -4,13 +4,20 @@
 
 pub mod examples;
 mod fields;
+mod line_fields;
+mod lines;
 mod mark;
 mod number;
+mod plain_rows;
+mod read_rows;
+mod record_fields;
+mod records;
 mod rows;
 mod trim;
 
 pub use fields::Fields;
 pub use mark::without_mark;
 pub use number::number_of;
+pub use records::Records;
 pub use rows::Rows;
 pub use trim::trimmed;

@@ -1,20 +1,18 @@
 use Rattle.std.proofs.Common.{◌∙◌, ◌∷◌, refl, sym, ap}
-use Rattle.csv.specs.Records.{fields_of}
-use Rattle.csv_rows.specs.Fields.{trimmed_fields}
 use Rattle.ballot_reader.proofs.Heads.{head-elsewhere, head-follows}
 use Rattle.ballot_reader.proofs.kept.head_of.Goals as goal
 
 pub returns-in_default-contest_place-clause-broken : goal.returns-in_default-contest_place-clause-broken
 returns-in_default-contest_place-clause-broken c =
     let of = c.in-Some-Some.of.now in
-    let e = sym c.of-fields.ensures ∙ c.in-Some-Some.ensures.steps ∙ ap (λ rest. of ∷ rest) c.in-Some-Some.ensures'.steps in
-    head-elsewhere c.args.contests.now (trimmed_fields (fields_of c.args.row.now)) of c.in-Some-Some.id.now c.next-2.new.self e (sym c.is_id.ensures
+    let e = c.in-Some-Some.ensures.steps ∙ ap (λ rest. of ∷ rest) c.in-Some-Some.ensures'.steps in
+    head-elsewhere c.args.contests.now c.args.fields of c.in-Some-Some.id.now c.next-2.new.self e (sym c.is_id.ensures
     ∙ c.if-not-is_id.false) (sym c.in_default-contest_place.ensures.place)
 
 pub returns-clause-follows : goal.returns-clause-follows
 returns-clause-follows c =
     let of = c.in-Some-Some.of.now in
-    let e = sym c.of-fields.ensures ∙ c.in-Some-Some.ensures.steps ∙ ap (λ rest. of ∷ rest) c.in-Some-Some.ensures'.steps in
-    head-follows c.args.contests.now (trimmed_fields (fields_of c.args.row.now)) of c.in-Some-Some.id.now c.in-Some-Some.id.now c.next-2.new.self
+    let e = c.in-Some-Some.ensures.steps ∙ ap (λ rest. of ∷ rest) c.in-Some-Some.ensures'.steps in
+    head-follows c.args.contests.now c.args.fields of c.in-Some-Some.id.now c.in-Some-Some.id.now c.next-2.new.self
     c.in-Some.contest e refl (sym c.is_id.ensures ∙ c.if-not-is_id.false)
     (sym c.in-Some.ensures.place)

@@ -1,8 +1,6 @@
-use Rattle.std.proofs.Common.{◌∙◌, ◌++◌, ◌∷◌, [], length, refl, ap, arith, length-append}
+use Rattle.std.proofs.Common.{◌∙◌, ◌++◌, ◌∷◌, [], length, refl, sym, ap, arith, length-append}
 use Rattle.std.proofs.lemmas.List.{length-map}
-use Rattle.csv.specs.Records.{fields_of}
-use Rattle.csv_rows.specs.Fields.{numbered, trimmed_fields}
-use Rattle.ballot_reader.specs.Grammar.{Contest, ballot_ids}
+use Rattle.ballot_reader.specs.Grammar.{Contest, ballot_ids, ballot_of}
 use Rattle.ballot_reader.proofs.Adding.{keeps_audited, length-parts}
 use Rattle.ballot_reader.proofs.Behind.{ballots-more}
 use Rattle.ballot_reader.proofs.read.ballots_left.Goals as goal
@@ -30,12 +28,13 @@ add-requires-clause-sized c =
 pub records-preserved : goal.records-preserved
 records-preserved c =
     let (ballots, so_far) = c.records.invariant in
-    let next = rw c.if-branch.true at c.in_ok-read_numbered.ensures in
+    let next = rw c.if-branch.true at c.in_ok-read.ensures in
     let (ballot, judged, kept) = c.in_ok-add.ensures.kept c.args.wanted ballots so_far.is_kept in (
       ballots ++ ballot ∷ [],
       record {
-        split = ballots-more c.args.contests.now (numbered c.args.rows.now) ballots c.records.at (trimmed_fields (fields_of c.read_numbered.new.row))
-            (numbered c.read_numbered.new.self) ballot (rw next at so_far.split) judged;
+        split = ballots-more c.args.contests.now c.args.records.now.left ballots c.records.at c.read.new.self.row
+            c.read.new.self.left ballot (rw next at so_far.split)
+            (ap (ballot_of c.args.contests.now ballots c.records.at) (sym c.fields.ensures) ∙ judged);
         is_kept = kept;
         numbered = omega (arith, so_far.numbered, kept.counted, so_far.is_kept.counted, length-append ballots (ballot ∷ []));
       },

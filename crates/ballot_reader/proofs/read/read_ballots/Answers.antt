@@ -11,5 +11,5 @@ pub returns-in_err-n-clause-refused : goal.returns-in_err-n-clause-refused
 returns-in_err-n-clause-refused c =
     let p = err_from_is_err_and c.from_residual.result c.from_residual.ensures.1 in
     let asked = option_copied c.args.contest in
-    let rows = c.of-rows.ensures ∙ ap records_of c.without_mark.ensures in
-    rw (p.1, p.2) (subst (λ left. Refuses (ballots_from asked (numbered left)) c.in_err-n.field-0.0) rows (c.in_err-n.ensures.refused asked))
+    let rows = c.of-records.ensures ∙ ap (λ text. numbered (records_of text)) c.without_mark.ensures in
+    rw (p.1, p.2) (subst (λ left. Refuses (ballots_from asked left) c.in_err-n.field-0.0) rows (c.in_err-n.ensures.refused asked))

@@ -1,8 +1,6 @@
 use Rattle.std.proofs.Common.{◌<◌, ◌∙◌, Some, length, refl, sym, ap, subst, arith}
 use Rattle.std.proofs.lemmas.Bool.{not-true}
 use Rattle.std.proofs.lemmas.Option.{slice_get_read}
-use Rattle.csv.specs.Records.{fields_of}
-use Rattle.csv_rows.specs.Fields.{trimmed_fields}
 use Rattle.irv_base.specs.declared.limits.TheConstants.{MOST_RECORDS}
 use Rattle.ballot_reader.specs.Grammar.{Ballot, ballot_ids, ranking_of}
 use Rattle.ballot_reader.specs.Kept.{IsKept, KeptBallots}
@@ -16,7 +14,7 @@ returns-clause-kept c = λ wanted ballots before.
     let contests = c.args.contests.now in
     let kept = subst (IsKept contests wanted ballots) (sym c.self.view_is) before in
     let room : length ballots < MOST_RECORDS = omega (arith, kept.counted, c.if-self-ge-MOST_RECORDS.false) in
-    let row = trimmed_fields (fields_of c.args.row.now) in
+    let row = c.args.fields in
     let head = c.in-Ok.head in
     let contest = c.index-contests-head.result in
     let there = slice_get_read contests (length contests) head.contest contest refl c.in-Ok.ensures.within c.index-contests-head.is in

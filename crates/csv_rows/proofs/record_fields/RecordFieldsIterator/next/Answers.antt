@@ -2,7 +2,7 @@ use Rattle.std.proofs.Common.{◌∙◌, ◌+◌, ◌∷◌, drop, sym, ap, arit
 use Rattle.csv.specs.Records.{fields_of}
 use Rattle.csv_rows.specs.Fields.{trimmed_fields}
 use Rattle.csv_rows.proofs.Dropped.{drop-field, drop-none}
-use Rattle.csv_rows.proofs.fields.FieldsIterator.next.Goals as goal
+use Rattle.csv_rows.proofs.record_fields.RecordFieldsIterator.next.Goals as goal
 
 pub returns-in_err-field-clause-steps : goal.returns-in_err-field-clause-steps
 returns-in_err-field-clause-steps c =

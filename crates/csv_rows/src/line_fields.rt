@@ -1,0 +1,59 @@
+// The fields of a line of a plain text.
+ghost use Rattle.std.specs.Prelude.{◌≡◌, length};
+ghost use Rattle.std.specs.Iterator.{YieldsFirstRef, item_count};
+ghost use Rattle.csv_rows.specs.Fields.{trimmed_fields};
+ghost use Rattle.csv_rows.specs.Lines.{fields_in};
+
+use crate::lines::{cut_field, field_count};
+use crate::trim::trimmed;
+use std::marker::Model;
+
+/// The fields of a line that are still to come, without the spaces and tabs round them.
+#[derive(Drop)]
+pub struct LineFields<'t> {
+    // The text from the next field on. None where the last field had no comma behind it.
+    left: Option<&'t [u8]>,
+}
+
+impl<'t> Model for LineFields<'t> {
+    ghost use Rattle.csv_rows.specs.Rows.{Fields};
+    ghost use Rattle.csv_rows.specs.Fields.{trimmed_fields};
+    ghost use Rattle.csv_rows.specs.Lines.{fields_behind};
+
+    ghost Value = { Fields };
+
+    ghost view = { λ fields. trimmed_fields (fields_behind fields.left) };
+}
+
+impl<'t> LineFields<'t> {
+    /// All fields of the first line of a text.
+    pub fn of(text: &'t [u8]) -> LineFields<'t>
+        ensures { result ≡ trimmed_fields (fields_in text.now) }
+    {
+        LineFields { left: Some(text) }
+    }
+
+    /// How many are still to come.
+    pub fn len(&self) -> usize
+        ensures { result ≡ length self.now }
+    {
+        match self.left {
+            Some(text) => field_count(text),
+            None => 0,
+        }
+    }
+}
+
+impl<'t> Iterator for LineFields<'t> {
+    type Item = &'t [u8];
+
+    ghost next_gives = { YieldsFirstRef (λ fields. fields) };
+
+    ghost remaining = { item_count (λ fields. fields) };
+
+    fn next(&mut self) -> Option<&'t [u8]> {
+        let (field, left) = cut_field(self.left?);
+        self.left = left;
+        Some(trimmed(field))
+    }
+}

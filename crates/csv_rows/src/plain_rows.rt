@@ -1,0 +1,91 @@
+// The numbered records of a plain text.
+ghost use Rattle.std.specs.Prelude.{◌≡◌, ◌∷◌, [], IfSome, IfNone, IsTrue, if◌then◌else◌};
+ghost use Rattle.csv.specs.Reading.{default_config, records};
+ghost use Rattle.csv_rows.specs.Fields.{numbered, trimmed_fields};
+ghost use Rattle.csv_rows.specs.Lines.{fields_in, is_plain};
+ghost use Rattle.csv_rows.specs.Rows.{records_of};
+
+use crate::fields::Fields;
+use crate::lines::{behind_line, is_blank_line};
+use std::marker::Model;
+
+/// The numbered records of a plain text, each a line of it.
+///
+/// To a contract it is the record that was read last, and those that are still to be read.
+#[derive(Drop)]
+pub struct PlainRows<'t> {
+    // The text from the line on that was read last.
+    row: &'t [u8],
+    // The text that is still to be read.
+    left: &'t [u8],
+}
+
+impl<'t> Model for PlainRows<'t> {
+    ghost use Rattle.std.specs.Prelude.{IsTrue};
+    ghost use Rattle.csv.specs.Reading.{default_config, records};
+    ghost use Rattle.csv_rows.specs.Fields.{numbered, trimmed_fields};
+    ghost use Rattle.csv_rows.specs.Lines.{fields_in, is_plain};
+    ghost use Rattle.csv_rows.specs.Rows.{Reading};
+
+    ghost Value = { Reading };
+
+    ghost view = { λ rows. record {
+      row = trimmed_fields (fields_in rows.row.now);
+      left = numbered (records default_config rows.left.now);
+    } };
+
+    ghost invariant = { λ rows. IsTrue (is_plain rows.left.now) };
+}
+
+// The text from the first line on that is no blank record, and what stands behind the end of that line.
+fn next_line(text: &[u8]) -> Option<(&[u8], &[u8])>
+    requires { IsTrue (is_plain text.now) }
+    ensures first { IfSome result (λ next. numbered (records default_config text.now)
+        ≡ trimmed_fields (fields_in next.0.now) ∷ numbered (records default_config next.1.now)) }
+    ensures plain { IfSome result (λ next. IsTrue (is_plain next.1.now)) }
+    ensures end { IfNone result (numbered (records default_config text.now) ≡ []) }
+{
+    let mut left = text;
+    while !left.is_empty() {
+        let line = left;
+        left = behind_line(line);
+        if !is_blank_line(line) {
+            return Some((line, left));
+        }
+    }
+    None
+}
+
+impl<'t> PlainRows<'t> {
+    /// All numbered records of the text.
+    pub fn of(text: &'t [u8]) -> PlainRows<'t>
+        requires { IsTrue (is_plain text.now) }
+        ensures { result.left ≡ numbered (records_of text.now) }
+    {
+        PlainRows {
+            row: text,
+            left: text,
+        }
+    }
+
+    /// Reads the next record, if there is one.
+    pub fn read(&mut self) -> bool
+        ensures { self.old.left ≡ (if result then self.new.row ∷ self.new.left else []) }
+    {
+        match next_line(self.left) {
+            Some((row, left)) => {
+                self.row = row;
+                self.left = left;
+                true
+            }
+            None => false,
+        }
+    }
+
+    /// The fields of the record that was read last.
+    pub fn fields(&self) -> Fields<'_>
+        ensures { result ≡ self.now.row }
+    {
+        Fields::of_line(self.row)
+    }
+}

@@ -1,0 +1,76 @@
+// The numbered records of a text, plain or not.
+ghost use Rattle.std.specs.Prelude.{◌≡◌, ◌∷◌, [], IfOk, if◌then◌else◌};
+ghost use Rattle.csv_rows.specs.Fields.{numbered};
+ghost use Rattle.csv_rows.specs.Rows.{records_of};
+
+use crate::fields::Fields;
+use crate::lines::is_plain;
+use crate::plain_rows::PlainRows;
+use crate::read_rows::ReadRows;
+use irv_base::Memory;
+use std::alloc::Global;
+use std::marker::Model;
+
+/// What records are read from.
+#[derive(Drop)]
+pub enum Source<'t> {
+    /// The lines of a plain text. Nothing is copied.
+    Plain(PlainRows<'t>),
+    /// What `csv` reads of any text.
+    Csv(ReadRows<'t>),
+}
+
+/// The numbered records of a text, one after the other. Where the text has neither a double quote nor a byte
+/// EF, none of its bytes is copied.
+///
+/// To a contract it is the record that was read last, and those that are still to be read.
+#[derive(Drop)]
+pub struct Records<'t> {
+    source: Source<'t>,
+}
+
+impl<'t> Model for Records<'t> {
+    ghost use Rattle.csv_rows.specs.Rows.{Reading};
+    ghost use Rattle.csv_rows.specs.Sources.{reading_of};
+
+    ghost Value = { Reading };
+
+    ghost view = { λ records. reading_of records.source };
+}
+
+impl<'t> Records<'t> {
+    /// All numbered records of the text.
+    pub fn of(alloc: Global, text: &'t [u8]) -> Records<'t>
+        ensures { result.left ≡ numbered (records_of text.now) }
+    {
+        if is_plain(text) {
+            return Records {
+                source: Source::Plain(PlainRows::of(text)),
+            };
+        }
+        Records {
+            source: Source::Csv(ReadRows::of(alloc, text)),
+        }
+    }
+
+    /// Reads the next record, if there is one.
+    pub fn read(&mut self) -> Result<bool, Memory>
+        ensures { IfOk result (λ found.
+            self.old.left ≡ (if found then self.new.row ∷ self.new.left else [])) }
+    {
+        match &mut self.source {
+            Source::Plain(rows) => Ok(rows.read()),
+            Source::Csv(rows) => rows.read(),
+        }
+    }
+
+    /// The fields of the record that was read last.
+    pub fn fields(&self) -> Fields<'_>
+        ensures { result ≡ self.now.row }
+    {
+        match &self.source {
+            Source::Plain(rows) => rows.fields(),
+            Source::Csv(rows) => rows.fields(),
+        }
+    }
+}

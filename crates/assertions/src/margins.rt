@@ -2,7 +2,7 @@
 ghost use Rattle.std.specs.Prelude.{◌≡◌, ℕ, ◌<◌, List, length, pos, ◌-ℤ◌, IfOk, IsTrue};
 ghost use Rattle.assertions.specs.declared.assertion.Assertion.TheVariants.{Neb, Nen};
 ghost use Rattle.assertions.specs.Assertions.{is_proper, margin};
-ghost use Rattle.set_tallies.specs.Bags.{IsOf, AreOf, tallies};
+ghost use Rattle.set_tallies.specs.Bags.{IsOf, AreOf, HasTallies};
 
 use crate::Assertion;
 use irv_base::{Candidate, Memory};
@@ -27,8 +27,8 @@ fn neb_margin(ahead: &Ahead, w: Candidate, l: Candidate) -> i64
 fn nen_margin(row: &[u32], w: Candidate, l: Candidate) -> i64
     requires winner { w < length row.now }
     requires loser { l < length row.now }
-    ensures { (n rest : ℕ) (records : List (List ℕ)) → row.now ≡ tallies records n rest
-        → w < n → l < n → result ≡ margin records (Nen w l rest) }
+    ensures { (n rest : ℕ) (records : List (List ℕ)) → HasTallies records n rest row.now
+        → IsTrue (is_proper n (Nen w l rest)) → result ≡ margin records (Nen w l rest) }
 {
     lead(row[w.index()], row[l.index()])
 }
@@ -43,9 +43,12 @@ pub fn margin(a: &Assertion, t: &mut Tallies<'_>) -> Result<i64, Memory>
 {
     match *a {
         Assertion::Neb { w, l } => Ok(neb_margin(t.ahead(), w, l)),
-        Assertion::Nen { w, l, rest } => {
-            let row = t.tally(rest)?;
-            Ok(nen_margin(&row, w, l))
-        }
+        Assertion::Nen { w, l, rest } => match t.row(rest) {
+            Some(row) => Ok(nen_margin(row, w, l)),
+            None => {
+                let row = t.tally(rest)?;
+                Ok(nen_margin(&row, w, l))
+            }
+        },
     }
 }

@@ -113,10 +113,6 @@ part-at bag task workers parts before rest part whole h =
     subst (HasPart bag task workers (length before)) (middle before rest part part) (all (length before) part (inside before rest part))
 
 module _ (n : ℕ) (records : List (List ℕ)) (task : Task) (workers : ℕ) where
-  pub join-none : (p : Part) → p.claims.entries ≡ [] → p.over ≡ None → p.end ≡ None → IsPart n records task (dealt_below workers 0) p
-  join-none p empty over end = part-none n records task (dealt_below workers 0) p (λ d o. let l = ltb-true (d % workers) 0 o.meant in
-      absurd (omega arith)) empty over end
-
   pub join-next : (number more : ℕ) (p : Part) → more ≡ number + 1 →
       IsPart n records task (in_either (dealt_below workers number) (is_dealt workers number)) p → IsPart n records task (dealt_below workers more) p
   join-next number more p is =

@@ -1,5 +1,5 @@
 -- What is found among the suffixes that end in some of the candidates: a part of what the certificate is made of.
-use Rattle.std.specs.Prelude.{◌≡◌, ◌≢◌, ◌<◌, ◌%◌, ◌↔◌, ℕ, Bool, true, ◌||◌, ◌==◌, nat_lt, if◌then◌else◌, List, [], ◌∷◌, map, length, slice_index_or, Option, Some, None, Result, Err, AllPairs, Contains, IfOk, IsTrue, ⊤}
+use Rattle.std.specs.Prelude.{◌≡◌, ◌≢◌, ◌<◌, ◌%◌, ◌↔◌, ℕ, Bool, true, false, ◌||◌, ◌==◌, nat_lt, if◌then◌else◌, List, [], ◌∷◌, map, length, slice_index_or, Option, Some, None, Result, Err, AllPairs, Contains, IfOk, IsTrue, ⊤}
 use Rattle.std.specs.Option.{MatchOption}
 use Rattle.irv_base.specs.declared.memory.Memory.{Memory}
 use Rattle.assertions.specs.declared.assertion.Assertion.{Assertion}
@@ -98,6 +98,11 @@ module _ (n : ℕ) (records : List (List ℕ)) (task : Task) where
         IsGone (order_walk n records task c)
     pub end : MatchOption part.end ⊤ (IsEndOf own)
     pub claims : part.over ≡ None → AreClaims own part.claims.entries
+
+  -- the same of a part that there is, and nobody's of none
+  abbrev pub IsPartSoFar : (ℕ → Bool) → Option Part → Type 0
+  IsPartSoFar own None = (c : ℕ) → own c ≡ false
+  IsPartSoFar own (Some part) = IsPart own part
 
   -- a part of a contest with several candidates
   abbrev pub IsPartOfSeveral : (ℕ → Bool) → Part → Type 0

@@ -1,8 +1,8 @@
 // The workers, each in a thread.
-ghost use Rattle.std.specs.Prelude.{◌≡◌, ◌<◌, ◌≤◌, ℕ, List, IfOk, length};
+ghost use Rattle.std.specs.Prelude.{◌≡◌, ◌<◌, ◌≤◌, ℕ, Bool, List, IfOk, length};
 ghost use Rattle.set_tallies.specs.Bags.{Kept, IsOf};
 ghost use Rattle.certifier.specs.OneCandidate.{IsTask};
-ghost use Rattle.certifier.specs.Parts.{IsPartOfSeveral, HasPart, AreParts, is_any};
+ghost use Rattle.certifier.specs.Parts.{IsPart, IsPartSoFar, IsPartOfSeveral, HasPart, AreParts, in_either, is_any};
 ghost use Rattle.irv_base.specs.declared.limits.TheConstants.{MOST_WORKERS};
 ghost use Rattle.certifier.specs.declared.gather.Task.{Task as TheTask};
 
@@ -65,6 +65,19 @@ fn run<R: Threads + Sync>(
     );
 }
 
+// What was found so far, with one part more.
+fn with_part(so_far: Option<Part>, part: Part) -> Result<Part, Memory>
+    ensures { IfOk result (λ all.
+        (n : ℕ) (records : List (List ℕ)) (task : TheTask) (own its : ℕ → Bool)
+        → IsPartSoFar n records task own so_far → IsPart n records task its part
+        → IsPart n records task (in_either own its) all) }
+{
+    match so_far {
+        None => Ok(part),
+        Some(so_far) => so_far.join(part),
+    }
+}
+
 // The parts of all workers, put together.
 fn joined(alloc: Global, parts: Vec<Result<Part, Memory>>) -> Result<Part, Memory>
     ensures { IfOk result (λ all.
@@ -72,11 +85,14 @@ fn joined(alloc: Global, parts: Vec<Result<Part, Memory>>) -> Result<Part, Memor
         → length parts.items ≡ workers → AreParts bag task workers parts.items → IsOf bag records
         → IsTask bag.n records task → 1 ≤ workers → IsPartOfSeveral bag.n records task is_any all) }
 {
-    let mut all = Part::new(alloc);
+    let mut all = None;
     for part in parts {
-        all = all.join(part?)?;
+        all = Some(with_part(all, part?)?);
     }
-    Ok(all)
+    match all {
+        Some(all) => Ok(all),
+        None => Ok(Part::new(alloc)),
+    }
 }
 
 /// What the workers find among the suffixes of all orders that elect another candidate.

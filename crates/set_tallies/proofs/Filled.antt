@@ -1,22 +1,19 @@
 -- What a bag says of the records.
-use Rattle.std.proofs.Common.{◌≡◌, ℕ, suc, zero, ◌+◌, ◌%◌, ◌<◌, ◌≤◌, ◌^◌, Bool, true, false, cond, if◌then◌else◌, inl, inr, Option, Some, None, IfSome, List, [], ◌∷◌, ◌++◌, All, length, map, get_or, replicate, count_by, IsPermutation, pow_pos, refl, sym, ap, ap₂, subst, arith, mod-lt, length-append, ◌∙◌}
+use Rattle.std.proofs.Common.{◌≡◌, ℕ, suc, zero, ◌+◌, ◌<◌, ◌≤◌, ◌^◌, Bool, true, false, cond, if◌then◌else◌, Option, Some, None, IfSome, List, [], ◌∷◌, All, length, map, get_or, replicate, set, count_by, IsPermutation, pow_pos, refl, sym, ap, ap₂, subst, arith, ◌∙◌}
 use Rattle.std.specs.List.{range_with_len}
 use Rattle.std.proofs.Math.Pow.{pow-lt}
-use Rattle.std.proofs.lemmas.Bool.{cases_lt}
-use Rattle.std.proofs.lemmas.List.{get_or_push, get_or_append_left, get_or_default, get_or-map, length-map, length-replicate, get_or-replicate}
+use Rattle.std.proofs.lemmas.List.{get_or_default, get_or-map, length-map}
 use Rattle.std.proofs.lemmas.List.FromFn.{get_or-map-range_with_len, length-map-range_with_len}
+use Rattle.std.proofs.lemmas.List.Elements.{All-replicate}
 use Rattle.std.proofs.lemmas.List.Sums.{sum_by-cons}
 use Rattle.std.proofs.lemmas.List.Sorted.{sum_by-IsPermutation, length_permutation}
 use Rattle.irv_base.specs.Candidates.{candidates, has}
 use Rattle.irv_base.specs.Records.{top, is_some_of, tally, is_first, is_ahead}
-use Rattle.set_tallies.specs.Bags.{Kept, IsOf, AreEntries, votes_at, all_votes, Counts, AreFilledFrom, IsTable, missing, total, everyone, tallies}
-use Rattle.set_tallies.specs.Befores.{before, is_missed, has_missed, AllCounted, Counted}
-use Rattle.set_tallies.specs.Rows.{votes_of, IsRow, AreRows, AreTallies}
+use Rattle.set_tallies.specs.Bags.{Kept, IsOf, AreEntries, votes_at, all_votes, Counts, AreFilledFrom, IsTable, missing, total, everyone, tallies, HasTallies}
+use Rattle.set_tallies.specs.Befores.{before, is_missed, has_missed, AllCounted}
+use Rattle.set_tallies.specs.Rows.{votes_of, IsRow, AreRows}
 use Rattle.set_tallies.specs.declared.entry.Entry.{Entry}
-use Rattle.set_tallies.specs.Sums.{AreSums, sum_at}
 use Rattle.set_tallies.specs.declared.rows.Row.{Row}
-use Rattle.set_tallies.specs.declared.rows.TheConstants.{MOST_ROWS}
-use Rattle.set_tallies.specs.declared.sums.Sums.{Sums}
 use Rattle.set_tallies.proofs.Befores.{missed_top, missed_ahead, missed_first, misses-none, outside}
 
 -- ---- the same count by another test
@@ -32,34 +29,15 @@ count-none p [] h = refl
 count-none p (x ∷ xs) h = sum_by-cons (λ y. cond (p y) 1 0) x xs ∙ ap₂ (λ b n. cond b 1 0 + n) (h x) (count-none p xs h)
 
 -- ---- the entries of each candidate
-pub counted-push : (n : ℕ) (lists : List (List Entry)) (entries : List Entry) (records : List (List ℕ)) (k : ℕ) → length lists ≡ k →
-    AllCounted n lists records → Counted entries records n k → AllCounted n (lists ++ entries ∷ []) records
-counted-push n lists entries records k long h last c l =
-    elim (cases_lt c (length lists)) [
-      | inl m ↦ subst (λ es. Counted es records n c) (sym (get_or_append_left lists (entries ∷ []) [] c m)) (h c m)
-      | inr g ↦
-          let wide : length (lists ++ entries ∷ []) ≡ length lists + 1 = length-append lists (entries ∷ []) in
-          let at : k ≡ c = omega (arith, wide, long, g, l) in
-          subst (λ es. Counted es records n c) (sym (get_or_push lists entries [] c (long ∙ at))) (subst (Counted entries records n) at last)
-    ]
-
-pub lists-say : (n : ℕ) (lists : List (List Entry)) (records : List (List ℕ)) → length lists ≡ n → AllCounted n lists records → (set c : ℕ) → c < n →
+pub lists-say : (n : ℕ) (lists : List (List Entry)) (records : List (List ℕ)) → length lists ≡ n → AllCounted lists records → (set c : ℕ) → c < n →
     missing set (get_or lists c []) ≡ count_by (has_missed set c) records
 lists-say n lists records long h set c l = (h c (omega (arith, long, l))).missing set
 
-pub are-entries : (n : ℕ) (lists : List (List Entry)) (records : List (List ℕ)) → length lists ≡ n → AllCounted n lists records →
+pub are-entries : (n : ℕ) (lists : List (List Entry)) (records : List (List ℕ)) → length lists ≡ n → AllCounted lists records →
     AreEntries n (length records) lists
 are-entries n lists records long h = record {
   one_each = long;
   few = λ k d l. subst (λ es. total es ≤ length records) (get_or_default lists k [] d l) (h k l).few;
-  before = λ c l. (h c (omega (arith, long, l))).before;
-}
-
-pub fewer : (n few most : ℕ) (lists : List (List Entry)) → few ≤ most → AreEntries n few lists → AreEntries n most lists
-fewer n few most lists le h = record {
-  one_each = h.one_each;
-  few = λ k d l. omega (arith, h.few k d l, le);
-  before = h.before;
 }
 
 -- ---- what the numbers of a bag say
@@ -83,6 +61,10 @@ bag-of n votes records below says = record {
   where
     h : (set c : ℕ) → set < 2 ^ n → c < n → get_or (get_or (all_votes n votes) set []) c 0 ≡ count_by (has_missed set c) records
     h set c s l = votes-read n votes set c s l ∙ says set c s l
+
+pub map-same : {X : Type 0} (f g : ℕ → X) (a n : ℕ) → ((c : ℕ) → c < a + n → f c ≡ g c) → map f (range_with_len a n) ≡ map g (range_with_len a n)
+map-same f g a zero h = refl
+map-same f g a (suc n) h = ap₂ (λ x xs. x ∷ xs) (h a (omega arith)) (map-same f g (a + 1) n (λ c l. h c (omega arith)))
 
 -- ---- in another order
 pub order_is_free : (bag : Kept) (records others : List (List ℕ)) → IsPermutation records others → IsOf bag records → IsOf bag others
@@ -114,9 +96,18 @@ pub cell : {X : Type 0} (f : X → List ℕ) (xs : List X) (k j v : ℕ) (d : X)
 cell f xs k j v d l at m e = ap (λ r. get_or r j 0) (get_or-map f xs k d [] l ∙ ap f (sym at)) ∙ get_or_default (f d) j 0 v m ∙ sym e
 
 -- ---- rows
-pub map-same : {X : Type 0} (f g : ℕ → X) (a n : ℕ) → ((c : ℕ) → c < a + n → f c ≡ g c) → map f (range_with_len a n) ≡ map g (range_with_len a n)
-map-same f g a zero h = refl
-map-same f g a (suc n) h = ap₂ (λ x xs. x ∷ xs) (h a (omega arith)) (map-same f g (a + 1) n (λ c l. h c (omega arith)))
+pub row-long : (bag : Kept) (set : ℕ) → length (votes_of bag set) ≡ bag.n
+row-long bag set = length-map-range_with_len (λ c. if has set c then votes_at bag set c else 0) 0 bag.n
+
+-- a set's numbers have the tallies of those in it
+pub numbers-tally : (bag : Kept) (records : List (List ℕ)) (set : ℕ) (row : List ℕ) → set < 2 ^ bag.n → IsOf bag records →
+    ((c : ℕ) → c < bag.n → has set c ≡ true → get_or row c 0 ≡ votes_at bag set c) → HasTallies records bag.n set row
+numbers-tally bag records set row below h is c l inside = is c l inside ∙ h.tallies set c below l inside
+
+pub votes-tally : (bag : Kept) (records : List (List ℕ)) (set : ℕ) → set < 2 ^ bag.n → IsOf bag records → HasTallies records bag.n set (votes_of bag set)
+votes-tally bag records set below h = numbers-tally bag records set (votes_of bag set) below h
+    (λ c l inside. get_or-map-range_with_len (λ c. if has set c then votes_at bag set c else 0) 0 bag.n c c 0 l (omega arith)
+    ∙ ap (λ b. cond b (votes_at bag set c) 0) inside)
 
 pub row-tallies : (bag : Kept) (records : List (List ℕ)) (set : ℕ) → set < 2 ^ bag.n → IsOf bag records → votes_of bag set ≡ tallies records bag.n set
 row-tallies bag records set below h = map-same (λ c. if has set c then votes_at bag set c else 0) (tally records set) 0 bag.n
@@ -126,39 +117,26 @@ row-tallies bag records set below h = map-same (λ c. if has set c then votes_at
     go c l true e = h.tallies set c below l e
     go c l false e = tally-outside records set c e
 
-pub row-long : (bag : Kept) (set : ℕ) → length (votes_of bag set) ≡ bag.n
-row-long bag set = length-map-range_with_len (λ c. if has set c then votes_at bag set c else 0) 0 bag.n
+pub has-tallies : (records : List (List ℕ)) (n set : ℕ) (row : List ℕ) → row ≡ tallies records n set → HasTallies records n set row
+has-tallies records n set row is c l inside = ap (λ xs. get_or xs c 0) is ∙ get_or-map-range_with_len (tally records set) 0 n c c 0 l (omega arith)
 
--- the row that is read from sums
-pub summed-row : (bag : Kept) (sums : Sums) (set : ℕ) → set < 2 ^ bag.n → AreSums bag sums →
-    map (λ c. if has set c then sum_at sums set c else 0) (candidates sums.n) ≡ votes_of bag set
-summed-row bag sums set below made =
-    ap (λ n. map (λ c. if has set c then sum_at sums set c else 0) (candidates n)) made.table.same
-    ∙ map-same (λ c. if has set c then sum_at sums set c else 0) (λ c. if has set c then votes_at bag set c else 0) 0 bag.n
-    (λ c l. ap (λ v. if has set c then v else 0) (made.says set c below (omega (arith, l))))
-
--- the row that stands at the place of its set
-pub row-kept : (bag : Kept) (places : List (Option Row)) (row : Row) (set : ℕ) → 0 < length places → AreRows bag places → row.set ≡ set →
-    get_or places (set % length places) None ≡ Some row → row.votes.items ≡ votes_of bag set
-row-kept bag places row set some rows own there =
-    subst (λ place. IfSome place (IsRow bag)) there (rows (set % length places) None (mod-lt set some)) ∙ ap (votes_of bag) own
-
--- no row is kept
-pub are-tallies : (bag : Kept) (counts : Counts) (n : ℕ) (places : List (Option Row)) → 0 < n → n ≤ MOST_ROWS → places ≡ replicate n None →
-    AreFilledFrom bag counts → AreTallies bag counts places None
-are-tallies bag counts n places some few empty filled = record {
-  filled = filled;
-  sums = tt;
-  some = omega (arith, ap length empty, long, some);
-  few = omega (arith, ap length empty, long, few);
-  rows = subst (AreRows bag) (sym empty) (λ k d l. subst (λ place. IfSome place (IsRow bag)) (sym (get_or-replicate n k none d (omega (arith, long, l)))) tt);
-}
+-- what a row has for those in the set, and 0 for the others
+pub tallied : (records : List (List ℕ)) (n set : ℕ) (row : List ℕ) → HasTallies records n set row →
+    map (λ c. if has set c then get_or row c 0 else 0) (candidates n) ≡ tallies records n set
+tallied records n set row h = map-same (λ c. if has set c then get_or row c 0 else 0) (tally records set) 0 n
+    (λ c l. go c (omega arith) (has set c) refl)
   where
-    none : Option Row
-    none = None
+    go : (c : ℕ) → c < n → (b : Bool) → has set c ≡ b → cond b (get_or row c 0) 0 ≡ tally records set c
+    go c l true e = h c l e
+    go c l false e = tally-outside records set c e
 
-    long : length (replicate n none) ≡ n
-    long = length-replicate n none
+pub if-some : {X : Type 0} (P Q : X → Type 0) (o : Option X) → ((x : X) → P x → Q x) → IfSome o P → IfSome o Q
+if-some P Q None f h = tt
+if-some P Q (Some x) f h = f x h
+
+-- ---- rows that are kept
+pub no-rows : (bag : Kept) (n : ℕ) (places : List (Option Row)) → places ≡ replicate n None → AreRows bag places
+no-rows bag n places none = subst (AreRows bag) (sym none) (All-replicate (λ place. IfSome place (IsRow bag)) n None tt)
 
 -- ---- the two numbers of NEB's margin
 pub record Filled (bag : Kept) (counts : Counts) : Type 0 where

@@ -4,6 +4,6 @@ pub mod Totals
 pub mod Apart
 pub mod Columns
 pub mod Tables
-pub mod Distincts
 pub mod Filled
+pub mod Noted
 pub mod Sharing

@@ -1,23 +1,14 @@
 -- The numbers of a table: those that ballots add, and the sums.
-use Rattle.std.proofs.Common.{◌≡◌, ◌==◌, ℕ, ◌+◌, ◌*◌, ◌^◌, ◌<◌, ◌≤◌, Bool, true, false, cond, ◌&&◌, ◌||◌, bit_or, eqb-true, not, IsTrue, Some, List, [], ◌∷◌, ◌++◌, length, take, drop, get_or, ◌⊎◌, inl, inr, refl, sym, ap, ap₂, arith, ◌∙◌, eq-eqb}
+use Rattle.std.proofs.Common.{◌≡◌, ◌==◌, ℕ, ◌+◌, ◌*◌, ◌^◌, ◌<◌, Bool, true, false, cond, ◌&&◌, ◌||◌, bit_or, eqb-true, not, IsTrue, Some, List, [], ◌∷◌, ◌++◌, length, take, drop, get_or, ◌⊎◌, inl, inr, refl, sym, ap, ap₂, arith, ◌∙◌, eq-eqb}
 use Rattle.std.proofs.lemmas.Bool.{cases_Bool, both_ways, eqb-false, and_parts}
 use Rattle.std.proofs.lemmas.List.{take_at}
-use Rattle.std.proofs.lemmas.List.Sums.{sum_by_more, sum_by-le-sum_by}
 use Rattle.irv_base.specs.Candidates.{has, is_in, is_distinct}
 use Rattle.irv_base.proofs.Bits.{has-with}
-use Rattle.set_tallies.specs.Bags.{misses, missing, total}
+use Rattle.set_tallies.specs.Bags.{misses}
 use Rattle.set_tallies.specs.Befores.{before_after, is_missed, has_missed}
 use Rattle.set_tallies.specs.Sums.{column, apart, sums_of}
-use Rattle.set_tallies.specs.declared.entry.Entry.{Entry}
 use Rattle.set_tallies.proofs.Apart.{sum-at}
 use Rattle.set_tallies.proofs.Columns.{column-at, column-long}
-
-pub missing-le : (set : ℕ) (entries : List Entry) → missing set entries ≤ total entries
-missing-le set entries = sum_by-le-sum_by (λ e. cond (misses set e.before) e.count 0) (λ e. e.count) entries (λ e. part (misses set e.before) e.count)
-  where
-    part : (b : Bool) (n : ℕ) → cond b n 0 ≤ n
-    part true n = omega arith
-    part false n = omega arith
 
 -- a vector whose numbers were all written
 pub all-written : (n : ℕ) (new items : List ℕ) → length new ≡ n → take n (new ++ drop (length new) items) ≡ new
@@ -85,14 +76,3 @@ unseen-next seen d rest apart h e there = has-with seen d e ∙ ap₂ (λ x y. x
 
 pub unseen-first : (seen d : ℕ) (rest : List ℕ) → ((e : ℕ) → is_in (d ∷ rest) e ≡ true → has seen e ≡ false) → has seen d ≡ false
 unseen-first seen d rest h = h d (ap (λ b. b || is_in rest d) (eq-eqb d d refl))
-
--- ---- one entry more
-pub one-more : (entries : List Entry) (i : ℕ) (e : Entry) → i < length entries → e ≡ get_or entries i e → (s : ℕ) →
-    missing s (take (i + 1) entries) ≡ missing s (take i entries) + cond (misses s e.before) e.count 0
-one-more entries i e l at s =
-    let votes : Entry → ℕ = λ x. cond (misses s x.before) x.count 0 in
-    sum_by_more votes entries i e l ∙ ap (λ x. missing s (take i entries) + votes x) (sym at)
-
-pub added : (b : Bool) (was now old more : ℕ) (m : Bool) → now ≡ old + cond b was 0 → cond (b && m) more 0 + now ≡ old + cond b (was + cond m more 0) 0
-added true was now old more m e = omega (arith, e)
-added false was now old more m e = omega (arith, e)

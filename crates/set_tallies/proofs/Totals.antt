@@ -72,12 +72,6 @@ total-split f m n =
     ∙ sum_by-append f (range_with_len 0 m) (range_with_len (0 + m) n)
     ∙ ap (λ t. sum_by f (candidates m) + t) (total-shift f 0 m n)
 
-pub total-last : (f : ℕ → ℕ) (n : ℕ) → sum_by f (candidates (n + 1)) ≡ sum_by f (candidates n) + f n
-total-last f n = total-split f n 1 ∙ ap (λ t. sum_by f (candidates n) + t) (first (λ i. f (i + n)) 0 0 ∙ omega (arith, ap f (zero-plus n)))
-  where
-    zero-plus : (n : ℕ) → 0 + n ≡ n
-    zero-plus n = omega arith
-
 pub total-none : (f : ℕ → ℕ) (a n : ℕ) → ((i : ℕ) → a ≤ i → i < a + n → f i ≡ 0) → total_from f a n ≡ 0
 total-none f a zero h = refl
 total-none f a (suc n) h = omega (arith, first f a n, h a (omega arith) (omega arith), total-none f (a + 1) n (λ i l m. h i (omega arith) (omega arith)))

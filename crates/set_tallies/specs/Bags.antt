@@ -1,6 +1,6 @@
 -- What is kept of the records of a contest, and what it has to say of them: how many ballots have a candidate with nobody of a set
 -- before.
-use Rattle.std.specs.Prelude.{◌≡◌, ℕ, ◌<◌, ◌≤◌, ◌-◌, ◌^◌, Bool, true, not, ◌&&◌, ◌==◌, nat_lt, if◌then◌else◌, List, [], length, map, sum_by, count_by, get_or, All, bit_and}
+use Rattle.std.specs.Prelude.{◌≡◌, ℕ, ◌<◌, ◌≤◌, ◌-◌, ◌^◌, Bool, true, ◌==◌, if◌then◌else◌, List, [], length, map, sum_by, count_by, get_or, All, bit_and}
 use Rattle.irv_base.specs.Candidates.{candidates, has}
 use Rattle.irv_base.specs.Records.{tally, is_first, is_ahead}
 use Rattle.irv_base.specs.declared.limits.TheConstants.{FEWEST_CANDIDATES, ROOM, MOST_RECORDS}
@@ -45,6 +45,11 @@ pub record IsKept (bag : Kept) : Type 0 where
 abbrev pub tallies : List (List ℕ) → ℕ → ℕ → List ℕ
 tallies records n set = map (tally records set) (candidates n)
 
+-- a row has the tallies of those in the set. What it has for others isn't told
+abbrev pub HasTallies : List (List ℕ) → ℕ → ℕ → List ℕ → Type 0
+HasTallies records n set row =
+    (c : ℕ) → c < n → has set c ≡ true → get_or row c 0 ≡ tally records set c
+
 -- ---- entries: the sets of those who stand before a candidate, each with the number of such ballots
 
 -- no candidate is in both sets
@@ -58,16 +63,10 @@ missing set entries = sum_by (λ e. if misses set e.before then e.count else 0) 
 abbrev pub total : List Entry → ℕ
 total entries = sum_by (λ e. e.count) entries
 
--- of n candidates those may stand before the candidate c
-abbrev pub is_before : ℕ → ℕ → ℕ → Bool
-is_before n c set = nat_lt set (2 ^ n) && not (has set c)
-
 -- the entries of each of n candidates
 pub record AreEntries (n records : ℕ) (lists : List (List Entry)) : Type 0 where
   pub one_each : length lists ≡ n
   pub few : All (λ entries. total entries ≤ records) lists
-  pub before : (c : ℕ) → c < n →
-      All (λ entry. is_before n c entry.before ≡ true) (get_or lists c [])
 
 -- ---- the two numbers of NEB's margin, for all candidates
 

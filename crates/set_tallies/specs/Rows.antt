@@ -3,10 +3,8 @@
 use Rattle.std.specs.Prelude.{◌≡◌, ℕ, ◌<◌, ◌≤◌, Option, IfSome, List, length, map, if◌then◌else◌, All}
 use Rattle.irv_base.specs.Candidates.{candidates, has}
 use Rattle.set_tallies.specs.Bags.{Kept, Counts, AreFilledFrom, votes_at}
-use Rattle.set_tallies.specs.Sums.{AreSums}
 use Rattle.set_tallies.specs.declared.rows.Row.{Row}
 use Rattle.set_tallies.specs.declared.rows.TheConstants.{MOST_ROWS}
-use Rattle.set_tallies.specs.declared.sums.Sums.{Sums}
 
 -- the tallies of a set, as a bag has them
 abbrev pub votes_of : Kept → ℕ → List ℕ
@@ -20,11 +18,13 @@ IsRow bag row = row.votes.items ≡ votes_of bag row.set
 abbrev pub AreRows : Kept → List (Option Row) → Type 0
 AreRows bag places = All (λ place. IfSome place (IsRow bag)) places
 
--- what tallies keep
-pub record AreTallies
-    (bag : Kept) (counts : Counts) (places : List (Option Row)) (made : Option Sums) : Type 0 where
-  pub filled : AreFilledFrom bag counts
-  pub sums : IfSome made (AreSums bag)
+-- there are places, and not too many
+pub record ArePlaces (places : List (Option Row)) : Type 0 where
   pub some : 0 < length places
   pub few : length places ≤ MOST_ROWS
-  pub rows : AreRows bag places
+
+-- what tallies keep
+pub record AreTallies (bag : Kept) (counts : Counts) (kept : List (Option Row)) : Type 0 where
+  pub filled : AreFilledFrom bag counts
+  pub places : ArePlaces kept
+  pub rows : AreRows bag kept

@@ -2,12 +2,10 @@
 ghost use Rattle.std.specs.Prelude.{◌≡◌, ℕ, ◌<◌, ◌≤◌, ◌^◌, IsTrue, map, length, All, IfOk, List};
 ghost use Rattle.irv_base.specs.declared.limits.TheConstants.{FEWEST_CANDIDATES, ROOM, MOST_RECORDS};
 ghost use Rattle.set_tallies.specs.Bags.{IsOf, votes_at};
-ghost use Rattle.set_tallies.specs.Befores.{AllCounted};
 ghost use Rattle.set_tallies.specs.Sums.{AreHeld, votes_in};
 ghost use Rattle.set_tallies.specs.declared.sums.TheConstants.{MOST_SUMMED};
 
 use crate::count::{entries_of, missing};
-use crate::distinct::Distinct;
 use crate::entry::Entry;
 use crate::sums::{MOST_SUMMED, Sums};
 use irv_base::{Candidate, Memory, Ranking};
@@ -15,11 +13,11 @@ use std::alloc::Global;
 use std::marker::Model;
 use std::thread::Threads;
 
-/// So many candidates have sums whatever the number of the records.
-pub const ALWAYS_SUMMED: u32 = 12;
+/// So many candidates have the sums over all sets whatever the number of the records: their table has at most some 4 megabytes.
+pub const ALWAYS_SUMMED: u32 = 16;
 
-/// More candidates have sums where each record has at most so many sets of candidates.
-pub const SETS_A_RECORD: u64 = 16;
+/// More candidates have sums where each record has at most so many sets of candidates: then entries take as much time and memory.
+pub const SETS_A_RECORD: u64 = 2;
 
 /// What is kept of the records: the sums over all sets, or of each candidate the different sets of those who stand before it on
 /// a ballot, each with the number of such ballots.
@@ -61,37 +59,13 @@ impl Model for Bag {
     }) × AreHeld b.n b.records b.votes };
 }
 
-// Whether the records are kept as the sums over all sets: their table is small, or has at most `SETS_A_RECORD` sets for each record,
-// so that a search gains by it, which asks for many rows.
+// Whether the records are kept as the sums over all sets, and not as entries.
 fn has_sums(n: u32, records: usize) -> bool
     requires { n ≤ ROOM }
     ensures { IsTrue result → n ≤ MOST_SUMMED }
 {
     n <= MOST_SUMMED
         && (n <= ALWAYS_SUMMED || 1u64 << n <= SETS_A_RECORD.saturating_mul(records as u64))
-}
-
-// The entries of each candidate.
-fn lists_of(alloc: Global, n: u32, rankings: &[Ranking]) -> Result<Vec<Vec<Entry>>, Memory>
-    requires room { n ≤ ROOM }
-    requires most { length rankings.now ≤ MOST_RECORDS }
-    requires below { All (λ ranking. All (λ c. c < n) ranking) rankings.now }
-    ensures long { IfOk result (λ lists. length lists.items ≡ n) }
-    ensures counted { IfOk result (λ lists.
-        AllCounted n (map (λ v. v.items) lists.items) rankings.now) }
-{
-    let distinct = Distinct::of(alloc, rankings)?;
-    let mut lists = Vec::with_capacity(alloc, n as usize)?;
-    for c in 0..n {
-        let own = entries_of(
-            alloc,
-            distinct.rankings.as_slice(),
-            &distinct.counts,
-            Candidate(c as u8),
-        )?;
-        lists.push(own)?;
-    }
-    Ok(lists)
 }
 
 impl Bag {
@@ -114,7 +88,7 @@ impl Bag {
         let votes = if has_sums(n, rankings.len()) {
             Votes::Summed(Sums::of(rt, n, rankings, workers)?)
         } else {
-            Votes::Listed(lists_of(rt.alloc(), n, rankings)?)
+            Votes::Listed(entries_of(rt.alloc(), n, rankings)?)
         };
         Ok(Bag { n, records, votes })
     }

@@ -1,49 +1,41 @@
 // Counting the ballots by the candidates who stand before another.
-ghost use Rattle.std.specs.Prelude.{◌≡◌, ◌≤◌, length, IfOk};
-ghost use Rattle.irv_base.specs.declared.limits.TheConstants.{MOST_RECORDS};
+ghost use Rattle.std.specs.Prelude.{◌≡◌, ◌≤◌, ◌<◌, [], All, length, map, replicate, IfOk};
+ghost use Rattle.irv_base.specs.declared.limits.TheConstants.{ROOM, MOST_RECORDS};
 ghost use Rattle.set_tallies.specs.Bags.{missing, total};
-ghost use Rattle.set_tallies.specs.Befores.{AreOfFirst, SayTheSame, before, count_of_first, every};
+ghost use Rattle.set_tallies.specs.Befores.{AllCounted, AllSayTheSame, HasNoted, SayTheSame};
 
 use crate::entry::Entry;
-use irv_base::{Candidate, Memory, Ranking};
+use irv_base::{Memory, Ranking};
 use std::alloc::Global;
 
-// The set of the candidates before `c`, if the ranking has it.
-fn before(ranking: &Ranking, c: Candidate) -> Option<u32>
-    ensures { result ≡ before ranking.now c }
+// No entries, for each of `n` candidates.
+fn none(alloc: Global, n: u32) -> Result<Vec<Vec<Entry>>, Memory>
+    ensures { IfOk result (λ lists. map (λ v. v.items) lists.items ≡ replicate n []) }
+{
+    let mut lists = Vec::with_capacity(alloc, n as usize)?;
+    for _ in 0..n {
+        lists.push(Vec::new(alloc))?;
+    }
+    Ok(lists)
+}
+
+// Notes for each candidate of the ranking who stands before it.
+fn note(lists: &mut [Vec<Entry>], n: u32, ranking: &Ranking) -> Result<(), Memory>
+    requires each { length lists.old ≡ n }
+    requires room { n ≤ ROOM }
+    requires below { All (λ c. c < n) ranking.now }
+    ensures { IfOk result (λ _. HasNoted n ranking.now
+        (map (λ v. v.items) lists.old) (map (λ v. v.items) lists.new)) }
 {
     let mut seen = 0u32;
     for d in ranking.candidates() {
-        if *d == c {
-            return Some(seen);
-        }
+        lists[d.index()].push(Entry {
+            before: seen,
+            count: 1,
+        })?;
         seen |= 1 << d.index();
     }
-    None
-}
-
-// The entries of `c` in these rankings, one for each ranking that has `c`.
-fn entries_with(
-    alloc: Global,
-    rankings: &[Ranking],
-    counts: &[u32],
-    c: Candidate,
-) -> Result<Vec<Entry>, Memory>
-    requires { length counts.now ≡ length rankings.now }
-    ensures { IfOk result (λ entries.
-        AreOfFirst (length rankings.now) c rankings.now counts.now entries.items) }
-{
-    let mut entries = Vec::new(alloc);
-    for i in 0..rankings.len() {
-        match before(&rankings[i], c) {
-            Some(set) => entries.push(Entry {
-                before: set,
-                count: counts[i],
-            })?,
-            None => {}
-        }
-    }
-    Ok(entries)
+    Ok(())
 }
 
 // An entry for each run of the same set.
@@ -68,23 +60,45 @@ fn runs(alloc: Global, entries: &[Entry]) -> Result<Vec<Entry>, Memory>
     Ok(runs)
 }
 
-/// The entries of `c` in different rankings, each of which counts so often: one for each set of those who stand before `c`.
-pub fn entries_of(
-    alloc: Global,
-    rankings: &[Ranking],
-    counts: &[u32],
-    c: Candidate,
-) -> Result<Vec<Entry>, Memory>
-    requires same { length counts.now ≡ length rankings.now }
-    requires most { count_of_first (length rankings.now) every rankings.now counts.now
-        ≤ MOST_RECORDS }
-    ensures { IfOk result (λ entries.
-        AreOfFirst (length rankings.now) c rankings.now counts.now entries.items) }
+// One entry for each set that the entries have.
+fn joined(alloc: Global, entries: Vec<Entry>) -> Result<Vec<Entry>, Memory>
+    requires { total entries.items ≤ MOST_RECORDS }
+    ensures { IfOk result (λ joined. SayTheSame entries.items joined.items) }
 {
-    let mut entries = entries_with(alloc, rankings, counts, c)?;
-    entries.sort_unstable_by_key(|entry| entry.before);
-    let entries = runs(alloc, &entries)?;
-    Ok(entries)
+    let mut sorted = entries;
+    sorted.sort_unstable_by_key(|entry| entry.before);
+    let runs = runs(alloc, &sorted)?;
+    Ok(runs)
+}
+
+// One entry for each set that the entries of a candidate have.
+fn all_joined(alloc: Global, noted: Vec<Vec<Entry>>) -> Result<Vec<Vec<Entry>>, Memory>
+    requires { All (λ entries. total entries ≤ MOST_RECORDS) (map (λ v. v.items) noted.items) }
+    ensures { IfOk result (λ lists. AllSayTheSame
+        (map (λ v. v.items) noted.items) (map (λ v. v.items) lists.items)) }
+{
+    let mut lists = Vec::with_capacity(alloc, noted.len())?;
+    for entries in noted {
+        lists.push(joined(alloc, entries)?)?;
+    }
+    Ok(lists)
+}
+
+/// The entries of each of `n` candidates in these rankings: one for each set of those who stand before the candidate.
+pub fn entries_of(alloc: Global, n: u32, rankings: &[Ranking]) -> Result<Vec<Vec<Entry>>, Memory>
+    requires room { n ≤ ROOM }
+    requires most { length rankings.now ≤ MOST_RECORDS }
+    requires below { All (λ ranking. All (λ c. c < n) ranking) rankings.now }
+    ensures each { IfOk result (λ lists. length lists.items ≡ n) }
+    ensures counted { IfOk result (λ lists.
+        AllCounted (map (λ v. v.items) lists.items) rankings.now) }
+{
+    let mut noted = none(alloc, n)?;
+    for ranking in rankings {
+        note(&mut noted, n, ranking)?;
+    }
+    let lists = all_joined(alloc, noted)?;
+    Ok(lists)
 }
 
 /// On how many ballots the candidate with these entries has nobody of the set before it.

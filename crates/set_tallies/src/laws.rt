@@ -2,7 +2,7 @@
 ghost use Rattle.std.specs.Prelude.{◌≡◌};
 ghost use Rattle.set_tallies.specs.Laws.{OrderIsFree};
 ghost use Rattle.set_tallies.specs.declared.bag.TheConstants.{ALWAYS_SUMMED, SETS_A_RECORD};
-ghost use Rattle.set_tallies.specs.declared.rows.TheConstants.{MOST_ROWS};
+ghost use Rattle.set_tallies.specs.declared.rows.TheConstants.{FIRST_PLACES, MOST_ROWS};
 ghost use Rattle.set_tallies.specs.declared.shares.TheConstants.{FEWEST_IN_A_SHARE};
 ghost use Rattle.set_tallies.specs.declared.sums.TheConstants.{MOST_SUMMED};
 
@@ -13,9 +13,10 @@ pub fn order_is_free()
 
 /// The numbers of the limits.
 pub fn limits()
-    ensures rows { MOST_ROWS ≡ 262144 }
+    ensures rows { MOST_ROWS ≡ 262143 }
+    ensures first_places { FIRST_PLACES ≡ 1023 }
     ensures summed { MOST_SUMMED ≡ 20 }
-    ensures always_summed { ALWAYS_SUMMED ≡ 12 }
-    ensures sets_a_record { SETS_A_RECORD ≡ 16 }
+    ensures always_summed { ALWAYS_SUMMED ≡ 16 }
+    ensures sets_a_record { SETS_A_RECORD ≡ 2 }
     ensures fewest_in_a_share { FEWEST_IN_A_SHARE ≡ 4096 }
 {}

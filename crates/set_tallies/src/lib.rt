@@ -6,7 +6,6 @@ mod ahead;
 mod bag;
 mod count;
 mod counted;
-mod distinct;
 mod entry;
 pub mod laws;
 mod rows;

@@ -1,16 +1,13 @@
 // How many ballots have a candidate with nobody of a set before, for all sets and candidates at once.
 ghost use Rattle.std.specs.Prelude.{◌≡◌, ℕ, ◌<◌, ◌≤◌, ◌+◌, ◌*◌, ◌-◌, ◌^◌, ◌==◌, ◌&&◌, true, [], All, IfOk, length, slice_index, get_or, map, count_by, if◌then◌else◌};
-ghost use Rattle.irv_base.specs.Candidates.{candidates, has};
+ghost use Rattle.irv_base.specs.Candidates.{candidates};
 ghost use Rattle.irv_base.specs.declared.limits.TheConstants.{MOST_RECORDS};
-ghost use Rattle.set_tallies.specs.Bags.{AreEntries, is_before, misses, missing, total};
 ghost use Rattle.set_tallies.specs.Befores.{has_missed};
 ghost use Rattle.set_tallies.specs.Sums.{IsSummed, column, apart, sums_of, sum_at};
 
-use crate::entry::Entry;
 use crate::shares::counted;
-use crate::table::{add, place, zeros};
-use irv_base::{CandSet, Candidate, Memory, Ranking};
-use std::alloc::Global;
+use crate::table::place;
+use irv_base::{Candidate, Memory, Ranking};
 use std::thread::Threads;
 
 /// The most candidates for whom the sums over all sets are made.
@@ -24,23 +21,6 @@ pub struct Sums {
     pub n: u32,
     /// The numbers, set by set.
     pub table: Vec<u32>,
-}
-
-// Counts the ballots of the entries of `c`.
-fn add_entries(table: &mut [u32], n: u32, c: Candidate, entries: &[Entry])
-    requires few { n ≤ MOST_SUMMED }
-    requires long { length table.old ≡ n * 2 ^ n }
-    requires candidate { c < n }
-    requires before { All (λ entry. is_before n c entry.before ≡ true) entries.now }
-    requires none { apart 0 (column n n table.old c) ≡ 0 }
-    requires most { total entries.now ≤ MOST_RECORDS }
-    ensures long { length table.new ≡ n * 2 ^ n }
-    ensures more { (s d : ℕ) → d < n → apart s (column n n table.new d)
-        ≡ apart s (column n n table.old d) + (if d == c then missing s entries.now else 0) }
-{
-    for entry in entries {
-        add(table, n, entry.before, c, entry.count);
-    }
 }
 
 // Puts the sums of the two halves in place of the one, and what the one had in place of the other.
@@ -101,24 +81,6 @@ impl Sums {
         Ok(Sums { n, table })
     }
 
-    /// The sums over the ballots of which each candidate has such entries.
-    pub fn of_entries(alloc: Global, n: u32, lists: &[Vec<Entry>]) -> Result<Sums, Memory>
-        requires some { 1 ≤ n }
-        requires few { n ≤ MOST_SUMMED }
-        requires entries { AreEntries n MOST_RECORDS (map (λ v. v.items) lists.now) }
-        ensures table { IfOk result (IsSummed n) }
-        ensures says { IfOk result (λ sums. (set c : ℕ) → set < 2 ^ n → c < n
-            → sum_at sums set c ≡ missing set (get_or (map (λ v. v.items) lists.now) c [])) }
-    {
-        let mut table = zeros(alloc, n)?;
-        for c in 0..n {
-            let c = Candidate(c as u8);
-            add_entries(&mut table, n, c, &lists[c.index()]);
-        }
-        sum_apart(&mut table, n, n);
-        Ok(Sums { n, table })
-    }
-
     /// How many ballots have `c` with nobody of the set with this number before.
     pub fn at(&self, c: Candidate, set: u32) -> u32
         requires table { IsSummed self.now.n self.now }
@@ -129,19 +91,15 @@ impl Sums {
         self.table[place(self.n, set, c)]
     }
 
-    /// The tallies of the set.
-    pub fn row(&self, alloc: Global, s: CandSet) -> Result<Vec<u32>, Memory>
+    /// The numbers of the set.
+    pub fn row(&self, set: u32) -> &[u32]
         requires table { IsSummed self.now.n self.now }
-        requires below { s < 2 ^ self.now.n }
-        ensures { IfOk result (λ row. row.items
-            ≡ map (λ c. if has s c then sum_at self.now s c else 0) (candidates self.now.n)) }
+        requires below { set < 2 ^ self.now.n }
+        ensures one_each { length result.now ≡ self.now.n }
+        ensures sums { (c : ℕ) → c < self.now.n
+            → get_or result.now c 0 ≡ sum_at self.now set c }
     {
-        let set = s.number();
-        let mut row = Vec::with_capacity(alloc, self.n as usize)?;
-        for c in 0..self.n {
-            let c = Candidate(c as u8);
-            row.push(if s.has(c) { self.at(c, set) } else { 0 })?;
-        }
-        Ok(row)
+        let first = place(self.n, set, Candidate(0));
+        &self.table[first..first + self.n as usize]
     }
 }

@@ -2,14 +2,12 @@
 use Rattle.std.proofs.Common.{◌≡◌, ℕ, suc, ◌+◌, ◌-◌, ◌<◌, Bool, true, false, not, List, ◌∷◌, map, filter, cond, length, get_or, drop, All, refl, sym, subst, ap, ap₂, arith, ◌∙◌}
 use Rattle.std.specs.List.{range_with_len}
 use Rattle.std.proofs.lemmas.List.{drop_more}
-use Rattle.std.proofs.lemmas.List.FromFn.{get_or-map-range_with_len}
 use Rattle.irv_base.specs.Candidates.{has}
-use Rattle.irv_base.specs.Records.{tally}
 use Rattle.assertions.specs.declared.assertion.Assertion.{Assertion}
 use Rattle.assertions.specs.declared.assertion.Assertion.TheVariants.{Neb, Nen}
 use Rattle.assertions.specs.Assertions.{true_margin}
 use Rattle.assertions.specs.Scores.{Score, offered, all_offered, nens_for}
-use Rattle.set_tallies.specs.Bags.{tallies}
+use Rattle.set_tallies.specs.Bags.{HasTallies}
 
 -- the next of a range
 pub range-next : (w n : ℕ) → w < n → range_with_len w (n - w) ≡ w ∷ range_with_len (w + 1) (n - (w + 1))
@@ -38,18 +36,15 @@ pub neb-left : (records : List (List ℕ)) (set c w n : ℕ) (score : Score) →
 neb-left records set c w n score l is =
     ap (all_offered records score) (sym (nebs-next set c w n l ∙ ap (λ b. cond (not b) (Neb w c ∷ nebs_from set c (w + 1) n) (nebs_from set c (w + 1) n)) is))
 
--- a row of tallies at a candidate
-pub row-at : (records : List (List ℕ)) (row : List ℕ) (n set c : ℕ) → row ≡ tallies records n set → c < n → get_or row c 0 ≡ tally records set c
-row-at records row n set c e l = ap (λ r. get_or r c 0) e ∙ get_or-map-range_with_len (tally records set) 0 n c c 0 l (omega arith)
-
-pub nen-taken : (records : List (List ℕ)) (row behind : List ℕ) (n set c i l : ℕ) (score next : Score) → row ≡ tallies records n set → c < n →
-    All (λ l. l < n) behind → i < length behind →
+pub nen-taken : (records : List (List ℕ)) (row behind : List ℕ) (n set c i l : ℕ) (score next : Score) → HasTallies records n set row → c < n →
+    has set c ≡ true → All (λ l. l < n) behind → All (λ l. has set l ≡ true) behind → i < length behind →
     get_or behind i 0 ≡ l → next ≡ offered score (get_or row c 0 - get_or row l 0) (Nen c l set) →
     all_offered records next (nens_for c set (drop (i + 1) behind)) ≡ all_offered records score (nens_for c set (drop i behind))
-nen-taken records row behind n set c i l score next e below all within at is =
+nen-taken records row behind n set c i l score next tallied below inside all members within at is =
     let loser : l < n = subst (λ x. x < n) at (all i 0 within) in
+    let member : has set l ≡ true = subst (λ x. has set x ≡ true) at (members i 0 within) in
     let margin : get_or row c 0 - get_or row l 0 ≡ true_margin records (Nen c l set) =
-    ap₂ (λ x y. x - y) (row-at records row n set c e below) (row-at records row n set l e loser) in
+    ap₂ (λ x y. x - y) (tallied c below inside) (tallied l loser member) in
     let split : drop i behind ≡ l ∷ drop (i + 1) behind = drop_more behind i 0 within ∙ ap (λ x. x ∷ drop (i + 1) behind) at in
     ap (λ s. all_offered records s (nens_for c set (drop (i + 1) behind))) (is ∙ ap (λ m. offered score m (Nen c l set)) margin)
     ∙ sym (ap (λ xs. all_offered records score (nens_for c set xs)) split)

@@ -1,9 +1,9 @@
 -- The parts of suffixes.
-use Rattle.std.proofs.Common.{◌≡◌, ℕ, zero, suc, ◌+◌, ◌-◌, ◌<◌, ◌≤◌, true, false, List, [], ◌∷◌, ◌++◌, length, drop, get_or, All, sym, ap, arith, length-append, ◌∙◌}
+use Rattle.std.proofs.Common.{◌≡◌, ℕ, zero, suc, ◌+◌, ◌-◌, ◌<◌, ◌≤◌, ◌^◌, true, false, List, [], ◌∷◌, ◌++◌, length, drop, get_or, All, sym, ap, subst, arith, length-append, ◌∙◌}
 use Rattle.std.proofs.lemmas.List.{drop_more, get_or_append_left}
-use Rattle.irv_base.specs.Candidates.{is_in}
+use Rattle.irv_base.specs.Candidates.{is_in, has, set_of}
 use Rattle.irv_base.specs.Suffixes.{is_suffix}
-use Rattle.irv_base.proofs.Members.{Member, here, there}
+use Rattle.irv_base.proofs.Members.{Member, here, there, in-from_member}
 use Rattle.irv_base.proofs.Distinct.{below-from_test}
 pub use Rattle.irv_base.proofs.Suffixes.{suffix_more, suffix-distinct, suffix-below, suffix-head, suffix-rest, suffix-short, suffix-has, suffix-set}
 
@@ -19,6 +19,16 @@ at-member (x ∷ xs) (suc i) d l = there (at-member xs i d (omega arith))
 
 pub suffix-all : (n : ℕ) (t : List ℕ) → is_suffix n t ≡ true → All (λ c. c < n) t
 suffix-all n t h k d l = below-from_test n t (suffix-below n t h) (get_or t k d) (at-member t k d l)
+
+-- the set of a suffix: it has those of the suffix
+pub suffix-small : (n m set : ℕ) (t : List ℕ) → n ≡ m → is_suffix n t ≡ true → set ≡ set_of t → set < 2 ^ m
+suffix-small n m set t same h is = subst (λ k. set < 2 ^ k) same (subst (λ x. x < 2 ^ n) (sym is) (suffix-set n t h))
+
+pub suffix-member : (n x set : ℕ) (t : List ℕ) → is_suffix n t ≡ true → set ≡ set_of t → Member x t → has set x ≡ true
+suffix-member n x set t h same m = ap (λ s. has s x) same ∙ suffix-has n t x h ∙ in-from_member m
+
+pub suffix-members : (n c set : ℕ) (t : List ℕ) → is_suffix n (c ∷ t) ≡ true → set ≡ set_of (c ∷ t) → All (λ l. has set l ≡ true) t
+suffix-members n c set t h same k d l = suffix-member n (get_or t k d) set (c ∷ t) h same (there (at-member t k d l))
 
 -- the candidate before a place isn't at it or behind it
 pub before-out : (n at c : ℕ) (list : List ℕ) → is_suffix n list ≡ true → 0 < at → at ≤ length list → c ≡ get_or list (at - 1) c →

@@ -1,11 +1,11 @@
 // What a suffix has against it, and more assertions that are offered to it.
-ghost use Rattle.std.specs.Prelude.{◌≡◌, ℕ, ◌<◌, ◌≤◌, not, List, map, filter, get_or, All};
+ghost use Rattle.std.specs.Prelude.{◌≡◌, ℕ, ◌<◌, ◌≤◌, true, not, List, map, filter, get_or, All};
 ghost use Rattle.irv_base.specs.Candidates.{candidates, has};
 ghost use Rattle.irv_base.specs.declared.limits.TheConstants.{ROOM};
 ghost use Rattle.assertions.specs.declared.assertion.Assertion.TheVariants.{Neb};
 ghost use Rattle.assertions.specs.Assertions.{true_margin};
 ghost use Rattle.assertions.specs.Scores.{offered, all_offered, nens_for};
-ghost use Rattle.set_tallies.specs.Bags.{AreOf, tallies};
+ghost use Rattle.set_tallies.specs.Bags.{AreOf, HasTallies};
 
 use assertions::{Assertion, before};
 use irv_base::{CandSet, Candidate};
@@ -99,8 +99,9 @@ pub fn offer_nens(
     set: CandSet,
     row: &[u32],
 ) -> Score
-    ensures { (n : ℕ) (records : List (List ℕ)) → row.now ≡ tallies records n set → c < n
-        → All (λ l. l < n) behind.now
+    ensures { (n : ℕ) (records : List (List ℕ)) → HasTallies records n set row.now
+        → c < n → has set c ≡ true → All (λ l. l < n) behind.now
+        → All (λ l. has set l ≡ true) behind.now
         → result ≡ all_offered records start (nens_for c set behind.now) }
 {
     let for_winner = votes(row, c);

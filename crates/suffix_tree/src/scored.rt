@@ -109,8 +109,13 @@ pub fn child(parent: &Scored, c: Candidate, tallies: &mut Tallies) -> Result<Sco
     let n = tail.candidates();
     let set = tail.set();
     let with_nebs = offer_nebs(from_parent, c, set, n, tallies.ahead());
-    let row = tallies.tally(set)?;
-    let score = offer_nens(with_nebs, c, behind, set, &row);
+    let score = match tallies.row(set) {
+        Some(row) => offer_nens(with_nebs, c, behind, set, row),
+        None => {
+            let row = tallies.tally(set)?;
+            offer_nens(with_nebs, c, behind, set, &row)
+        }
+    };
     Ok(Scored {
         tail,
         low: score.low,
@@ -158,7 +163,7 @@ pub fn expand<L: Ledger>(
     ensures same { tallies.new ≡ tallies.old }
 {
     steps.tick();
-    let mut longer = Vec::new(alloc);
+    let mut longer = Vec::with_capacity(alloc, s.tail.candidates() as usize)?;
     for c in 0..s.tail.candidates() {
         let candidate = Candidate(c as u8);
         if !s.tail.has(candidate) {

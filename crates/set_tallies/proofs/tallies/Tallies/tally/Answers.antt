@@ -1,48 +1,36 @@
-use Rattle.std.proofs.Common.{◌≡◌, length, ap, ◌∙◌}
+use Rattle.std.proofs.Common.{◌≡◌, map, length, get_or, if◌then◌else◌, ap, ◌∙◌}
+use Rattle.std.proofs.lemmas.List.FromFn.{length-map-range_with_len}
+use Rattle.irv_base.specs.Candidates.{candidates, has}
 use Rattle.set_tallies.specs.Bags.{tallies}
 use Rattle.set_tallies.specs.Rows.{votes_of}
-use Rattle.set_tallies.proofs.Filled.{row-tallies, row-long, row-kept, summed-row}
+use Rattle.set_tallies.proofs.Filled.{tallied, row-tallies, row-long}
 use Rattle.set_tallies.proofs.tallies.Tallies.tally.Goals as goal
-
--- the row that is read from sums
-summed-votes : (c : goal.In_ok-row) → c.in_ok-row.row.items ≡ votes_of c.self.inside.bag.now c.args.s
-summed-votes c =
-    let now = ap (λ t. t.bag.n) c.self.view_is in
-    c.in_ok-row.ensures ∙ summed-row c.self.inside.bag.now c.in-Some.sums.now c.args.s (rw now c.requires) c.in-Some.ensures
-
--- the row that was kept
-kept-votes : (c : goal.In_ok-from_slice) → c.in_ok-from_slice.field-0.items ≡ votes_of c.self.inside.bag.now c.number-set.result
-kept-votes c =
-    c.in_ok-from_slice.ensures.items ∙ c.deref-in-Some-kept.ensures.value
-    ∙ row-kept c.self.inside.bag.now c.self.inside.rows.items c.in-Some-kept.row.now c.number-set.result c.self.invariant.some c.self.invariant.rows
-    c.in-Some-kept.ensures.own (rw c.deref.ensures.value at c.in-Some-kept.ensures.there)
-
--- the row that is counted
-counted-votes : (c : goal.After-note) → c.in_ok-answer.answer.items ≡ votes_of c.self.inside.bag.now c.number-set.result
-counted-votes c = c.in_ok-answer.ensures.items ∙ c.deref-2.ensures.value ∙ c.in_ok-votes.ensures
+use Rattle.set_tallies.proofs.tallies.Tallies.tally.Goals.{In_ok-answer}
 
 pub returns-in-Some-clause-tallies : goal.returns-in-Some-clause-tallies
 returns-in-Some-clause-tallies c = λ records h.
-    let now = ap (λ t. t.bag) c.self.view_is in
-    summed-votes c ∙ row-tallies c.self.inside.bag.now records c.args.s (rw now c.requires) (rw now h) ∙ ap (λ b. tallies records b.n c.args.s) now
+    let row = c.in-Some.row.now in
+    let s = c.args.s in
+    let n = c.candidates.ensures.same ∙ ap (λ t. t.bag.n) c.self.view_is in
+    c.in_ok-copied.ensures ∙ ap (λ k. map (λ d. if has s d then get_or row d 0 else 0) (candidates k)) n
+    ∙ tallied records c.args.self.now.bag.n s row (c.in-Some.ensures.tallies records h)
 
 pub returns-in-Some-clause-one_each : goal.returns-in-Some-clause-one_each
-returns-in-Some-clause-one_each c = ap length (summed-votes c) ∙ row-long c.self.inside.bag.now c.args.s ∙ ap (λ t. t.bag.n) c.self.view_is
+returns-in-Some-clause-one_each c =
+    let n = c.candidates.ensures.same ∙ ap (λ t. t.bag.n) c.self.view_is in
+    ap length c.in_ok-copied.ensures
+    ∙ length-map-range_with_len (λ d. if has c.args.s d then get_or c.in-Some.row.now d 0 else 0) 0 c.candidates.result ∙ n
 
-pub returns-in-Some-kept-clause-tallies : goal.returns-in-Some-kept-clause-tallies
-returns-in-Some-kept-clause-tallies c = λ records h.
-    let now = ap (λ t. t.bag) c.self.view_is in
-    kept-votes c ∙ ap (votes_of c.self.inside.bag.now) c.number-set.ensures
-    ∙ row-tallies c.self.inside.bag.now records c.args.s (rw now c.requires) (rw now h) ∙ ap (λ b. tallies records b.n c.args.s) now
-
-pub returns-in-Some-kept-clause-one_each : goal.returns-in-Some-kept-clause-one_each
-returns-in-Some-kept-clause-one_each c = ap length (kept-votes c) ∙ row-long c.self.inside.bag.now c.number-set.result ∙ ap (λ t. t.bag.n) c.self.view_is
+-- the row that was counted
+counted : (c : In_ok-answer) → c.in_ok-answer.answer.items ≡ votes_of c.self.inside.bag.now c.number-set.result
+counted c = c.in_ok-answer.ensures.items ∙ c.deref.ensures.value ∙ c.in_ok-votes.ensures
 
 pub returns-clause-tallies : goal.returns-clause-tallies
 returns-clause-tallies c = λ records h.
-    let now = ap (λ t. t.bag) c.self.view_is in
-    counted-votes c ∙ ap (votes_of c.self.inside.bag.now) c.number-set.ensures
-    ∙ row-tallies c.self.inside.bag.now records c.args.s (rw now c.requires) (rw now h) ∙ ap (λ b. tallies records b.n c.args.s) now
+    let same = ap (λ t. t.bag) c.self.view_is in
+    counted (goal.at.returns-clause-tallies c).In_ok-answer ∙ ap (votes_of c.self.inside.bag.now) c.number-set.ensures
+    ∙ row-tallies c.self.inside.bag.now records c.args.s (rw same c.requires) (rw same h) ∙ ap (λ b. tallies records b.n c.args.s) same
 
 pub returns-clause-one_each : goal.returns-clause-one_each
-returns-clause-one_each c = ap length (counted-votes c) ∙ row-long c.self.inside.bag.now c.number-set.result ∙ ap (λ t. t.bag.n) c.self.view_is
+returns-clause-one_each c =
+    ap length (counted (goal.at.returns-clause-one_each c).In_ok-answer) ∙ row-long c.self.inside.bag.now c.number-set.result ∙ ap (λ t. t.bag.n) c.self.view_is

@@ -1,0 +1,113 @@
+-- Entries, as rankings are noted in those of each candidate, and joined.
+use Rattle.std.proofs.Common.{◌≡◌, ◌==◌, ℕ, ◌+◌, ◌<◌, ◌≤◌, Bool, true, false, cond, ◌&&◌, inl, inr, List, [], ◌∷◌, ◌++◌, All, length, map, set, take, replicate, get_or, count_by, refl, sym, ap, ap₂, subst, arith, eqb-true, length-append, ◌∙◌}
+use Rattle.std.proofs.Math.Seq.{get_or-append_seam}
+use Rattle.std.proofs.lemmas.Bool.{cases_Bool, cases_lt, eqb-false}
+use Rattle.std.proofs.lemmas.List.{get_or_push, get_or_append_left, get_or-set_same, get_or-set_other, get_or-replicate, length-replicate, get_or_default, map-set}
+use Rattle.std.proofs.lemmas.List.Sums.{sum_by_push, sum_by_more, sum_by-le-sum_by, count_by-le-length}
+use Rattle.set_tallies.specs.Bags.{misses, missing, total}
+use Rattle.set_tallies.specs.Befores.{has_missed, HasNoted, SayTheSame, AllSayTheSame, Counted, AllCounted}
+use Rattle.set_tallies.specs.declared.entry.Entry.{Entry}
+use Rattle.set_tallies.proofs.Apart.{misses-empty}
+use Rattle.set_tallies.proofs.Filled.{at-place, own-entries}
+
+-- the lists, with one entry more for d
+abbrev pub with_entry : List (List Entry) → ℕ → Entry → List (List Entry)
+with_entry lists d e = set lists d (get_or lists d [] ++ e ∷ [])
+
+pub is-with_entry : {X : Type 0} (f : X → List Entry) (xs : List X) (i : ℕ) (old new : X) (e : Entry) → i < length xs → old ≡ get_or xs i old →
+    f new ≡ f old ++ e ∷ [] → map f (set xs i new) ≡ with_entry (map f xs) i e
+is-with_entry f xs i old new e l at is =
+    map-set f xs i new ∙ ap (set (map f xs) i) (is ∙ ap (λ es. es ++ e ∷ []) (sym (own-entries f xs i old l at)))
+
+same-list : (lists : List (List Entry)) (d c : ℕ) (e : Entry) → d < length lists → (c == d) ≡ true → get_or (with_entry lists d e) c [] ≡ get_or lists c [] ++ e ∷ []
+same-list lists d c e l t =
+    let at = eqb-true c d t in
+    ap (λ k. get_or (with_entry lists d e) k []) at ∙ get_or-set_same lists d (get_or lists d [] ++ e ∷ []) [] l
+    ∙ ap (λ k. get_or lists k [] ++ e ∷ []) (sym at)
+
+other-list : (lists : List (List Entry)) (d c : ℕ) (e : Entry) → (c == d) ≡ false → get_or (with_entry lists d e) c [] ≡ get_or lists c []
+other-list lists d c e f = get_or-set_other lists d c (get_or lists d [] ++ e ∷ []) [] (eqb-false c d f)
+
+pub with_entry-missing : (lists : List (List Entry)) (d seen : ℕ) (s c : ℕ) → d < length lists →
+    missing s (get_or (with_entry lists d (record { before = seen; count = 1 })) c []) ≡ missing s (get_or lists c []) + cond (c == d && misses s seen) 1 0
+with_entry-missing lists d seen s c l = elim (cases_Bool (c == d)) [
+  | inl t ↦ ap (missing s) (same-list lists d c e l t) ∙ sum_by_push (λ x. cond (misses s x.before) x.count 0) (get_or lists c []) e
+      ∙ ap (λ b. missing s (get_or lists c []) + cond (b && misses s seen) 1 0) (sym t)
+  | inr f ↦ ap (missing s) (other-list lists d c e f) ∙ plus-none (missing s (get_or lists c []))
+      ∙ ap (λ b. missing s (get_or lists c []) + cond (b && misses s seen) 1 0) (sym f)
+]
+  where
+    e : Entry
+    e = record { before = seen; count = 1 }
+
+    plus-none : (m : ℕ) → m ≡ m + 0
+    plus-none m = omega arith
+
+-- ---- ranking by ranking
+pub none-counted : (n : ℕ) (records : List (List ℕ)) → AllCounted (replicate n []) (take 0 records)
+none-counted n records c l = subst (λ es. Counted es (take 0 records) c)
+    (sym (get_or-replicate n c none [] (subst (λ m. c < m) (length-replicate n none) l)))
+    (record { missing = λ set. refl; few = omega arith })
+  where
+    none : List Entry
+    none = []
+
+-- each ballot that is noted has nobody of no candidates before
+total-le : (entries : List Entry) → total entries ≤ missing 0 entries
+total-le entries = sum_by-le-sum_by (λ e. e.count) (λ e. cond (misses 0 e.before) e.count 0) entries (λ e. whole e.count (misses-empty e.before))
+  where
+    whole : (k : ℕ) {b : Bool} → b ≡ true → k ≤ cond b k 0
+    whole k e = omega (arith, ap (λ b. cond b k 0) e)
+
+pub one-counted : (n : ℕ) (lists others : List (List Entry)) (records : List (List ℕ)) (i : ℕ) (ranking : List ℕ) → length lists ≡ n → i < length records →
+    ranking ≡ get_or records i ranking → HasNoted n ranking lists others → AllCounted lists (take i records) → AllCounted others (take (i + 1) records)
+one-counted n lists others records i ranking long l at noted h c m = record {
+  missing = says;
+  few = omega (arith, total-le (get_or others c []), says 0, count_by-le-length (has_missed 0 c) (take (i + 1) records));
+}
+  where
+    own : c < length lists
+    own = omega (arith, m, noted.each)
+
+    inside : c < n
+    inside = omega (arith, own, long)
+
+    says : (set : ℕ) → missing set (get_or others c []) ≡ count_by (has_missed set c) (take (i + 1) records)
+    says set =
+        noted.missing set c inside
+        ∙ ap₂ (λ x y. x + cond (has_missed set c y) 1 0) ((h c own).missing set) at
+        ∙ sym (sum_by_more (λ r. cond (has_missed set c r) 1 0) records i ranking l)
+
+pub few-noted : (most : ℕ) (lists : List (List Entry)) (records : List (List ℕ)) → length records ≤ most → AllCounted lists records →
+    All (λ entries. total entries ≤ most) lists
+few-noted most lists records le h k d l = omega (arith, ap total (get_or_default lists k [] d l), (h k l).few, le)
+
+-- ---- joined
+pub next-few : {X : Type 0} (P : List Entry → Type 0) (f : X → List Entry) (xs before rest : List X) (x : X) → xs ≡ before ++ x ∷ rest → All P (map f xs) → P (f x)
+next-few P f xs before rest x whole h =
+    at-place P f xs (length before) x (omega (arith, ap length whole, length-append before (x ∷ rest))) h
+    (sym (ap (λ ys. get_or ys (length before) x) whole ∙ get_or-append_seam before x rest x))
+
+pub joined-push : (lists others : List (List Entry)) (entries joined : List Entry) → AllSayTheSame lists others → SayTheSame entries joined →
+    AllSayTheSame (lists ++ entries ∷ []) (others ++ joined ∷ [])
+joined-push lists others entries joined h last = record {
+  each = omega (arith, h.each, length-append lists (entries ∷ []), length-append others (joined ∷ []));
+  same = λ c l. elim (cases_lt c (length lists)) [
+    | inl m ↦ subst (λ es. SayTheSame es (get_or (others ++ joined ∷ []) c [])) (sym (get_or_append_left lists (entries ∷ []) [] c m))
+        (subst (SayTheSame (get_or lists c [])) (sym (get_or_append_left others (joined ∷ []) [] c (omega (arith, m, h.each)))) (h.same c m))
+    | inr g ↦
+        let at : length lists ≡ c = omega (arith, length-append lists (entries ∷ []), g, l) in
+        subst (λ es. SayTheSame es (get_or (others ++ joined ∷ []) c [])) (sym (get_or_push lists entries [] c at))
+        (subst (SayTheSame entries) (sym (get_or_push others joined [] c (h.each ∙ at))) last)
+  ];
+}
+
+pub counted-joined : (lists others : List (List Entry)) (records : List (List ℕ)) → AllSayTheSame lists others → AllCounted lists records →
+    AllCounted others records
+counted-joined lists others records same h c l =
+    let own : c < length lists = omega (arith, l, same.each) in
+    let joined = same.same c own in
+    record {
+      missing = λ set. joined.missing set ∙ (h c own).missing set;
+      few = omega (arith, joined.total, (h c own).few);
+    }

@@ -7,7 +7,8 @@ use Rattle.irv_base.proofs.Members.{Member, here, there, candidate-member, from_
 use Rattle.irv_base.proofs.Sets.{has-set_of, set_of_is}
 use Rattle.plurality.specs.Plurality.{WinsPlurality, first_preferences, greatest, leaders}
 use Rattle.plurality.specs.Plural.{Outcome, Tie, outcome_of, outcome_with, won_by}
-use Rattle.plurality.specs.Laws.{AreTied, TieLaw, WonLaw}
+use Rattle.plurality.specs.Laws.{TieLaw, WonLaw}
+use Rattle.plurality.specs.Ties.{AreTied}
 use Rattle.plurality.proofs.Lists.{distinct-filter, max-bounds, max-reached}
 use Rattle.plurality.proofs.Outcomes.{leader-below, leader-has}
 

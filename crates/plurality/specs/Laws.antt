@@ -1,7 +1,7 @@
 -- The laws of plurality contests, and what their risk limit stands on.
-use Rattle.std.specs.Prelude.{◌≡◌, ◌≢◌, ◌⊎◌, ◌↔◌, ℕ, ◌+◌, ◌*◌, ◌^◌, ◌<◌, ◌≤◌, List, length, sum_by, count_by, All, Ok, Err, IsTrue}
+use Rattle.std.specs.Prelude.{◌≡◌, ◌≢◌, ◌⊎◌, ◌↔◌, ℕ, ◌+◌, ◌*◌, ◌^◌, ◌<◌, ◌≤◌, List, length, sum_by, count_by, All, Ok, Err}
 use Rattle.std.specs.List.{range_with_len}
-use Rattle.irv_base.specs.Candidates.{all_but, has}
+use Rattle.irv_base.specs.Candidates.{all_but}
 use Rattle.ballot_reader.specs.Ballots.{BallotFile}
 use Rattle.manifest.specs.Cards.{Batches}
 use Rattle.manifest.specs.Linked.{linked_of}
@@ -14,6 +14,7 @@ use Rattle.session_state.specs.Readings.{AreReadings}
 use Rattle.session_state.specs.RiskOfValues.{AreClaims, AreTerms, AreSignedOff}
 use Rattle.plurality.specs.Plurality.{WinsPlurality, first_preferences}
 use Rattle.plurality.specs.Plural.{Outcome, Tie, claims_of, lead, outcome_of, values_of, won_by}
+use Rattle.plurality.specs.Ties.{AreTied}
 use Rattle.plurality.specs.RiskLimit.{ArePublished, HaveAnother}
 
 -- ==== the outcome
@@ -23,18 +24,6 @@ abbrev pub WonLaw : Type 0
 WonLaw =
     (n winner : ℕ) (records : List (List ℕ)) → winner < n →
     (WinsPlurality n records winner ↔ (outcome_of n records ≡ Ok (won_by n records winner)))
-
--- two of the candidates share the greatest number of first preferences, and the set has those who do, and nobody else
-pub record AreTied (n : ℕ) (records : List (List ℕ)) (tie : Tie) : Type 0 where
-  pub most : (c : ℕ) → c < n → first_preferences records c ≤ tie.tally
-  pub tied_are : (c : ℕ) →
-      (IsTrue (has tie.tied c) ↔ ((c < n) × (first_preferences records c ≡ tie.tally)))
-  pub one : ℕ
-  pub other : ℕ
-  pub differ : one ≢ other
-  pub both_below : (one < n) × (other < n)
-  pub both_lead : (first_preferences records one ≡ tie.tally)
-      × (first_preferences records other ≡ tie.tally)
 
 -- there is a tie exactly where there is no outcome, and it is this one
 abbrev pub TieLaw : Type 0

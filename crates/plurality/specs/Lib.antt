@@ -1,5 +1,6 @@
 pub mod Plurality
 pub mod Plural
+pub mod Ties
 pub mod Faults
 pub mod RiskLimit
 pub mod Laws

@@ -1,20 +1,18 @@
 -- A contest is counted: the command goes on with the outcome, or ends with the tie.
-use Rattle.std.proofs.Common.{◌≡◌, ◌∙◌, inl, inr, ℕ, ◌≤◌, true, List, All, Contains, length, None, Result, Ok, Err, sym, ap, subst, arith}
+use Rattle.std.proofs.Common.{◌≡◌, ◌∙◌, ◌≤◌, true, List, All, Contains, length, None, Result, Ok, Err, sym, ap, subst, arith}
 use Rattle.irv_base.specs.Names.{all_differ}
 use Rattle.manifest.specs.Cards.{Batches, cards_of}
 use Rattle.manifest.specs.Linked.{first_without_card}
 use Rattle.plurality.proofs.Margins.{margins_fit}
 use Rattle.session_commands.proofs.Held.{few_ballots}
 use Rattle.ballot_reader.specs.Ballots.{BallotFile}
-use Rattle.report.specs.Ends.{tie_text}
-use Rattle.cli_base.specs.Outcome.{Outcome as Ended, Answered, outcome}
-use Rattle.cli_base.specs.Due.{IsOneOrMemory}
-use Rattle.cli_base.specs.Script.{Readings, Script, May, MayOrMemory, Agree, AreOfKind, IsOfKind, Same}
+use Rattle.cli_base.specs.Outcome.{outcome}
+use Rattle.cli_base.specs.Script.{Script, Agree, AreOfKind, IsOfKind, Same}
 use Rattle.cli_base.specs.declared.outcome.AnswerKind.{AnswerKind}
 use Rattle.cli_base.specs.declared.outcome.AnswerKind.TheVariants.{Tie as TieKind}
 use Rattle.input_files.specs.Judged.{told, go_on}
 use Rattle.plurality.specs.Plural.{Outcome, Tie}
-use Rattle.plurality_commands.specs.Outcome.{TellsOfTie, if_won, outcome_in, tied}
+use Rattle.plurality_commands.specs.Outcome.{if_won, outcome_in, tied}
 
 -- ---- one end
 
@@ -30,26 +28,6 @@ won-kinds kinds ballots next tie-there each = by (outcome_in ballots) where
   by : (counted : Result Outcome Tie) → AreOfKind kinds (go_on (told (tied ballots) counted) next)
   by (Ok won) = each won
   by (Err tie) = λ v is. subst (IsOfKind kinds) (sym is) tie-there
-
--- ---- what the code does
-
--- it goes on with the outcome
-pub won_on : (readings : Readings) (ballots : BallotFile) (next : Outcome → Script) (won : Outcome) (due : Ended) → outcome_in ballots ≡ Ok won →
-    MayOrMemory readings (next won) due → MayOrMemory readings (if_won ballots next) due
-won_on readings ballots next won due is may = subst (λ counted. MayOrMemory readings (go_on (told (tied ballots) counted) next) due) (sym is) may
-
--- it ends with the tie
-pub tied_on : (readings : Readings) (ballots : BallotFile) (next : Outcome → Script) (due : Ended) → IsOneOrMemory (TellsOfTie ballots) due →
-    MayOrMemory readings (if_won ballots next) due
-tied_on readings ballots next due (inl (verdict, (tie, is, tells), same)) =
-    inl (subst (λ counted. May readings (go_on (told (tied ballots) counted) next) due) (sym is) (verdict, tells, same))
-tied_on readings ballots next due (inr memory) = inr memory
-
--- the tie that is told
-pub tie_told : (ballots : BallotFile) (set tally : ℕ) (due : Ended) → outcome_in ballots ≡ Err (record { tied = set; tally = tally }) →
-    IsOneOrMemory (λ verdict. verdict ≡ Answered TieKind (tie_text ballots.candidates 1 set tally)) due → IsOneOrMemory (TellsOfTie ballots) due
-tie_told ballots set tally due is (inl (verdict, tells, same)) = inl (verdict, (record { tied = set; tally = tally }, is, tells), same)
-tie_told ballots set tally due is (inr memory) = inr memory
 
 -- ---- the margins
 

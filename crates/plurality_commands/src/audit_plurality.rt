@@ -16,15 +16,15 @@ ghost use Rattle.plurality_commands.specs.Outcome.{outcome_in};
 
 use crate::no_winner::no_winner;
 use ballot_reader::Ballots;
-use cli_base::{Answer, Refusal, RefusalKind, refuse};
+use cli_base::{Answer, Refusal};
 use command::AuditPluralityTask;
 use desk::Desk;
 use input_files::{Cards, bytes_of};
 use plurality::{Plural, plurality};
 use session_commands::{
-    RoundTask, same_ballots, same_digest, same_manifest, session_to_go_on, with_seen,
+    RoundTask, same_ballots, same_digest, same_manifest, session_to_go_on, with_facts, with_seen,
 };
-use session_state::{InputFault, Session, same_facts as same_inputs};
+use session_state::{Session, has_facts_of};
 use std::alloc::Global;
 
 /// The session with one round more, up to so many draws in all, by the claims of the ballots' outcome.
@@ -195,11 +195,6 @@ fn same_facts(
         IsTold (without_facts task.now.session session.now cards
         ballots.now.contest plural.now.margins) (due_refusal refusal)) }
 {
-    let same = session.cards() == cards
-        && session.contest().bytes() == ballots.contest().bytes()
-        && session.margins() == plural.margins();
-    if same {
-        return Ok(());
-    }
-    Err(refuse(alloc, RefusalKind::Input, task.session.as_str(), "S5"))
+    let agree = has_facts_of(session, cards, ballots.contest(), plural.margins());
+    with_facts(alloc, &task.session, agree)
 }

@@ -4,7 +4,7 @@ use Rattle.desk.specs.Desk.{File, held_bytes}
 use Rattle.ballot_reader.specs.Ballots.{BallotFile}
 use Rattle.session_state.specs.Content.{Content}
 use Rattle.session_file.specs.Reading.{session_of}
-use Rattle.plurality.specs.Laws.{AreTied}
+use Rattle.plurality.specs.Ties.{AreTied}
 use Rattle.plurality.specs.Plural.{Tie}
 use Rattle.report.specs.Ends.{tie_text}
 use Rattle.raire_cli.specs.Ballots.{AreBallots}

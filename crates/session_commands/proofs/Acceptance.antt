@@ -18,7 +18,7 @@ use Rattle.cover_checker.specs.Findings.{Answer, is_about, other_winner}
 use Rattle.cover_checker.specs.Checks.{Judges, IsAnswer, checked_is, findings, first_found}
 use Rattle.cover_checker.specs.declared.checked.Checked.TheVariants.{OtherContest, Accepted}
 use Rattle.cover_checker.proofs.Answered.{from_answer, judged}
-use Rattle.cover_checker.proofs.Nothing.{NeverAccepts, winner-none, winner-never, margins-never, covered-never, smallest-never, elected-never, harder-never}
+use Rattle.cover_checker.proofs.Nothing.{NeverAccepts, winner-none, winner-never, margins-never, covered-never, smallest-never, elected-never, harder-never, draws-never}
 use Rattle.session_commands.specs.Accepted.{is_won, is_accepted}
 
 -- ---- the winner
@@ -78,7 +78,7 @@ never_accept nodes records file winner = (
   winner-never winner file,
   (
     margins-never records 1 file.claims,
-    (covered-never _, (smallest-never file, (elected-never file, (harder-never records file, tt)))),
+    (covered-never _, (smallest-never file, (elected-never file, (harder-never records file, (draws-never file, tt))))),
   ),
 )
 

@@ -5,7 +5,7 @@ use Rattle.ballot_reader.specs.Ballots.{BallotFile}
 use Rattle.assertion_file.specs.Content.{Content}
 use Rattle.cover_checker.specs.Checks.{IsAnswer}
 use Rattle.cover_checker.specs.Findings.{Answer}
-use Rattle.cover_checker.specs.declared.checked.Checked.TheVariants.{OtherContest, OtherWinner, OtherMargin, Stands, NotLeast, NotAlternative, Harder, Accepted}
+use Rattle.cover_checker.specs.declared.checked.Checked.TheVariants.{OtherContest, OtherWinner, OtherMargin, Stands, NotLeast, NotAlternative, Harder, OtherDraws, Accepted}
 use Rattle.cover_checker.specs.declared.checked.CheckFault.TheVariants.{Spent as SpentAt, Memory}
 use Rattle.cover_checker.proofs.OneAnswer.{answer_is_one}
 use Rattle.cli_base.specs.Outcome.{Outcome, Verdict, Answered, outcome, status_of, out_of_memory}
@@ -33,6 +33,7 @@ kind_on (Ok (Stands order)) = Differs
 kind_on (Ok (NotLeast found)) = Differs
 kind_on (Ok NotAlternative) = Differs
 kind_on (Ok (Harder assertion margin)) = Differs
+kind_on (Ok (OtherDraws index found)) = Differs
 kind_on (Err (SpentAt last)) = Spent
 kind_on (Err Memory) = Spent
 
@@ -45,6 +46,7 @@ told_kind file (Ok (Stands order)) v told = (_, sym (some_is told))
 told_kind file (Ok (NotLeast found)) v told = (_, sym (some_is told))
 told_kind file (Ok NotAlternative) v told = (_, sym (some_is told))
 told_kind file (Ok (Harder assertion margin)) v told = (_, sym (some_is told))
+told_kind file (Ok (OtherDraws index found)) v told = (_, sym (some_is told))
 told_kind file (Err (SpentAt last)) v told = (_, sym (some_is told))
 told_kind file (Err Memory) v told = absurd (cc told)
 
@@ -57,6 +59,7 @@ done_is (Ok (Stands order)) is = absurd (cc is)
 done_is (Ok (NotLeast found)) is = absurd (cc is)
 done_is (Ok NotAlternative) is = absurd (cc is)
 done_is (Ok (Harder assertion margin)) is = absurd (cc is)
+done_is (Ok (OtherDraws index found)) is = absurd (cc is)
 done_is (Err (SpentAt last)) is = absurd (cc is)
 done_is (Err Memory) is = absurd (cc is)
 

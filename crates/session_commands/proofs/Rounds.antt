@@ -34,14 +34,6 @@ as_many_told name rounds draws had due is few told =
     (ap (λ b. if b then Some verdict else None) (le-leb draws (last_draws rounds) (subst (λ n. draws ≤ n) is few)))
     (subst (λ n. IsOrMemory (outcome (Refused name (had_text n))) due) is told)
 
--- there were fewer
-pub fewer_before : (name : List ℕ) (rounds : List Round) (draws had : ℕ) → had ≡ last_draws rounds → (draws ≤ had → ⊥) →
-    had_as_many name draws rounds ≡ None
-fewer_before name rounds draws had is more = elim (cases_Bool (nat_le draws (last_draws rounds))) [
-  | inl t ↦ absurd (more (subst (λ n. draws ≤ n) (sym is) (leb-true draws (last_draws rounds) t)))
-  | inr f ↦ ap (λ b. if b then Some (Refused name (had_text (last_draws rounds))) else None) f
-]
-
 module _ (name seen : List ℕ) (draws : ℕ) (session : Content) (values : List (List ℕ → ℕ)) (compared : Compared) where
   abbrev first : Option AdvanceFault
   first = refusal session values compared.recorded compared.entries draws

@@ -1,12 +1,12 @@
 // The files of a session: each has the digest that the session has of it, before it is read, and the session has their facts.
-ghost use Rattle.std.specs.Prelude.{◌≡◌, Ok, None, IfOk, IfErr};
+ghost use Rattle.std.specs.Prelude.{◌≡◌, Ok, None, Some, IfOk, IfErr, IsTrue, IsFalse};
 ghost use Rattle.manifest.specs.Linked.{first_without_card, linked_of};
 ghost use Rattle.session_commands.specs.Audit.{same_assertions};
 ghost use Rattle.session_state.specs.Claims.{margins_of};
 ghost use Rattle.session_state.specs.Inputs.{HasFacts};
 ghost use Rattle.cli_base.specs.Due.{due_refusal};
 ghost use Rattle.input_files.specs.Judged.{IsJudged, IsStopped, IsTold};
-ghost use Rattle.session_commands.specs.Refusals.{without_facts};
+ghost use Rattle.session_commands.specs.Refusals.{other_facts, without_facts};
 ghost use Rattle.session_commands.specs.Rounds.{same_ballots, same_manifest};
 
 use crate::digests::same_digest;
@@ -67,6 +67,19 @@ pub(crate) fn same_assertions(
     assertions_in(alloc, name, bytes)
 }
 
+/// The session in a file with this name is refused where its facts don't agree with those of the other files.
+pub fn with_facts(alloc: Global, name: &FileName, agree: bool) -> Result<(), Refusal>
+    ensures agree { IfOk result (λ _. IsTrue agree) }
+    ensures differ { IfErr result (λ _. IsFalse agree) }
+    ensures refused { IfErr result (λ refusal.
+        IsTold (Some (other_facts name.now)) (due_refusal refusal)) }
+{
+    if agree {
+        return Ok(());
+    }
+    Err(refuse(alloc, RefusalKind::Input, name.as_str(), "S5"))
+}
+
 /// The session has so many cards, and the contest and the margins of the assertion file.
 pub(crate) fn same_facts(
     alloc: Global,
@@ -84,8 +97,5 @@ pub(crate) fn same_facts(
         IsTold (without_facts task.now.session session.now cards
         file.now.contest (margins_of file.now)) (due_refusal refusal)) }
 {
-    if has_facts(session, cards, file) {
-        return Ok(());
-    }
-    Err(refuse(alloc, RefusalKind::Input, task.session.as_str(), "S5"))
+    with_facts(alloc, &task.session, has_facts(session, cards, file))
 }

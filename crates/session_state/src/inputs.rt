@@ -1,7 +1,8 @@
 // Whether a session is one of some inputs.
-ghost use Rattle.std.specs.Prelude.{◌≡◌, ◌≢◌, map, IfOk, IfErr};
+ghost use Rattle.std.specs.Prelude.{◌≡◌, ◌≢◌, ◌==◌, ◌&&◌, ℕ, List, map, IfOk, IfErr};
 ghost use Rattle.std.specs.Bool.{OnTrue, OnFalse};
 ghost use Rattle.std.specs.Option.{MatchOption};
+ghost use Rattle.irv_base.specs.Names.{is_same};
 ghost use Rattle.session_state.specs.Claims.{margins_of};
 ghost use Rattle.session_state.specs.Inputs.{AreSameDigests, HasFacts, IsFault, IsInputFault, IsOf, IsOfInputs, IsOtherDigest, has_facts};
 
@@ -85,13 +86,43 @@ fn are_margins(margins: &[u32], claims: &[Claim]) -> bool
     true
 }
 
+// The session has so many cards, and this contest.
+fn is_about(s: &Session, cards: u32, contest: &Name) -> bool
+    ensures { result ≡ ((s.now.session.cards == cards) && is_same s.now.contest contest.now) }
+{
+    s.cards() == cards && s.contest().bytes() == contest.bytes()
+}
+
+/// Whether the session has so many cards, this contest and these margins.
+pub fn has_facts_of(s: &Session, cards: u32, contest: &Name, margins: &[u32]) -> bool
+    ensures { result ≡ has_facts s.now cards contest.now margins.now }
+{
+    is_about(s, cards, contest) && s.margins() == margins
+}
+
 /// Whether the session has so many cards, and the contest and the margins of the assertion file.
 pub fn has_facts(s: &Session, cards: u32, f: &AssertionFile) -> bool
     ensures { result ≡ has_facts s.now cards f.now.contest (margins_of f.now) }
 {
-    s.cards() == cards
-        && s.contest().bytes() == f.contest().bytes()
-        && are_margins(s.margins(), f.claims())
+    is_about(s, cards, f.contest()) && are_margins(s.margins(), f.claims())
+}
+
+// The first digest of the session that isn't that of the file, and else that the facts of the session aren't those of the files.
+fn compared(s: &Session, d: &Digests, agree: bool) -> Result<(), InputFault>
+    ensures same { (cards : ℕ) (contest margins : List ℕ)
+        → agree ≡ has_facts s.now cards contest margins
+        → IfOk result (λ _. IsOf s.now d.now cards contest margins) }
+    ensures fault { (cards : ℕ) (contest margins : List ℕ)
+        → agree ≡ has_facts s.now cards contest margins
+        → IfErr result (IsFault s.now d.now cards contest margins) }
+{
+    if let Some(fault) = other_digest(s, d) {
+        return Err(fault);
+    }
+    if !agree {
+        return Err(InputFault::Facts);
+    }
+    Ok(())
 }
 
 /// Whether the session is one of files with these digests, a manifest with so many cards, a contest and the margins of its
@@ -106,13 +137,7 @@ pub fn same_facts(
     ensures same { IfOk result (λ _. IsOf s.now d.now cards contest.now margins.now) }
     ensures fault { IfErr result (IsFault s.now d.now cards contest.now margins.now) }
 {
-    if let Some(fault) = other_digest(s, d) {
-        return Err(fault);
-    }
-    if s.cards() != cards || s.contest().bytes() != contest.bytes() || s.margins() != margins {
-        return Err(InputFault::Facts);
-    }
-    Ok(())
+    compared(s, d, has_facts_of(s, cards, contest, margins))
 }
 
 /// Whether the session is one of files with these digests, a manifest with so many cards, and an assertion file: the first
@@ -126,11 +151,5 @@ pub fn same_inputs(
     ensures same { IfOk result (λ _. IsOfInputs s.now d.now cards f.now) }
     ensures fault { IfErr result (IsInputFault s.now d.now cards f.now) }
 {
-    if let Some(fault) = other_digest(s, d) {
-        return Err(fault);
-    }
-    if !has_facts(s, cards, f) {
-        return Err(InputFault::Facts);
-    }
-    Ok(())
+    compared(s, d, has_facts(s, cards, f))
 }

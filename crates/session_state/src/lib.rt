@@ -12,7 +12,7 @@ mod sign_off;
 
 pub use begin::{begin_plain, begin_session};
 pub use digests::Digests;
-pub use inputs::{InputFault, has_facts, other_digest, same_facts, same_inputs};
+pub use inputs::{InputFault, has_facts, has_facts_of, other_digest, same_facts, same_inputs};
 pub use round::DoneRound;
 pub use session::Session;
 pub use sign_off::signed_off;

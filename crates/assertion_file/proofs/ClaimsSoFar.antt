@@ -1,31 +1,31 @@
 -- The claims of the values so far, and those of what is left.
-use Rattle.std.proofs.Common.{◌≡◌, ℕ, ◌+◌, ◌<◌, List, [], ◌∷◌, ◌++◌, length, get_or, drop, map, Ok, Err, refl, sym, ap, ◌∙◌, arith, append_assoc, append-nil, Result}
+use Rattle.std.proofs.Common.{◌≡◌, ℕ, Bool, ◌+◌, ◌<◌, List, [], ◌∷◌, ◌++◌, length, get_or, drop, map, Ok, Err, refl, sym, ap, ◌∙◌, arith, append_assoc, append-nil, Result}
 use Rattle.std.proofs.lemmas.List.{drop_more, drop_all, get_or-map, length-map, length-append}
 use Rattle.serde_json.specs.Data.{Data}
 use Rattle.serde_json.specs.View.{view}
 use Rattle.serde_json.specs.declared.value.Value.{Value}
-use Rattle.assertions.specs.declared.assertion.Claim.{Claim}
+use Rattle.assertion_file.specs.declared.claims.Planned.{Planned}
 use Rattle.irv_base.specs.Names.{Id}
 use Rattle.assertion_file.specs.Reading.{Refusal, claim_of, claims_from, located, ◌>>=◌}
 use Rattle.assertion_file.specs.Faults.{Refuses}
 use Rattle.assertion_file.specs.declared.fault.FileFault.{FileFault}
 use Rattle.assertion_file.specs.declared.fault.FileFault.TheVariants.{Refused, Memory}
 
-abbrev pub after : List Claim → Result (List Claim) Refusal → Result (List Claim) Refusal
+abbrev pub after : List Planned → Result (List Planned) Refusal → Result (List Planned) Refusal
 after before (Ok claims) = Ok (before ++ claims)
 after before (Err refusal) = Err refusal
 
-pub record SoFar (ids : List Id) (records i : ℕ) (claims : List Claim) (values : List Data) : Type 0 where
-  pub left : claims_from ids records 1 values ≡ after claims (claims_from ids records (i + 1) (drop i values))
+pub record SoFar (ids : List Id) (records : ℕ) (planned : Bool) (i : ℕ) (claims : List Planned) (values : List Data) : Type 0 where
+  pub left : claims_from ids records planned 1 values ≡ after claims (claims_from ids records planned (i + 1) (drop i values))
   pub count : length claims ≡ i
 
-pub at-first : (ids : List Id) (records : ℕ) (values : List Data) → SoFar ids records 0 [] values
-at-first ids records values = record { left = by (claims_from ids records 1 values); count = refl } where
-  by : (r : Result (List Claim) Refusal) → r ≡ after [] r
+pub at-first : (ids : List Id) (records : ℕ) (planned : Bool) (values : List Data) → SoFar ids records planned 0 [] values
+at-first ids records planned values = record { left = by (claims_from ids records planned 1 values); count = refl } where
+  by : (r : Result (List Planned) Refusal) → r ≡ after [] r
   by (Ok claims) = refl
   by (Err refusal) = refl
 
-more-first : (before : List Claim) (claim : Claim) (r : Result (List Claim) Refusal) →
+more-first : (before : List Planned) (claim : Planned) (r : Result (List Planned) Refusal) →
     after before (r >>= λ claims. Ok (claim ∷ claims)) ≡ after (before ++ claim ∷ []) r
 more-first before claim (Ok claims) = ap Ok (sym (append_assoc before (claim ∷ []) claims))
 more-first before claim (Err refusal) = refl
@@ -37,29 +37,29 @@ head-of values i value within is =
     drop_more (map view values) i (view value) seen
     ∙ ap (λ d. d ∷ drop (i + 1) (map view values)) (get_or-map view values i value (view value) within ∙ ap view (sym is))
 
-pub goes_on : (ids : List Id) (records i : ℕ) (claims : List Claim) (values : List Value) (value : Value) (claim : Claim) →
-    SoFar ids records i claims (map view values) →
-    i < length values → value ≡ get_or values i value → claim_of ids records (view value) ≡ Ok claim →
-    SoFar ids records (i + 1) (claims ++ claim ∷ []) (map view values)
-goes_on ids records i claims values value claim h within is said = record {
+pub goes_on : (ids : List Id) (records : ℕ) (planned : Bool) (i : ℕ) (claims : List Planned) (values : List Value) (value : Value) (claim : Planned) →
+    SoFar ids records planned i claims (map view values) →
+    i < length values → value ≡ get_or values i value → claim_of ids records planned (view value) ≡ Ok claim →
+    SoFar ids records planned (i + 1) (claims ++ claim ∷ []) (map view values)
+goes_on ids records planned i claims values value claim h within is said = record {
   left =
-      h.left ∙ ap (λ ds. after claims (claims_from ids records (i + 1) ds)) (head-of values i value within is)
-      ∙ ap (λ r. after claims (located (i + 1) r >>= λ c. claims_from ids records (i + 1 + 1) (drop (i + 1) (map view values)) >>= λ cs. Ok (c ∷ cs))) said
-      ∙ more-first claims claim (claims_from ids records (i + 1 + 1) (drop (i + 1) (map view values)));
+      h.left ∙ ap (λ ds. after claims (claims_from ids records planned (i + 1) ds)) (head-of values i value within is)
+      ∙ ap (λ r. after claims (located (i + 1) r >>= λ c. claims_from ids records planned (i + 1 + 1) (drop (i + 1) (map view values)) >>= λ cs. Ok (c ∷ cs))) said
+      ∙ more-first claims claim (claims_from ids records planned (i + 1 + 1) (drop (i + 1) (map view values)));
   count = omega (arith, length-append claims (claim ∷ []), h.count);
 }
 
-pub breaks : (ids : List Id) (records i : ℕ) (claims : List Claim) (values : List Value) (value : Value) (fault : FileFault) →
-    SoFar ids records i claims (map view values) →
-    i < length values → value ≡ get_or values i value → Refuses (located (i + 1) (claim_of ids records (view value))) fault →
-    Refuses (claims_from ids records 1 (map view values)) fault
-breaks ids records i claims values value (Refused rule at) h within is said =
-    h.left ∙ ap (λ ds. after claims (claims_from ids records (i + 1) ds)) (head-of values i value within is)
-    ∙ ap (λ r. after claims (r >>= λ c. claims_from ids records (i + 1 + 1) (drop (i + 1) (map view values)) >>= λ cs. Ok (c ∷ cs))) said
-breaks ids records i claims values value Memory h within is said = tt
+pub breaks : (ids : List Id) (records : ℕ) (planned : Bool) (i : ℕ) (claims : List Planned) (values : List Value) (value : Value) (fault : FileFault) →
+    SoFar ids records planned i claims (map view values) →
+    i < length values → value ≡ get_or values i value → Refuses (located (i + 1) (claim_of ids records planned (view value))) fault →
+    Refuses (claims_from ids records planned 1 (map view values)) fault
+breaks ids records planned i claims values value (Refused rule at) h within is said =
+    h.left ∙ ap (λ ds. after claims (claims_from ids records planned (i + 1) ds)) (head-of values i value within is)
+    ∙ ap (λ r. after claims (r >>= λ c. claims_from ids records planned (i + 1 + 1) (drop (i + 1) (map view values)) >>= λ cs. Ok (c ∷ cs))) said
+breaks ids records planned i claims values value Memory h within is said = tt
 
-pub at_end : (ids : List Id) (records i : ℕ) (claims : List Claim) (values : List Value) → SoFar ids records i claims (map view values) →
-    i ≡ length values → claims_from ids records 1 (map view values) ≡ Ok claims
-at_end ids records i claims values h end =
-    h.left ∙ ap (λ ds. after claims (claims_from ids records (i + 1) ds)) (drop_all i (map view values) (omega (arith, length-map values view)))
+pub at_end : (ids : List Id) (records : ℕ) (planned : Bool) (i : ℕ) (claims : List Planned) (values : List Value) → SoFar ids records planned i claims (map view values) →
+    i ≡ length values → claims_from ids records planned 1 (map view values) ≡ Ok claims
+at_end ids records planned i claims values h end =
+    h.left ∙ ap (λ ds. after claims (claims_from ids records planned (i + 1) ds)) (drop_all i (map view values) (omega (arith, length-map values view)))
     ∙ ap Ok (append-nil claims)

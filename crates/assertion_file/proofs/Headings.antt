@@ -1,6 +1,6 @@
 -- What is said of a file whose own members are there.
 use Rattle.std.proofs.Common.{◌≡◌, ◌==◌, ℕ, ◌<◌, ◌≤◌, ◌&&◌, Bool, true, false, List, [], ◌∷◌, ◌++◌, length, Some, None, Ok, Err, refl, sym, ap, ap₂, subst, ◌∙◌}
-use Rattle.std.specs.Prelude.{if◌then◌else◌, nat_le, ok_or, Result}
+use Rattle.std.specs.Prelude.{if◌then◌else◌, map, nat_le, ok_or, Option, Result}
 use Rattle.std.specs.List.{list_all}
 use Rattle.std.specs.Str.{IsUtf8, is_utf8}
 use Rattle.std.proofs.lemmas.Str.{IsUtf8-from_is_utf8, is_utf8-from_IsUtf8}
@@ -8,19 +8,19 @@ use Rattle.std.proofs.lemmas.Bool.{and_parts, leb-true}
 use Rattle.serde_json.specs.Data.{Data}
 use Rattle.serde_json.specs.Read.{read}
 use Rattle.assertions.specs.declared.assertion.Claim.{Claim}
+use Rattle.assertion_file.specs.declared.claims.Planned.{Planned}
 use Rattle.irv_base.specs.Names.{Id, all_differ, is_among, is_name, is_same}
 use Rattle.irv_base.specs.Orders.{is_order}
 use Rattle.irv_base.specs.declared.limits.TheConstants.{FEWEST_CANDIDATES, MOST_CANDIDATES, MOST_RECORDS}
-use Rattle.assertion_file.specs.Content.{IsMargin}
+use Rattle.assertion_file.specs.Content.{IsMargin, Plan}
 use Rattle.assertion_file.specs.Faults.{Refuses}
 use Rattle.assertion_file.specs.Ids.{number_of, numbers_of}
 use Rattle.assertion_file.specs.Stated.{Heading, heading_in}
-use Rattle.assertion_file.specs.Reading.{are_candidates, assertion_file_of, claims_from, content_of, content_with, is_margin, is_record_count, judged, judged_heading, heading_rules, id_rules, named_rules, order_rules, count_rules, located, ◌>>=◌}
+use Rattle.assertion_file.specs.Reading.{are_candidates, are_terms, assertion_file_of, claim_in, claims_in, content_of, content_with, plan_with, is_margin, is_record_count, is_version, judged, judged_heading, heading_rules, id_rules, named_rules, order_rules, count_rules, located, ◌>>=◌}
 use Rattle.assertion_file.specs.declared.fault.FRule.{FRule}
 use Rattle.assertion_file.specs.declared.fault.FRule.TheVariants.{F1, F2, F4, F5, F6}
 use Rattle.assertion_file.specs.declared.fault.FileFault.{FileFault}
 use Rattle.assertion_file.specs.declared.fault.FileFault.TheVariants.{Refused, Memory}
-use Rattle.assertion_file.specs.declared.print.TheConstants.{VERSION}
 use Rattle.irv_base.proofs.Positions.{any-within}
 use Rattle.assertion_file.proofs.Judged.{AllHold, all-hold}
 
@@ -75,23 +75,29 @@ pub no_order : (heading : Heading) → HasNamed heading → is_order (length hea
     judged_heading heading ≡ Err F5
 no_order heading h o = after-named heading h ∙ ap (λ b. judged ((b, F5) ∷ count_rules heading) heading) o
 
+abbrev pub has_counts : Heading → Bool
+has_counts heading =
+    is_record_count heading.records && is_margin heading.records heading.margin && are_terms heading.records heading.terms
+
 pub no_counts : (heading : Heading) → HasNamed heading → is_order (length heading.candidates) (numbers_of heading.candidates heading.order) ≡ true →
-    (is_record_count heading.records && is_margin heading.records heading.margin) ≡ false → judged_heading heading ≡ Err F6
+    has_counts heading ≡ false → judged_heading heading ≡ Err F6
 no_counts heading h o c = after-named heading h ∙ ap (λ b. judged ((b, F5) ∷ count_rules heading) heading) o
-    ∙ by (is_record_count heading.records) (is_margin heading.records heading.margin) c where
-      by : (a b : Bool) → (a && b) ≡ false → judged ((a, F6) ∷ (b, F6) ∷ []) heading ≡ Err F6
-      by true true c = absurd cc
-      by true false c = refl
-      by false b c = refl
+    ∙ by (is_record_count heading.records) (is_margin heading.records heading.margin) (are_terms heading.records heading.terms) c where
+      by : (a b d : Bool) → (a && b && d) ≡ false → judged ((a, F6) ∷ (b, F6) ∷ (d, F6) ∷ []) heading ≡ Err F6
+      by true true true c = absurd cc
+      by true true false c = refl
+      by true false d c = refl
+      by false b d c = refl
 
 pub all_kept : (heading : Heading) → HasNamed heading → is_order (length heading.candidates) (numbers_of heading.candidates heading.order) ≡ true →
-    (is_record_count heading.records && is_margin heading.records heading.margin) ≡ true → judged_heading heading ≡ Ok heading
+    has_counts heading ≡ true → judged_heading heading ≡ Ok heading
 all_kept heading h o c = after-named heading h ∙ ap (λ b. judged ((b, F5) ∷ count_rules heading) heading) o
-    ∙ by (is_record_count heading.records) (is_margin heading.records heading.margin) c where
-      by : (a b : Bool) → (a && b) ≡ true → judged ((a, F6) ∷ (b, F6) ∷ []) heading ≡ Ok heading
-      by true true c = refl
-      by true false c = absurd cc
-      by false b c = absurd cc
+    ∙ by (is_record_count heading.records) (is_margin heading.records heading.margin) (are_terms heading.records heading.terms) c where
+      by : (a b d : Bool) → (a && b && d) ≡ true → judged ((a, F6) ∷ (b, F6) ∷ (d, F6) ∷ []) heading ≡ Ok heading
+      by true true true c = refl
+      by true true false c = absurd cc
+      by true false d c = absurd cc
+      by false b d c = absurd cc
 
 -- ---- those who are named
 
@@ -109,7 +115,7 @@ all_named heading w o = rw (w, o) refl
 -- ---- rule by rule
 
 pub record HasNames (heading : Heading) : Type 0 where
-  pub version : (heading.version == VERSION) ≡ true
+  pub version : is_version heading.version ≡ true
   pub contest : is_name heading.contest ≡ true
   pub candidates : are_candidates heading.candidates ≡ true
 
@@ -120,9 +126,9 @@ pub record HasOrder (heading : Heading) : Type 0 where
 
 pub kept : (heading : Heading) → HasOrder heading → is_order (length heading.candidates) (numbers_of heading.candidates heading.order) ≡ true →
     is_record_count heading.records ≡ true →
-    is_margin heading.records heading.margin ≡ true → judged_heading heading ≡ Ok heading
+    is_margin heading.records heading.margin ≡ true → are_terms heading.records heading.terms ≡ true → judged_heading heading ≡ Ok heading
 unfolding judged_heading
-kept heading h o r m = rw (h.names.version, h.names.contest, h.names.candidates, h.winner, h.order, o, r, m) refl
+kept heading h o r m t = rw (h.names.version, h.names.contest, h.names.candidates, h.winner, h.order, o, r, m, t) refl
 
 -- ---- a heading that keeps the rules
 
@@ -142,6 +148,7 @@ pub record Sound (heading : Heading) : Type 0 where
   pub some_records : 1 ≤ heading.records
   pub most_records : heading.records ≤ MOST_RECORDS
   pub margin : IsMargin heading.records heading.margin
+  pub terms : are_terms heading.records heading.terms ≡ true
 
 pub sound : (heading : Heading) → judged_heading heading ≡ Ok heading → Sound heading
 unfolding judged_heading
@@ -169,6 +176,7 @@ sound heading h =
       some_records = leb-true 1 heading.records one;
       most_records = leb-true heading.records MOST_RECORDS million;
       margin = margin-is heading.records heading.margin ordered.1.1.0;
+      terms = ordered.1.1.1.0;
     }
 
 -- ---- the file
@@ -176,42 +184,61 @@ sound heading h =
 pub content-none : (value : Data) → heading_in value ≡ None → content_of value ≡ Err (record { rule = F2; at = 0 })
 unfolding content_of
 content-none value h =
-    ap (λ o. located 0 (ok_or o F2 >>= judged_heading) >>= λ heading. claims_from heading.candidates heading.records 1 heading.assertions >>= λ claims. Ok
+    ap (λ o. located 0 (ok_or o F2 >>= judged_heading) >>= λ heading. claims_in heading >>= λ claims. Ok
     (content_with heading claims)) h
 
 content-some : (value : Data) (heading : Heading) → heading_in value ≡ Some heading →
-    content_of value ≡ (located 0 (judged_heading heading) >>= λ kept. claims_from kept.candidates kept.records 1 kept.assertions >>= λ claims. Ok
+    content_of value ≡ (located 0 (judged_heading heading) >>= λ kept. claims_in kept >>= λ claims. Ok
     (content_with kept claims))
 unfolding content_of
 content-some value heading h =
-    ap (λ o. located 0 (ok_or o F2 >>= judged_heading) >>= λ heading. claims_from heading.candidates heading.records 1 heading.assertions >>= λ claims. Ok
+    ap (λ o. located 0 (ok_or o F2 >>= judged_heading) >>= λ heading. claims_in heading >>= λ claims. Ok
     (content_with heading claims)) h
 
 pub refused_heading : (value : Data) (heading : Heading) (fault : FileFault) → heading_in value ≡ Some heading →
     Refuses (located 0 (judged_heading heading)) fault → Refuses (content_of value) fault
 refused_heading value heading (Refused rule at) h r =
-    content-some value heading h ∙ ap (λ said. said >>= λ kept. claims_from kept.candidates kept.records 1 kept.assertions >>= λ claims. Ok
+    content-some value heading h ∙ ap (λ said. said >>= λ kept. claims_in kept >>= λ claims. Ok
     (content_with kept claims)) r
 refused_heading value heading Memory h r = tt
 
 pub content-kept : (value : Data) (heading : Heading) → heading_in value ≡ Some heading → judged_heading heading ≡ Ok heading →
-    content_of value ≡ (claims_from heading.candidates heading.records 1 heading.assertions >>= λ claims. Ok (content_with heading claims))
+    content_of value ≡ (claims_in heading >>= λ claims. Ok (content_with heading claims))
 content-kept value heading h k =
-    content-some value heading h ∙ ap (λ said. located 0 said >>= λ kept. claims_from kept.candidates kept.records 1 kept.assertions >>= λ claims. Ok
+    content-some value heading h ∙ ap (λ said. located 0 said >>= λ kept. claims_in kept >>= λ claims. Ok
     (content_with kept claims)) k
 
 pub refused_claims : (value : Data) (heading : Heading) (fault : FileFault) → heading_in value ≡ Some heading → judged_heading heading ≡ Ok heading →
-    Refuses (claims_from heading.candidates heading.records 1 heading.assertions) fault → Refuses (content_of value) fault
+    Refuses (claims_in heading) fault → Refuses (content_of value) fault
 refused_claims value heading (Refused rule at) h k r = content-kept value heading h k ∙ ap (λ said. said >>= λ claims. Ok (content_with heading claims)) r
 refused_claims value heading Memory h k r = tt
 
-pub content-is : (heading : Heading) (claims : List Claim) (contest : Id) (candidates : List Id) (winner : ℕ) (order : List ℕ) →
-    contest ≡ heading.contest → candidates ≡ heading.candidates →
+pub content-is : (heading : Heading) (planned : List Planned) (contest : Id) (candidates : List Id) (winner : ℕ) (order : List ℕ) (claims : List Claim)
+    (plan : Option Plan) → contest ≡ heading.contest → candidates ≡ heading.candidates →
     winner ≡ number_of heading.candidates heading.winner → order ≡ numbers_of heading.candidates heading.order →
-    record { contest = contest; candidates = candidates; records = heading.records; winner = winner; margin = heading.margin; order = order; claims = claims }
-    ≡ content_with heading claims
-content-is heading claims contest candidates winner order c cs w o =
-    λ i. record { contest = c i; candidates = cs i; records = heading.records; winner = w i; margin = heading.margin; order = o i; claims = claims }
+    claims ≡ map claim_in planned → plan ≡ plan_with heading.terms planned →
+    record {
+      contest = contest;
+      candidates = candidates;
+      records = heading.records;
+      winner = winner;
+      margin = heading.margin;
+      order = order;
+      claims = claims;
+      plan = plan;
+    }
+    ≡ content_with heading planned
+content-is heading planned contest candidates winner order claims plan c cs w o cl p =
+    λ i. record {
+      contest = c i;
+      candidates = cs i;
+      records = heading.records;
+      winner = w i;
+      margin = heading.margin;
+      order = o i;
+      claims = cl i;
+      plan = p i;
+    }
 
 -- ---- its bytes
 

@@ -4,6 +4,7 @@ pub mod Sets
 pub mod Exact
 pub mod LineFeed
 pub mod ReadsBack
+pub mod Told
 pub mod Files
 pub mod Listed
 pub mod Elements

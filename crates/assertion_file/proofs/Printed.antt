@@ -1,6 +1,6 @@
 -- The file's value says what the file says.
-use Rattle.std.proofs.Common.{◌≡◌, ℕ, suc, ◌+◌, ◌<◌, ◌≤◌, true, ◌&&◌, List, [], ◌∷◌, length, All, map, filter, Option, Some, None, Ok, refl, sym, ap, ◌∙◌, arith, eq-eqb}
-use Rattle.std.specs.Prelude.{if◌then◌else◌, nat_le, option_map, ok_or, codes}
+use Rattle.std.proofs.Common.{◌≡◌, ℕ, suc, ◌+◌, ◌<◌, ◌≤◌, Bool, true, ◌&&◌, List, [], ◌∷◌, length, All, map, filter, Option, Some, None, Ok, refl, sym, ap, ◌∙◌, arith, eq-eqb}
+use Rattle.std.specs.Prelude.{if◌then◌else◌, is_some, nat_le, option_map, ok_or, codes, unwrap_or, IfSome}
 use Rattle.std.specs.List.{list_all}
 use Rattle.std.specs.Cmp.Lexicographic.{bytes_decides}
 use Rattle.std.proofs.lemmas.Bool.{and_from, le-leb, false_from_ne_true}
@@ -9,25 +9,27 @@ use Rattle.serde_json.proofs.OnLiterals.{serde_json_on_literals}
 use Rattle.assertions.specs.Assertions.{is_proper}
 use Rattle.assertions.specs.declared.assertion.Assertion.{Assertion}
 use Rattle.assertions.specs.declared.assertion.Assertion.TheVariants.{Neb, Nen}
-use Rattle.assertions.specs.declared.assertion.Claim.{Claim}
+use Rattle.assertion_file.specs.declared.claims.Planned.{Planned}
+use Rattle.assertion_file.specs.declared.members.Terms.{Terms}
 use Rattle.assertions.proofs.Proper.{pair_facts, nen_facts}
 use Rattle.irv_base.specs.Candidates.{candidates, has, is_distinct, is_in, set_of}
 use Rattle.irv_base.specs.Names.{Id, all_differ, is_among, is_name, is_same}
 use Rattle.irv_base.specs.Orders.{is_order}
-use Rattle.irv_base.specs.declared.limits.TheConstants.{FEWEST_CANDIDATES, MOST_CANDIDATES, MOST_RECORDS}
+use Rattle.irv_base.specs.declared.limits.TheConstants.{FEWEST_CANDIDATES, MOST_CANDIDATES, MOST_RECORDS, MOST_CARDS, MOST_DRAWS, GREATEST_GAMMA, GREATEST_LIMIT}
 use Rattle.irv_base.proofs.Orders.{order_facts}
-use Rattle.assertion_file.specs.Content.{Content, IsSound, IsSoundClaim, IsMargin, HasNames}
+use Rattle.assertion_file.specs.Content.{Content, Plan, IsSound, IsSoundPlan, IsDrawCount, IsMargin, HasNames}
 use Rattle.assertion_file.specs.Ids.{id_of, ids_of, ids_in, number_of, numbers_of}
-use Rattle.assertion_file.specs.Text.{array_of, assertion_file_text, assertion_value, claim_value, file_value, ids_value, neb_value, nen_value, whole_number}
-use Rattle.assertion_file.specs.Stated.{Heading, heading_in, Entry, entry_in, is_text, list, list_in, number, number_in, rest_in, text_in, texts, texts_in, texts_of}
-use Rattle.assertion_file.specs.Reading.{assertion_file_of, assertion_with, claim_of, claims_from, content_of, content_with, is_margin, is_rest, judged, judged_heading, located, ◌>>=◌}
+use Rattle.assertion_file.specs.Text.{array_of, assertion_file_text, assertion_value, claim_value, file_value, ids_value, neb_value, nen_value, told_of, version_of, whole_number}
+use Rattle.assertion_file.specs.Stated.{Heading, heading_in, terms_in, terms_of, Entry, draws_in, entry_in, is_text, list, list_in, number, number_in, rest_in, text_in, texts, texts_in, texts_of}
+use Rattle.assertion_file.specs.Reading.{are_draws, are_terms, assertion_file_of, assertion_with, claim_of, claims_from, content_of, content_with, is_margin, is_version, is_rest, judged, judged_heading, located, ◌>>=◌}
 use Rattle.assertion_file.specs.declared.fault.FRule.TheVariants.{F1, F4, F5}
-use Rattle.assertion_file.specs.declared.print.TheConstants.{VERSION}
+use Rattle.assertion_file.specs.declared.print.TheConstants.{PLAN_VERSION}
 use Rattle.assertion_file.proofs.Elements.{elements-items_of}
 use Rattle.assertion_file.proofs.Entries.{Pair, a_claim, claim-some}
 use Rattle.assertion_file.proofs.Files.{text_reads_back}
 use Rattle.assertion_file.proofs.Headings.{content-kept, kept}
 use Rattle.assertion_file.proofs.Ranked.{among-id, number-id, all-among, numbers-ids, listed}
+use Rattle.assertion_file.proofs.Told.{Told, IsSoundTold, has-each, planned_of, same-claims, same-plan, terms_for, told-sound}
 
 -- ---- members of each kind
 
@@ -47,15 +49,15 @@ texts-value ids =
 list-value : (values : List Data) → list (array_of values) ≡ Some values
 list-value values = ap Some (elements-items_of values)
 
-number-value : (n : ℕ) → n ≤ MOST_RECORDS → number (whole_number n) ≡ Some n
-number-value n few = rw (le-leb n 4294967295 (omega arith)) refl
+number-value : (n : ℕ) → n ≤ 4294967295 → number (whole_number n) ≡ Some n
+number-value n few = rw (le-leb n 4294967295 few) refl
 
 -- ---- what has these members
 
-heading-from : (value : Data) (assertions : List Data) (ids order : List Id) (contest winner : Id) (margin records version : ℕ) →
+heading-from : (value : Data) (assertions : List Data) (ids order : List Id) (contest winner : Id) (margin records version : ℕ) (terms : Option Terms) →
     list_in (codes "assertions") value ≡ Some assertions → texts_in (codes "candidates") value ≡ Some ids → text_in (codes "contest") value ≡ Some contest →
     number_in (codes "margin") value ≡ Some margin → texts_in (codes "order") value ≡ Some order → number_in (codes "records") value ≡ Some records →
-    number_in (codes "version") value ≡ Some version → text_in (codes "winner") value ≡ Some winner →
+    number_in (codes "version") value ≡ Some version → terms_in version value ≡ Some terms → text_in (codes "winner") value ≡ Some winner →
     heading_in value ≡ Some (record {
       assertions = assertions;
       candidates = ids;
@@ -63,40 +65,71 @@ heading-from : (value : Data) (assertions : List Data) (ids order : List Id) (co
       margin = margin;
       order = order;
       records = records;
+      terms = terms;
       version = version;
       winner = winner;
     })
 unfolding heading_in
-heading-from value assertions ids order contest winner margin records version a c n m o r v w = rw (a, c, n, m, o, r, v, w) refl
+heading-from value assertions ids order contest winner margin records version terms a c n m o r v t w = rw (a, c, n, m, o, r, v, t, w) refl
 
-entry-from : (value : Data) (kind winner loser : Id) (margin : ℕ) (rest : Option (List Id)) →
+terms-from : (value : Data) (cards gamma limit : ℕ) → number_in (codes "cards") value ≡ Some cards → number_in (codes "gamma") value ≡ Some gamma →
+    number_in (codes "limit") value ≡ Some limit →
+    terms_in PLAN_VERSION value ≡ Some (Some (record { cards = cards; gamma = gamma; limit = limit }))
+terms-from value cards gamma limit c g l = ap (option_map Some) by where
+  by : terms_of value ≡ Some (record { cards = cards; gamma = gamma; limit = limit })
+  by = rw (c, g, l) refl
+
+entry-from : (planned : Bool) (value : Data) (kind winner loser : Id) (margin : ℕ) (rest : Option (List Id)) (draws : Option ℕ) →
     text_in (codes "kind") value ≡ Some kind → text_in (codes "winner") value ≡ Some winner → text_in (codes "loser") value ≡ Some loser →
-    number_in (codes "margin") value ≡ Some margin → rest_in kind value ≡ Some rest →
-    entry_in value ≡ Some (record { winner = winner; loser = loser; margin = margin; rest = rest })
+    number_in (codes "margin") value ≡ Some margin → rest_in kind value ≡ Some rest → draws_in planned value ≡ Some draws →
+    entry_in planned value ≡ Some (record { winner = winner; loser = loser; margin = margin; rest = rest; draws = draws })
 unfolding entry_in
-entry-from value kind winner loser margin rest k w l m r = rw (k, w, l, m, r) refl
+entry-from planned value kind winner loser margin rest draws k w l m r d = rw (k, w, l, m, r, d) refl
 
 -- ---- a claim
 
-neb-entry : (winner loser : Id) (margin : ℕ) → margin ≤ MOST_RECORDS → entry_in (neb_value winner loser margin)
-    ≡ Some (record { winner = winner; loser = loser; margin = margin; rest = None })
-unfolding serde_json_on_literals
-neb-entry winner loser margin few = entry-from (neb_value winner loser margin) (codes "NEB") winner loser margin None refl refl refl (number-value margin few)
-    refl
+-- what is told of draws, as it is read
+abbrev is_few : Option (Option ℕ) → Type 0
+is_few draws = IfSome (unwrap_or draws None) IsDrawCount
 
-nen-entry : (winner loser : Id) (names : List Id) (margin : ℕ) → margin ≤ MOST_RECORDS →
-    entry_in (nen_value winner loser (ids_value names) margin) ≡ Some (record { winner = winner; loser = loser; margin = margin; rest = Some names })
+few-draws : (n : ℕ) → IsDrawCount n → n ≤ 4294967295
+few-draws n h = let most = h.most in omega (arith, most)
+
+neb-entry : (draws : Option (Option ℕ)) (winner loser : Id) (margin : ℕ) → margin ≤ MOST_RECORDS → is_few draws →
+    entry_in (is_some draws) (neb_value draws winner loser margin)
+    ≡ Some (record { winner = winner; loser = loser; margin = margin; rest = None; draws = unwrap_or draws None })
 unfolding serde_json_on_literals
-nen-entry winner loser names margin few =
-    entry-from (nen_value winner loser (ids_value names) margin) (codes "NEN") winner loser margin (Some names) refl refl refl (number-value margin few)
-    (ap (option_map Some) (texts-value names))
+neb-entry None winner loser margin few fits =
+    entry-from _ (neb_value None winner loser margin) (codes "NEB") winner loser margin None None refl refl refl (number-value margin (omega arith)) refl refl
+neb-entry (Some None) winner loser margin few fits =
+    entry-from _ (neb_value (Some None) winner loser margin) (codes "NEB") winner loser margin None None refl refl refl
+    (number-value margin (omega arith)) refl refl
+neb-entry (Some (Some n)) winner loser margin few fits =
+    entry-from _ (neb_value (Some (Some n)) winner loser margin) (codes "NEB") winner loser margin None (Some n) refl refl refl
+    (number-value margin (omega arith)) refl
+    (ap (option_map Some) (number-value n (few-draws n fits)))
+
+nen-entry : (draws : Option (Option ℕ)) (winner loser : Id) (names : List Id) (margin : ℕ) → margin ≤ MOST_RECORDS → is_few draws →
+    entry_in (is_some draws) (nen_value draws winner loser (ids_value names) margin)
+    ≡ Some (record { winner = winner; loser = loser; margin = margin; rest = Some names; draws = unwrap_or draws None })
+unfolding serde_json_on_literals
+nen-entry None winner loser names margin few fits =
+    entry-from _ (nen_value None winner loser (ids_value names) margin) (codes "NEN") winner loser margin (Some names) None refl refl refl
+    (number-value margin (omega arith)) (ap (option_map Some) (texts-value names)) refl
+nen-entry (Some None) winner loser names margin few fits =
+    entry-from _ (nen_value (Some None) winner loser (ids_value names) margin) (codes "NEN") winner loser margin (Some names) None refl refl refl
+    (number-value margin (omega arith)) (ap (option_map Some) (texts-value names)) refl
+nen-entry (Some (Some n)) winner loser names margin few fits =
+    entry-from _ (nen_value (Some (Some n)) winner loser (ids_value names) margin) (codes "NEN") winner loser margin (Some names) (Some n) refl refl refl
+    (number-value margin (omega arith)) (ap (option_map Some) (texts-value names))
+    (ap (option_map Some) (number-value n (few-draws n fits)))
 
 margin-test : (records margin : ℕ) → IsMargin records margin → is_margin records margin ≡ true
 margin-test records margin m = and_from (nat_le 1 margin) (nat_le margin records) (le-leb 1 margin m.some) (le-leb margin records m.most)
 
-pair-of : (ids : List Id) (w l margin : ℕ) (rest : Option (List Id)) → all_differ ids ≡ true → w < length ids → l < length ids → (w ≡ l → ⊥) →
-    Pair ids (record { winner = id_of ids w; loser = id_of ids l; margin = margin; rest = rest }) w l
-pair-of ids w l margin rest h a b ne = record {
+pair-of : (ids : List Id) (w l margin : ℕ) (rest : Option (List Id)) (draws : Option ℕ) → all_differ ids ≡ true → w < length ids → l < length ids → (w ≡ l → ⊥) →
+    Pair ids (record { winner = id_of ids w; loser = id_of ids l; margin = margin; rest = rest; draws = draws }) w l
+pair-of ids w l margin rest draws h a b ne = record {
   winner = among-id ids w a;
   loser = among-id ids l b;
   differ = false_from_ne_true (is_same (id_of ids w) (id_of ids l)) (λ same.
@@ -105,27 +138,39 @@ pair-of ids w l margin rest h a b ne = record {
   l_is = number-id ids l h b;
 }
 
-claim-back : (ids : List Id) (records : ℕ) (a : Assertion) (margin : ℕ) → all_differ ids ≡ true → records ≤ MOST_RECORDS →
-    is_proper (length ids) a ≡ true → IsMargin records margin →
-    claim_of ids records (assertion_value ids a margin) ≡ Ok (record { assertion = a; margin = margin })
-claim-back ids records (Neb w l) margin h few proper m =
+draws-test : (draws : Option ℕ) → IfSome draws IsDrawCount → are_draws draws ≡ true
+draws-test None h = refl
+draws-test (Some n) h = and_from (nat_le 1 n) (nat_le n MOST_DRAWS) (le-leb 1 n h.some) (le-leb n MOST_DRAWS h.most)
+
+counts-test : (records margin : ℕ) (draws : Option ℕ) → IsMargin records margin → IfSome draws IsDrawCount →
+    (is_margin records margin && are_draws draws) ≡ true
+counts-test records margin draws m d = and_from (is_margin records margin) (are_draws draws) (margin-test records margin m) (draws-test draws d)
+
+claim-back : (ids : List Id) (records : ℕ) (draws : Option (Option ℕ)) (a : Assertion) (margin : ℕ) → all_differ ids ≡ true → records ≤ MOST_RECORDS →
+    is_proper (length ids) a ≡ true → IsMargin records margin → is_few draws →
+    claim_of ids records (is_some draws) (assertion_value ids draws a margin)
+    ≡ Ok (record { assertion = a; margin = margin; draws = unwrap_or draws None })
+claim-back ids records draws (Neb w l) margin h few proper m fits =
     let p = pair_facts (length ids) w l proper in
     let most = m.most in
-    let entry : Entry = record { winner = id_of ids w; loser = id_of ids l; margin = margin; rest = None } in
-    claim-some ids records (neb_value (id_of ids w) (id_of ids l) margin) entry (neb-entry (id_of ids w) (id_of ids l) margin (omega arith))
-    ∙ a_claim ids records entry w l (Neb w l) (pair-of ids w l margin None h p.winner p.loser p.differ) refl (margin-test records margin m)
-claim-back ids records (Nen w l set) margin h few proper m =
+    let read = unwrap_or draws None in
+    let entry : Entry = record { winner = id_of ids w; loser = id_of ids l; margin = margin; rest = None; draws = read } in
+    claim-some ids records (is_some draws) (neb_value draws (id_of ids w) (id_of ids l) margin) entry
+    (neb-entry draws (id_of ids w) (id_of ids l) margin (omega arith) fits)
+    ∙ a_claim ids records entry w l (Neb w l) (pair-of ids w l margin None read h p.winner p.loser p.differ) refl (counts-test records margin read m fits)
+claim-back ids records draws (Nen w l set) margin h few proper m fits =
     let p = nen_facts (length ids) w l set proper in
     let most = m.most in
     let cs = filter (has set) (candidates (length ids)) in
     let names = ids_in ids set in
     let of = listed (length ids) set p.small in
-    let entry : Entry = record { winner = id_of ids w; loser = id_of ids l; margin = margin; rest = Some names } in
-    claim-some ids records (nen_value (id_of ids w) (id_of ids l) (ids_value names) margin) entry
-    (nen-entry (id_of ids w) (id_of ids l) names margin (omega arith))
-    ∙ a_claim ids records entry w l (Nen w l set) (pair-of ids w l margin (Some names) h p.pair.winner p.pair.loser p.pair.differ)
+    let read = unwrap_or draws None in
+    let entry : Entry = record { winner = id_of ids w; loser = id_of ids l; margin = margin; rest = Some names; draws = read } in
+    claim-some ids records (is_some draws) (nen_value draws (id_of ids w) (id_of ids l) (ids_value names) margin) entry
+    (nen-entry draws (id_of ids w) (id_of ids l) names margin (omega arith) fits)
+    ∙ a_claim ids records entry w l (Nen w l set) (pair-of ids w l margin (Some names) read h p.pair.winner p.pair.loser p.pair.differ)
     (nen-back ids w l set cs (all-among ids cs of.below) (numbers-ids ids cs h of.below) of.apart (of.member w p.has_winner) (of.member l p.has_loser) of.same)
-    (margin-test records margin m)
+    (counts-test records margin read m fits)
   where
     nen-back : (ids : List Id) (w l set : ℕ) (cs : List ℕ) → list_all (is_among ids) (ids_of ids cs) ≡ true → numbers_of ids (ids_of ids cs) ≡ cs →
         is_distinct cs ≡ true →
@@ -134,41 +179,84 @@ claim-back ids records (Nen w l set) margin h few proper m =
         (assertion_with w l (Some (numbers_of ids (ids_of ids cs)))) ≡ Ok (Nen w l set)
     nen-back ids w l set cs among numbers apart in_w in_l same = rw (among, numbers, apart, in_w, in_l) (ap (λ s. Ok (Nen w l s)) (sym same))
 
-claims-back : (ids : List Id) (records at : ℕ) (claims : List Claim) → all_differ ids ≡ true → records ≤ MOST_RECORDS →
-    All (IsSoundClaim (length ids) records) claims →
-    claims_from ids records at (map (claim_value ids) claims) ≡ Ok claims
-claims-back ids records at [] h few sound = refl
-claims-back ids records at (claim ∷ claims) h few sound =
-    let first = sound 0 claim (omega arith) in
-    ap (λ r. located at r >>= λ c. claims_from ids records (at + 1) (map (claim_value ids) claims) >>= λ cs. Ok (c ∷ cs))
-    (claim-back ids records claim.assertion claim.margin h few first.proper first.margin)
-    ∙ ap (λ r. r >>= λ cs. Ok (claim ∷ cs)) (claims-back ids records (at + 1) claims h few (λ i d within. sound (suc i) d (omega arith)))
+claims-back : (ids : List Id) (records : ℕ) (planned : Bool) (at : ℕ) (told : List Told) → all_differ ids ≡ true → records ≤ MOST_RECORDS →
+    All (IsSoundTold (length ids) records planned) told →
+    claims_from ids records planned at (map (claim_value ids) told) ≡ Ok (map planned_of told)
+claims-back ids records planned at [] h few sound = refl
+claims-back ids records planned at (one ∷ told) h few sound =
+    let first = sound 0 one (omega arith) in
+    let claim = one.0 in
+    ap (λ flag. located at (claim_of ids records flag (claim_value ids one)) >>= λ c.
+    claims_from ids records planned (at + 1) (map (claim_value ids) told) >>= λ cs. Ok (c ∷ cs)) (sym first.flag)
+    ∙ ap (λ r. located at r >>= λ c. claims_from ids records planned (at + 1) (map (claim_value ids) told) >>= λ cs. Ok (c ∷ cs))
+    (claim-back ids records one.1 claim.assertion claim.margin h few first.claim.proper first.claim.margin first.draws)
+    ∙ ap (λ r. r >>= λ cs. Ok (planned_of one ∷ cs)) (claims-back ids records planned (at + 1) told h few (λ i d within. sound (suc i) d (omega arith)))
 
 -- ---- the file
 
 abbrev heading_for : Content → Heading
 heading_for file = record {
-  assertions = map (claim_value file.candidates) file.claims;
+  assertions = map (claim_value file.candidates) (told_of file.plan file.claims);
   candidates = file.candidates;
   contest = file.contest;
   margin = file.margin;
   order = ids_of file.candidates file.order;
   records = file.records;
-  version = VERSION;
+  terms = option_map terms_for file.plan;
+  version = version_of file.plan;
   winner = id_of file.candidates file.winner;
 }
 
 heading-back : (file : Content) → IsSound file → heading_in (file_value file) ≡ Some (heading_for file)
 unfolding file_value serde_json_on_literals
-heading-back file s =
-    let ids = file.candidates in
-    let most = s.margin.most in
-    let few = s.most_records in
-    heading-from (file_value file) (map (claim_value ids) file.claims) ids (ids_of ids file.order) file.contest (id_of ids file.winner) file.margin
-    file.records VERSION
-    (list-value (map (claim_value ids) file.claims)) (texts-value ids) refl (number-value file.margin (omega arith)) (texts-value (ids_of ids file.order))
-    (number-value file.records few)
-    (number-value VERSION (omega arith)) refl
+heading-back file s = by file.plan s.plan where
+  by : (plan : Option Plan) → IfSome plan (IsSoundPlan file.records (length file.claims)) →
+      heading_in (file_value (record file { plan = plan })) ≡ Some (heading_for (record file { plan = plan }))
+  by None p =
+      let ids = file.candidates in
+      let most = s.margin.most in
+      let few = s.most_records in
+      heading-from (file_value (record file { plan = None })) (map (claim_value ids) (told_of None file.claims)) ids (ids_of ids file.order) file.contest
+      (id_of ids file.winner) file.margin file.records 1 None
+      (list-value (map (claim_value ids) (told_of None file.claims))) (texts-value ids) refl (number-value file.margin (omega arith))
+      (texts-value (ids_of ids file.order)) (number-value file.records (omega arith)) (number-value 1 (omega arith)) refl refl
+  by (Some plan) p =
+      let ids = file.candidates in
+      let most = s.margin.most in
+      let few = s.most_records in
+      let cards = p.most_cards in
+      let gamma = p.most_gamma in
+      let limit = p.most_limit in
+      heading-from (file_value (record file { plan = Some plan })) (map (claim_value ids) (told_of (Some plan) file.claims)) ids (ids_of ids file.order)
+      file.contest (id_of ids file.winner) file.margin file.records 2 (Some (terms_for plan))
+      (list-value (map (claim_value ids) (told_of (Some plan) file.claims))) (texts-value ids) refl (number-value file.margin (omega arith))
+      (texts-value (ids_of ids file.order)) (number-value file.records (omega arith)) (number-value 2 (omega arith))
+      (terms-from (file_value (record file { plan = Some plan })) plan.cards plan.gamma plan.limit (number-value plan.cards (omega arith))
+      (number-value plan.gamma (omega arith)) (number-value plan.limit (omega arith)))
+      refl
+
+version-test : (plan : Option Plan) → is_version (version_of plan) ≡ true
+version-test None = refl
+version-test (Some plan) = refl
+
+terms-test : (records claims : ℕ) (plan : Option Plan) → IfSome plan (IsSoundPlan records claims) → are_terms records (option_map terms_for plan) ≡ true
+terms-test records claims None s = refl
+terms-test records claims (Some plan) s =
+    let some_cards = nat_le records plan.cards in
+    let most_cards = nat_le plan.cards MOST_CARDS in
+    let some_gamma = nat_le 1 plan.gamma in
+    let most_gamma = nat_le plan.gamma GREATEST_GAMMA in
+    let some_limit = nat_le 1 plan.limit in
+    let most_limit = nat_le plan.limit GREATEST_LIMIT in
+    and_from (some_cards && most_cards && some_gamma && most_gamma && some_limit) most_limit
+    (and_from (some_cards && most_cards && some_gamma && most_gamma) some_limit
+    (and_from (some_cards && most_cards && some_gamma) most_gamma
+    (and_from (some_cards && most_cards) some_gamma
+    (and_from some_cards most_cards (le-leb records plan.cards s.some_cards) (le-leb plan.cards MOST_CARDS s.most_cards))
+    (le-leb 1 plan.gamma s.some_gamma))
+    (le-leb plan.gamma GREATEST_GAMMA s.most_gamma))
+    (le-leb 1 plan.limit s.some_limit))
+    (le-leb plan.limit GREATEST_LIMIT s.most_limit)
 
 heading-kept : (file : Content) → IsSound file → HasNames file → judged_heading (heading_for file) ≡ Ok (heading_for file)
 heading-kept file s n =
@@ -176,7 +264,7 @@ heading-kept file s n =
     let facts = order_facts (length ids) file.order s.order in
     kept (heading_for file) (record {
       names = record {
-        version = eq-eqb VERSION VERSION refl;
+        version = version-test file.plan;
         contest = n.contest;
         candidates = and_from (list_all is_name ids && nat_le FEWEST_CANDIDATES (length ids) && nat_le (length ids) MOST_CANDIDATES) (all_differ ids)
             (and_from (list_all is_name ids && nat_le FEWEST_CANDIDATES (length ids)) (nat_le (length ids) MOST_CANDIDATES)
@@ -190,15 +278,24 @@ heading-kept file s n =
     (and_from (nat_le 1 file.records) (nat_le file.records MOST_RECORDS) (le-leb 1 file.records s.some_records)
     (le-leb file.records MOST_RECORDS s.most_records))
     (margin-test file.records file.margin s.margin)
+    (terms-test file.records _ file.plan s.plan)
+
+terms-told : (plan : Option Plan) → is_some (option_map terms_for plan) ≡ is_some plan
+terms-told None = refl
+terms-told (Some plan) = refl
 
 pub printed_reads_back : (file : Content) → IsSound file → HasNames file → assertion_file_of (assertion_file_text file) ≡ Ok file
 unfolding assertion_file_of
 printed_reads_back file s n =
     let ids = file.candidates in
     let facts = order_facts (length ids) file.order s.order in
+    let told = told_of file.plan file.claims in
+    let each = has-each file.records file.plan file.claims s.plan in
     let winner : number_of ids (id_of ids file.winner) ≡ file.winner = number-id ids file.winner s.differ s.winner in
     let order : numbers_of ids (ids_of ids file.order) ≡ file.order = numbers-ids ids file.order s.differ facts.below in
-    let same : content_with (heading_for file) file.claims ≡ file =
+    let claims = same-claims file.plan file.claims each in
+    let plan = same-plan file.plan file.claims each in
+    let same : content_with (heading_for file) (map planned_of told) ≡ file =
     λ i. record {
       contest = file.contest;
       candidates = ids;
@@ -206,9 +303,14 @@ printed_reads_back file s n =
       winner = winner i;
       margin = file.margin;
       order = order i;
-      claims = file.claims;
+      claims = claims i;
+      plan = plan i;
     } in
     ap (λ o. located 0 (ok_or o F1) >>= content_of) (text_reads_back file s n)
     ∙ content-kept (file_value file) (heading_for file) (heading-back file s) (heading-kept file s n)
-    ∙ ap (λ r. r >>= λ claims. Ok (content_with (heading_for file) claims)) (claims-back ids file.records 1 file.claims s.differ s.most_records s.claims)
+    ∙ ap (λ flag. claims_from ids file.records flag 1 (map (claim_value ids) told) >>= λ claims. Ok (content_with (heading_for file) claims))
+    (terms-told file.plan)
+    ∙ ap (λ r. r >>= λ claims. Ok (content_with (heading_for file) claims))
+    (claims-back ids file.records (is_some file.plan) 1 told s.differ s.most_records
+    (told-sound (length ids) file.records file.plan file.claims s.claims s.plan))
     ∙ ap Ok same

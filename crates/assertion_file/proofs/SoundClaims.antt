@@ -1,24 +1,25 @@
 -- What is read as a claim is a sound one.
 use Rattle.std.proofs.Common.{◌≡◌, ◌==◌, ℕ, ◌+◌, ◌<◌, ◌^◌, Bool, true, false, not, ◌&&◌, cond, inl, inr, List, [], ◌∷◌, length, get_or, All, Option, Some, None, Ok, Err, refl, sym, ap, subst, ◌∙◌, eqb-true, arith}
-use Rattle.std.specs.Prelude.{option_map, unwrap_or, nat_lt, position, Result}
+use Rattle.std.specs.Prelude.{option_map, unwrap_or, nat_le, nat_lt, position, Result, IfSome}
 use Rattle.std.specs.List.{list_all, list_any, position_or_len}
-use Rattle.std.proofs.lemmas.Bool.{and_parts, and_from, both_ways, cases_Bool, lt-ltb, not_from_false, not-true}
+use Rattle.std.proofs.lemmas.Bool.{and_parts, and_from, both_ways, cases_Bool, leb-true, lt-ltb, not_from_false, not-true}
 use Rattle.std.proofs.lemmas.Cmp.{nat_list_eq_equiv}
 use Rattle.std.proofs.lemmas.List.Elements.{All-cons}
 use Rattle.std.proofs.lemmas.List.Quantifiers.{position-Some}
 use Rattle.serde_json.specs.Data.{Data}
 use Rattle.assertions.specs.Assertions.{is_pair, is_proper}
-use Rattle.assertions.specs.declared.assertion.Claim.{Claim}
+use Rattle.assertion_file.specs.declared.claims.Planned.{Planned}
 use Rattle.irv_base.specs.Candidates.{has, is_distinct, is_in, set_of}
 use Rattle.irv_base.specs.Names.{Id, is_among, is_same}
 use Rattle.irv_base.proofs.Distinct.{distinct-from_test}
 use Rattle.irv_base.proofs.Members.{Member, from_map, from_list_all}
 use Rattle.irv_base.proofs.Sets.{has-set_of, set_of-lt}
-use Rattle.assertion_file.specs.Content.{IsSoundClaim}
+use Rattle.assertion_file.specs.Content.{IsSoundClaim, IsDrawCount}
 use Rattle.assertion_file.specs.Ids.{number_of, numbers_of}
 use Rattle.assertion_file.specs.Stated.{Entry, entry_in}
-use Rattle.assertion_file.specs.Reading.{Refusal, assertion_with, claim_of, claim_with, claims_from, entry_rules, is_rest, judged, located, ◌>>=◌}
+use Rattle.assertion_file.specs.Reading.{Refusal, are_draws, assertion_with, claim_in, claim_of, claim_with, claims_from, entry_rules, is_rest, judged, located, ◌>>=◌}
 use Rattle.assertion_file.specs.declared.fault.FRule.{FRule}
+use Rattle.irv_base.specs.declared.limits.TheConstants.{MOST_DRAWS}
 use Rattle.assertion_file.proofs.Entries.{claim-none, claim-some}
 use Rattle.irv_base.proofs.Positions.{any-place, any-within}
 use Rattle.assertion_file.proofs.Headings.{margin-is}
@@ -80,8 +81,19 @@ assertion-proper ids winner loser (Some rest) w l apart known kept =
 
 -- ---- claims
 
-entry-sound : (ids : List Id) (records : ℕ) (entry : Entry) (claim : Claim) →
-    judged (entry_rules ids records entry) (claim_with ids entry) ≡ Ok claim → IsSoundClaim (length ids) records claim
+-- a sound claim, and draws within the limit
+pub record IsSoundPlanned (n records : ℕ) (planned : Planned) : Type 0 where
+  pub claim : IsSoundClaim n records (claim_in planned)
+  pub draws : IfSome planned.draws IsDrawCount
+
+draws-are : (draws : Option ℕ) → are_draws draws ≡ true → IfSome draws IsDrawCount
+draws-are None h = tt
+draws-are (Some draws) h =
+    let (some, most) = and_parts (nat_le 1 draws) (nat_le draws MOST_DRAWS) h in
+    record { some = leb-true 1 draws some; most = leb-true draws MOST_DRAWS most }
+
+entry-sound : (ids : List Id) (records : ℕ) (entry : Entry) (claim : Planned) →
+    judged (entry_rules ids records entry) (claim_with ids entry) ≡ Ok claim → IsSoundPlanned (length ids) records claim
 entry-sound ids records entry claim h =
     let held = all-hold (entry_rules ids records entry) (claim_with ids entry) claim h in
     let all : AllHold (entry_rules ids records entry) = held.0 in
@@ -89,30 +101,35 @@ entry-sound ids records entry claim h =
     let known = all.1.1.1.0 in
     let rest = all.1.1.1.1.0 in
     let margin = all.1.1.1.1.1.0 in
-    subst (IsSoundClaim (length ids) records) held.1 (record {
-      proper = assertion-proper ids entry.winner entry.loser entry.rest all.0 all.1.0 (not-true (is_same entry.winner entry.loser) differ) known rest;
-      margin = margin-is records entry.margin margin;
+    let draws = all.1.1.1.1.1.1.0 in
+    subst (IsSoundPlanned (length ids) records) held.1 (record {
+      claim = record {
+        proper = assertion-proper ids entry.winner entry.loser entry.rest all.0 all.1.0 (not-true (is_same entry.winner entry.loser) differ) known rest;
+        margin = margin-is records entry.margin margin;
+      };
+      draws = draws-are entry.draws draws;
     })
 
-pub claim-sound : (ids : List Id) (records : ℕ) (value : Data) (claim : Claim) → claim_of ids records value ≡ Ok claim → IsSoundClaim (length ids) records claim
-claim-sound ids records value claim h = by (entry_in value) refl where
-  by : (o : Option Entry) → entry_in value ≡ o → IsSoundClaim (length ids) records claim
-  by None e = let bad = sym (claim-none ids records value e) ∙ h in absurd cc
-  by (Some entry) e = entry-sound ids records entry claim (sym (claim-some ids records value entry e) ∙ h)
+module _ (ids : List Id) (records : ℕ) (planned : Bool) where
+  claim-sound : (value : Data) (claim : Planned) → claim_of ids records planned value ≡ Ok claim → IsSoundPlanned (length ids) records claim
+  claim-sound value claim h = by (entry_in planned value) refl where
+    by : (o : Option Entry) → entry_in planned value ≡ o → IsSoundPlanned (length ids) records claim
+    by None e = let bad = sym (claim-none ids records planned value e) ∙ h in absurd cc
+    by (Some entry) e = entry-sound ids records entry claim (sym (claim-some ids records planned value entry e) ∙ h)
 
-pub claims-sound : (ids : List Id) (records at : ℕ) (values : List Data) (claims : List Claim) → claims_from ids records at values ≡ Ok claims →
-    All (IsSoundClaim (length ids) records) claims
-claims-sound ids records at [] claims h = let none : [] ≡ claims = cc in
-    subst (All (IsSoundClaim (length ids) records)) none (λ i d within. absurd (omega arith))
-claims-sound ids records at (value ∷ values) claims h =
-    by (claim_of ids records value) (claims_from ids records (at + 1) values) refl h (λ more e. claims-sound ids records (at + 1) values more e)
-  where
-    by : (r : Result Claim FRule) (o : Result (List Claim) Refusal) → claim_of ids records value ≡ r →
-        (located at r >>= λ claim. o >>= λ more. Ok (claim ∷ more)) ≡ Ok claims →
-        ((more : List Claim) → o ≡ Ok more → All (IsSoundClaim (length ids) records) more) → All (IsSoundClaim (length ids) records) claims
-    by (Err rule) o e g ih = absurd cc
-    by (Ok claim) (Err refusal) e g ih = absurd cc
-    by (Ok claim) (Ok more) e g ih =
-        let same : claim ∷ more ≡ claims = cc in
-        subst (All (IsSoundClaim (length ids) records)) same (All-cons (IsSoundClaim (length ids) records) claim more (claim-sound ids records value claim e)
-        (ih more refl))
+  pub claims-sound : (at : ℕ) (values : List Data) (claims : List Planned) → claims_from ids records planned at values ≡ Ok claims →
+      All (IsSoundPlanned (length ids) records) claims
+  claims-sound at [] claims h = let none : [] ≡ claims = cc in
+      subst (All (IsSoundPlanned (length ids) records)) none (λ i d within. absurd (omega arith))
+  claims-sound at (value ∷ values) claims h =
+      by (claim_of ids records planned value) (claims_from ids records planned (at + 1) values) refl h (λ more e. claims-sound (at + 1) values more e)
+    where
+      by : (r : Result Planned FRule) (o : Result (List Planned) Refusal) → claim_of ids records planned value ≡ r →
+          (located at r >>= λ claim. o >>= λ more. Ok (claim ∷ more)) ≡ Ok claims →
+          ((more : List Planned) → o ≡ Ok more → All (IsSoundPlanned (length ids) records) more) → All (IsSoundPlanned (length ids) records) claims
+      by (Err rule) o e g ih = absurd cc
+      by (Ok claim) (Err refusal) e g ih = absurd cc
+      by (Ok claim) (Ok more) e g ih =
+          let same : claim ∷ more ≡ claims = cc in
+          subst (All (IsSoundPlanned (length ids) records)) same
+          (All-cons (IsSoundPlanned (length ids) records) claim more (claim-sound value claim e) (ih more refl))

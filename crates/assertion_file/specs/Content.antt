@@ -1,13 +1,21 @@
 -- What an assertion file says of a contest.
-use Rattle.std.specs.Prelude.{◌<◌, ◌≤◌, ℕ, List, length, All, IsTrue}
+use Rattle.std.specs.Prelude.{◌≡◌, ◌<◌, ◌≤◌, ℕ, List, length, Option, All, IfSome, IsTrue}
 use Rattle.std.specs.List.{list_all}
 use Rattle.irv_base.specs.Names.{Id, all_differ, is_name}
 use Rattle.irv_base.specs.Orders.{is_order}
-use Rattle.irv_base.specs.declared.limits.TheConstants.{FEWEST_CANDIDATES, MOST_CANDIDATES, MOST_RECORDS}
+use Rattle.irv_base.specs.declared.limits.TheConstants.{FEWEST_CANDIDATES, MOST_CANDIDATES, MOST_RECORDS, MOST_CARDS, MOST_DRAWS, GREATEST_GAMMA, GREATEST_LIMIT}
 use Rattle.assertions.specs.Assertions.{is_proper}
 use Rattle.assertions.specs.declared.assertion.Claim.{Claim}
 
--- a candidate is its place in the list of candidates, from 0
+-- what an audit takes: the cards of the manifest, gamma in thousandths, the risk limit in millionths, and the draws for each
+-- claim, or None where it takes a full count
+pub record Plan : Type 0 where
+  pub cards : ℕ
+  pub gamma : ℕ
+  pub limit : ℕ
+  pub draws : List (Option ℕ)
+
+-- a candidate is its place in the list of candidates, from 0; a file of version 1 has no plan
 pub record Content : Type 0 where
   pub contest : Id
   pub candidates : List Id
@@ -16,6 +24,7 @@ pub record Content : Type 0 where
   pub margin : ℕ
   pub order : List ℕ
   pub claims : List Claim
+  pub plan : Option Plan
 
 abbrev pub candidate_count : Content → ℕ
 candidate_count file = length file.candidates
@@ -30,6 +39,21 @@ pub record IsSoundClaim (n records : ℕ) (claim : Claim) : Type 0 where
   pub proper : IsTrue (is_proper n claim.assertion)
   pub margin : IsMargin records claim.margin
 
+pub record IsDrawCount (draws : ℕ) : Type 0 where
+  pub some : 1 ≤ draws
+  pub most : draws ≤ MOST_DRAWS
+
+-- for so many records and claims
+pub record IsSoundPlan (records claims : ℕ) (plan : Plan) : Type 0 where
+  pub some_cards : records ≤ plan.cards
+  pub most_cards : plan.cards ≤ MOST_CARDS
+  pub some_gamma : 1 ≤ plan.gamma
+  pub most_gamma : plan.gamma ≤ GREATEST_GAMMA
+  pub some_limit : 1 ≤ plan.limit
+  pub most_limit : plan.limit ≤ GREATEST_LIMIT
+  pub each : length plan.draws ≡ claims
+  pub draws : All (λ draws. IfSome draws IsDrawCount) plan.draws
+
 pub record IsSound (file : Content) : Type 0 where
   pub fewest : FEWEST_CANDIDATES ≤ candidate_count file
   pub most : candidate_count file ≤ MOST_CANDIDATES
@@ -40,6 +64,7 @@ pub record IsSound (file : Content) : Type 0 where
   pub order : IsTrue (is_order (candidate_count file) file.order)
   pub margin : IsMargin file.records file.margin
   pub claims : All (IsSoundClaim (candidate_count file) file.records) file.claims
+  pub plan : IfSome file.plan (IsSoundPlan file.records (length file.claims))
 
 -- the ids keep the rule of ids, which the type of a name has
 pub record HasNames (file : Content) : Type 0 where

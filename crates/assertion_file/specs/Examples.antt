@@ -1,5 +1,5 @@
 -- The worked examples.
-use Rattle.std.specs.Prelude.{[], ◌∷◌, codes}
+use Rattle.std.specs.Prelude.{[], ◌∷◌, Some, None, codes}
 use Rattle.assertions.specs.declared.assertion.Assertion.TheVariants.{Neb, Nen}
 use Rattle.assertion_file.specs.Content.{Content}
 
@@ -17,6 +17,7 @@ three_candidates = record {
       record { assertion = Nen 1 0 3; margin = 2 } ∷
       record { assertion = Nen 2 0 5; margin = 2 } ∷
       [];
+  plan = None;
 }
 
 -- three ballots for A\1 and two for B
@@ -29,4 +30,31 @@ two_candidates = record {
   margin = 1;
   order = 0 ∷ 1 ∷ [];
   claims = record { assertion = Neb 0 1; margin = 1 } ∷ [];
+  plan = None;
+}
+
+-- five ballots 1, among as many cards
+abbrev pub planned : Content
+planned = record {
+  contest = codes "1";
+  candidates = codes "1" ∷ codes "2" ∷ [];
+  records = 5;
+  winner = 0;
+  margin = 5;
+  order = 0 ∷ 1 ∷ [];
+  claims = record { assertion = Neb 0 1; margin = 5 } ∷ [];
+  plan = Some (record { cards = 5; gamma = 100; limit = 50000; draws = Some 5 ∷ [] });
+}
+
+-- one ballot among a thousand cards: a full count
+abbrev pub full_count : Content
+full_count = record {
+  contest = codes "1";
+  candidates = codes "1" ∷ codes "2" ∷ [];
+  records = 1;
+  winner = 0;
+  margin = 1;
+  order = 0 ∷ 1 ∷ [];
+  claims = record { assertion = Neb 0 1; margin = 1 } ∷ [];
+  plan = Some (record { cards = 1000; gamma = 100; limit = 50000; draws = None ∷ [] });
 }

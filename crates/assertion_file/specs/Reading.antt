@@ -1,21 +1,23 @@
 -- What an assertion file says, or which rule it breaks first, and where.
-use Rattle.std.specs.Prelude.{ℕ, ◌+◌, Bool, true, not, ◌&&◌, ◌==◌, nat_le, if◌then◌else◌, List, [], ◌∷◌, ◌++◌, length, Option, Some, None, ok_or, option_map, unwrap_or, Result, Ok, Err}
+use Rattle.std.specs.Prelude.{ℕ, ◌+◌, Bool, true, not, ◌&&◌, ◌||◌, ◌==◌, nat_le, if◌then◌else◌, List, [], ◌∷◌, ◌++◌, length, map, is_some, Option, Some, None, ok_or, option_map, unwrap_or, Result, Ok, Err}
 use Rattle.std.specs.List.{list_all}
 use Rattle.serde_json.specs.Data.{Data}
 use Rattle.irv_base.specs.Candidates.{is_distinct, is_in, set_of}
 use Rattle.irv_base.specs.Names.{Id, all_differ, is_among, is_name, is_same}
 use Rattle.irv_base.specs.Orders.{is_order}
-use Rattle.irv_base.specs.declared.limits.TheConstants.{FEWEST_CANDIDATES, MOST_CANDIDATES, MOST_RECORDS}
+use Rattle.irv_base.specs.declared.limits.TheConstants.{FEWEST_CANDIDATES, MOST_CANDIDATES, MOST_RECORDS, MOST_CARDS, MOST_DRAWS, GREATEST_GAMMA, GREATEST_LIMIT}
 use Rattle.assertions.specs.declared.assertion.Assertion.{Assertion}
 use Rattle.assertions.specs.declared.assertion.Assertion.TheVariants.{Neb, Nen}
 use Rattle.assertions.specs.declared.assertion.Claim.{Claim}
-use Rattle.assertion_file.specs.Content.{Content}
+use Rattle.assertion_file.specs.Content.{Content, Plan}
 use Rattle.assertion_file.specs.Ids.{number_of, numbers_of}
 use Rattle.assertion_file.specs.Stated.{Heading, heading_in, Entry, entry_in}
 use Rattle.assertion_file.specs.Text.{json_of}
+use Rattle.assertion_file.specs.declared.claims.Planned.{Planned}
+use Rattle.assertion_file.specs.declared.members.Terms.{Terms}
 use Rattle.assertion_file.specs.declared.fault.FRule.{FRule}
 use Rattle.assertion_file.specs.declared.fault.FRule.TheVariants.{F1, F2, F3, F4, F5, F6}
-use Rattle.assertion_file.specs.declared.print.TheConstants.{VERSION}
+use Rattle.assertion_file.specs.declared.print.TheConstants.{VERSION, PLAN_VERSION}
 
 infixl 10 ◌>>=◌
 abbrev pub ◌>>=◌ : {A B E : Type 0} → Result A E → (A → Result B E) → Result B E
@@ -41,10 +43,21 @@ is_record_count n = nat_le 1 n && nat_le n MOST_RECORDS
 abbrev pub is_margin : ℕ → ℕ → Bool
 is_margin records margin = nat_le 1 margin && nat_le margin records
 
+-- the terms of a plan for so many records; version 1 has none
+abbrev pub are_terms : ℕ → Option Terms → Bool
+are_terms records None = true
+are_terms records (Some terms) =
+    nat_le records terms.cards && nat_le terms.cards MOST_CARDS &&
+    nat_le 1 terms.gamma && nat_le terms.gamma GREATEST_GAMMA &&
+    nat_le 1 terms.limit && nat_le terms.limit GREATEST_LIMIT
+
+abbrev pub is_version : ℕ → Bool
+is_version version = (version == VERSION) || (version == PLAN_VERSION)
+
 -- of the version, the contest and its candidates
 abbrev pub id_rules : Heading → List (Bool × FRule)
 id_rules heading =
-    (heading.version == VERSION, F3) ∷
+    (is_version heading.version, F3) ∷
     (is_name heading.contest, F4) ∷
     (are_candidates heading.candidates, F4) ∷
     []
@@ -65,6 +78,7 @@ abbrev pub count_rules : Heading → List (Bool × FRule)
 count_rules heading =
     (is_record_count heading.records, F6) ∷
     (is_margin heading.records heading.margin, F6) ∷
+    (are_terms heading.records heading.terms, F6) ∷
     []
 
 -- all rules of a heading, in their order
@@ -87,6 +101,11 @@ abbrev pub is_rest : ℕ → ℕ → Option (List ℕ) → Bool
 is_rest w l None = true
 is_rest w l (Some rest) = is_distinct rest && is_in rest w && is_in rest l
 
+-- a full count has no draws
+abbrev pub are_draws : Option ℕ → Bool
+are_draws None = true
+are_draws (Some draws) = nat_le 1 draws && nat_le draws MOST_DRAWS
+
 abbrev pub entry_rules : List Id → ℕ → Entry → List (Bool × FRule)
 entry_rules ids records entry =
     (is_among ids entry.winner, F4) ∷
@@ -98,6 +117,7 @@ entry_rules ids records entry =
       F5,
     ) ∷
     (is_margin records entry.margin, F6) ∷
+    (are_draws entry.draws, F6) ∷
     []
 
 abbrev pub assertion_with : ℕ → ℕ → Option (List ℕ) → Assertion
@@ -111,16 +131,18 @@ judged_assertion ids w l rest =
     judged ((list_all (is_among ids) (unwrap_or rest []), F4) ∷ (is_rest w l numbers, F5) ∷ [])
     (assertion_with w l numbers)
 
-abbrev pub claim_with : List Id → Entry → Claim
+abbrev pub claim_with : List Id → Entry → Planned
 claim_with ids entry = record {
   assertion = assertion_with (number_of ids entry.winner) (number_of ids entry.loser)
       (option_map (numbers_of ids) entry.rest);
   margin = entry.margin;
+  draws = entry.draws;
 }
 
-unfoldable pub claim_of : List Id → ℕ → Data → Result Claim FRule
-claim_of ids records value = do
-  entry ← ok_or (entry_in value) F2
+-- planned is whether the file has a plan
+unfoldable pub claim_of : List Id → ℕ → Bool → Data → Result Planned FRule
+claim_of ids records planned value = do
+  entry ← ok_or (entry_in planned value) F2
   judged (entry_rules ids records entry) (claim_with ids entry)
 
 -- ---- the file
@@ -135,14 +157,31 @@ located at (Ok value) = Ok value
 located at (Err rule) = Err (record { rule = rule; at = at })
 
 -- the claims of a list of values, the first of which has the number at
-abbrev pub claims_from : List Id → ℕ → ℕ → List Data → Result (List Claim) Refusal
-claims_from ids records at [] = Ok []
-claims_from ids records at (value ∷ values) = do
-  claim ← located at (claim_of ids records value)
-  claims ← claims_from ids records (at + 1) values
+abbrev pub claims_from : List Id → ℕ → Bool → ℕ → List Data → Result (List Planned) Refusal
+claims_from ids records planned at [] = Ok []
+claims_from ids records planned at (value ∷ values) = do
+  claim ← located at (claim_of ids records planned value)
+  claims ← claims_from ids records planned (at + 1) values
   Ok (claim ∷ claims)
 
-abbrev pub content_with : Heading → List Claim → Content
+-- those of the file's object
+abbrev pub claims_in : Heading → Result (List Planned) Refusal
+claims_in heading =
+    claims_from heading.candidates heading.records (is_some heading.terms) 1 heading.assertions
+
+abbrev pub claim_in : Planned → Claim
+claim_in planned = record { assertion = planned.assertion; margin = planned.margin }
+
+abbrev pub plan_with : Option Terms → List Planned → Option Plan
+plan_with None claims = None
+plan_with (Some terms) claims = Some (record {
+  cards = terms.cards;
+  gamma = terms.gamma;
+  limit = terms.limit;
+  draws = map (λ planned. planned.draws) claims;
+})
+
+abbrev pub content_with : Heading → List Planned → Content
 content_with heading claims = record {
   contest = heading.contest;
   candidates = heading.candidates;
@@ -150,13 +189,14 @@ content_with heading claims = record {
   winner = number_of heading.candidates heading.winner;
   margin = heading.margin;
   order = numbers_of heading.candidates heading.order;
-  claims = claims;
+  claims = map claim_in claims;
+  plan = plan_with heading.terms claims;
 }
 
 unfoldable pub content_of : Data → Result Content Refusal
 content_of value = do
   heading ← located 0 (heading_of value)
-  claims ← claims_from heading.candidates heading.records 1 heading.assertions
+  claims ← claims_in heading
   Ok (content_with heading claims)
 
 unfoldable pub assertion_file_of : List ℕ → Result Content Refusal

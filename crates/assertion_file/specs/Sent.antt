@@ -9,3 +9,6 @@ use Rattle.serde_json.specs.Events.{SendsValue}
 abbrev pub SendsMember : List ℕ → Data → Log → Log → Type 0
 SendsMember name value old new =
     (named : Log) × Logs old named (field_key name AsIs) × SendsValue value named new
+
+abbrev pub SendsNamed : List ℕ × Data → Log → Log → Type 0
+SendsNamed named = SendsMember named.0 named.1

@@ -1,10 +1,12 @@
 -- What a JSON value states: the members of the file's object, and those of an assertion.
-use Rattle.std.specs.Prelude.{ℕ, List, [], ◌∷◌, map, codes, nat_le, Bool, if◌then◌else◌, Option, Some, None, is_some, unwrap_or, option_map, option_and_then}
+use Rattle.std.specs.Prelude.{ℕ, List, [], ◌∷◌, map, codes, nat_le, ◌==◌, Bool, if◌then◌else◌, Option, Some, None, is_some, unwrap_or, option_map, option_and_then}
 use Rattle.std.specs.List.{list_all}
 use Rattle.serde_json.specs.Data.{Data, Items, no_items, item}
-use Rattle.serde_json.specs.Find.{get, as_number, as_str, as_array, as_u64}
+use Rattle.serde_json.specs.Find.{get, as_null, as_number, as_str, as_array, as_u64}
 use Rattle.irv_base.specs.Names.{Id, is_same}
 use Rattle.assertion_file.specs.declared.members.TheConstants.{MOST_NUMBER}
+use Rattle.assertion_file.specs.declared.members.Terms.{Terms}
+use Rattle.assertion_file.specs.declared.print.TheConstants.{PLAN_VERSION}
 
 infixl 10 ◌>>=◌
 abbrev pub ◌>>=◌ : {A B : Type 0} → Option A → (A → Option B) → Option B
@@ -18,6 +20,10 @@ number value = do
   any ← as_number value
   n ← as_u64 any
   if nat_le n MOST_NUMBER then Some n else None
+
+abbrev pub number_or_null : Data → Option (Option ℕ)
+number_or_null value =
+    if is_some (as_null value) then Some None else option_map Some (number value)
 
 abbrev pub elements : Items → List Data
 elements no_items = []
@@ -61,6 +67,7 @@ texts_in = member_as texts
 
 -- ---- the file's object
 
+-- the terms of a plan stand in version 2 alone
 pub record Heading : Type 0 where
   pub assertions : List Data
   pub candidates : List Id
@@ -68,8 +75,21 @@ pub record Heading : Type 0 where
   pub margin : ℕ
   pub order : List Id
   pub records : ℕ
+  pub terms : Option Terms
   pub version : ℕ
   pub winner : Id
+
+abbrev pub terms_of : Data → Option Terms
+terms_of value = do
+  cards ← number_in (codes "cards") value
+  gamma ← number_in (codes "gamma") value
+  limit ← number_in (codes "limit") value
+  Some (record { cards = cards; gamma = gamma; limit = limit })
+
+-- in another version they aren't looked at
+abbrev pub terms_in : ℕ → Data → Option (Option Terms)
+terms_in version value =
+    if version == PLAN_VERSION then option_map Some (terms_of value) else Some None
 
 unfoldable pub heading_in : Data → Option Heading
 heading_in value = do
@@ -80,6 +100,7 @@ heading_in value = do
   order ← texts_in (codes "order") value
   records ← number_in (codes "records") value
   version ← number_in (codes "version") value
+  terms ← terms_in version value
   winner ← text_in (codes "winner") value
   Some (record {
     assertions = assertions;
@@ -88,18 +109,20 @@ heading_in value = do
     margin = margin;
     order = order;
     records = records;
+    terms = terms;
     version = version;
     winner = winner;
   })
 
 -- ---- an assertion
 
--- a NEB has no rest
+-- a NEB has no rest; no draws are planned where the member is null, and in version 1
 pub record Entry : Type 0 where
   pub winner : Id
   pub loser : Id
   pub margin : ℕ
   pub rest : Option (List Id)
+  pub draws : Option ℕ
 
 -- the rest of a NEB isn't looked at
 abbrev pub rest_in : Id → Data → Option (Option (List Id))
@@ -107,11 +130,18 @@ rest_in kind value =
     if is_same kind (codes "NEB") then Some None else
     (if is_same kind (codes "NEN") then option_map Some (texts_in (codes "rest") value) else None)
 
-unfoldable pub entry_in : Data → Option Entry
-entry_in value = do
+-- without a plan they aren't looked at
+abbrev pub draws_in : Bool → Data → Option (Option ℕ)
+draws_in planned value =
+    if planned then member_as number_or_null (codes "draws") value else Some None
+
+-- planned is whether the file has a plan
+unfoldable pub entry_in : Bool → Data → Option Entry
+entry_in planned value = do
   kind ← text_in (codes "kind") value
   winner ← text_in (codes "winner") value
   loser ← text_in (codes "loser") value
   margin ← number_in (codes "margin") value
   rest ← rest_in kind value
-  Some (record { winner = winner; loser = loser; margin = margin; rest = rest })
+  draws ← draws_in planned value
+  Some (record { winner = winner; loser = loser; margin = margin; rest = rest; draws = draws })

@@ -1,17 +1,17 @@
--- The text of an assertion file, version 1: one JSON object in compact form, and a line feed.
-use Rattle.std.specs.Prelude.{ℕ, List, [], ◌∷◌, ◌++◌, map, codes, Option, None, if◌then◌else◌}
+-- The text of an assertion file, of version 1 and of version 2: one JSON object in compact form, and a line feed.
+use Rattle.std.specs.Prelude.{ℕ, List, [], ◌∷◌, ◌++◌, map, zip, codes, Option, Some, None, option_map, if◌then◌else◌}
 use Rattle.std.specs.Str.{is_utf8}
-use Rattle.serde_json.specs.Data.{Data, number, unsigned, string, array, object, Members, no_members, member}
+use Rattle.serde_json.specs.Data.{Data, null, number, unsigned, string, array, object, Members, no_members, member}
 use Rattle.serde_json.specs.Read.{read}
 use Rattle.serde_json.specs.View.{items_of}
 use Rattle.serde_json.specs.Written.{compact_text}
 use Rattle.assertions.specs.declared.assertion.Assertion.{Assertion}
 use Rattle.assertions.specs.declared.assertion.Assertion.TheVariants.{Neb, Nen}
 use Rattle.assertions.specs.declared.assertion.Claim.{Claim}
-use Rattle.assertion_file.specs.declared.print.TheConstants.{VERSION}
+use Rattle.assertion_file.specs.declared.print.TheConstants.{VERSION, PLAN_VERSION}
 use Rattle.irv_base.specs.Names.{Id}
 use Rattle.assertion_file.specs.Ids.{id_of, ids_of, ids_in}
-use Rattle.assertion_file.specs.Content.{Content}
+use Rattle.assertion_file.specs.Content.{Content, Plan}
 
 -- ---- JSON
 
@@ -29,24 +29,38 @@ object_of named = object (members_of named)
 abbrev pub whole_number : ℕ → Data
 whole_number n = number (unsigned n)
 
+-- a member that stands there where there is a number
+abbrev pub number_member : List ℕ → Option ℕ → List (List ℕ × Data)
+number_member name None = []
+number_member name (Some n) = (name, whole_number n) ∷ []
+
 -- ---- the file's value
 
 abbrev pub ids_value : List Id → Data
 ids_value ids = array_of (map string ids)
 
-abbrev pub neb_members : Id → Id → ℕ → List (List ℕ × Data)
-neb_members winner loser margin =
+-- the draws that are planned for an assertion, with null for a full count; version 1 has no such member
+abbrev pub draws_member : Option (Option ℕ) → List (List ℕ × Data)
+draws_member None = []
+draws_member (Some None) = (codes "draws", null) ∷ []
+draws_member (Some (Some draws)) = (codes "draws", whole_number draws) ∷ []
+
+-- the other members of a NEB
+abbrev pub neb_others : Id → Id → ℕ → List (List ℕ × Data)
+neb_others winner loser margin =
     (codes "kind", string (codes "NEB")) ∷
     (codes "loser", string loser) ∷
     (codes "margin", whole_number margin) ∷
     (codes "winner", string winner) ∷
     []
 
-abbrev pub neb_value : Id → Id → ℕ → Data
-neb_value winner loser margin = object_of (neb_members winner loser margin)
+abbrev pub neb_value : Option (Option ℕ) → Id → Id → ℕ → Data
+neb_value draws winner loser margin =
+    object_of (draws_member draws ++ neb_others winner loser margin)
 
-abbrev pub nen_members : Id → Id → Data → ℕ → List (List ℕ × Data)
-nen_members winner loser rest margin =
+-- those of a NEN
+abbrev pub nen_others : Id → Id → Data → ℕ → List (List ℕ × Data)
+nen_others winner loser rest margin =
     (codes "kind", string (codes "NEN")) ∷
     (codes "loser", string loser) ∷
     (codes "margin", whole_number margin) ∷
@@ -54,27 +68,40 @@ nen_members winner loser rest margin =
     (codes "winner", string winner) ∷
     []
 
-abbrev pub nen_value : Id → Id → Data → ℕ → Data
-nen_value winner loser rest margin = object_of (nen_members winner loser rest margin)
+abbrev pub nen_value : Option (Option ℕ) → Id → Id → Data → ℕ → Data
+nen_value draws winner loser rest margin =
+    object_of (draws_member draws ++ nen_others winner loser rest margin)
 
-abbrev pub assertion_value : List Id → Assertion → ℕ → Data
-assertion_value ids (Neb w l) margin = neb_value (id_of ids w) (id_of ids l) margin
-assertion_value ids (Nen w l rest) margin =
-    nen_value (id_of ids w) (id_of ids l) (ids_value (ids_in ids rest)) margin
+abbrev pub assertion_value : List Id → Option (Option ℕ) → Assertion → ℕ → Data
+assertion_value ids draws (Neb w l) margin = neb_value draws (id_of ids w) (id_of ids l) margin
+assertion_value ids draws (Nen w l rest) margin =
+    nen_value draws (id_of ids w) (id_of ids l) (ids_value (ids_in ids rest)) margin
 
-abbrev pub claim_value : List Id → Claim → Data
-claim_value ids claim = assertion_value ids claim.assertion claim.margin
+abbrev pub claim_value : List Id → Claim × Option (Option ℕ) → Data
+claim_value ids told = assertion_value ids told.1 told.0.assertion told.0.margin
+
+-- each claim with what is told of its draws
+abbrev pub told_of : Option Plan → List Claim → List (Claim × Option (Option ℕ))
+told_of None claims = map (λ claim. (claim, None)) claims
+told_of (Some plan) claims = map (λ planned. (planned.0, Some planned.1)) (zip claims plan.draws)
+
+abbrev pub version_of : Option Plan → ℕ
+version_of None = VERSION
+version_of (Some plan) = PLAN_VERSION
 
 -- candidates by their ids, and the order with the first eliminated first
 abbrev pub file_members : Content → List (List ℕ × Data)
 file_members file =
-    (codes "assertions", array_of (map (claim_value file.candidates) file.claims)) ∷
+    (codes "assertions", array_of (map (claim_value file.candidates) (told_of file.plan file.claims))) ∷
     (codes "candidates", ids_value file.candidates) ∷
+    number_member (codes "cards") (option_map (λ plan. plan.cards) file.plan) ++
     (codes "contest", string file.contest) ∷
+    number_member (codes "gamma") (option_map (λ plan. plan.gamma) file.plan) ++
+    number_member (codes "limit") (option_map (λ plan. plan.limit) file.plan) ++
     (codes "margin", whole_number file.margin) ∷
     (codes "order", ids_value (ids_of file.candidates file.order)) ∷
     (codes "records", whole_number file.records) ∷
-    (codes "version", whole_number VERSION) ∷
+    (codes "version", whole_number (version_of file.plan)) ∷
     (codes "winner", string (id_of file.candidates file.winner)) ∷
     []
 

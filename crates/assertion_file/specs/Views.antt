@@ -19,6 +19,7 @@ stated_heading found = record {
   margin = found.margin;
   order = stated_ids found.order.now;
   records = found.records;
+  terms = found.terms;
   version = found.version;
   winner = found.winner.now;
 }
@@ -29,4 +30,5 @@ stated_entry found = record {
   loser = found.loser.now;
   margin = found.margin;
   rest = option_map (λ values. stated_ids values.now) found.rest;
+  draws = found.draws;
 }

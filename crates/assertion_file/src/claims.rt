@@ -1,18 +1,26 @@
 // The assertions of a file.
-ghost use Rattle.std.specs.Prelude.{◌≡◌, ◌≤◌, Ok, Some, length, map, option_map, IfOk, IfErr};
+ghost use Rattle.std.specs.Prelude.{◌≡◌, ◌≤◌, ◌&&◌, Ok, Some, length, map, option_map, IfOk, IfErr};
 ghost use Rattle.serde_json.specs.View.{view};
 ghost use Rattle.irv_base.specs.declared.limits.TheConstants.{ROOM};
 ghost use Rattle.assertion_file.specs.Faults.{Refuses};
-ghost use Rattle.assertion_file.specs.Reading.{claim_of, claims_from, is_margin, judged_assertion, located};
+ghost use Rattle.assertion_file.specs.Reading.{are_draws, claim_of, claims_from, is_margin, judged_assertion, located};
 ghost use Rattle.assertion_file.specs.Views.{stated_ids};
 
 use crate::fault::{FRule, FileFault};
 use crate::ids::{candidate, set_of};
-use crate::members::entry_in;
-use assertions::{Assertion, Claim};
-use irv_base::{Candidate, Name};
+use crate::members::{Entry, entry_in};
+use assertions::Assertion;
+use irv_base::{Candidate, MOST_DRAWS, Name};
 use serde_json::Value;
 use std::alloc::Global;
+
+/// The assertion of a claim, its margin, and the draws that are planned for it. A full count has none, nor has a file without a plan.
+#[derive(Clone, Copy)]
+pub struct Planned {
+    pub assertion: Assertion,
+    pub margin: u32,
+    pub draws: Option<u32>,
+}
 
 /// Whether a margin can be one of so many records.
 pub fn is_margin(records: u32, margin: u32) -> bool
@@ -54,11 +62,27 @@ fn assertion(
     }
 }
 
-fn claim_of(names: &[Name], records: u32, value: &Value) -> Result<Claim, FRule>
-    requires { length names.now ≤ ROOM }
-    ensures { result ≡ claim_of names.now records (view value.now) }
+fn are_draws(draws: Option<u32>) -> bool
+    ensures { result ≡ are_draws draws }
 {
-    let Some(entry) = entry_in(value) else {
+    match draws {
+        None => true,
+        Some(draws) => 1 <= draws && draws <= MOST_DRAWS,
+    }
+}
+
+// The numbers of an assertion, among so many records.
+fn are_counts(records: u32, entry: &Entry<'_>) -> bool
+    ensures { result ≡ (is_margin records entry.now.margin && are_draws entry.now.draws) }
+{
+    is_margin(records, entry.margin) && are_draws(entry.draws)
+}
+
+fn claim_of(names: &[Name], records: u32, planned: bool, value: &Value) -> Result<Planned, FRule>
+    requires { length names.now ≤ ROOM }
+    ensures { result ≡ claim_of names.now records planned (view value.now) }
+{
+    let Some(entry) = entry_in(planned, value) else {
         return Err(FRule::F2);
     };
     let Some(w) = candidate(names, entry.winner) else {
@@ -71,48 +95,57 @@ fn claim_of(names: &[Name], records: u32, value: &Value) -> Result<Claim, FRule>
         return Err(FRule::F4);
     }
     let assertion = assertion(names, w, l, entry.rest)?;
-    if !is_margin(records, entry.margin) {
+    if !are_counts(records, &entry) {
         return Err(FRule::F6);
     }
-    Ok(Claim {
+    Ok(Planned {
         assertion,
         margin: entry.margin,
+        draws: entry.draws,
     })
 }
 
 // The assertion number `at`.
-fn claim_at(names: &[Name], records: u32, at: u64, value: &Value) -> Result<Claim, FileFault>
+fn claim_at(
+    names: &[Name],
+    records: u32,
+    planned: bool,
+    at: u64,
+    value: &Value,
+) -> Result<Planned, FileFault>
     requires { length names.now ≤ ROOM }
     ensures read { IfOk result (λ claim.
-        claim_of names.now records (view value.now) ≡ Ok claim) }
+        claim_of names.now records planned (view value.now) ≡ Ok claim) }
     ensures refused { IfErr result
-        (Refuses (located at (claim_of names.now records (view value.now)))) }
+        (Refuses (located at (claim_of names.now records planned (view value.now)))) }
 {
-    match claim_of(names, records, value) {
+    match claim_of(names, records, planned, value) {
         Ok(claim) => Ok(claim),
         Err(rule) => Err(FileFault::Refused { rule, at }),
     }
 }
 
-/// The assertions in order, or the first of them that breaks a rule.
+/// The assertions in order, or the first of them that breaks a rule. Their draws are looked at where the file has a plan.
 pub fn claims(
     alloc: Global,
     names: &[Name],
     records: u32,
+    planned: bool,
     values: &[Value],
-) -> Result<Vec<Claim>, FileFault>
+) -> Result<Vec<Planned>, FileFault>
     requires { length names.now ≤ ROOM }
     ensures read { IfOk result (λ claims.
-        claims_from names.now records 1 (map view values.now) ≡ Ok claims.items) }
+        claims_from names.now records planned 1 (map view values.now) ≡ Ok claims.items) }
     ensures refused { IfErr result
-        (Refuses (claims_from names.now records 1 (map view values.now))) }
+        (Refuses (claims_from names.now records planned 1 (map view values.now))) }
 {
     let mut claims = Vec::new(alloc);
     for (i, value) in values.iter().enumerate() {
-        let claim = claim_at(names, records, i as u64 + 1, value)?;
-        claims.push(Claim {
-            assertion: claim.assertion,
-            margin: claim.margin,
+        let read = claim_at(names, records, planned, i as u64 + 1, value)?;
+        claims.push(Planned {
+            assertion: read.assertion,
+            margin: read.margin,
+            draws: read.draws,
         })?;
     }
     Ok(claims)

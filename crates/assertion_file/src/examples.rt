@@ -12,3 +12,13 @@ pub fn three_candidates()
 pub fn two_candidates()
     ensures { assertion_file_text examples.two_candidates ≡ codes "{\"assertions\":[{\"kind\":\"NEB\",\"loser\":\"B\",\"margin\":1,\"winner\":\"A\\\\1\"}],\"candidates\":[\"A\\\\1\",\"B\"],\"contest\":\"7\",\"margin\":1,\"order\":[\"A\\\\1\",\"B\"],\"records\":5,\"version\":1,\"winner\":\"A\\\\1\"}" ++ line_feed ∷ [] }
 {}
+
+/// A plan is printed with the members of version 2.
+pub fn planned()
+    ensures { assertion_file_text examples.planned ≡ codes "{\"assertions\":[{\"draws\":5,\"kind\":\"NEB\",\"loser\":\"2\",\"margin\":5,\"winner\":\"1\"}],\"candidates\":[\"1\",\"2\"],\"cards\":5,\"contest\":\"1\",\"gamma\":100,\"limit\":50000,\"margin\":5,\"order\":[\"1\",\"2\"],\"records\":5,\"version\":2,\"winner\":\"1\"}" ++ line_feed ∷ [] }
+{}
+
+/// A full count is printed as null.
+pub fn full_count()
+    ensures { assertion_file_text examples.full_count ≡ codes "{\"assertions\":[{\"draws\":null,\"kind\":\"NEB\",\"loser\":\"2\",\"margin\":1,\"winner\":\"1\"}],\"candidates\":[\"1\",\"2\"],\"cards\":1000,\"contest\":\"1\",\"gamma\":100,\"limit\":50000,\"margin\":1,\"order\":[\"1\",\"2\"],\"records\":1,\"version\":2,\"winner\":\"1\"}" ++ line_feed ∷ [] }
+{}

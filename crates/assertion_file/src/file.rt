@@ -1,32 +1,70 @@
 // What an assertion file says.
-ghost use Rattle.std.specs.Prelude.{◌≡◌, ◌<◌, ◌≤◌, length, All, IsTrue};
+ghost use Rattle.std.specs.Prelude.{◌≡◌, ◌<◌, ◌≤◌, length, option_map, All, IfSome, IsTrue};
 ghost use Rattle.irv_base.specs.Orders.{is_order};
 ghost use Rattle.irv_base.specs.declared.limits.TheConstants.{FEWEST_CANDIDATES, MOST_CANDIDATES, MOST_RECORDS};
 ghost use Rattle.irv_base.specs.Names.{all_differ};
-ghost use Rattle.assertion_file.specs.Content.{IsMargin, IsSoundClaim};
+ghost use Rattle.assertion_file.specs.Content.{IsMargin, IsSound, IsSoundClaim, IsSoundPlan};
 
+use crate::plan::PlanFacts;
 use assertions::Claim;
 use irv_base::{Candidate, Name, Order};
 use std::marker::Model;
 
+/// The values of which an assertion file is made. That they are those of a file isn't said.
+///
+/// To a contract they are the record of these values, with a list for each list.
+#[derive(Drop)]
+pub struct Parts {
+    /// The id of the contest.
+    pub contest: Name,
+    /// The ids of the candidates, in the contest's order.
+    pub candidates: Vec<Name>,
+    /// How many ballot records the contest has.
+    pub records: u32,
+    /// The winner of the contest.
+    pub winner: Candidate,
+    /// The smallest margin of the assertions, in votes.
+    pub margin: u32,
+    /// The order that is the hardest to refute, first eliminated first.
+    pub order: Order,
+    /// The assertions and their margins, in votes.
+    pub claims: Vec<Claim>,
+    /// What an audit of the assertions takes. A file of version 1 doesn't say it.
+    pub plan: Option<PlanFacts>,
+}
+
+impl Model for Parts {
+    ghost use Rattle.assertion_file.specs.Content.{Content};
+
+    ghost Value = { Content };
+
+    ghost view = { λ p. record {
+      contest = p.contest;
+      candidates = p.candidates.items;
+      records = p.records;
+      winner = p.winner;
+      margin = p.margin;
+      order = p.order;
+      claims = p.claims.items;
+      plan = p.plan;
+    } };
+}
+
 /// What an assertion file says of a contest: its winner, the assertions that are to be confirmed with their margins,
-/// and an order that shows why no larger margin is to be had.
+/// and an order that shows why no larger margin is to be had. A file of version 2 has a plan too: the draws that confirm each
+/// assertion where no card shows a discrepancy.
 ///
 /// There are `FEWEST_CANDIDATES` to `MOST_CANDIDATES` candidates, all different, and 1 to `MOST_RECORDS` ballot
 /// records. A candidate is its place in the list of candidates, from 0. The order is one of all candidates, each
 /// assertion is a proper one among them, and each margin, the file's and those of the claims, is 1 to the number of
-/// records. That the file holds of any ballots isn't said: a checker finds that out.
+/// records. A plan is for at least as many cards as there are records and at most `MOST_CARDS`, with a gamma of 1 to
+/// `GREATEST_GAMMA` and a limit of 1 to `GREATEST_LIMIT`, and has for each claim 1 to `MOST_DRAWS` draws, or none. That the file
+/// holds of any ballots isn't said: a checker finds that out.
 ///
 /// To a contract a file is the record of these values, with a list for each list.
 #[derive(Drop)]
 pub struct AssertionFile {
-    contest: Name,
-    candidates: Vec<Name>,
-    records: u32,
-    winner: Candidate,
-    margin: u32,
-    order: Order,
-    claims: Vec<Claim>,
+    parts: Parts,
 }
 
 impl Model for AssertionFile {
@@ -34,73 +72,44 @@ impl Model for AssertionFile {
 
     ghost Value = { Content };
 
-    ghost view = { λ f. record {
-      contest = f.contest;
-      candidates = f.candidates.items;
-      records = f.records;
-      winner = f.winner;
-      margin = f.margin;
-      order = f.order;
-      claims = f.claims.items;
-    } };
+    ghost view = { λ f. f.parts };
 
-    ghost invariant = { λ f. IsSound (record {
-      contest = f.contest;
-      candidates = f.candidates.items;
-      records = f.records;
-      winner = f.winner;
-      margin = f.margin;
-      order = f.order;
-      claims = f.claims.items;
-    }) };
+    ghost invariant = { λ f. IsSound f.parts };
 }
 
 impl AssertionFile {
-    /// A file that says this of the contest. `records` counts the ballot records, and margins are in votes.
-    pub fn new(
-        contest: Name,
-        candidates: Vec<Name>,
-        records: u32,
-        winner: Candidate,
-        margin: u32,
-        order: Order,
-        claims: Vec<Claim>,
-    ) -> AssertionFile
-        requires fewest { FEWEST_CANDIDATES ≤ length candidates.items }
-        requires most { length candidates.items ≤ MOST_CANDIDATES }
-        requires differ { IsTrue (all_differ candidates.items) }
-        requires some_records { 1 ≤ records }
-        requires most_records { records ≤ MOST_RECORDS }
-        requires winner { winner < length candidates.items }
-        requires margin { IsMargin records margin }
-        requires order { IsTrue (is_order (length candidates.items) order) }
-        requires claims { All (IsSoundClaim (length candidates.items) records) claims.items }
-        ensures { result ≡ record {
-          contest = contest;
-          candidates = candidates.items;
-          records = records;
-          winner = winner;
-          margin = margin;
-          order = order;
-          claims = claims.items;
-        } }
+    /// A file that says this of the contest.
+    pub fn new(parts: Parts) -> AssertionFile
+        requires fewest { FEWEST_CANDIDATES ≤ length parts.candidates }
+        requires most { length parts.candidates ≤ MOST_CANDIDATES }
+        requires differ { IsTrue (all_differ parts.candidates) }
+        requires some_records { 1 ≤ parts.records }
+        requires most_records { parts.records ≤ MOST_RECORDS }
+        requires winner { parts.winner < length parts.candidates }
+        requires margin { IsMargin parts.records parts.margin }
+        requires order { IsTrue (is_order (length parts.candidates) parts.order) }
+        requires claims { All (IsSoundClaim (length parts.candidates) parts.records) parts.claims }
+        requires plan { IfSome parts.plan (IsSoundPlan parts.records (length parts.claims)) }
+        ensures { result ≡ parts }
     {
-        AssertionFile {
-            contest,
-            candidates,
-            records,
-            winner,
-            margin,
-            order,
-            claims,
-        }
+        AssertionFile { parts }
+    }
+
+    /// The file with this plan, in place of one that it may have.
+    pub fn with_plan(self, plan: PlanFacts) -> AssertionFile
+        requires { IsSoundPlan self.records (length self.claims) plan }
+        ensures { result ≡ record self { plan = Some plan } }
+    {
+        let mut parts = self.parts;
+        parts.plan = Some(plan);
+        AssertionFile { parts }
     }
 
     /// The id of the contest.
     pub fn contest(&self) -> &Name
         ensures { result.now ≡ self.now.contest }
     {
-        &self.contest
+        &self.parts.contest
     }
 
     /// The ids of the candidates, in the contest's order.
@@ -110,7 +119,7 @@ impl AssertionFile {
         ensures most { length result.now ≤ MOST_CANDIDATES }
         ensures differ { IsTrue (all_differ result.now) }
     {
-        self.candidates.as_slice()
+        self.parts.candidates.as_slice()
     }
 
     /// How many ballot records the contest has.
@@ -119,7 +128,7 @@ impl AssertionFile {
         ensures some { 1 ≤ result }
         ensures most { result ≤ MOST_RECORDS }
     {
-        self.records
+        self.parts.records
     }
 
     /// The winner of the contest.
@@ -127,7 +136,7 @@ impl AssertionFile {
         ensures same { result ≡ self.now.winner }
         ensures below { result < length self.now.candidates }
     {
-        self.winner
+        self.parts.winner
     }
 
     /// The margin that the file claims for the contest, in votes: that of its closest assertion.
@@ -135,7 +144,7 @@ impl AssertionFile {
         ensures same { result ≡ self.now.margin }
         ensures within { IsMargin self.now.records result }
     {
-        self.margin
+        self.parts.margin
     }
 
     /// The order that the file gives as the hardest to refute, first eliminated first.
@@ -143,7 +152,7 @@ impl AssertionFile {
         ensures same { result.now ≡ self.now.order }
         ensures order { IsTrue (is_order (length self.now.candidates) result.now) }
     {
-        &self.order
+        &self.parts.order
     }
 
     /// The assertions and their margins.
@@ -152,6 +161,16 @@ impl AssertionFile {
         ensures sound { All
             (IsSoundClaim (length self.now.candidates) self.now.records) result.now }
     {
-        self.claims.as_slice()
+        self.parts.claims.as_slice()
+    }
+
+    /// What an audit of the assertions takes, if the file says it.
+    pub fn plan(&self) -> Option<&PlanFacts>
+        ensures same { option_map (λ plan. plan.now) result ≡ self.now.plan }
+        ensures sound { IfSome result
+            (λ plan. IsSoundPlan self.now.records (length self.now.claims) plan.now) }
+        ensures file { IsSound self.now }
+    {
+        self.parts.plan.as_ref()
     }
 }

@@ -9,12 +9,14 @@ mod file;
 mod ids;
 pub mod laws;
 mod members;
+mod plan;
 mod print;
 mod read;
 
 pub use fault::{FRule, FileFault};
-pub use file::AssertionFile;
+pub use file::{AssertionFile, Parts};
 pub use ids::id_of;
 pub use members::{list_in, number, number_in, text_in};
-pub use print::{VERSION, print_file};
+pub use plan::PlanFacts;
+pub use print::{PLAN_VERSION, VERSION, print_file};
 pub use read::read_file;

@@ -2,13 +2,25 @@
 ghost use Rattle.std.specs.Prelude.{◌≡◌, map, option_map};
 ghost use Rattle.std.specs.List.{list_all};
 ghost use Rattle.serde_json.specs.View.{view};
-ghost use Rattle.assertion_file.specs.Stated.{heading_in, entry_in, is_text, list_in, number, number_in, rest_in, text_in, text_of, texts_in};
+ghost use Rattle.assertion_file.specs.Stated.{draws_in, heading_in, entry_in, is_text, list_in, number, number_in, number_or_null, rest_in, terms_in, terms_of, text_in, text_of, texts_in};
 ghost use Rattle.assertion_file.specs.Views.{stated_ids, stated_heading, stated_entry};
 
+use crate::print::PLAN_VERSION;
 use serde_json::Value;
 
 /// The greatest number that a file may have.
 pub const MOST_NUMBER: u32 = u32::MAX;
+
+/// What a file plans its draws for.
+#[derive(Clone, Copy)]
+pub struct Terms {
+    /// How many cards it says that the manifest has.
+    pub cards: u32,
+    /// Gamma, in thousandths.
+    pub gamma: u32,
+    /// The risk limit, in millionths.
+    pub limit: u32,
+}
 
 /// The members of the file's object.
 #[derive(Clone, Copy)]
@@ -25,6 +37,8 @@ pub struct Heading<'a> {
     pub order: &'a [Value],
     /// How many records it says that the ballot file has.
     pub records: u32,
+    /// What it plans its draws for, in `PLAN_VERSION` alone.
+    pub terms: Option<Terms>,
     /// The version of the file's form.
     pub version: u32,
     /// The winner's id.
@@ -42,6 +56,8 @@ pub struct Entry<'a> {
     pub margin: u32,
     /// Of a NEN the ids of those left, texts alone. A NEB has none.
     pub rest: Option<&'a [Value]>,
+    /// The draws that are planned for it. A full count has none, nor has a file without a plan.
+    pub draws: Option<u32>,
 }
 
 /// The text that the value is, or an empty one where it isn't one.
@@ -76,6 +92,16 @@ pub fn number_in(value: &Value, name: &str) -> Option<u32>
     number(value.get(name)?)
 }
 
+// The number, or nothing where the value is null.
+fn number_or_null(value: &Value) -> Option<Option<u32>>
+    ensures { result ≡ number_or_null (view value.now) }
+{
+    if value.is_null() {
+        return Some(None);
+    }
+    Some(Some(number(value)?))
+}
+
 /// The elements of the list that the member of this name is.
 pub fn list_in<'a>(value: &'a Value, name: &str) -> Option<&'a [Value]>
     ensures { option_map (λ values. map view values.now) result ≡
@@ -102,11 +128,32 @@ fn texts_in<'a>(value: &'a Value, name: &str) -> Option<&'a [Value]>
     Some(values)
 }
 
+fn terms_of(value: &Value) -> Option<Terms>
+    ensures { result ≡ terms_of (view value.now) }
+{
+    Some(Terms {
+        cards: number_in(value, "cards")?,
+        gamma: number_in(value, "gamma")?,
+        limit: number_in(value, "limit")?,
+    })
+}
+
+// What a file of this version plans its draws for.
+fn terms_in(version: u32, value: &Value) -> Option<Option<Terms>>
+    ensures { result ≡ terms_in version (view value.now) }
+{
+    if version != PLAN_VERSION {
+        return Some(None);
+    }
+    Some(Some(terms_of(value)?))
+}
+
 /// The members of a file, if all are there and of their kind.
 #[tactic(auto, unfolding(crate::specs::Stated::heading_in))]
 pub fn heading_in(value: &Value) -> Option<Heading<'_>>
     ensures { option_map stated_heading result ≡ heading_in (view value.now) }
 {
+    let version = number_in(value, "version")?;
     Some(Heading {
         assertions: list_in(value, "assertions")?,
         candidates: texts_in(value, "candidates")?,
@@ -114,7 +161,8 @@ pub fn heading_in(value: &Value) -> Option<Heading<'_>>
         margin: number_in(value, "margin")?,
         order: texts_in(value, "order")?,
         records: number_in(value, "records")?,
-        version: number_in(value, "version")?,
+        terms: terms_in(version, value)?,
+        version,
         winner: text_in(value, "winner")?,
     })
 }
@@ -132,10 +180,20 @@ fn rest_in<'a>(kind: &str, value: &'a Value) -> Option<Option<&'a [Value]>>
     Some(Some(texts_in(value, "rest")?))
 }
 
-/// The members of an assertion, if all are there and of their kind.
+// The draws that are planned, where there is a plan.
+fn draws_in(planned: bool, value: &Value) -> Option<Option<u32>>
+    ensures { result ≡ draws_in planned (view value.now) }
+{
+    if !planned {
+        return Some(None);
+    }
+    number_or_null(value.get("draws")?)
+}
+
+/// The members of an assertion, if all are there and of their kind. Its draws are looked at where the file has a plan.
 #[tactic(auto, unfolding(crate::specs::Stated::entry_in))]
-pub fn entry_in(value: &Value) -> Option<Entry<'_>>
-    ensures { option_map stated_entry result ≡ entry_in (view value.now) }
+pub fn entry_in(planned: bool, value: &Value) -> Option<Entry<'_>>
+    ensures { option_map stated_entry result ≡ entry_in planned (view value.now) }
 {
     let kind = text_in(value, "kind")?;
     Some(Entry {
@@ -143,5 +201,6 @@ pub fn entry_in(value: &Value) -> Option<Entry<'_>>
         loser: text_in(value, "loser")?,
         margin: number_in(value, "margin")?,
         rest: rest_in(kind, value)?,
+        draws: draws_in(planned, value)?,
     })
 }

@@ -1,26 +1,31 @@
 // The text of an assertion file.
-ghost use Rattle.std.specs.Prelude.{◌≡◌, ◌<◌, ◌≤◌, ◌^◌, length, map, Some, Ok, All, IfOk, OnOk, IsTrue};
+ghost use Rattle.std.specs.Prelude.{◌≡◌, ◌<◌, ◌≤◌, ◌+◌, ◌^◌, length, map, option_map, slice_index_or, None, Some, Ok, All, IfOk, IfSome, OnOk, IsTrue};
 ghost use Rattle.std.specs.List.{list_all};
+ghost use Rattle.serde.specs.Event.{WritesEach};
 ghost use Rattle.serde_json.specs.Data.{string};
 ghost use Rattle.serde_json.specs.Events.{SendsValue};
 ghost use Rattle.irv_base.specs.Names.{is_name};
 ghost use Rattle.irv_base.specs.declared.limits.TheConstants.{ROOM};
 ghost use Rattle.assertions.specs.Assertions.{is_proper};
-ghost use Rattle.assertion_file.specs.Content.{HasNames, IsSound};
+ghost use Rattle.assertion_file.specs.Content.{Content, HasNames, IsSound};
 ghost use Rattle.assertion_file.specs.Ids.{ids_of, ids_in};
 ghost use Rattle.assertion_file.specs.Reading.{assertion_file_of};
-ghost use Rattle.assertion_file.specs.Sent.{SendsMember};
-ghost use Rattle.assertion_file.specs.Text.{array_of, ids_value, neb_value, nen_value, claim_value, file_value, whole_number, assertion_file_text, json_of};
+ghost use Rattle.assertion_file.specs.Sent.{SendsMember, SendsNamed};
+ghost use Rattle.assertion_file.specs.Text.{array_of, ids_value, neb_value, nen_value, claim_value, draws_member, file_members, file_value, number_member, told_of, version_of, whole_number, assertion_file_text, json_of};
 
 use crate::AssertionFile;
 use crate::ids::id_of;
+use crate::plan::PlanFacts;
 use assertions::{Assertion, Claim};
 use irv_base::{CandSet, Candidate, Memory, Name};
 use serde::{Described, Serialize, Serializer};
 use std::alloc::Global;
 
-/// The version of the assertion file's form.
+/// The version of the assertion file's form without a plan.
 pub const VERSION: u32 = 1;
+
+/// The version of its form with a plan.
+pub const PLAN_VERSION: u32 = 2;
 
 // A member that is a text.
 fn send_text<S: Serializer>(name: &str, text: &str, out: &mut S) -> Result<(), S::Error>
@@ -38,6 +43,36 @@ fn send_number<S: Serializer>(name: &str, number: u32, out: &mut S) -> Result<()
 {
     out.key(name)?;
     out.u64(number as u64)
+}
+
+// A member that stands there where there is a number.
+fn send_number_if<S: Serializer>(
+    name: &str,
+    number: Option<u32>,
+    out: &mut S,
+) -> Result<(), S::Error>
+    ensures { OnOk result (WritesEach SendsNamed (number_member name.now number)
+        (S.written out.old) (S.written out.new)) }
+{
+    match number {
+        None => Ok(()),
+        Some(number) => send_number(name, number, out),
+    }
+}
+
+// The draws that are planned for an assertion, or null for a full count. Version 1 has no such member.
+fn send_draws<S: Serializer>(draws: Option<Option<u32>>, out: &mut S) -> Result<(), S::Error>
+    ensures { OnOk result (WritesEach SendsNamed (draws_member draws)
+        (S.written out.old) (S.written out.new)) }
+{
+    match draws {
+        None => Ok(()),
+        Some(None) => {
+            out.key("draws")?;
+            out.unit()
+        }
+        Some(Some(draws)) => send_number("draws", draws, out),
+    }
 }
 
 // The ids of all candidates.
@@ -86,16 +121,29 @@ fn send_set<S: Serializer>(names: &[Name], set: CandSet, out: &mut S) -> Result<
     out.end_seq()
 }
 
+// How many members an assertion has, where there are so many beside its draws.
+fn with_draws(draws: Option<Option<u32>>, others: usize) -> usize
+    requires { others ≤ 5 }
+    ensures { result ≡ length (draws_member draws) + others }
+{
+    match draws {
+        None => others,
+        Some(_draws) => 1 + others,
+    }
+}
+
 fn send_neb<S: Serializer>(
+    draws: Option<Option<u32>>,
     winner: &str,
     loser: &str,
     margin: u32,
     out: &mut S,
 ) -> Result<(), S::Error>
-    ensures { OnOk result (SendsValue (neb_value winner.now loser.now margin)
+    ensures { OnOk result (SendsValue (neb_value draws winner.now loser.now margin)
         (S.written out.old) (S.written out.new)) }
 {
-    out.begin_map(Some(4))?;
+    out.begin_map(Some(with_draws(draws, 4)))?;
+    send_draws(draws, out)?;
     send_text("kind", "NEB", out)?;
     send_text("loser", loser, out)?;
     send_number("margin", margin, out)?;
@@ -105,6 +153,7 @@ fn send_neb<S: Serializer>(
 
 fn send_nen<S: Serializer>(
     names: &[Name],
+    draws: Option<Option<u32>>,
     winner: &str,
     loser: &str,
     rest: CandSet,
@@ -114,10 +163,11 @@ fn send_nen<S: Serializer>(
     requires few { length names.now ≤ ROOM }
     requires small { rest < 2 ^ length names.now }
     ensures { OnOk result (SendsValue
-        (nen_value winner.now loser.now (ids_value (ids_in names.now rest)) margin)
+        (nen_value draws winner.now loser.now (ids_value (ids_in names.now rest)) margin)
         (S.written out.old) (S.written out.new)) }
 {
-    out.begin_map(Some(5))?;
+    out.begin_map(Some(with_draws(draws, 5)))?;
+    send_draws(draws, out)?;
     send_text("kind", "NEN", out)?;
     send_text("loser", loser, out)?;
     send_number("margin", margin, out)?;
@@ -127,33 +177,95 @@ fn send_nen<S: Serializer>(
     out.end_map()
 }
 
-fn send_claim<S: Serializer>(names: &[Name], claim: &Claim, out: &mut S) -> Result<(), S::Error>
+fn send_claim<S: Serializer>(
+    names: &[Name],
+    claim: &Claim,
+    draws: Option<Option<u32>>,
+    out: &mut S,
+) -> Result<(), S::Error>
     requires few { length names.now ≤ ROOM }
     requires proper { IsTrue (is_proper (length names.now) claim.now.assertion) }
-    ensures { OnOk result
-        (SendsValue (claim_value names.now claim.now) (S.written out.old) (S.written out.new)) }
+    ensures { OnOk result (SendsValue (claim_value names.now (claim.now, draws))
+        (S.written out.old) (S.written out.new)) }
 {
+    let margin = claim.margin;
     match claim.assertion {
-        Assertion::Neb { w, l } => send_neb(id_of(names, w), id_of(names, l), claim.margin, out),
+        Assertion::Neb { w, l } => {
+            send_neb(draws, id_of(names, w), id_of(names, l), margin, out)
+        }
         Assertion::Nen { w, l, rest } => {
             let (winner, loser) = (id_of(names, w), id_of(names, l));
-            send_nen(names, winner, loser, rest, claim.margin, out)
+            send_nen(names, draws, winner, loser, rest, margin, out)
         }
     }
 }
 
-fn send_claims<S: Serializer>(names: &[Name], claims: &[Claim], out: &mut S) -> Result<(), S::Error>
+// What a plan has for the claim at this place.
+fn draws_at(plan: Option<&PlanFacts>, at: usize) -> Option<Option<u32>>
+    requires { IfSome plan (λ facts. at < length facts.now.draws) }
+    ensures { result ≡ option_map (λ facts. slice_index_or facts.now.draws at None) plan.entry }
+{
+    match plan {
+        None => None,
+        Some(plan) => Some(plan.draws[at]),
+    }
+}
+
+fn send_claims<S: Serializer>(
+    names: &[Name],
+    claims: &[Claim],
+    plan: Option<&PlanFacts>,
+    out: &mut S,
+) -> Result<(), S::Error>
     requires few { length names.now ≤ ROOM }
     requires proper { All (λ claim.
         IsTrue (is_proper (length names.now) claim.assertion)) claims.now }
-    ensures { OnOk result (SendsValue (array_of (map (claim_value names.now) claims.now))
+    requires each { IfSome plan (λ facts. length facts.now.draws ≡ length claims.now) }
+    ensures { let told = told_of (option_map (λ facts. facts.now) plan.entry) claims.now in
+        OnOk result (SendsValue (array_of (map (claim_value names.now) told))
         (S.written out.old) (S.written out.new)) }
 {
     out.begin_seq(Some(claims.len()))?;
-    for claim in claims {
-        send_claim(names, claim, out)?;
+    for (i, claim) in claims.iter().enumerate() {
+        send_claim(names, claim, draws_at(plan, i), out)?;
     }
     out.end_seq()
+}
+
+// The version of a file with this plan.
+fn version_of(plan: Option<&PlanFacts>) -> u32
+    ensures { result ≡ version_of (option_map (λ facts. facts.now) plan.entry) }
+{
+    match plan {
+        None => VERSION,
+        Some(_plan) => PLAN_VERSION,
+    }
+}
+
+// The numbers that stand in a file with this plan: the cards, gamma and the limit.
+fn numbers_of(plan: Option<&PlanFacts>) -> (Option<u32>, Option<u32>, Option<u32>)
+    ensures cards { let plan = option_map (λ facts. facts.now) plan.entry in
+        result.0 ≡ option_map (λ plan. plan.cards) plan }
+    ensures gamma { let plan = option_map (λ facts. facts.now) plan.entry in
+        result.1 ≡ option_map (λ plan. plan.gamma) plan }
+    ensures limit { let plan = option_map (λ facts. facts.now) plan.entry in
+        result.2 ≡ option_map (λ plan. plan.limit) plan }
+{
+    match plan {
+        None => (None, None, None),
+        Some(plan) => (Some(plan.cards), Some(plan.gamma), Some(plan.limit)),
+    }
+}
+
+// How many members it has.
+fn member_count(plan: Option<&PlanFacts>) -> usize
+    ensures { (file : Content) → file.plan ≡ option_map (λ facts. facts.now) plan.entry
+        → result ≡ length (file_members file) }
+{
+    match plan {
+        None => 8,
+        Some(_plan) => 11,
+    }
 }
 
 // The file as serde has it: members are sent to the writer one after the other, and no tree of them is built.
@@ -169,24 +281,29 @@ impl Serialize for FileForm<'_> {
     fn serialize<S: Serializer>(&self, out: &mut S) -> Result<(), S::Error> {
         let file = self.0;
         let names = file.candidates();
-        out.begin_map(Some(8))?;
+        let plan = file.plan();
+        let (cards, gamma, limit) = numbers_of(plan);
+        out.begin_map(Some(member_count(plan)))?;
         out.key("assertions")?;
-        send_claims(names, file.claims(), out)?;
+        send_claims(names, file.claims(), plan, out)?;
         out.key("candidates")?;
         send_candidates(names, out)?;
+        send_number_if("cards", cards, out)?;
         send_text("contest", file.contest().text(), out)?;
+        send_number_if("gamma", gamma, out)?;
+        send_number_if("limit", limit, out)?;
         send_number("margin", file.margin(), out)?;
         out.key("order")?;
         send_order(names, file.order().candidates(), out)?;
         send_number("records", file.records(), out)?;
-        send_number("version", VERSION, out)?;
+        send_number("version", version_of(plan), out)?;
         send_text("winner", id_of(names, file.winner()), out)?;
         out.end_map()
     }
 }
 
-/// The bytes of an assertion file of version 1: one JSON object in compact form, its members in byte order, and a
-/// line feed.
+/// The bytes of an assertion file, of version 2 where it has a plan, and else of version 1: one JSON object in compact form,
+/// its members in byte order, and a line feed.
 pub fn print_file(alloc: Global, file: &AssertionFile) -> Result<Vec<u8>, Memory>
     ensures text { IfOk result (λ v. v.items ≡ assertion_file_text file.now) }
     ensures json { IfOk result (λ v. json_of v.items ≡ Some (file_value file.now)) }

@@ -1,21 +1,25 @@
 // Reading an assertion file.
-ghost use Rattle.std.specs.Prelude.{◌≡◌, ◌<◌, ◌≤◌, ◌&&◌, false, length, Ok, IfOk, IfErr, IfSome, IfNone, IsTrue};
+ghost use Rattle.std.specs.Prelude.{◌≡◌, ◌<◌, ◌≤◌, ◌&&◌, false, length, map, Ok, IfOk, IfErr, IfSome, IfNone, IsTrue};
 ghost use Rattle.serde_json.specs.View.{view};
 ghost use Rattle.irv_base.specs.Orders.{is_order};
 ghost use Rattle.irv_base.specs.declared.limits.TheConstants.{ROOM};
 ghost use Rattle.assertion_file.specs.Faults.{Refuses};
 ghost use Rattle.assertion_file.specs.Ids.{number_of, numbers_of};
-ghost use Rattle.assertion_file.specs.Reading.{assertion_file_of, content_of, id_rules, is_margin, is_record_count, judged, judged_heading, located, named_rules};
+ghost use Rattle.assertion_file.specs.Reading.{are_terms, assertion_file_of, claim_in, claims_in, content_of, id_rules, is_margin, is_record_count, is_version, judged, judged_heading, located, named_rules, plan_with};
 ghost use Rattle.assertion_file.specs.Views.{stated_heading, stated_ids};
 ghost use Rattle.assertion_file.specs.declared.fault.FileFault.TheVariants.{Refused};
 
-use crate::AssertionFile;
-use crate::claims::{claims, is_margin};
+use crate::claims::{Planned, claims, is_margin};
 use crate::fault::{FRule, FileFault};
+use crate::file::{AssertionFile, Parts};
 use crate::ids::{candidate, candidates, numbers};
-use crate::members::{Heading, heading_in};
-use crate::print::VERSION;
-use irv_base::{Candidate, MOST_RECORDS, Name, Order};
+use crate::members::{Heading, Terms, heading_in};
+use crate::plan::PlanFacts;
+use crate::print::{PLAN_VERSION, VERSION};
+use assertions::Claim;
+use irv_base::{
+    Candidate, GREATEST_GAMMA, GREATEST_LIMIT, MOST_CARDS, MOST_RECORDS, Memory, Name, Order,
+};
 use serde_json::Value;
 use std::alloc::Global;
 
@@ -49,6 +53,12 @@ fn refused(rule: FRule) -> FileFault
     FileFault::Refused { rule, at: 0 }
 }
 
+fn is_version(version: u32) -> bool
+    ensures { result ≡ is_version version }
+{
+    version == VERSION || version == PLAN_VERSION
+}
+
 // Judges the version, the contest and the candidates: F3 and F4.
 fn ids_of(alloc: Global, heading: &Heading<'_>) -> Result<Ids, FileFault>
     ensures kept { let stated = stated_heading heading.now in
@@ -59,7 +69,7 @@ fn ids_of(alloc: Global, heading: &Heading<'_>) -> Result<Ids, FileFault>
     ensures refused { let stated = stated_heading heading.now in
         IfErr result (Refuses (located 0 (judged (id_rules stated) stated))) }
 {
-    if heading.version != VERSION {
+    if !is_version(heading.version) {
         return Err(refused(FRule::F3));
     }
     let Some(contest) = Name::read(heading.contest.as_bytes()) else {
@@ -110,10 +120,30 @@ fn order_of(names: &[Name], numbers: &[u8]) -> Option<Order>
     }
 }
 
-fn are_counts(records: u32, margin: u32) -> bool
-    ensures { result ≡ (is_record_count records && is_margin records margin) }
+// What a plan is for, where there are so many records.
+fn are_terms(records: u32, terms: Option<Terms>) -> bool
+    ensures { result ≡ are_terms records terms }
 {
-    1 <= records && records <= MOST_RECORDS && is_margin(records, margin)
+    match terms {
+        None => true,
+        Some(terms) => {
+            (records..=MOST_CARDS).contains(&terms.cards)
+                && (1..=GREATEST_GAMMA).contains(&terms.gamma)
+                && (1..=GREATEST_LIMIT).contains(&terms.limit)
+        }
+    }
+}
+
+fn are_counts(heading: &Heading<'_>) -> bool
+    ensures { result ≡ (is_record_count heading.now.records
+        && is_margin heading.now.records heading.now.margin
+        && are_terms heading.now.records heading.now.terms) }
+{
+    let records = heading.records;
+    1 <= records
+        && records <= MOST_RECORDS
+        && is_margin(records, heading.margin)
+        && are_terms(records, heading.terms)
 }
 
 // Judges the file's own members by all rules but F2.
@@ -136,7 +166,7 @@ fn names_of(alloc: Global, heading: &Heading<'_>) -> Result<Named, FileFault>
     let Some(order) = order_of(names, chosen.numbers.as_slice()) else {
         return Err(refused(FRule::F5));
     };
-    if !are_counts(heading.records, heading.margin) {
+    if !are_counts(heading) {
         return Err(refused(FRule::F6));
     }
     Ok(Named {
@@ -147,6 +177,67 @@ fn names_of(alloc: Global, heading: &Heading<'_>) -> Result<Named, FileFault>
     })
 }
 
+// The claims of the file's object.
+fn claims_in(
+    alloc: Global,
+    names: &[Name],
+    heading: &Heading<'_>,
+) -> Result<Vec<Planned>, FileFault>
+    requires few { length names.now ≤ ROOM }
+    requires same { names.now ≡ stated_ids heading.now.candidates.now }
+    ensures read { IfOk result (λ claims.
+        claims_in (stated_heading heading.now) ≡ Ok claims.items) }
+    ensures refused { IfErr result (Refuses (claims_in (stated_heading heading.now))) }
+{
+    let planned = heading.terms.is_some();
+    claims(alloc, names, heading.records, planned, heading.assertions)
+}
+
+fn claim_in(planned: &Planned) -> Claim
+    ensures { result ≡ claim_in planned.now }
+{
+    Claim {
+        assertion: planned.assertion,
+        margin: planned.margin,
+    }
+}
+
+fn claims_of(alloc: Global, planned: &[Planned]) -> Result<Vec<Claim>, Memory>
+    ensures { IfOk result (λ claims. claims.items ≡ map claim_in planned.now) }
+{
+    Ok(
+        planned
+            .iter()
+            .map(|planned| claim_in(planned))
+            .collect(alloc)?,
+    )
+}
+
+fn draws_of(alloc: Global, planned: &[Planned]) -> Result<Vec<Option<u32>>, Memory>
+    ensures { IfOk result (λ draws. draws.items ≡ map (λ planned. planned.draws) planned.now) }
+{
+    Ok(planned.iter().map(|planned| planned.draws).collect(alloc)?)
+}
+
+// The plan of these claims on these terms, if there are any.
+fn plan_of(
+    alloc: Global,
+    terms: Option<Terms>,
+    planned: &[Planned],
+) -> Result<Option<PlanFacts>, Memory>
+    ensures { IfOk result (λ plan. plan ≡ plan_with terms planned.now) }
+{
+    let Some(terms) = terms else {
+        return Ok(None);
+    };
+    Ok(Some(PlanFacts {
+        cards: terms.cards,
+        gamma: terms.gamma,
+        limit: terms.limit,
+        draws: draws_of(alloc, planned)?,
+    }))
+}
+
 fn content_of(alloc: Global, value: &Value) -> Result<AssertionFile, FileFault>
     ensures read { IfOk result (λ file. content_of (view value.now) ≡ Ok file) }
     ensures refused { IfErr result (Refuses (content_of (view value.now))) }
@@ -155,37 +246,37 @@ fn content_of(alloc: Global, value: &Value) -> Result<AssertionFile, FileFault>
         return Err(refused(FRule::F2));
     };
     let named = names_of(alloc, &heading)?;
-    let claims = claims(
-        alloc,
-        named.candidates.as_slice(),
-        heading.records,
-        heading.assertions,
-    )?;
-    Ok(AssertionFile::new(
-        named.contest,
-        named.candidates,
-        heading.records,
-        named.winner,
-        heading.margin,
-        named.order,
+    let planned = claims_in(alloc, named.candidates.as_slice(), &heading)?;
+    let claims = claims_of(alloc, &planned)?;
+    let plan = plan_of(alloc, heading.terms, &planned)?;
+    Ok(AssertionFile::new(Parts {
+        contest: named.contest,
+        candidates: named.candidates,
+        records: heading.records,
+        winner: named.winner,
+        margin: heading.margin,
+        order: named.order,
         claims,
-    ))
+        plan,
+    }))
 }
 
-/// Reads an assertion file of version 1.
+/// Reads an assertion file, of version 1 or of version 2.
 ///
 /// The bytes are one JSON object, with its members in any order. Further members are passed over, and of a repeated
 /// name the last counts. A NEN's rest may be in any order, and a NEB's isn't looked at. Numbers are whole ones up to
-/// `u32::MAX`, without a point or an exponent.
+/// `u32::MAX`, without a point or an exponent. Version 2 has a plan: the file's members `cards`, `gamma` and `limit`, and the
+/// member `draws` of each assertion, a number or null. In version 1 these aren't looked at.
 ///
 /// It is refused by the first rule that is broken. The file's own members are judged first, with place 0: by F1 if
-/// the bytes aren't JSON; by F2 if a member is missing or of another kind; by F3 if the version isn't `VERSION`; by
+/// the bytes aren't JSON; by F2 if a member is missing or of another kind; by F3 if the version is neither `VERSION` nor `PLAN_VERSION`; by
 /// F4 if the contest's id or a candidate's is none, there aren't `FEWEST_CANDIDATES` to `MOST_CANDIDATES` of them, one
 /// stands twice, or the winner or one of the order isn't among them; by F5 if the order hasn't each candidate once; by
-/// F6 if there aren't 1 to `MOST_RECORDS` records, or the margin isn't 1 to their number. Then comes each assertion,
-/// with its number from 1 as the place: F2 as above; F4 if one who is named isn't a candidate, or the winner is the
-/// loser; F5 if a NEN's rest repeats a candidate or lacks the winner or the loser; F6 if the margin isn't 1 to the
-/// number of records.
+/// F6 if there aren't 1 to `MOST_RECORDS` records, the margin isn't 1 to their number, or, of a plan, the cards aren't their
+/// number to `MOST_CARDS`, gamma isn't 1 to `GREATEST_GAMMA`, or the limit isn't 1 to `GREATEST_LIMIT`. Then comes each
+/// assertion, with its number from 1 as the place: F2 as above; F4 if one who is named isn't a candidate, or the winner is
+/// the loser; F5 if a NEN's rest repeats a candidate or lacks the winner or the loser; F6 if the margin isn't 1 to the
+/// number of records, or its draws are planned and aren't 1 to `MOST_DRAWS`.
 pub fn read_file(alloc: Global, bytes: &[u8]) -> Result<AssertionFile, FileFault>
     ensures read { IfOk result (λ file. assertion_file_of bytes.now ≡ Ok file) }
     ensures refused { IfErr result (Refuses (assertion_file_of bytes.now)) }

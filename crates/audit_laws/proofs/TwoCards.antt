@@ -62,6 +62,7 @@ file = record {
   claims =
       All-cons (IsSoundClaim 2 2) (record { assertion = Neb 0 1; margin = 2 }) []
       (record { proper = refl; margin = record { some = omega arith; most = omega arith } }) (All-nil (IsSoundClaim 2 2));
+  plan = tt;
 }
 
 pub published : ArePublished 10 two_batches two_ballots two_file

@@ -1,5 +1,5 @@
 -- The files and cards of the worked examples.
-use Rattle.std.specs.Prelude.{ℕ, List, [], ◌∷◌, codes}
+use Rattle.std.specs.Prelude.{ℕ, List, [], ◌∷◌, codes, None}
 use Rattle.assertions.specs.declared.assertion.Assertion.{Assertion}
 use Rattle.assertions.specs.declared.assertion.Assertion.TheVariants.{Neb, Nen}
 use Rattle.ballot_reader.specs.Ballots.{BallotFile}
@@ -33,6 +33,7 @@ two_file = record {
   margin = 2;
   order = 0 ∷ 1 ∷ [];
   claims = record { assertion = Neb 0 1; margin = 2 } ∷ [];
+  plan = None;
 }
 
 abbrev pub two_records : List Recorded

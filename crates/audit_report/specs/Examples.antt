@@ -1,5 +1,5 @@
 -- The worked examples.
-use Rattle.std.specs.Prelude.{ℕ, List, [], ◌∷◌, replicate, codes}
+use Rattle.std.specs.Prelude.{ℕ, List, [], ◌∷◌, replicate, codes, None}
 use Rattle.assertions.specs.declared.assertion.Assertion.TheVariants.{Neb}
 use Rattle.assertions.specs.declared.assertion.Claim.{Claim}
 use Rattle.assertion_file.specs.Content.{Content as FileContent}
@@ -21,6 +21,7 @@ file_of claims = record {
   margin = 1;
   order = 0 ∷ 1 ∷ [];
   claims = claims;
+  plan = None;
 }
 
 -- a round of one claim, without a discrepancy

@@ -1,6 +1,6 @@
 -- A check comes to one end, and what the checker names is among the candidates.
 use Rattle.std.proofs.Common.{◌≡◌, ℕ, ◌+◌, ◌<◌, Bool, true, false, not, ◌==◌, if◌then◌else◌, List, [], ◌∷◌, length, Option, None, Some, IfSome, Ok, Err, IsTrue, refl, sym, ap, subst, ◌∙◌}
-use Rattle.std.specs.Prelude.{⊤}
+use Rattle.std.specs.Prelude.{⊤, option_and_then}
 use Rattle.std.specs.Bool.{MatchBool}
 use Rattle.irv_base.specs.Candidates.{candidates, all_but}
 use Rattle.irv_base.specs.Orders.{is_order}
@@ -15,16 +15,17 @@ use Rattle.assertions.proofs.Endings.{alternative_orders_are}
 use Rattle.assertions.proofs.Refuters.{refuter-first}
 use Rattle.ballot_reader.specs.Ballots.{BallotFile}
 use Rattle.ballot_reader.specs.Grammar.{ballots_of}
-use Rattle.assertion_file.specs.Content.{Content}
+use Rattle.assertion_file.specs.Content.{Content, Plan}
 use Rattle.assertion_file.specs.Reading.{assertion_file_of}
 use Rattle.cover_checker.specs.Covers.{stands, standing_order, first_over, verdict_on as cover_verdict, or_spent, covered_is}
 use Rattle.cover_checker.specs.Outcomes.{IsWinner}
-use Rattle.cover_checker.specs.Findings.{Answer, is_about, has_other_margin, other_margin_from, unless_covered, refuted_by, elects, smallest_margin}
+use Rattle.cover_checker.specs.Findings.{Answer, is_about, has_other_margin, other_margin_from, unless_covered, refuted_by, elects, smallest_margin, are_same_draws, other_draws_from, other_draws}
+use Rattle.cover_checker.specs.Draws.{clean_draws_of}
 use Rattle.cover_checker.specs.Checks.{findings, first_found, checked_is, Judges, IsAnswer}
 use Rattle.cover_checker.proofs.OneAnswer.{answer_is_one}
 use Rattle.cover_checker.proofs.Same.{from_about}
 use Rattle.cover_checker.specs.declared.checked.Checked.{Checked}
-use Rattle.cover_checker.specs.declared.checked.Checked.TheVariants.{OtherContest, OtherWinner, OtherMargin, Stands, NotLeast, NotAlternative, Harder, Accepted}
+use Rattle.cover_checker.specs.declared.checked.Checked.TheVariants.{OtherContest, OtherWinner, OtherMargin, Stands, NotLeast, NotAlternative, Harder, OtherDraws, Accepted}
 use Rattle.cover_checker.specs.declared.checked.CheckFault.TheVariants.{Spent, Memory}
 use Rattle.cli_base.specs.Outcome.{Verdict, Answered, outcome}
 use Rattle.cli_base.specs.Script.{Agree, AreOfKind, IsOfKind, Same}
@@ -94,6 +95,23 @@ names-harder n hardness true None proper = tt
 names-harder n hardness true (Some a) proper = proper a refl
 names-harder n hardness false found proper = tt
 
+names-draws-from : (n : ℕ) (plan : Plan) (at : ℕ) (claims : List Claim) (draws : List (Option ℕ)) →
+    IfSome (other_draws_from plan at claims draws) (Names n)
+names-draws-from n plan at [] draws = tt
+names-draws-from n plan at (claim ∷ claims) [] = tt
+names-draws-from n plan at (claim ∷ claims) (d ∷ draws) =
+    by (are_same_draws (clean_draws_of plan claim) d) (clean_draws_of plan claim) (names-draws-from n plan (at + 1) claims draws) where
+      by : (b : Bool) (found : Option ℕ) → IfSome (other_draws_from plan (at + 1) claims draws) (Names n) →
+          IfSome (if b then other_draws_from plan (at + 1) claims draws else Some (Ok (OtherDraws at found))) (Names n)
+      by true found more = more
+      by false found more = tt
+
+names-draws : (n : ℕ) (file : Content) → IfSome (other_draws file) (Names n)
+names-draws n file = by file.plan where
+  by : (plan : Option Plan) → IfSome (option_and_then (λ plan. other_draws_from plan 1 file.claims plan.draws) plan) (Names n)
+  by None = tt
+  by (Some plan) = names-draws-from n plan 1 file.claims plan.draws
+
 winner-below : (n : ℕ) (records : List (List ℕ)) (winner : ℕ) → IsWinner n records winner → winner < n
 winner-below n records winner won =
     let (before, e) = won.elects in
@@ -116,7 +134,7 @@ names-judged nodes ballots file about winner is =
             if_not (Names n) (smallest_margin file == file.margin) (Ok (NotLeast (smallest_margin file))) tt,
             (
               names-elected n (elects file.order file.winner),
-              (names-harder n _ _ (refuter n ballots.rankings file.order) (λ a found. (refuter-first n ballots.rankings file.order a found).proper), tt),
+              (names-harder n _ _ (refuter n ballots.rankings file.order) (λ a found. (refuter-first n ballots.rankings file.order a found).proper), (names-draws n file, tt)),
             ),
           ),
         ),
@@ -161,6 +179,7 @@ found-kind file (Stands order) = among kinds Differs refl
 found-kind file (NotLeast found) = among kinds Differs refl
 found-kind file NotAlternative = among kinds Differs refl
 found-kind file (Harder assertion margin) = among kinds Differs refl
+found-kind file (OtherDraws index found) = among kinds Differs refl
 found-kind file Accepted = among kinds Done refl
 
 pub answer-kind : (file : Content) (answer : Answer) (v : Verdict) → verdict_on file answer ≡ Some v → IsOfKind kinds v

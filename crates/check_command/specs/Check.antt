@@ -9,7 +9,7 @@ use Rattle.assertion_file.specs.Reading.{assertion_file_of}
 use Rattle.cover_checker.specs.Checks.{IsAnswer}
 use Rattle.cover_checker.specs.Findings.{Answer}
 use Rattle.cover_checker.specs.declared.checked.Checked.{Checked}
-use Rattle.cover_checker.specs.declared.checked.Checked.TheVariants.{OtherContest, OtherWinner, OtherMargin, Stands, NotLeast, NotAlternative, Harder, Accepted}
+use Rattle.cover_checker.specs.declared.checked.Checked.TheVariants.{OtherContest, OtherWinner, OtherMargin, Stands, NotLeast, NotAlternative, Harder, OtherDraws, Accepted}
 use Rattle.cover_checker.specs.declared.checked.CheckFault.TheVariants.{Spent as SpentAt, Memory}
 use Rattle.report.specs.Ends.{spent_at}
 use Rattle.report.specs.Texts.{order_text, assertion_text}
@@ -52,6 +52,17 @@ abbrev pub is_refuted_by : List ℕ → ℕ → List ℕ
 is_refuted_by assertion margin =
     codes "order is refuted by " ++ assertion ++ codes " margin " ++ decimal margin
 
+abbrev pub needs_draws : ℕ → ℕ → List ℕ
+needs_draws index draws =
+    codes "assertion " ++ decimal index ++ codes " needs " ++ decimal draws ++ codes " draws"
+
+abbrev pub needs_full_count : ℕ → List ℕ
+needs_full_count index = codes "assertion " ++ decimal index ++ codes " needs a full count"
+
+abbrev pub needs : ℕ → Option ℕ → List ℕ
+needs index (Some draws) = needs_draws index draws
+needs index None = needs_full_count index
+
 -- ---- how a check ends
 
 abbrev pub differs : List ℕ → Verdict
@@ -67,6 +78,7 @@ found_verdict file (NotLeast found) = differs (smallest_is found)
 found_verdict file NotAlternative = differs (codes "order elects the winner")
 found_verdict file (Harder assertion margin) =
     differs (is_refuted_by (assertion_text file.candidates assertion) margin)
+found_verdict file (OtherDraws index found) = differs (needs index found)
 found_verdict file Accepted = Answered Done (yes_text file)
 
 abbrev pub verdict_on : Content → Answer → Option Verdict

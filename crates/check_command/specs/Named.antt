@@ -3,7 +3,7 @@ use Rattle.std.specs.Prelude.{◌<◌, ℕ, IsTrue, ⊤}
 use Rattle.irv_base.specs.Orders.{is_order}
 use Rattle.assertions.specs.Assertions.{is_proper}
 use Rattle.cover_checker.specs.declared.checked.Checked.{Checked}
-use Rattle.cover_checker.specs.declared.checked.Checked.TheVariants.{OtherContest, OtherWinner, OtherMargin, Stands, NotLeast, NotAlternative, Harder, Accepted}
+use Rattle.cover_checker.specs.declared.checked.Checked.TheVariants.{OtherContest, OtherWinner, OtherMargin, Stands, NotLeast, NotAlternative, Harder, OtherDraws, Accepted}
 
 -- what it names is a candidate, an order or an assertion of n candidates
 abbrev pub IsAmong : ℕ → Checked → Type 0
@@ -14,4 +14,5 @@ IsAmong n (Stands order) = IsTrue (is_order n order)
 IsAmong n (NotLeast found) = ⊤
 IsAmong n NotAlternative = ⊤
 IsAmong n (Harder assertion margin) = IsTrue (is_proper n assertion)
+IsAmong n (OtherDraws index found) = ⊤
 IsAmong n Accepted = ⊤

@@ -14,7 +14,9 @@ ghost use Rattle.report.specs.Texts.{order_text};
 ghost use Rattle.check_command.specs.Check.{Checks, script, after_ballots, differs, found_verdict, stands};
 ghost use Rattle.check_command.specs.Named.{IsAmong};
 
-use crate::check_texts::{has_margin, is_refuted_by, no, smallest_is, stands, winner_is, yes};
+use crate::check_texts::{
+    has_margin, is_refuted_by, needs, no, smallest_is, stands, winner_is, yes,
+};
 use assertion_file::{AssertionFile, id_of};
 use ballot_reader::Ballots;
 use cli_base::{Answer, AnswerKind, Refusal};
@@ -122,6 +124,10 @@ fn found_answer(alloc: Global, file: &AssertionFile, found: Checked) -> Result<A
         Checked::NotAlternative => difference(alloc, "order elects the winner"),
         Checked::Harder { assertion, margin } => {
             let text = is_refuted_by(alloc, names, &assertion, margin)?;
+            difference(alloc, text.as_str())
+        }
+        Checked::OtherDraws { index, found } => {
+            let text = needs(alloc, index, found)?;
             difference(alloc, text.as_str())
         }
         Checked::Accepted => {

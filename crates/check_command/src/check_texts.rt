@@ -4,7 +4,7 @@ ghost use Rattle.irv_base.specs.Orders.{is_order};
 ghost use Rattle.irv_base.specs.declared.limits.TheConstants.{ROOM};
 ghost use Rattle.assertions.specs.Assertions.{is_proper};
 ghost use Rattle.report.specs.Texts.{order_text, assertion_text};
-ghost use Rattle.check_command.specs.Check.{yes_lines, no_line, winner_is, has_margin, stands, smallest_is, is_refuted_by};
+ghost use Rattle.check_command.specs.Check.{yes_lines, no_line, winner_is, has_margin, stands, smallest_is, is_refuted_by, needs, needs_draws, needs_full_count};
 
 use assertions::Assertion;
 use irv_base::{Memory, Name, Order};
@@ -76,4 +76,26 @@ fn refuted_text(alloc: Global, assertion: &str, margin: u32) -> Result<String, A
     ensures { IfOk result (λ text. string_bytes text ≡ is_refuted_by assertion.now margin) }
 {
     format!(in alloc; "order is refuted by {assertion} margin {margin}")
+}
+
+fn needs_draws(alloc: Global, index: u64, draws: u32) -> Result<String, AllocError>
+    ensures { IfOk result (λ text. string_bytes text ≡ needs_draws index draws) }
+{
+    format!(in alloc; "assertion {index} needs {draws} draws")
+}
+
+fn needs_full_count(alloc: Global, index: u64) -> Result<String, AllocError>
+    ensures { IfOk result (λ text. string_bytes text ≡ needs_full_count index) }
+{
+    format!(in alloc; "assertion {index} needs a full count")
+}
+
+/// What an assertion takes: its draws, or a full count.
+pub(crate) fn needs(alloc: Global, index: u64, draws: Option<u32>) -> Result<String, AllocError>
+    ensures { IfOk result (λ text. string_bytes text ≡ needs index draws) }
+{
+    match draws {
+        Some(draws) => needs_draws(alloc, index, draws),
+        None => needs_full_count(alloc, index),
+    }
 }

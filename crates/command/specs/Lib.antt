@@ -1,5 +1,6 @@
 pub mod Limits
 pub mod Laws
+pub mod PlanTerms
 pub mod Search
 pub mod Tabulate
 pub mod Check

@@ -10,6 +10,7 @@ mod limits;
 mod open;
 mod open_plurality;
 mod plan;
+mod plan_terms;
 mod poll;
 mod report;
 mod sample;
@@ -29,6 +30,7 @@ pub use limits::{
 pub use open::OpenTask;
 pub use open_plurality::OpenPluralityTask;
 pub use plan::PlanTask;
+pub use plan_terms::PlanTerms;
 pub use poll::PollTask;
 pub use report::ReportTask;
 pub use sample::SampleTask;

@@ -1,6 +1,7 @@
 // What a search is asked for.
 
 use crate::file_name::FileName;
+use crate::plan_terms::PlanTerms;
 use irv_base::Name;
 
 /// The assertions that confirm the winner of a contest, or why there are none.
@@ -16,4 +17,6 @@ pub struct SearchTask {
     pub nodes: u32,
     /// The least margin of a search, in votes.
     pub floor: u32,
+    /// What the draws of a clean audit are planned for, if the assertion file is to carry them.
+    pub plan: Option<PlanTerms>,
 }

@@ -1,23 +1,25 @@
 -- What a line asks for is checked.
 use Rattle.std.proofs.Common.{◌≡◌, ◌≤◌, ◌<◌, ◌&&◌, ◌||◌, ◌==◌, ℕ, zero, suc, List, [], ◌∷◌, Option, Some, None, Bool, true, false, not, length, nat_le, nat_lt, refl, sym, ap, ◌∙◌, subst, arith, leb-true, ltb-true}
-use Rattle.std.specs.Prelude.{unwrap_or, option_map, is_some}
+use Rattle.std.specs.Prelude.{unwrap_or, option_map, is_some, IfSome}
 use Rattle.std.specs.List.{list_all, list_any}
 use Rattle.std.specs.Str.{bytes_eq}
 use Rattle.std.proofs.lemmas.Bool.{and_parts, false≢true}
 use Rattle.irv_base.proofs.Members.{from_find}
 use Rattle.command_line.specs.Laws.{LinesHaveMeanings, LinesAreChecked, IsChecked}
-use Rattle.command.specs.Limits.{IsNamed, IsFromTo}
-use Rattle.command_line.specs.Line.{are_right, is_given_right, pieces_of, is_line_of, line_named, is_line, command_of, meaning, file, seed, value, number_of}
+use Rattle.irv_base.specs.declared.limits.TheConstants.{GREATEST_GAMMA, GREATEST_LIMIT, MOST_CARDS}
+use Rattle.command.specs.Limits.{IsNamed, IsFromTo, IsUpTo}
+use Rattle.command.specs.PlanTerms.{AreWithinLimits}
+use Rattle.command_line.specs.Line.{are_right, is_given_right, pieces_of, is_line_of, line_named, is_line, command_of, meaning, file, seed, value, given_number, number_of, terms_with}
 use Rattle.command_line.specs.Pieces.{Piece, File, Given, Stray, fits, files_in}
 use Rattle.command_line.specs.Table.{commands, form_of, text_of, kind_of, default_of, is_needed}
-use Rattle.command_line.specs.Values.{is_number, number, is_value}
+use Rattle.command_line.specs.Values.{is_number, is_number_within, number, is_value}
 use Rattle.sampler.specs.Seeds.{is_seed}
 use Rattle.command_line.specs.declared.table.CommandName.{CommandName}
 use Rattle.command_line.specs.declared.table.CommandName.TheVariants as command
 use Rattle.command_line.specs.declared.table.OptionName.{OptionName}
 use Rattle.command_line.specs.declared.table.OptionName.TheVariants as option
 use Rattle.command_line.specs.declared.table.ValueKind.{ValueKind}
-use Rattle.command_line.specs.declared.table.ValueKind.TheVariants.{Id, Seed, Number}
+use Rattle.command_line.specs.declared.table.ValueKind.TheVariants.{Id, Seed, Number, FreeNumber}
 use Rattle.command_line.proofs.Meanings.{same_option, value-fits}
 use Rattle.command_line.proofs.Needed.{IsRight, parts, needed_given, seed_given}
 
@@ -43,32 +45,45 @@ file_named (suc i) (File name ∷ pieces) h less = file_named i pieces (and_part
 file_named i (Given option text ∷ pieces) h less = file_named i pieces (and_parts (fits (Given option text)) (list_all fits pieces) h).1 less
 file_named i (Stray ∷ pieces) h less = absurd (false≢true h)
 
+within : (least most : ℕ) (v : List ℕ) → is_number_within least most v ≡ true → IsFromTo least most (number v)
+within least most v fit =
+    let (low, high) = and_parts (is_number v && nat_le least (number v)) (nat_le (number v) most) fit in
+    let (written, above) = and_parts (is_number v) (nat_le least (number v)) low in
+    (leb-true least (number v) above, leb-true (number v) most high)
+
 number_from_to : (least most : ℕ) (default : Option ℕ) (name : OptionName) → kind_of name ≡ Number least most default
     → (pieces : List Piece) → list_all fits pieces ≡ true → (value name pieces ≡ None → IsFromTo least most (unwrap_or default 0)) →
     IsFromTo least most (number_of name pieces)
-number_from_to least most default name kind pieces h within =
+number_from_to least most default name kind pieces h left_out =
     subst (λ k. IsFromTo least most (unwrap_or (option_map number (value name pieces)) (default_of k))) (sym kind)
-    (by (value name pieces) (λ v e. subst (λ k. is_value k v ≡ true) kind (value-fits name pieces h v e)) within)
+    (by (value name pieces) (λ v e. subst (λ k. is_value k v ≡ true) kind (value-fits name pieces h v e)) left_out)
   where
     by : (r : Option (List ℕ)) → ((v : List ℕ) → r ≡ Some v → is_value (Number least most default) v ≡ true) →
         (r ≡ None → IsFromTo least most (unwrap_or default 0))
         → IsFromTo least most (unwrap_or (option_map number r) (unwrap_or default 0))
-    by None fit within = within refl
-    by (Some v) fit within =
-        let (low, high) = and_parts (is_number v && nat_le least (number v)) (nat_le (number v) most) (fit v refl) in
-        let (written, above) = and_parts (is_number v) (nat_le least (number v)) low in
-        (leb-true least (number v) above, leb-true (number v) most high)
+    by None fit left_out = left_out refl
+    by (Some v) fit left_out = within least most v (fit v refl)
+
+free_from_to : (least most : ℕ) (name : OptionName) → kind_of name ≡ FreeNumber least most → (pieces : List Piece) → list_all fits pieces ≡ true →
+    IfSome (given_number name pieces) (IsFromTo least most)
+free_from_to least most name kind pieces h =
+    by (value name pieces) (λ v e. subst (λ k. is_value k v ≡ true) kind (value-fits name pieces h v e)) where
+      by : (r : Option (List ℕ)) → ((v : List ℕ) → r ≡ Some v → is_number_within least most v ≡ true) → IfSome (option_map number r) (IsFromTo least most)
+      by None fit = tt
+      by (Some v) fit = within least most v (fit v refl)
 
 -- what the value of an option is, where it is given right
 abbrev IsGiven : ValueKind → OptionName → List Piece → Type 0
 IsGiven Id option pieces = Unit {0}
 IsGiven Seed option pieces = is_seed (seed pieces) ≡ true
 IsGiven (Number least most default) option pieces = IsFromTo least most (number_of option pieces)
+IsGiven (FreeNumber least most) option pieces = IfSome (given_number option pieces) (IsFromTo least most)
 
 -- the number of a line that doesn't give it is within the limits too
 abbrev is_default : ValueKind → Bool
 is_default Id = true
 is_default Seed = true
+is_default (FreeNumber least most) = true
 is_default (Number least most None) = true
 is_default (Number least most (Some default)) = nat_le least default && nat_le default most
 
@@ -87,6 +102,7 @@ given option pieces fit right = by (kind_of option) refl (defaults_fit option) w
   by : (kind : ValueKind) → kind_of option ≡ kind → is_default kind ≡ true → IsGiven kind option pieces
   by Id kind fits = tt
   by Seed kind fits = seed_given pieces fit (subst (λ o. is_given_right o pieces ≡ true) (is_the_seed option kind) right)
+  by (FreeNumber least most) kind fits = free_from_to least most option kind pieces fit
   by (Number least most None) kind fits =
       let (v, is) = needed_given option pieces (ap is_needed kind) right in
       number_from_to least most None option kind pieces fit (λ none. let e : Some v ≡ None = sym is ∙ none in absurd (cc e))
@@ -120,12 +136,24 @@ module _ (name : CommandName) (pieces : List Piece) (line : IsRight name pieces)
   value_of : (o : OptionName) → has o (form_of name).options ≡ true → IsGiven (kind_of o) o pieces
   value_of o among = given o pieces line.fit (right_among (form_of name).options o pieces among line.options)
 
+-- the limit and the gamma are within their limits, and so are the cards where there are some
+terms_checked : (pieces : List Piece) (cards : Option ℕ) → IfSome cards (IsUpTo MOST_CARDS) → IsUpTo GREATEST_LIMIT (number_of option.Limit pieces) →
+    IsUpTo GREATEST_GAMMA (number_of option.Gamma pieces) → IfSome (option_map (terms_with pieces) cards) AreWithinLimits
+terms_checked pieces None some limit gamma = tt
+terms_checked pieces (Some cards) some limit gamma = record { cards = some; limit = limit; gamma = gamma }
+
 -- a row a command
 meaning_checked : (name : CommandName) (pieces : List Piece) → IsRight name pieces → IsChecked (meaning name pieces)
 meaning_checked command.Search pieces line =
     let file = named command.Search pieces line in
     let value = value_of command.Search pieces line in
-    record { ballots = file 0 refl; workers = value option.Workers refl; nodes = value option.Nodes refl; floor = value option.Floor refl }
+    record {
+      ballots = file 0 refl;
+      workers = value option.Workers refl;
+      nodes = value option.Nodes refl;
+      floor = value option.Floor refl;
+      plan = terms_checked pieces (given_number option.Cards pieces) (value option.Cards refl) (value option.Limit refl) (value option.Gamma refl);
+    }
 meaning_checked command.Tabulate pieces line =
     let file = named command.Tabulate pieces line in
     let value = value_of command.Tabulate pieces line in

@@ -5,17 +5,17 @@ use Rattle.std.specs.List.{list_all, cons_option}
 use Rattle.std.specs.Char.{is_ascii_digit}
 use Rattle.std.specs.Str.{bytes_eq}
 use Rattle.std.proofs.lemmas.Bool.{and_parts, and_from, false≢true}
-use Rattle.command_line.specs.Line.{value, contest, number_of}
-use Rattle.command_line.specs.OneForm.{value_text, name_in, may_be_number, number_or}
+use Rattle.command_line.specs.Line.{value, contest, given_number}
+use Rattle.command_line.specs.OneForm.{value_text, name_in, may_be_number, number_in}
 use Rattle.command_line.specs.Pieces.{Piece, File, Given, Stray, fits, value_in}
-use Rattle.command_line.specs.Table.{text_of, kind_of, is_number_kind, is_number_option, default_of}
-use Rattle.command_line.specs.Values.{is_number, number, is_value}
+use Rattle.command_line.specs.Table.{text_of, kind_of, is_number_kind, is_number_option}
+use Rattle.command_line.specs.Values.{is_number, is_number_within, number, is_value}
 use Rattle.irv_base.specs.declared.limits.TheConstants.{MOST_NUMBER_DIGITS}
 use Rattle.command_line.specs.declared.table.OptionName.{OptionName}
-use Rattle.command_line.specs.declared.table.OptionName.TheVariants.{Contest, Workers, Nodes, Floor, Draws, Limit, Gamma, Candidates, Ballots}
+use Rattle.command_line.specs.declared.table.OptionName.TheVariants.{Contest, Workers, Nodes, Floor, Cards, Draws, Limit, Gamma, Candidates, Ballots}
 use Rattle.command_line.specs.declared.table.OptionName.TheVariants as option
 use Rattle.command_line.specs.declared.table.ValueKind.{ValueKind}
-use Rattle.command_line.specs.declared.table.ValueKind.TheVariants.{Id, Seed, Number}
+use Rattle.command_line.specs.declared.table.ValueKind.TheVariants.{Id, Seed, Number, FreeNumber}
 
 -- ---- a row an option
 
@@ -25,6 +25,7 @@ same_option Contest Contest h = refl
 same_option Workers Workers h = refl
 same_option Nodes Nodes h = refl
 same_option Floor Floor h = refl
+same_option Cards Cards h = refl
 same_option option.Seed option.Seed h = refl
 same_option Draws Draws h = refl
 same_option Limit Limit h = refl
@@ -38,6 +39,7 @@ abbrev most_of : ValueKind → ℕ
 most_of Id = 0
 most_of Seed = 0
 most_of (Number least most default) = most
+most_of (FreeNumber least most) = most
 
 -- numbers have room
 small : (option : OptionName) → most_of (kind_of option) < 2 ^ 32
@@ -83,10 +85,8 @@ some_text n h = grind arith
 has_room : (n most : ℕ) → n ≤ most → most < 2 ^ 32 → nat_lt n (2 ^ 32) ≡ true
 has_room n most h room = grind (arith, h, room)
 
-is_written : (kind : ValueKind) → is_number_kind kind ≡ true → most_of kind < 2 ^ 32 → (v : List ℕ) → is_value kind v ≡ true → IsWritten v
-is_written Id n room v h = absurd (false≢true n)
-is_written Seed n room v h = absurd (false≢true n)
-is_written (Number least most default) n room v h =
+written_within : (least most : ℕ) → most < 2 ^ 32 → (v : List ℕ) → is_number_within least most v ≡ true → IsWritten v
+written_within least most room v h =
     let (low, high) = and_parts (is_number v && nat_le least (number v)) (nat_le (number v) most) h in
     let (written, up) = and_parts (is_number v) (nat_le least (number v)) low in
     let (range, digits) = and_parts (nat_le 1 (length v) && nat_le (length v) MOST_NUMBER_DIGITS) (list_all is_ascii_digit v) written in
@@ -96,6 +96,12 @@ is_written (Number least most default) n room v h =
       some = some_text (length v) (leb-true 1 (length v) some.0);
       room = has_room (number v) most (leb-true (number v) most high) room;
     }
+
+is_written : (kind : ValueKind) → is_number_kind kind ≡ true → most_of kind < 2 ^ 32 → (v : List ℕ) → is_value kind v ≡ true → IsWritten v
+is_written Id n room v h = absurd (false≢true n)
+is_written Seed n room v h = absurd (false≢true n)
+is_written (Number least most default) n room v h = written_within least most room v h
+is_written (FreeNumber least most) n room v h = written_within least most room v h
 
 module _ (option : OptionName) (is : is_number_option option ≡ true) (pieces : List Piece) (fit : list_all fits pieces ≡ true) where
   each : (v : List ℕ) → value option pieces ≡ Some v → IsWritten v
@@ -107,9 +113,8 @@ module _ (option : OptionName) (is : is_number_option option ≡ true) (pieces :
     by None each = refl
     by (Some v) each = let w = each v refl in rw w.some (and_from (is_number v) (nat_lt (number v) (2 ^ 32)) w.written w.room)
 
-  pub number-is : number_or (default_of (kind_of option)) (value_text option pieces) ≡ number_of option pieces
+  pub number-is : number_in (value_text option pieces) ≡ given_number option pieces
   number-is = by (value option pieces) each where
-    by : (r : Option (List ℕ)) → ((v : List ℕ) → r ≡ Some v → IsWritten v)
-        → number_or (default_of (kind_of option)) (unwrap_or r []) ≡ unwrap_or (option_map number r) (default_of (kind_of option))
+    by : (r : Option (List ℕ)) → ((v : List ℕ) → r ≡ Some v → IsWritten v) → number_in (unwrap_or r []) ≡ option_map number r
     by None each = refl
     by (Some v) each = rw (each v refl).some refl

@@ -23,7 +23,8 @@ as_many a b h = grind arith
 
 pub parts : (name : CommandName) (pieces : List Piece) → are_right name pieces ≡ true → IsRight name pieces
 parts name pieces right =
-    let (front, options) = and_parts (list_all fits pieces && length (files_in pieces) == length (form_of name).files) _ right in
+    let (front, given) = and_parts (list_all fits pieces && length (files_in pieces) == length (form_of name).files) _ right in
+    let (options, together) = and_parts (list_all (λ option. is_given_right option pieces) (form_of name).options) _ given in
     let (fit, count) = and_parts (list_all fits pieces) (length (files_in pieces) == length (form_of name).files) front in
     record { fit = fit; count = as_many (length (files_in pieces)) (length (form_of name).files) count; options = options }
 

@@ -21,7 +21,7 @@ use Rattle.command_line.specs.declared.commands.Command.TheVariants.{Search, Tab
 use Rattle.command.specs.declared.limits.TheConstants.{DEFAULT_WORKERS, DEFAULT_NODES, DEFAULT_FLOOR, DEFAULT_LIMIT, DEFAULT_GAMMA, DEFAULT_CANDIDATES, DEFAULT_BALLOTS}
 use Rattle.command_line.specs.declared.table.CommandName.{CommandName}
 use Rattle.command_line.specs.declared.table.OptionName.{OptionName}
-use Rattle.command_line.specs.declared.table.OptionName.TheVariants.{Workers, Nodes, Floor, Seed, Draws, Limit, Gamma, Number, Candidates, Ballots}
+use Rattle.command_line.specs.declared.table.OptionName.TheVariants.{Workers, Nodes, Floor, Cards, Seed, Draws, Limit, Gamma, Number, Candidates, Ballots}
 
 -- Words are a line exactly where they have a meaning.
 abbrev pub LinesHaveMeanings : Type 0
@@ -73,6 +73,10 @@ pub record Examples : Type 0 where
   pub no_floor : is_taken Floor (codes "0") ≡ false
   pub most_floor : is_taken Floor (codes "1000000") ≡ true
   pub more_floor : is_taken Floor (codes "1000001") ≡ false
+  pub least_cards : is_taken Cards (codes "1") ≡ true
+  pub no_cards : is_taken Cards (codes "0") ≡ false
+  pub most_cards : is_taken Cards (codes "10000000") ≡ true
+  pub more_cards : is_taken Cards (codes "10000001") ≡ false
   pub least_draws : is_taken Draws (codes "1") ≡ true
   pub no_draws : is_taken Draws (codes "0") ≡ false
   pub most_draws : is_taken Draws (codes "100000") ≡ true
@@ -162,13 +166,25 @@ pub record Meanings : Type 0 where
       ≡ Some (Tabulate (record { ballots = codes "b"; contest = None; nodes = DEFAULT_NODES }))
   pub search :
       command_of (codes "search" ∷ codes "b" ∷ codes "--contest=c" ∷ codes "--workers=2"
-      ∷ codes "--nodes=3" ∷ codes "--floor=4" ∷ [])
+      ∷ codes "--nodes=3" ∷ codes "--floor=4" ∷ codes "--cards=5" ∷ codes "--limit=6"
+      ∷ codes "--gamma=7" ∷ [])
       ≡ Some (Search (record {
         ballots = codes "b";
         contest = Some (codes "c");
         workers = 2;
         nodes = 3;
         floor = 4;
+        plan = Some (record { cards = 5; limit = 6; gamma = 7 });
+      }))
+  pub search_of_cards :
+      command_of (codes "search" ∷ codes "b" ∷ codes "--cards=5" ∷ [])
+      ≡ Some (Search (record {
+        ballots = codes "b";
+        contest = None;
+        workers = DEFAULT_WORKERS;
+        nodes = DEFAULT_NODES;
+        floor = DEFAULT_FLOOR;
+        plan = Some (record { cards = 5; limit = DEFAULT_LIMIT; gamma = DEFAULT_GAMMA });
       }))
   pub search_left_out :
       command_of (codes "search" ∷ codes "b" ∷ [])
@@ -178,6 +194,7 @@ pub record Meanings : Type 0 where
         workers = DEFAULT_WORKERS;
         nodes = DEFAULT_NODES;
         floor = DEFAULT_FLOOR;
+        plan = None;
       }))
   pub check :
       command_of (codes "check" ∷ codes "b" ∷ codes "a" ∷ codes "--contest=c"
@@ -370,6 +387,8 @@ pub record NoLines : Type 0 where
   pub part_of_an_option : is_line (codes "search" ∷ codes "b" ∷ codes "--node=3" ∷ []) ≡ false
   pub option_of_another_command :
       is_line (codes "tabulate" ∷ codes "b" ∷ codes "--floor=3" ∷ []) ≡ false
+  pub limit_without_cards : is_line (codes "search" ∷ codes "b" ∷ codes "--limit=3" ∷ []) ≡ false
+  pub gamma_without_cards : is_line (codes "search" ∷ codes "b" ∷ codes "--gamma=3" ∷ []) ≡ false
   pub hyphen_alone : is_line (codes "report" ∷ codes "-" ∷ []) ≡ false
   pub file_without_name : is_line (codes "report" ∷ codes "" ∷ []) ≡ false
   pub hyphen_as_value :

@@ -6,12 +6,14 @@ use Rattle.irv_base.specs.Names.{Id}
 use Rattle.command_line.specs.Table.{form_of, commands, kind_of, is_needed, default_of}
 use Rattle.command_line.specs.Pieces.{Piece, pieces, files_in, values_in, fits}
 use Rattle.command_line.specs.Values.{number}
+use Rattle.command.specs.declared.plan_terms.PlanTerms.{PlanTerms}
 use Rattle.command_line.specs.declared.commands.Command.{Command}
 use Rattle.command_line.specs.declared.commands.Command.TheVariants.{Search, Tabulate, Check, Trim, Sample, Plan, Open, Audit, Report, Poll, OpenPlurality, AuditPlurality, Trial}
 use Rattle.command_line.specs.declared.table.CommandName.{CommandName}
 use Rattle.command_line.specs.declared.table.CommandName.TheVariants as name
 use Rattle.command_line.specs.declared.table.OptionName.{OptionName}
-use Rattle.command_line.specs.declared.table.OptionName.TheVariants.{Contest, Workers, Nodes, Floor, Seed, Draws, Limit, Gamma, Number, Candidates, Ballots}
+use Rattle.command_line.specs.declared.table.OptionName.TheVariants.{Contest, Workers, Nodes, Floor, Cards, Seed, Draws, Limit, Gamma, Number, Candidates, Ballots}
+use Rattle.command_line.specs.declared.table.Together.{Together}
 
 -- ---- the rules
 
@@ -21,11 +23,24 @@ is_given_right option pieces =
     let times = length (values_in option pieces) in
     nat_le times 1 && (times == 1 || not (is_needed (kind_of option)))
 
--- each piece is right, there are as many files as the command has, and each option is given right
+abbrev pub is_given : OptionName → List Piece → Bool
+is_given option pieces = nat_le 1 (length (values_in option pieces))
+
+-- where the one is given, the other is given too
+abbrev pub is_given_together : Together → List Piece → Bool
+is_given_together two pieces = not (is_given two.option pieces) || is_given two.with pieces
+
+-- each option is given right, and none without the one that it asks for
+abbrev pub are_given : List OptionName → List Together → List Piece → Bool
+are_given options together pieces =
+    list_all (λ option. is_given_right option pieces) options
+    && list_all (λ two. is_given_together two pieces) together
+
+-- each piece is right, there are as many files as the command has, and its options are given right
 abbrev pub are_right : CommandName → List Piece → Bool
 are_right command pieces =
     list_all fits pieces && length (files_in pieces) == length (form_of command).files
-    && list_all (λ option. is_given_right option pieces) (form_of command).options
+    && are_given (form_of command).options (form_of command).together pieces
 
 -- the pieces of a line of the command
 abbrev pub pieces_of : CommandName → List (List ℕ) → List Piece
@@ -60,10 +75,21 @@ contest pieces = value Contest pieces
 abbrev pub seed : List Piece → List ℕ
 seed pieces = unwrap_or (value Seed pieces) []
 
--- the number that is given, or the one of a line that doesn't give it
+-- the number that is given, if one is
+abbrev pub given_number : OptionName → List Piece → Option ℕ
+given_number option pieces = option_map number (value option pieces)
+
+-- or else the one of a line that doesn't give it
 abbrev pub number_of : OptionName → List Piece → ℕ
-number_of option pieces =
-    unwrap_or (option_map number (value option pieces)) (default_of (kind_of option))
+number_of option pieces = unwrap_or (given_number option pieces) (default_of (kind_of option))
+
+-- what clean draws are planned for, where a line gives a number of cards
+abbrev pub terms_with : List Piece → ℕ → PlanTerms
+terms_with pieces cards =
+    record { cards = cards; limit = number_of Limit pieces; gamma = number_of Gamma pieces }
+
+abbrev pub plan_terms : List Piece → Option PlanTerms
+plan_terms pieces = option_map (terms_with pieces) (given_number Cards pieces)
 
 -- the command with its files and the values of its options
 abbrev pub meaning : CommandName → List Piece → Command
@@ -73,6 +99,7 @@ meaning name.Search pieces = Search (record {
   workers = number_of Workers pieces;
   nodes = number_of Nodes pieces;
   floor = number_of Floor pieces;
+  plan = plan_terms pieces;
 })
 meaning name.Tabulate pieces = Tabulate (record {
   ballots = file 0 pieces;

@@ -98,5 +98,5 @@ name_in text = if is_name text then Some text else None
 abbrev pub may_be_number : List ℕ → Bool
 may_be_number text = length text == 0 || (is_number text && nat_lt (number text) (2 ^ 32))
 
-abbrev pub number_or : ℕ → List ℕ → ℕ
-number_or default text = if length text == 0 then default else number text
+abbrev pub number_in : List ℕ → Option ℕ
+number_in text = if length text == 0 then None else Some (number text)

@@ -1,60 +1,73 @@
 -- The commands and the options: a line for each.
 use Rattle.std.specs.Prelude.{ℕ, Bool, true, false, List, [], ◌∷◌, None, Some, is_none, unwrap_or, codes}
-use Rattle.irv_base.specs.declared.limits.TheConstants.{FEWEST_CANDIDATES, GREATEST_GAMMA, GREATEST_LIMIT, MOST_CANDIDATES, MOST_DRAWS, MOST_RECORDS, MOST_WORKERS}
+use Rattle.irv_base.specs.declared.limits.TheConstants.{FEWEST_CANDIDATES, GREATEST_GAMMA, GREATEST_LIMIT, MOST_CANDIDATES, MOST_CARDS, MOST_DRAWS, MOST_RECORDS, MOST_WORKERS}
 use Rattle.command.specs.declared.limits.TheConstants.{MOST_NODES, MOST_FLOOR, MOST_TRIAL_NUMBER, DEFAULT_WORKERS, DEFAULT_NODES, DEFAULT_FLOOR, DEFAULT_LIMIT, DEFAULT_GAMMA, DEFAULT_CANDIDATES, DEFAULT_BALLOTS}
 use Rattle.command_line.specs.declared.table.CommandName.{CommandName}
 use Rattle.command_line.specs.declared.table.CommandName.TheVariants.{Search, Tabulate, Check, Trim, Sample, Plan, Open, Audit, Report, Poll, OpenPlurality, AuditPlurality, Trial}
 use Rattle.command_line.specs.declared.table.OptionName.{OptionName}
 use Rattle.command_line.specs.declared.table.OptionName.TheVariants as option
+use Rattle.command_line.specs.declared.table.Together.{Together}
 use Rattle.command_line.specs.declared.table.ValueKind.{ValueKind}
-use Rattle.command_line.specs.declared.table.ValueKind.TheVariants.{Id, Seed, Number}
+use Rattle.command_line.specs.declared.table.ValueKind.TheVariants.{Id, Seed, Number, FreeNumber}
 
--- what a line of a command has: its word, its files in order, and the options that it may have
+-- what a line of a command has: its word, its files in order, the options that it may have, and which of them it may give only together
+-- with others
 pub record Form : Type 0 where
   pub word : List ℕ
   pub files : List (List ℕ)
   pub options : List OptionName
+  pub together : List Together
 
 abbrev pub form_of : CommandName → Form
 form_of Search = record {
   word = codes "search";
   files = codes "ballots" ∷ [];
-  options = option.Contest ∷ option.Workers ∷ option.Nodes ∷ option.Floor ∷ [];
+  options =
+      option.Contest ∷ option.Workers ∷ option.Nodes ∷ option.Floor ∷ option.Cards ∷ option.Limit
+      ∷ option.Gamma ∷ [];
+  together = record { option = option.Limit; with = option.Cards }
+      ∷ record { option = option.Gamma; with = option.Cards } ∷ [];
 }
 form_of Tabulate =
     record {
       word = codes "tabulate";
       files = codes "ballots" ∷ [];
       options = option.Contest ∷ option.Nodes ∷ [];
+      together = [];
     }
 form_of Check =
     record {
       word = codes "check";
       files = codes "ballots" ∷ codes "assertions" ∷ [];
       options = option.Contest ∷ option.Nodes ∷ [];
+      together = [];
     }
 form_of Trim =
     record {
       word = codes "trim";
       files = codes "ballots" ∷ codes "assertions" ∷ [];
       options = option.Contest ∷ option.Nodes ∷ [];
+      together = [];
     }
 form_of Sample =
     record {
       word = codes "sample";
       files = codes "manifest" ∷ [];
       options = option.Seed ∷ option.Draws ∷ [];
+      together = [];
     }
 form_of Plan =
     record {
       word = codes "plan";
       files = codes "manifest" ∷ codes "assertions" ∷ [];
       options = option.Limit ∷ option.Gamma ∷ [];
+      together = [];
     }
 form_of Open = record {
   word = codes "open";
   files = codes "ballots" ∷ codes "manifest" ∷ codes "assertions" ∷ [];
   options = option.Seed ∷ option.Contest ∷ option.Limit ∷ option.Gamma ∷ option.Nodes ∷ [];
+  together = [];
 }
 form_of Audit = record {
   word = codes "audit";
@@ -62,27 +75,32 @@ form_of Audit = record {
       codes "session" ∷ codes "ballots" ∷ codes "manifest" ∷ codes "assertions"
       ∷ codes "seen" ∷ [];
   options = option.Draws ∷ option.Nodes ∷ [];
+  together = [];
 }
-form_of Report = record { word = codes "report"; files = codes "session" ∷ []; options = [] }
+form_of Report = record { word = codes "report"; files = codes "session" ∷ []; options = []; together = [] }
 form_of Poll = record {
   word = codes "poll";
   files = codes "manifest" ∷ codes "assertions" ∷ codes "seen" ∷ [];
   options = option.Seed ∷ option.Draws ∷ option.Limit ∷ option.Gamma ∷ option.Nodes ∷ [];
+  together = [];
 }
 form_of OpenPlurality = record {
   word = codes "plurality";
   files = codes "ballots" ∷ codes "manifest" ∷ [];
   options = option.Seed ∷ option.Contest ∷ option.Limit ∷ option.Gamma ∷ [];
+  together = [];
 }
 form_of AuditPlurality = record {
   word = codes "plurality";
   files = codes "session" ∷ codes "ballots" ∷ codes "manifest" ∷ codes "seen" ∷ [];
   options = option.Draws ∷ [];
+  together = [];
 }
 form_of Trial = record {
   word = codes "trial";
   files = [];
   options = option.Number ∷ option.Candidates ∷ option.Ballots ∷ option.Workers ∷ option.Nodes ∷ [];
+  together = [];
 }
 
 abbrev pub commands : List CommandName
@@ -96,6 +114,7 @@ text_of option.Contest = codes "contest"
 text_of option.Workers = codes "workers"
 text_of option.Nodes = codes "nodes"
 text_of option.Floor = codes "floor"
+text_of option.Cards = codes "cards"
 text_of option.Seed = codes "seed"
 text_of option.Draws = codes "draws"
 text_of option.Limit = codes "limit"
@@ -110,6 +129,7 @@ kind_of option.Contest = Id
 kind_of option.Workers = Number 1 MOST_WORKERS (Some DEFAULT_WORKERS)
 kind_of option.Nodes = Number 1 MOST_NODES (Some DEFAULT_NODES)
 kind_of option.Floor = Number 1 MOST_FLOOR (Some DEFAULT_FLOOR)
+kind_of option.Cards = FreeNumber 1 MOST_CARDS
 kind_of option.Seed = Seed
 kind_of option.Draws = Number 1 MOST_DRAWS None
 kind_of option.Limit = Number 1 GREATEST_LIMIT (Some DEFAULT_LIMIT)
@@ -122,6 +142,7 @@ abbrev pub is_number_kind : ValueKind → Bool
 is_number_kind Id = false
 is_number_kind Seed = false
 is_number_kind (Number least most default) = true
+is_number_kind (FreeNumber least most) = true
 
 abbrev pub is_number_option : OptionName → Bool
 is_number_option option = is_number_kind (kind_of option)
@@ -131,9 +152,11 @@ abbrev pub is_needed : ValueKind → Bool
 is_needed Id = false
 is_needed Seed = true
 is_needed (Number least most default) = is_none default
+is_needed (FreeNumber least most) = false
 
 -- the number of a line that doesn't give it
 abbrev pub default_of : ValueKind → ℕ
 default_of Id = 0
 default_of Seed = 0
 default_of (Number least most default) = unwrap_or default 0
+default_of (FreeNumber least most) = 0

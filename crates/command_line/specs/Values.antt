@@ -7,7 +7,7 @@ use Rattle.irv_base.specs.Names.{is_name}
 use Rattle.sampler.specs.Seeds.{is_seed}
 use Rattle.irv_base.specs.declared.limits.TheConstants.{MOST_NUMBER_DIGITS}
 use Rattle.command_line.specs.declared.table.ValueKind.{ValueKind}
-use Rattle.command_line.specs.declared.table.ValueKind.TheVariants.{Id, Seed, Number}
+use Rattle.command_line.specs.declared.table.ValueKind.TheVariants.{Id, Seed, Number, FreeNumber}
 
 -- 1 to MOST_NUMBER_DIGITS digits, leading zeros allowed
 abbrev pub is_number : List ℕ → Bool
@@ -17,8 +17,12 @@ is_number text = nat_le 1 (length text) && nat_le (length text) MOST_NUMBER_DIGI
 abbrev pub number : List ℕ → ℕ
 number text = digits_value 10 text
 
+abbrev pub is_number_within : ℕ → ℕ → List ℕ → Bool
+is_number_within least most text =
+    is_number text && nat_le least (number text) && nat_le (number text) most
+
 abbrev pub is_value : ValueKind → List ℕ → Bool
 is_value Id text = is_name text
 is_value Seed text = is_seed text
-is_value (Number least most default) text =
-    is_number text && nat_le least (number text) && nat_le (number text) most
+is_value (Number least most default) text = is_number_within least most text
+is_value (FreeNumber least most) text = is_number_within least most text

@@ -4,12 +4,12 @@ ghost use Rattle.std.specs.List.{list_all};
 ghost use Rattle.clap.specs.Words.{first_of, rows_of, found_of};
 ghost use Rattle.command_line.specs.Table.{is_number_option};
 ghost use Rattle.command_line.specs.Pieces.{Piece, fits};
-ghost use Rattle.command_line.specs.Line.{contest, number_of, seed};
-ghost use Rattle.command_line.specs.OneForm.{IsShown, HasSeed, name_in, may_be_number, number_or};
+ghost use Rattle.command_line.specs.Line.{contest, given_number, number_of, plan_terms, seed};
+ghost use Rattle.command_line.specs.OneForm.{IsShown, HasSeed, name_in, may_be_number, number_in};
 
 use crate::table::OptionName;
 use clap::ArgMatches;
-use command::FileName;
+use command::{FileName, PlanTerms};
 use irv_base::Name;
 use sampler::Seed;
 use std::alloc::{AllocError, Global};
@@ -47,13 +47,23 @@ pub fn seed(matches: &ArgMatches<'_>) -> Seed
     Seed::read(text(matches, OptionName::Seed.text())).unwrap()
 }
 
-fn number_or(default: u32, text: &str) -> u32
-    ensures { may_be_number text.now ≡ true → result ≡ number_or default text.now }
+fn number_in(text: &str) -> Option<u32>
+    ensures { may_be_number text.now ≡ true → result ≡ number_in text.now }
 {
     if text.is_empty() {
-        return default;
+        return None;
     }
-    text.parse::<u32>().unwrap_or(default)
+    text.parse::<u32>().ok()
+}
+
+/// The number that a line gives, if it gives one.
+pub fn given_number(option: OptionName, matches: &ArgMatches<'_>) -> Option<u32>
+    requires { IsTrue (is_number_option option) }
+    ensures { (pieces : List Piece) → list_all fits pieces ≡ true
+        → IsShown option pieces (rows_of (found_of matches.now))
+        → result ≡ given_number option pieces }
+{
+    number_in(text(matches, option.text()))
 }
 
 /// The number that a line gives, or the one of a line that doesn't.
@@ -63,7 +73,25 @@ pub fn number(option: OptionName, matches: &ArgMatches<'_>) -> u32
         → IsShown option pieces (rows_of (found_of matches.now))
         → result ≡ number_of option pieces }
 {
-    number_or(option.kind().default(), text(matches, option.text()))
+    given_number(option, matches).unwrap_or(option.kind().default())
+}
+
+/// What clean draws are planned for, if a line gives a number of cards.
+pub fn plan_terms(matches: &ArgMatches<'_>) -> Option<PlanTerms>
+    ensures { (pieces : List Piece) → list_all fits pieces ≡ true
+        → IsShown OptionName.Cards pieces (rows_of (found_of matches.now))
+        → IsShown OptionName.Limit pieces (rows_of (found_of matches.now))
+        → IsShown OptionName.Gamma pieces (rows_of (found_of matches.now))
+        → result ≡ plan_terms pieces }
+{
+    let limit = number(OptionName::Limit, matches);
+    let gamma = number(OptionName::Gamma, matches);
+    let cards = given_number(OptionName::Cards, matches)?;
+    Some(PlanTerms {
+        cards,
+        limit,
+        gamma,
+    })
 }
 
 /// The name of a file.

@@ -6,7 +6,7 @@ ghost use Rattle.command_line.specs.Line.{is_line, are_right, pieces_of, command
 ghost use Rattle.command_line.specs.OneForm.{AreOfLine, IsMeant};
 ghost use Rattle.command_line.specs.Laws.{IsChecked};
 
-use crate::arguments::{contest, file, number, seed};
+use crate::arguments::{contest, file, number, plan_terms, seed};
 use crate::line::line_named;
 use crate::matches::matches_of;
 use crate::one_form::one_form;
@@ -59,6 +59,7 @@ fn search(alloc: Global, matches: &ArgMatches<'_>) -> Result<Command, AllocError
         workers: number(OptionName::Workers, matches),
         nodes: number(OptionName::Nodes, matches),
         floor: number(OptionName::Floor, matches),
+        plan: plan_terms(matches),
     }))
 }
 

@@ -1,15 +1,15 @@
 // The commands and the options: a line for each.
-ghost use Rattle.std.specs.Prelude.{◌≡◌, map};
+ghost use Rattle.std.specs.Prelude.{◌≡◌, [], map};
 ghost use Rattle.command_line.specs.Table.{form_of, text_of, kind_of, is_needed, default_of};
-ghost use Rattle.command_line.specs.declared.table.ValueKind.TheVariants.{Number};
+ghost use Rattle.command_line.specs.declared.table.ValueKind.TheVariants.{Number, FreeNumber};
 
 use command::{
     DEFAULT_BALLOTS, DEFAULT_CANDIDATES, DEFAULT_FLOOR, DEFAULT_GAMMA, DEFAULT_LIMIT,
     DEFAULT_NODES, DEFAULT_WORKERS, MOST_FLOOR, MOST_NODES, MOST_TRIAL_NUMBER,
 };
 use irv_base::{
-    FEWEST_CANDIDATES, GREATEST_GAMMA, GREATEST_LIMIT, MOST_CANDIDATES, MOST_DRAWS, MOST_RECORDS,
-    MOST_WORKERS,
+    FEWEST_CANDIDATES, GREATEST_GAMMA, GREATEST_LIMIT, MOST_CANDIDATES, MOST_CARDS, MOST_DRAWS,
+    MOST_RECORDS, MOST_WORKERS,
 };
 
 /// The commands that there are.
@@ -54,6 +54,8 @@ pub enum OptionName {
     Nodes,
     /// The least margin of a search, in votes.
     Floor,
+    /// How many cards the manifest will have, for an assertion file that carries its clean draws.
+    Cards,
     /// The seed of the draws.
     Seed,
     /// How many draws, counted from the first of the audit.
@@ -86,9 +88,26 @@ pub enum ValueKind {
         /// The number of a line that doesn't give one. Without it a line has to give one.
         default: Option<u32>,
     },
+    /// A number within these limits. A line may leave it out, and has no number for that case.
+    FreeNumber {
+        /// The least number.
+        least: u32,
+        /// The greatest number.
+        most: u32,
+    },
 }
 
-/// What a line of a command has: its word, its files in order, and the options that it may have.
+/// An option that a line may give only where it gives another one too.
+#[derive(Clone, Copy, Debug, PartialEq, Eq)]
+pub struct Together {
+    /// The option.
+    pub option: OptionName,
+    /// The one that it has to stand with.
+    pub with: OptionName,
+}
+
+/// What a line of a command has: its word, its files in order, the options that it may have, and which of them it may give only
+/// together with others.
 #[derive(Clone, Copy)]
 pub struct Form<'f> {
     /// The command's word.
@@ -97,6 +116,8 @@ pub struct Form<'f> {
     pub files: &'f [&'f str],
     /// The options that a line may have, in any order.
     pub options: &'f [OptionName],
+    /// Those of them that ask for another one.
+    pub together: &'f [Together],
 }
 
 /// All commands.
@@ -131,11 +152,26 @@ pub const SESSION: &str = "session";
 /// The name of a file of seen cards.
 pub const SEEN: &str = "seen";
 
-const SEARCH_OPTIONS: [OptionName; 4] = [
+const SEARCH_OPTIONS: [OptionName; 7] = [
     OptionName::Contest,
     OptionName::Workers,
     OptionName::Nodes,
     OptionName::Floor,
+    OptionName::Cards,
+    OptionName::Limit,
+    OptionName::Gamma,
+];
+
+// Without a number of cards no draws are planned.
+const SEARCH_TOGETHER: [Together; 2] = [
+    Together {
+        option: OptionName::Limit,
+        with: OptionName::Cards,
+    },
+    Together {
+        option: OptionName::Gamma,
+        with: OptionName::Cards,
+    },
 ];
 
 const OPEN_OPTIONS: [OptionName; 5] = [
@@ -175,12 +211,24 @@ impl<'f> Form<'f> {
         ensures files { map (λ name. name.now) result.files.now
             ≡ map (λ name. name.now) files.entry.now }
         ensures options { result.options.now ≡ options.entry.now }
+        ensures together { result.together.now ≡ [] }
     {
         Form {
             word,
             files,
             options,
+            together: &[],
         }
+    }
+
+    fn together(self, together: &'f [Together]) -> Form<'f>
+        ensures word { result.word.now ≡ self.entry.word.now }
+        ensures files { map (λ name. name.now) result.files.now
+            ≡ map (λ name. name.now) self.entry.files.now }
+        ensures options { result.options.now ≡ self.entry.options.now }
+        ensures together { result.together.now ≡ together.entry.now }
+    {
+        Form { together, ..self }
     }
 }
 
@@ -190,9 +238,12 @@ impl CommandName {
         ensures word { result.word.now ≡ (form_of self).word }
         ensures files { map (λ name. name.now) result.files.now ≡ (form_of self).files }
         ensures options { result.options.now ≡ (form_of self).options }
+        ensures together { result.together.now ≡ (form_of self).together }
     {
         match self {
-            CommandName::Search => Form::of("search", &[BALLOTS], &SEARCH_OPTIONS),
+            CommandName::Search => {
+                Form::of("search", &[BALLOTS], &SEARCH_OPTIONS).together(&SEARCH_TOGETHER)
+            }
             CommandName::Tabulate => Form::of(
                 "tabulate",
                 &[BALLOTS],
@@ -251,6 +302,12 @@ fn number(least: u32, most: u32, default: Option<u32>) -> ValueKind
     }
 }
 
+fn free_number(least: u32, most: u32) -> ValueKind
+    ensures { result ≡ FreeNumber least most }
+{
+    ValueKind::FreeNumber { least, most }
+}
+
 impl OptionName {
     /// The option's name, without the hyphens.
     pub fn text<'t>(self) -> &'t str
@@ -261,6 +318,7 @@ impl OptionName {
             OptionName::Workers => "workers",
             OptionName::Nodes => "nodes",
             OptionName::Floor => "floor",
+            OptionName::Cards => "cards",
             OptionName::Seed => "seed",
             OptionName::Draws => "draws",
             OptionName::Limit => "limit",
@@ -280,6 +338,7 @@ impl OptionName {
             OptionName::Workers => number(1, MOST_WORKERS, Some(DEFAULT_WORKERS)),
             OptionName::Nodes => number(1, MOST_NODES, Some(DEFAULT_NODES)),
             OptionName::Floor => number(1, MOST_FLOOR, Some(DEFAULT_FLOOR)),
+            OptionName::Cards => free_number(1, MOST_CARDS),
             OptionName::Seed => ValueKind::Seed,
             OptionName::Draws => number(1, MOST_DRAWS, None),
             OptionName::Limit => number(1, GREATEST_LIMIT, Some(DEFAULT_LIMIT)),
@@ -302,6 +361,7 @@ impl ValueKind {
             ValueKind::Id => false,
             ValueKind::Seed => true,
             ValueKind::Number { default, .. } => default.is_none(),
+            ValueKind::FreeNumber { .. } => false,
         }
     }
 

@@ -2,7 +2,7 @@
 ghost use Rattle.std.specs.Prelude.{◌≡◌, IsTrue};
 ghost use Rattle.std.specs.Char.{is_ascii_digit};
 ghost use Rattle.std.specs.List.{list_all};
-ghost use Rattle.command_line.specs.Values.{is_number, number, is_value};
+ghost use Rattle.command_line.specs.Values.{is_number, is_number_within, number, is_value};
 
 use crate::table::ValueKind;
 use irv_base::{MOST_NUMBER_DIGITS, Name};
@@ -28,6 +28,12 @@ pub fn number(text: &str) -> u64
     text.parse::<u64>().unwrap()
 }
 
+fn is_number_within(least: u32, most: u32, text: &str) -> bool
+    ensures { result ≡ is_number_within least most text.now }
+{
+    is_number(text) && (u64::from(least)..=u64::from(most)).contains(&number(text))
+}
+
 impl ValueKind {
     /// Whether the text is a value of this kind.
     pub fn is_value(self, text: &str) -> bool
@@ -36,9 +42,8 @@ impl ValueKind {
         match self {
             ValueKind::Id => Name::read(text.as_bytes()).is_some(),
             ValueKind::Seed => Seed::read(text).is_ok(),
-            ValueKind::Number { least, most, .. } => {
-                is_number(text) && (u64::from(least)..=u64::from(most)).contains(&number(text))
-            }
+            ValueKind::Number { least, most, .. } => is_number_within(least, most, text),
+            ValueKind::FreeNumber { least, most } => is_number_within(least, most, text),
         }
     }
 }

@@ -1,17 +1,21 @@
--- What a search finds, the checker accepts.
-use Rattle.std.proofs.Common.{◌≡◌, ℕ, true, List, length, Some, Ok, refl, sym, subst, arith, ◌∙◌}
+-- What a search finds, the checker accepts, with the draws of a clean audit or without.
+use Rattle.std.proofs.Common.{◌≡◌, ℕ, true, List, length, Option, Some, None, Ok, IfSome, refl, sym, ap, subst, arith, ◌∙◌}
 use Rattle.irv_base.specs.Orders.{is_order}
 use Rattle.assertions.specs.Certificate.{certificate_claims}
 use Rattle.assertions.specs.Suffixes.{IsAlternative}
 use Rattle.assertions.proofs.Alternatives.{order_is}
 use Rattle.assertions.proofs.Endings.{alternative_orders_are}
 use Rattle.assertions.proofs.Decided.{decided-positive}
+use Rattle.irv_base.specs.Names.{Id}
 use Rattle.ballot_reader.specs.Ballots.{BallotFile}
-use Rattle.assertion_file.specs.Content.{IsMargin, IsSound, IsSoundClaim}
+use Rattle.ballot_reader.specs.Grammar.{ballots_of}
+use Rattle.assertions.specs.declared.assertion.Claim.{Claim}
+use Rattle.assertion_file.specs.Content.{Content, Plan, IsMargin, IsSound, IsSoundClaim, IsSoundPlan}
 use Rattle.assertion_file.specs.Reading.{assertion_file_of}
 use Rattle.assertion_file.specs.Text.{assertion_file_text}
 use Rattle.assertion_file.proofs.Printed.{printed_reads_back}
 use Rattle.cover_checker.specs.Checks.{IsAnswer}
+use Rattle.cover_checker.specs.Draws.{IsPlanOf}
 use Rattle.cover_checker.specs.Holds.{IsCertificateOf}
 use Rattle.cover_checker.specs.declared.checked.Checked.TheVariants.{Accepted}
 use Rattle.cover_checker.proofs.Certified.{certificate_is_accepted}
@@ -19,13 +23,21 @@ use Rattle.cover_checker.proofs.Held.{all-from_members}
 use Rattle.contest_search.specs.Budget.{IsInBudget}
 use Rattle.contest_search.specs.Certificate.{low_of, margin_of, order_of, certificate_of}
 use Rattle.contest_search.specs.Contest.{candidate_count, IsWon, IsElected}
-use Rattle.contest_search.specs.Laws.{FoundIsAccepted}
+use Rattle.contest_search.specs.Found.{IsFoundIn}
+use Rattle.contest_search.specs.Laws.{FoundIsAccepted, PlannedIsAccepted}
+use Rattle.contest_search.specs.Planned.{plan_over}
 use Rattle.contest_search.proofs.Contests.{winner-below}
 use Rattle.contest_search.proofs.Findings.{best-margin, claim-sound}
+use Rattle.contest_search.proofs.Plans.{plan_sound}
 use Rattle.contest_search.proofs.ReadBallots.{IsFit, ballots_fit}
 
+-- it is the certificate of these ballots, reads back from its text, and is accepted
+abbrev pub IsTaken : ℕ → BallotFile → Content → Type 0
+IsTaken nodes ballots file =
+    IsCertificateOf ballots file × (assertion_file_of (assertion_file_text file) ≡ Ok file) × IsAnswer nodes ballots file (Ok Accepted)
+
 module _ (ballots : BallotFile) (fit : IsFit ballots) (winner : ℕ) (won : IsWon ballots winner) (decided : IsElected ballots winner) (order : List ℕ)
-    (least : order_of ballots winner ≡ Some order) where
+    (least : order_of ballots winner ≡ Some order) (plan : Option Plan) where
   is_an_order : is_order (candidate_count ballots) order ≡ true
   is_an_order =
       let n = candidate_count ballots in
@@ -35,8 +47,15 @@ module _ (ballots : BallotFile) (fit : IsFit ballots) (winner : ℕ) (won : IsWo
       let same : first ≡ order = cc in
       subst (λ o. is_order n o ≡ true) same alternative.0
 
-  sound : IsSound (certificate_of ballots winner order)
-  sound =
+  abbrev claims : List Claim
+  claims = certificate_claims (candidate_count ballots) ballots.rankings winner
+
+  -- the certificate with this plan
+  abbrev file : Content
+  file = record (certificate_of ballots winner order) { plan = plan }
+
+  sound : IfSome plan (IsSoundPlan (length ballots.rankings) (length claims)) → IsSound file
+  sound planned =
       let n = candidate_count ballots in
       let records = ballots.rankings in
       let below = winner-below ballots winner won in
@@ -52,11 +71,12 @@ module _ (ballots : BallotFile) (fit : IsFit ballots) (winner : ℕ) (won : IsWo
         winner = below;
         order = is_an_order;
         margin = margin;
-        claims = all-from_members (IsSoundClaim n (length records)) (certificate_claims n records winner) (claim-sound n winner records);
+        claims = all-from_members (IsSoundClaim n (length records)) claims (claim-sound n winner records);
+        plan = planned;
       }
 
-  says : IsCertificateOf ballots (certificate_of ballots winner order)
-  says = record {
+  says : IfSome plan (IsPlanOf claims) → IsCertificateOf ballots file
+  says clean = record {
     contest = refl;
     candidates = refl;
     records = refl;
@@ -64,23 +84,41 @@ module _ (ballots : BallotFile) (fit : IsFit ballots) (winner : ℕ) (won : IsWo
     margin = refl;
     order = least;
     claims = refl;
+    draws = clean;
   }
 
-  accepted : (nodes : ℕ) → IsInBudget ballots winner nodes → IsAnswer nodes ballots (certificate_of ballots winner order) (Ok Accepted)
-  accepted nodes budget =
-      certificate_is_accepted nodes ballots (certificate_of ballots winner order) sound says
+  accepted : IfSome plan (IsSoundPlan (length ballots.rankings) (length claims)) → IfSome plan (IsPlanOf claims) → (nodes : ℕ) →
+      IsInBudget ballots winner nodes → IsAnswer nodes ballots file (Ok Accepted)
+  accepted planned clean nodes budget =
+      certificate_is_accepted nodes ballots file (sound planned) (says clean)
       (λ c below other. let within = budget c (record { candidate = below; other = other }) in omega (arith, within))
 
-  reads : assertion_file_of (assertion_file_text (certificate_of ballots winner order)) ≡ Ok (certificate_of ballots winner order)
-  reads = printed_reads_back (certificate_of ballots winner order) sound (record { contest = fit.contest; candidates = fit.candidates })
+  reads : IfSome plan (IsSoundPlan (length ballots.rankings) (length claims)) → assertion_file_of (assertion_file_text file) ≡ Ok file
+  reads planned = printed_reads_back file (sound planned) (record { contest = fit.contest; candidates = fit.candidates })
+
+  taken : IfSome plan (IsSoundPlan (length ballots.rankings) (length claims)) → IfSome plan (IsPlanOf claims) → (nodes : ℕ) →
+      IsInBudget ballots winner nodes → IsTaken nodes ballots file
+  taken planned clean nodes budget = (says clean, reads planned, accepted planned clean nodes budget)
+
+-- whatever clean draws it carries, it is the certificate, reads back and is accepted
+pub accepted_with : (nodes : ℕ) (bytes : List ℕ) (asked : Option Id) (ballots : BallotFile) (file : Content) (plan : Option Plan) →
+    ballots_of bytes asked ≡ Ok ballots → IsFoundIn nodes ballots file → IfSome plan (IsSoundPlan file.records (length file.claims)) →
+    IfSome plan (IsPlanOf file.claims) → IsTaken nodes ballots (record file { plan = plan })
+accepted_with nodes bytes asked ballots file plan read found sound clean =
+    let fit = ballots_fit bytes asked ballots read in
+    let c = found.is in
+    subst (λ (f : Content). IsTaken nodes ballots (record f { plan = plan })) (sym c.is)
+    (taken ballots fit c.winner c.won c.decided c.order c.least plan
+    (subst (λ (f : Content). IfSome plan (IsSoundPlan f.records (length f.claims))) c.is sound)
+    (subst (λ (f : Content). IfSome plan (IsPlanOf f.claims)) c.is clean) nodes found.budget)
 
 pub found_is_accepted : FoundIsAccepted
 found_is_accepted nodes bytes asked ballots file read found =
-    let fit = ballots_fit bytes asked ballots read in
-    let c = found.is in
-    let known = certificate_of ballots c.winner c.order in
-    let reads' : assertion_file_of (assertion_file_text known) ≡ Ok known = reads ballots fit c.winner c.won c.decided c.order c.least in (
-      subst (IsCertificateOf ballots) (sym c.is) (says ballots fit c.winner c.won c.decided c.order c.least),
-      subst (λ f. assertion_file_of (assertion_file_text f) ≡ Ok f) (sym c.is) reads',
-      subst (λ f. IsAnswer nodes ballots f (Ok Accepted)) (sym c.is) (accepted ballots fit c.winner c.won c.decided c.order c.least nodes found.budget),
-    )
+    let none : None ≡ file.plan = sym (ap (λ (f : Content). f.plan) found.is.is) in
+    let same : record file { plan = None } ≡ file = λ i. record file { plan = none i } in
+    subst (IsTaken nodes ballots) same (accepted_with nodes bytes asked ballots file None read found tt tt)
+
+pub planned_is_accepted : PlannedIsAccepted
+planned_is_accepted cards gamma limit nodes bytes asked ballots file can read found =
+    accepted_with nodes bytes asked ballots file (Some (plan_over cards gamma limit file.claims)) read found
+    (plan_sound cards gamma limit file.records file.claims can) refl

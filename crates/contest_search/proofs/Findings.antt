@@ -1,5 +1,5 @@
 -- What a search finds, from what its parts answer.
-use Rattle.std.proofs.Common.{◌≡◌, ◌↔◌, inl, inr, ℕ, ◌<◌, ◌≤◌, true, List, length, All, Some, sym, ap, subst, arith, ltb-true, ◌∙◌}
+use Rattle.std.proofs.Common.{◌≡◌, ◌↔◌, inl, inr, ℕ, ◌<◌, ◌≤◌, true, List, length, All, Some, None, sym, ap, subst, arith, ltb-true, ◌∙◌}
 use Rattle.std.proofs.lemmas.List.Sums.{count_by-le-length}
 use Rattle.irv_base.specs.Orders.{is_order, Elects}
 use Rattle.irv_base.specs.Tabulation.{IsDecided, HasNoTie}
@@ -206,6 +206,7 @@ certified ballots t end nodes x file two is some best c shown =
       margin = margin i;
       order = x.order;
       claims = claims i;
+      plan = None;
     }
 
 -- ---- from what the parts answer for whatever records the bag is of

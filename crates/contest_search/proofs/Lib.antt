@@ -4,4 +4,5 @@ pub mod Certificates
 pub mod Findings
 pub mod FoundThere
 pub mod Nodes
+pub mod Plans
 pub mod Accepted

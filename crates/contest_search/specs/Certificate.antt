@@ -1,5 +1,5 @@
 -- The canonical certificate of a contest that is decided.
-use Rattle.std.specs.Prelude.{◌≡◌, ℕ, List, length, Option, Some}
+use Rattle.std.specs.Prelude.{◌≡◌, ℕ, List, length, Option, None, Some}
 use Rattle.assertions.specs.Certificate.{certificate_claims, certificate_order}
 use Rattle.assertions.specs.Hardness.{low, best_margin}
 use Rattle.ballot_reader.specs.Ballots.{BallotFile}
@@ -28,6 +28,7 @@ certificate_of ballots winner order = record {
   margin = margin_of ballots winner;
   order = order;
   claims = certificate_claims (candidate_count ballots) ballots.rankings winner;
+  plan = None;
 }
 
 -- the contest is decided, and the file is its certificate

@@ -1,5 +1,5 @@
 -- What a search of a contest finds.
-use Rattle.std.specs.Prelude.{◌≡◌, ◌≤◌, ◌<◌, ℕ, List, length, All, IsTrue}
+use Rattle.std.specs.Prelude.{◌≡◌, ◌≤◌, ◌<◌, ℕ, List, length, None, All, IsTrue}
 use Rattle.irv_base.specs.Orders.{is_order}
 use Rattle.set_tallies.specs.Bags.{Kept, IsOf}
 use Rattle.irv_tabulator.specs.Results.{IsTabulation}
@@ -49,6 +49,7 @@ content_of ballots winner certificate = record {
   margin = certificate.margin;
   order = certificate.order;
   claims = certificate.claims.items;
+  plan = None;
 }
 
 -- it has what an assertion file of them keeps

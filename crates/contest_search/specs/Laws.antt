@@ -1,4 +1,4 @@
--- How many nodes suffice for a search, and what the checker says of what it finds.
+-- How many nodes suffice for a search, and what the checker says of what it finds, with the draws of a clean audit or without.
 use Rattle.std.specs.Prelude.{◌≡◌, ℕ, ◌≤◌, ◌-◌, ◌*◌, List, Option, Ok}
 use Rattle.assertions.specs.Suffixes.{factorial}
 use Rattle.irv_base.specs.Names.{Id}
@@ -13,6 +13,7 @@ use Rattle.cover_checker.specs.declared.checked.Checked.TheVariants.{Accepted}
 use Rattle.contest_search.specs.Budget.{nodes_for}
 use Rattle.contest_search.specs.Contest.{candidate_count, IsOther}
 use Rattle.contest_search.specs.Found.{IsFoundIn}
+use Rattle.contest_search.specs.Planned.{planned, CanBePlanned}
 
 -- No search needs more nodes for a candidate than twice the factorial of the number of the other candidates.
 abbrev pub NodesAreFew : Type 0
@@ -29,3 +30,14 @@ FoundIsAccepted =
     IsCertificateOf ballots file
     × (assertion_file_of (assertion_file_text file) ≡ Ok file)
     × IsAnswer nodes ballots file (Ok Accepted)
+
+-- So is it with the draws of a clean audit.
+abbrev pub PlannedIsAccepted : Type 0
+PlannedIsAccepted =
+    (cards gamma limit nodes : ℕ) (bytes : List ℕ) (asked : Option Id) (ballots : BallotFile)
+    (file : Content) →
+    CanBePlanned cards gamma limit file.records → ballots_of bytes asked ≡ Ok ballots →
+    IsFoundIn nodes ballots file → let planned = planned cards gamma limit file in
+    IsCertificateOf ballots planned
+    × (assertion_file_of (assertion_file_text planned) ≡ Ok planned)
+    × IsAnswer nodes ballots planned (Ok Accepted)

@@ -2,4 +2,5 @@ pub mod Contest
 pub mod Certificate
 pub mod Budget
 pub mod Found
+pub mod Planned
 pub mod Laws

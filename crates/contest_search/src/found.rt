@@ -6,7 +6,7 @@ ghost use Rattle.irv_base.specs.declared.limits.TheConstants.{MOST_WORKERS};
 ghost use Rattle.contest_search.specs.Found.{FoundIn, IsCounted, IsBestOf, IsPrintable, content_of};
 
 use crate::searchable::Searchable;
-use assertion_file::AssertionFile;
+use assertion_file::{AssertionFile, Parts};
 use assertions::Claim;
 use bound_search::{RaceEnd, RaceFault, race};
 use certifier::{CertFault, Certificate, certify};
@@ -163,5 +163,14 @@ fn file_of(
     } = certificate;
     let names = contest.candidates().to_vec(alloc)?;
     let records = contest.rankings().len() as u32;
-    Ok(AssertionFile::new(*contest.id(), names, records, winner, margin, order, claims))
+    Ok(AssertionFile::new(Parts {
+        contest: *contest.id(),
+        candidates: names,
+        records,
+        winner,
+        margin,
+        order,
+        claims,
+        plan: None,
+    }))
 }

@@ -1,5 +1,5 @@
 //! The laws of a search: each holds of every value that it names, and has no code.
-ghost use Rattle.contest_search.specs.Laws.{FoundIsAccepted, NodesAreFew};
+ghost use Rattle.contest_search.specs.Laws.{FoundIsAccepted, NodesAreFew, PlannedIsAccepted};
 
 /// No search needs more nodes for a candidate than twice the factorial of the number of the other candidates.
 pub fn nodes_are_few()
@@ -9,4 +9,9 @@ pub fn nodes_are_few()
 /// What a search finds is the canonical certificate, reads back from its text, and is accepted by the checker.
 pub fn found_is_accepted()
     ensures { FoundIsAccepted }
+{}
+
+/// So is it with the draws of a clean audit.
+pub fn planned_is_accepted()
+    ensures { PlannedIsAccepted }
 {}

@@ -1,9 +1,11 @@
 //! The search of a contest: its tabulation, the race for the best margin, and the certificate of that margin, as values without texts.
 #![tactic(auto)]
 
+mod draws;
 mod found;
 pub mod laws;
 mod searchable;
 
+pub use draws::planned;
 pub use found::{Found, find};
 pub use searchable::Searchable;

@@ -12,8 +12,11 @@ use std::thread::Threads;
 // So few candidates have sums whatever the number of ballots.
 const FEW: u32 = 5;
 
-// So many candidates have no sums at first where there are ten ballots. They are made before the rows of all sets were counted.
-const MANY: u32 = 13;
+// So many candidates have no sums where there are ten ballots, so that rows are counted.
+const MANY: u32 = 17;
+
+// The rows are looked at of the sets of so many candidates, more of them than there are places for rows at first.
+const LOOKED_AT: u32 = 13;
 
 // Ten ballots so often are one share for one worker, two even ones for two, and for more of them two full ones and part of a third.
 const TIMES: u32 = 1001;
@@ -26,32 +29,35 @@ fn counts_first_choices(rt: HostRuntime) {
     assert!(rt; tallies.records() == 3);
     assert!(rt; tallies.ahead().first(ONE) == 2);
     assert!(rt; tallies.ahead().ahead(ZERO, ONE) == 1);
-    let row = tallies.tally(CandSet::empty().with(ONE)).expect(&rt, "row");
+    let one = CandSet::empty().with(ONE);
+    let row = tallies.tally(one).expect(&rt, "row");
     assert!(rt; row.as_slice() == [0, 2].as_slice());
+    let lent = tallies.row(one).expect(&rt, "lent");
+    assert!(rt; lent.get(1).copied() == Some(2));
 }
 
-// On how many ballots the candidate 18 is the first of the set.
-fn votes_of_18(tallies: &mut Tallies, set: CandSet) -> Option<u32>
+// On how many ballots the candidate 10 is the first of the set.
+fn votes_of_10(tallies: &mut Tallies, set: CandSet) -> Option<u32>
     requires { set < 2 ^ tallies.old.bag.n }
     ensures { tallies.new ≡ tallies.old }
 {
     let row = tallies.tally(set).ok()?;
-    row.get(18).copied()
+    row.get(10).copied()
 }
 
-// The rows of {1} and {1, 18} fall on the same place.
+// The rows of {0} and {10} fall on the same place.
 #[test]
 fn counts_again_after_another_row_at_its_place(rt: HostRuntime) {
-    let rankings = [only(ONE), only(Candidate(18)), only(Candidate(18))];
+    let rankings = [only(ZERO), only(Candidate(10)), only(Candidate(10))];
     let counted = Counted::of(&rt, 19, rankings.as_slice(), 1).expect(&rt, "counted");
     let mut tallies = counted.tallies().expect(&rt, "tallies");
-    let one = CandSet::empty().with(ONE);
-    let two = one.with(Candidate(18));
-    assert!(rt; votes_of_18(&mut tallies, one) == Some(0));
-    assert!(rt; votes_of_18(&mut tallies, one) == Some(0));
-    assert!(rt; votes_of_18(&mut tallies, two) == Some(2));
-    assert!(rt; votes_of_18(&mut tallies, two) == Some(2));
-    assert!(rt; votes_of_18(&mut tallies, one) == Some(0));
+    let zero = CandSet::empty().with(ZERO);
+    let ten = CandSet::empty().with(Candidate(10));
+    assert!(rt; votes_of_10(&mut tallies, zero) == Some(0));
+    assert!(rt; votes_of_10(&mut tallies, zero) == Some(0));
+    assert!(rt; votes_of_10(&mut tallies, ten) == Some(2));
+    assert!(rt; votes_of_10(&mut tallies, ten) == Some(2));
+    assert!(rt; votes_of_10(&mut tallies, zero) == Some(0));
 }
 
 // Ten ballots for five candidates.
@@ -76,7 +82,7 @@ fn ballots() -> [Ranking; 10]
 
 fn set_numbered(number: u32) -> CandSet {
     let mut set = CandSet::empty();
-    for c in 0..MANY as u8 {
+    for c in 0..LOOKED_AT as u8 {
         if (number >> c) & 1 == 1 {
             set = set.with(Candidate(c));
         }
@@ -95,7 +101,7 @@ fn votes_of(tallies: &mut Tallies, set: CandSet) -> Option<Vec<u32>>
 
 // The row of each set has for each candidate the number of those ballots that have it first of the set, each ballot `times` over.
 fn check_rows(rt: &impl Abort, tallies: &mut Tallies, times: usize) {
-    for number in 1..1u32 << tallies.candidates().min(MANY) {
+    for number in 1..1u32 << tallies.candidates().min(LOOKED_AT) {
         let set = set_numbered(number);
         let row = votes_of(tallies, set).expect(rt, "row");
         for (c, votes) in row.iter().enumerate() {
@@ -136,9 +142,8 @@ fn sums_say_what_the_ballots_say(rt: HostRuntime) {
     check_count(&rt, FEW, ballots().as_slice(), 1, 1);
 }
 
-// When nearly all rows were counted, the sums are made for the last ones.
 #[test]
-fn late_sums_say_what_the_ballots_say(rt: HostRuntime) {
+fn entries_say_what_the_ballots_say(rt: HostRuntime) {
     check_count(&rt, MANY, ballots().as_slice(), 1, 1);
 }
 

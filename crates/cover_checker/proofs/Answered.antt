@@ -1,5 +1,5 @@
 -- What is found of a file, as the answer.
-use Rattle.std.proofs.Common.{◌≡◌, ℕ, true, length, Ok, Err, IfOk, IfErr, MatchBool, refl, sym, subst}
+use Rattle.std.proofs.Common.{◌≡◌, ℕ, true, length, Ok, Err, IfOk, IfErr, MatchBool, sym, subst}
 use Rattle.ballot_reader.specs.Ballots.{BallotFile}
 use Rattle.assertion_file.specs.Content.{Content}
 use Rattle.cover_checker.specs.Outcomes.{IsWinner}

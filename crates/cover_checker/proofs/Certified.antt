@@ -117,6 +117,7 @@ module _ (ballots : BallotFile) (file : Content) (sound : IsSound file) (is : Is
         smallest = all-from_members (λ claim. file.margin ≤ claim.margin) file.claims smallest;
         alternative = from_alternative (candidate_count file) file.winner file.order found.0;
         hardest = omega (arith, eqb-true (low (candidate_count file) ballots.rankings file.order) file.margin found.1);
+        draws = is.draws;
       }
     where
       margins : (claim : Claim) → Member claim file.claims → HasItsMargin ballots.rankings claim

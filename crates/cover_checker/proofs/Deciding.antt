@@ -1,5 +1,5 @@
 -- The contest of an accepted file is decided.
-use Rattle.std.proofs.Common.{◌≡◌, ℕ, ◌≤◌, true, List, map, Ok, pos, ◌<ℤ◌, arith, subst}
+use Rattle.std.proofs.Common.{◌≡◌, ℕ, ◌≤◌, true, List, Ok, pos, ◌<ℤ◌, arith, subst}
 use Rattle.std.proofs.lemmas.Int.{ints}
 use Rattle.std.proofs.lemmas.List.Elements.{All-contains}
 use Rattle.irv_base.specs.Tabulation.{AllElect}

@@ -1,5 +1,6 @@
 -- Every file has an answer, and one that no budget spoils where there are nodes enough.
 use Rattle.std.proofs.Common.{◌≡◌, ℕ, ◌+◌, ◌-◌, ◌*◌, ◌<◌, ◌≤◌, Bool, true, false, if◌then◌else◌, nat_lt, ◌==◌, List, [], ◌∷◌, length, Option, Some, None, Ok, Err, MatchBool, inl, inr, refl, sym, ap, subst, arith, ◌∙◌}
+use Rattle.std.specs.Prelude.{option_and_then}
 use Rattle.std.proofs.lemmas.Bool.{cases_Bool}
 use Rattle.irv_base.specs.Orders.{is_order}
 use Rattle.irv_base.specs.Tabulation.{is_tabulated}
@@ -11,14 +12,15 @@ use Rattle.assertions.specs.Assertions.{margin}
 use Rattle.assertions.specs.Hardness.{low, refuter}
 use Rattle.assertions.specs.Suffixes.{factorial}
 use Rattle.ballot_reader.specs.Ballots.{BallotFile}
-use Rattle.assertion_file.specs.Content.{Content, IsSound, candidate_count}
+use Rattle.assertion_file.specs.Content.{Content, Plan, IsSound, candidate_count}
 use Rattle.cover_checker.specs.Covers.{IsEnough, verdict_on, standing_order}
-use Rattle.cover_checker.specs.Findings.{Answer, is_about, assertions_of, has_other_margin, other_margin_from, unless_covered, uncovered, smallest_margin, elects, other_winner, other_margin, other_smallest, elected, harder, refuted_by}
+use Rattle.cover_checker.specs.Findings.{Answer, is_about, assertions_of, has_other_margin, other_margin_from, unless_covered, uncovered, smallest_margin, elects, other_winner, other_margin, other_smallest, elected, harder, refuted_by, are_same_draws, other_draws_from, other_draws}
+use Rattle.cover_checker.specs.Draws.{clean_draws_of}
 use Rattle.cover_checker.specs.Checks.{Judges, IsAnswer, checked_is, first_found}
 use Rattle.cover_checker.specs.declared.cover.Verdict.{Verdict}
 use Rattle.cover_checker.specs.declared.cover.Verdict.TheVariants.{Covered, Stands}
 use Rattle.cover_checker.specs.declared.checked.Checked.{Checked}
-use Rattle.cover_checker.specs.declared.checked.Checked.TheVariants.{OtherContest, OtherWinner, OtherMargin, NotLeast, NotAlternative, Accepted}
+use Rattle.cover_checker.specs.declared.checked.Checked.TheVariants.{OtherContest, OtherWinner, OtherMargin, NotLeast, NotAlternative, OtherDraws, Accepted}
 use Rattle.cover_checker.specs.declared.checked.CheckFault.{CheckFault}
 use Rattle.cover_checker.specs.declared.checked.CheckFault.TheVariants.{Spent as SpentAt}
 use Rattle.cover_checker.proofs.Answered.{from_answer, judged}
@@ -100,6 +102,23 @@ harder-never records file fault h = go (nat_lt file.margin (low (candidate_count
       go true (Some a) k = cc
       go false o k = cc
 
+draws-from-never : (plan : Plan) (at : ℕ) (claims : List Claim) (draws : List (Option ℕ)) → NeverFails (other_draws_from plan at claims draws)
+draws-from-never plan at [] draws fault h = cc
+draws-from-never plan at (claim ∷ claims) [] fault h = cc
+draws-from-never plan at (claim ∷ claims) (d ∷ draws) fault h =
+    go (are_same_draws (clean_draws_of plan claim) d) (clean_draws_of plan claim) (draws-from-never plan (at + 1) claims draws fault) h
+  where
+    go : (b : Bool) (found : Option ℕ) → (other_draws_from plan (at + 1) claims draws ≡ Some (Err fault) → ⊥) →
+        (if b then other_draws_from plan (at + 1) claims draws else Some (Ok (OtherDraws at found))) ≡ Some (Err fault) → ⊥
+    go true found rest k = rest k
+    go false found rest k = cc
+
+draws-never : (file : Content) → NeverFails (other_draws file)
+draws-never file = by file.plan where
+  by : (plan : Option Plan) → NeverFails (option_and_then (λ plan. other_draws_from plan 1 file.claims plan.draws) plan)
+  by None fault h = cc
+  by (Some plan) fault h = draws-from-never plan 1 file.claims plan.draws fault h
+
 uncovered-never : (nodes : ℕ) (file : Content) → IsEnough nodes (candidate_count file) file.winner (assertions_of file) → NeverFails (uncovered nodes file)
 uncovered-never nodes file enough fault h =
     go (verdict_on (standing_order (candidate_count file) file.winner (assertions_of file)))
@@ -114,12 +133,13 @@ module _ (nodes : ℕ) (ballots : BallotFile) (file : Content) (last : ℕ) (le 
   by_winner : (winner : ℕ) → checked_is nodes ballots.rankings file winner ≡ Err (SpentAt last) → ⊥
   by_winner winner h =
       let records = ballots.rankings in
+      let rest-harder : List (Option Answer) = other_draws file ∷ [] in
+      let rest-elected : List (Option Answer) = harder records file ∷ other_draws file ∷ [] in
+      let rest-smallest : List (Option Answer) = elected file ∷ harder records file ∷ other_draws file ∷ [] in
+      let rest-cover : List (Option Answer) = other_smallest file ∷ elected file ∷ harder records file ∷ other_draws file ∷ [] in
+      let rest-margin : List (Option Answer) = uncovered nodes file ∷ other_smallest file ∷ elected file ∷ harder records file ∷ other_draws file ∷ [] in
       let rest-winner : List (Option Answer) = other_margin records file ∷ uncovered nodes file ∷ other_smallest file ∷ elected file ∷ harder records file ∷
-      [] in
-      let rest-margin : List (Option Answer) = uncovered nodes file ∷ other_smallest file ∷ elected file ∷ harder records file ∷ [] in
-      let rest-cover : List (Option Answer) = other_smallest file ∷ elected file ∷ harder records file ∷ [] in
-      let rest-smallest : List (Option Answer) = elected file ∷ harder records file ∷ [] in
-      let rest-elected : List (Option Answer) = harder records file ∷ [] in
+      other_draws file ∷ [] in
       let a = from_failed (other_winner winner file) rest-winner (SpentAt last) (unless-never (file.winner == winner) (OtherWinner winner)) h in
       let b = from_failed (other_margin records file) rest-margin (SpentAt last) (margins-never records 1 file.claims) a in
       let enough = never_over (candidate_count file) file.winner nodes (assertions_of file) le in
@@ -127,7 +147,8 @@ module _ (nodes : ℕ) (ballots : BallotFile) (file : Content) (last : ℕ) (le 
       let d = from_failed (other_smallest file) rest-smallest (SpentAt last)
       (unless-never (smallest_margin file == file.margin) (NotLeast (smallest_margin file))) c in
       let e = from_failed (elected file) rest-elected (SpentAt last) (when-never (elects file.order file.winner) NotAlternative) d in
-      let f : Ok Accepted ≡ Err (SpentAt last) = from_failed (harder records file) [] (SpentAt last) (harder-never records file) e in
+      let f = from_failed (harder records file) rest-harder (SpentAt last) (harder-never records file) e in
+      let g : Ok Accepted ≡ Err (SpentAt last) = from_failed (other_draws file) [] (SpentAt last) (draws-never file) f in
       cc
 
   abbrev failed : Answer

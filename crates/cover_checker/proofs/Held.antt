@@ -20,7 +20,7 @@ use Rattle.ballot_reader.specs.Ballots.{BallotFile}
 use Rattle.assertion_file.specs.Content.{Content, IsSound, candidate_count}
 use Rattle.cover_checker.specs.Covers.{covered_is}
 use Rattle.cover_checker.specs.Outcomes.{IsWinner}
-use Rattle.cover_checker.specs.Findings.{Answer, is_about, assertions_of, unless_covered, uncovered, smallest_margin, elects, other_winner, other_margin, other_smallest, elected, harder}
+use Rattle.cover_checker.specs.Findings.{Answer, is_about, assertions_of, unless_covered, uncovered, smallest_margin, elects, other_winner, other_margin, other_smallest, elected, harder, other_draws}
 use Rattle.cover_checker.specs.Checks.{Judges, IsAnswer, checked_is, findings, first_found}
 use Rattle.cover_checker.specs.Holds.{Holds}
 use Rattle.cover_checker.specs.declared.cover.Verdict.{Verdict}
@@ -29,7 +29,7 @@ use Rattle.cover_checker.specs.declared.cover.CoverFault.{CoverFault}
 use Rattle.cover_checker.specs.declared.cover.CoverFault.TheVariants.{Spent as CoverSpent, Memory as CoverMemory}
 use Rattle.cover_checker.specs.declared.checked.Checked.{Checked}
 use Rattle.cover_checker.specs.declared.checked.Checked.TheVariants.{OtherContest, Accepted}
-use Rattle.cover_checker.proofs.Nothing.{NeverAccepts, HasItsMargin, winner-none, none-winner, winner-never, margins-none, none-margins, margins-never, covered-none, covered-never, smallest-none, none-smallest, smallest-never, elects-last, elected-none, none-elected, elected-never, harder-none, none-harder, harder-never}
+use Rattle.cover_checker.proofs.Nothing.{NeverAccepts, HasItsMargin, winner-none, none-winner, winner-never, margins-none, none-margins, margins-never, covered-none, covered-never, smallest-none, none-smallest, smallest-never, elects-last, elected-none, none-elected, elected-never, harder-none, none-harder, harder-never, draws-none, none-draws, draws-never}
 use Rattle.cover_checker.proofs.Answered.{from_answer, judged}
 use Rattle.cover_checker.proofs.OneAnswer.{one_winner, answer_is_one}
 use Rattle.cover_checker.proofs.Same.{About, from_about, about-from}
@@ -60,22 +60,25 @@ record Facts (nodes : ℕ) (records : List (List ℕ)) (file : Content) (winner 
   smallest : smallest_margin file ≡ file.margin
   other : elects file.order file.winner ≡ false
   hardest : low (candidate_count file) records file.order ≤ file.margin
+  draws : other_draws file ≡ None
 
 module _ (nodes : ℕ) (records : List (List ℕ)) (file : Content) (winner : ℕ) where
   facts-accepted : first_found (findings nodes records file winner) (Ok Accepted) ≡ Ok Accepted → Facts nodes records file winner
   facts-accepted h =
+      let rest-harder : List (Option Answer) = other_draws file ∷ [] in
+      let rest-elected : List (Option Answer) = harder records file ∷ other_draws file ∷ [] in
+      let rest-smallest : List (Option Answer) = elected file ∷ harder records file ∷ other_draws file ∷ [] in
+      let rest-cover : List (Option Answer) = other_smallest file ∷ elected file ∷ harder records file ∷ other_draws file ∷ [] in
+      let rest-margin : List (Option Answer) = uncovered nodes file ∷ other_smallest file ∷ elected file ∷ harder records file ∷ other_draws file ∷ [] in
       let rest-winner : List (Option Answer) = other_margin records file ∷ uncovered nodes file ∷ other_smallest file ∷ elected file ∷ harder records file ∷
-      [] in
-      let rest-margin : List (Option Answer) = uncovered nodes file ∷ other_smallest file ∷ elected file ∷ harder records file ∷ [] in
-      let rest-cover : List (Option Answer) = other_smallest file ∷ elected file ∷ harder records file ∷ [] in
-      let rest-smallest : List (Option Answer) = elected file ∷ harder records file ∷ [] in
-      let rest-elected : List (Option Answer) = harder records file ∷ [] in
+      other_draws file ∷ [] in
       let a = from_accepted (other_winner winner file) rest-winner (winner-never winner file) h in
       let b = from_accepted (other_margin records file) rest-margin (margins-never records 1 file.claims) a.1 in
       let c = from_accepted (uncovered nodes file) rest-cover (covered-never (covered_is (candidate_count file) file.winner (assertions_of file) nodes)) b.1 in
       let d = from_accepted (other_smallest file) rest-smallest (smallest-never file) c.1 in
       let e = from_accepted (elected file) rest-elected (elected-never file) d.1 in
-      let f = from_accepted (harder records file) [] (harder-never records file) e.1 in
+      let f = from_accepted (harder records file) rest-harder (harder-never records file) e.1 in
+      let g = from_accepted (other_draws file) [] (draws-never file) f.1 in
       record {
         same = winner-none winner file a.0;
         margins = margins-none records 1 file.claims b.0;
@@ -83,25 +86,27 @@ module _ (nodes : ℕ) (records : List (List ℕ)) (file : Content) (winner : �
         smallest = smallest-none file d.0;
         other = elected-none file e.0;
         hardest = harder-none records file f.0;
+        draws = g.0;
       }
 
   -- what is found after the margins are right
   to_cover : file.winner ≡ winner → All (HasItsMargin records) file.claims →
       first_found (findings nodes records file winner) (Ok Accepted)
-      ≡ first_found (uncovered nodes file ∷ other_smallest file ∷ elected file ∷ harder records file ∷ []) (Ok Accepted)
+      ≡ first_found (uncovered nodes file ∷ other_smallest file ∷ elected file ∷ harder records file ∷ other_draws file ∷ []) (Ok Accepted)
   to_cover same margins =
-      passed (other_winner winner file) (other_margin records file ∷ uncovered nodes file ∷ other_smallest file ∷ elected file ∷ harder records file ∷ [])
+      passed (other_winner winner file) (other_margin records file ∷ uncovered nodes file ∷ other_smallest file ∷ elected file ∷ harder records file ∷ other_draws file ∷ [])
       (none-winner winner file same)
-      ∙ passed (other_margin records file) (uncovered nodes file ∷ other_smallest file ∷ elected file ∷ harder records file ∷ [])
+      ∙ passed (other_margin records file) (uncovered nodes file ∷ other_smallest file ∷ elected file ∷ harder records file ∷ other_draws file ∷ [])
       (none-margins records 1 file.claims margins)
 
   accepted-facts : Facts nodes records file winner → first_found (findings nodes records file winner) (Ok Accepted) ≡ Ok Accepted
   accepted-facts h =
       to_cover h.same h.margins
-      ∙ passed (uncovered nodes file) (other_smallest file ∷ elected file ∷ harder records file ∷ []) (ap unless_covered h.covered)
-      ∙ passed (other_smallest file) (elected file ∷ harder records file ∷ []) (none-smallest file h.smallest)
-      ∙ passed (elected file) (harder records file ∷ []) (none-elected file h.other)
-      ∙ passed (harder records file) [] (none-harder records file h.hardest)
+      ∙ passed (uncovered nodes file) (other_smallest file ∷ elected file ∷ harder records file ∷ other_draws file ∷ []) (ap unless_covered h.covered)
+      ∙ passed (other_smallest file) (elected file ∷ harder records file ∷ other_draws file ∷ []) (none-smallest file h.smallest)
+      ∙ passed (elected file) (harder records file ∷ other_draws file ∷ []) (none-elected file h.other)
+      ∙ passed (harder records file) (other_draws file ∷ []) (none-harder records file h.hardest)
+      ∙ passed (other_draws file) [] h.draws
 
 -- ---- lists of claims
 pub all-from_members : {X : Type 0} (P : X → Type 0) (xs : List X) → ((x : X) → Member x xs → P x) → All P xs
@@ -154,6 +159,7 @@ module _ (ballots : BallotFile) (file : Content) where
     smallest = held-smallest h;
     other = alternative-other (candidate_count file) file.winner file.order h.alternative;
     hardest = h.hardest;
+    draws = none-draws file h.draws;
   }
 
   facts-held : (nodes winner : ℕ) → IsSound file → About ballots file → IsWinner (candidate_count file) ballots.rankings winner →
@@ -178,6 +184,7 @@ module _ (ballots : BallotFile) (file : Content) where
             omega (arith, le, f.smallest));
         alternative = other-alternative (candidate_count file) file.winner file.order (omega (arith, two)) sound.order f.other;
         hardest = f.hardest;
+        draws = draws-none file sound.plan f.draws;
       }
     where
       reached : 1 < candidate_count file → covers (candidate_count file) file.winner (assertions_of file) ≡ true →
@@ -225,7 +232,7 @@ module _ (nodes : ℕ) (ballots : BallotFile) (file : Content) where
       by_winner j.winner j.tabulated j.answer_is
     where
       by_cover : (result : Result Verdict CoverFault) → covered_is (candidate_count file) file.winner (assertions_of file) nodes ≡ result →
-          first_found (unless_covered result ∷ other_smallest file ∷ elected file ∷ harder ballots.rankings file ∷ []) (Ok Accepted) ≡ Ok checked →
+          first_found (unless_covered result ∷ other_smallest file ∷ elected file ∷ harder ballots.rankings file ∷ other_draws file ∷ []) (Ok Accepted) ≡ Ok checked →
           result ≡ Ok Covered
       by_cover (Ok verdict) e found =
           ap Ok ((covered_iff_covers (candidate_count file) file.winner nodes (assertions_of file) verdict e).1 (held-covers ballots file h))

@@ -1,6 +1,7 @@
 -- When nothing is found.
-use Rattle.std.proofs.Common.{◌≡◌, ℕ, ◌+◌, ◌-◌, ◌≤◌, Bool, true, false, ◌==◌, nat_lt, if◌then◌else◌, List, [], ◌∷◌, ◌++◌, length, slice_index, Option, Some, None, Result, Ok, Err, All, pos, refl, ap, arith, ◌∙◌, ltb-true, ltb-false, le-ltb, eqb-true, eq-eqb, length-append}
+use Rattle.std.proofs.Common.{◌≡◌, ℕ, ◌+◌, ◌-◌, ◌≤◌, Bool, true, false, ◌==◌, nat_lt, if◌then◌else◌, List, [], ◌∷◌, ◌++◌, length, slice_index, map, Option, Some, None, Result, Ok, Err, All, pos, refl, sym, ap, ap₂, arith, ◌∙◌, ltb-true, ltb-false, le-ltb, eqb-true, eq-eqb, length-append}
 use Rattle.std.proofs.lemmas.Bool.{not-false, not_from_true}
+use Rattle.std.specs.Prelude.{IfSome, option_and_then}
 use Rattle.std.proofs.lemmas.Bool.Decides.{Decides-int_eq}
 use Rattle.std.proofs.lemmas.List.Elements.{All-nil, All-cons, All-head, All-tail}
 use Rattle.std.proofs.Math.Seq.{get_or-append_seam}
@@ -10,13 +11,14 @@ use Rattle.assertions.specs.declared.assertion.Claim.{Claim}
 use Rattle.assertions.specs.Assertions.{margin}
 use Rattle.assertions.specs.Hardness.{low, refuter}
 use Rattle.assertions.proofs.Refuters.{refuter_or_none}
-use Rattle.assertion_file.specs.Content.{Content, candidate_count}
-use Rattle.cover_checker.specs.Findings.{Answer, other_winner, has_other_margin, other_margin_from, unless_covered, other_smallest, smallest_margin, elects, elected, refuted_by, harder}
+use Rattle.assertion_file.specs.Content.{Content, Plan, IsSoundPlan, candidate_count}
+use Rattle.cover_checker.specs.Findings.{Answer, other_winner, has_other_margin, other_margin_from, unless_covered, other_smallest, smallest_margin, elects, elected, refuted_by, harder, are_same_draws, other_draws_from, other_draws}
+use Rattle.cover_checker.specs.Draws.{clean_draws_of, IsPlanOf, HasCleanDraws}
 use Rattle.cover_checker.specs.declared.cover.Verdict.{Verdict}
 use Rattle.cover_checker.specs.declared.cover.Verdict.TheVariants.{Covered, Stands as OrderStands}
 use Rattle.cover_checker.specs.declared.cover.CoverFault.{CoverFault}
 use Rattle.cover_checker.specs.declared.cover.CoverFault.TheVariants.{Spent as CoverSpent, Memory as CoverMemory}
-use Rattle.cover_checker.specs.declared.checked.Checked.TheVariants.{Accepted, OtherWinner, OtherMargin, NotLeast, NotAlternative}
+use Rattle.cover_checker.specs.declared.checked.Checked.TheVariants.{Accepted, OtherWinner, OtherMargin, NotLeast, NotAlternative, OtherDraws}
 
 -- ---- what is found by a test
 unless-none : {X : Type 0} (b : Bool) (x : X) → (if b then None else Some x) ≡ None → b ≡ true
@@ -167,3 +169,74 @@ module _ (records : List (List ℕ)) (file : Content) where
     go true None h = cc
     go true (Some a) h = cc
     go false o h = cc
+
+-- ---- the draws
+same-draws : (a b : Option ℕ) → are_same_draws a b ≡ true → a ≡ b
+same-draws None None h = refl
+same-draws None (Some y) h = cc
+same-draws (Some x) None h = cc
+same-draws (Some x) (Some y) h = ap Some (eqb-true x y h)
+
+are-same-draws : (a b : Option ℕ) → a ≡ b → are_same_draws a b ≡ true
+are-same-draws None None h = refl
+are-same-draws None (Some y) h = cc
+are-same-draws (Some x) None h = cc
+are-same-draws (Some x) (Some y) h = let same : x ≡ y = cc in eq-eqb x y same
+
+module _ (plan : Plan) where
+  draws-found-at : ℕ → Claim → Answer
+  draws-found-at at claim = Ok (OtherDraws at (clean_draws_of plan claim))
+
+  other-none : (at : ℕ) (claims : List Claim) (draws : List (Option ℕ)) → length draws ≡ length claims →
+      other_draws_from plan at claims draws ≡ None → draws ≡ map (clean_draws_of plan) claims
+  unfolding draws-found-at
+  other-none at [] [] each h = refl
+  other-none at [] (d ∷ draws) each h = absurd (omega (arith, each))
+  other-none at (claim ∷ claims) [] each h = absurd (omega (arith, each))
+  other-none at (claim ∷ claims) (d ∷ draws) each h =
+      go (are_same_draws (clean_draws_of plan claim) d) refl (other-none (at + 1) claims draws (omega (arith, each))) h
+    where
+      go : (b : Bool) → are_same_draws (clean_draws_of plan claim) d ≡ b →
+          (other_draws_from plan (at + 1) claims draws ≡ None → draws ≡ map (clean_draws_of plan) claims) →
+          (if b then other_draws_from plan (at + 1) claims draws else Some (draws-found-at at claim)) ≡ None →
+          d ∷ draws ≡ map (clean_draws_of plan) (claim ∷ claims)
+      go true e rest h = ap₂ (λ d draws. d ∷ draws) (sym (same-draws (clean_draws_of plan claim) d e)) (rest h)
+      go false e rest h = cc
+
+  none-other : (at : ℕ) (claims : List Claim) → other_draws_from plan at claims (map (clean_draws_of plan) claims) ≡ None
+  unfolding draws-found-at
+  none-other at [] = refl
+  none-other at (claim ∷ claims) =
+      ap (λ b. if b then other_draws_from plan (at + 1) claims (map (clean_draws_of plan) claims) else Some (draws-found-at at claim))
+      (are-same-draws (clean_draws_of plan claim) (clean_draws_of plan claim) refl)
+      ∙ none-other (at + 1) claims
+
+  pub other-never : (at : ℕ) (claims : List Claim) (draws : List (Option ℕ)) → NeverAccepts (other_draws_from plan at claims draws)
+  unfolding draws-found-at
+  other-never at [] draws h = cc
+  other-never at (claim ∷ claims) [] h = cc
+  other-never at (claim ∷ claims) (d ∷ draws) h = go (are_same_draws (clean_draws_of plan claim) d) (other-never (at + 1) claims draws) h where
+    go : (b : Bool) → NeverAccepts (other_draws_from plan (at + 1) claims draws) →
+        NeverAccepts (if b then other_draws_from plan (at + 1) claims draws else Some (draws-found-at at claim))
+    go true rest h = rest h
+    go false rest h = cc
+
+pub draws-none : (file : Content) → IfSome file.plan (IsSoundPlan file.records (length file.claims)) → other_draws file ≡ None → HasCleanDraws file
+draws-none file fits h = by file.plan fits h where
+  by : (plan : Option Plan) → IfSome plan (IsSoundPlan file.records (length file.claims)) →
+      option_and_then (λ plan. other_draws_from plan 1 file.claims plan.draws) plan ≡ None → IfSome plan (IsPlanOf file.claims)
+  by None fits h = tt
+  by (Some plan) fits h = other-none plan 1 file.claims plan.draws fits.each h
+
+pub none-draws : (file : Content) → HasCleanDraws file → other_draws file ≡ None
+none-draws file has = by file.plan has where
+  by : (plan : Option Plan) → IfSome plan (IsPlanOf file.claims) →
+      option_and_then (λ plan. other_draws_from plan 1 file.claims plan.draws) plan ≡ None
+  by None has = refl
+  by (Some plan) has = ap (other_draws_from plan 1 file.claims) has ∙ none-other plan 1 file.claims
+
+pub draws-never : (file : Content) → NeverAccepts (other_draws file)
+draws-never file = by file.plan where
+  by : (plan : Option Plan) → NeverAccepts (option_and_then (λ plan. other_draws_from plan 1 file.claims plan.draws) plan)
+  by None h = cc
+  by (Some plan) h = other-never plan 1 file.claims plan.draws h

@@ -4,7 +4,7 @@ use Rattle.std.specs.Bool.{MatchBool}
 use Rattle.ballot_reader.specs.Ballots.{BallotFile}
 use Rattle.assertion_file.specs.Content.{Content}
 use Rattle.cover_checker.specs.Outcomes.{IsWinner}
-use Rattle.cover_checker.specs.Findings.{Answer, is_about, other_winner, other_margin, uncovered, other_smallest, elected, harder}
+use Rattle.cover_checker.specs.Findings.{Answer, is_about, other_winner, other_margin, uncovered, other_smallest, elected, harder, other_draws}
 use Rattle.cover_checker.specs.declared.checked.Checked.TheVariants.{OtherContest, Accepted}
 use Rattle.cover_checker.specs.declared.checked.CheckFault.{CheckFault}
 use Rattle.cover_checker.specs.declared.checked.CheckFault.TheVariants.{Spent, Memory}
@@ -18,6 +18,7 @@ findings nodes records file winner =
     other_smallest file ∷
     elected file ∷
     harder records file ∷
+    other_draws file ∷
     []
 
 abbrev pub first_found : List (Option Answer) → Answer → Answer

@@ -1,6 +1,7 @@
 -- What can be found wrong with an assertion file.
-use Rattle.std.specs.Prelude.{ℕ, ◌+◌, ◌-◌, Bool, not, ◌&&◌, ◌==◌, nat_lt, if◌then◌else◌, List, [], ◌∷◌, length, map, slice_index, pos, Option, Some, None, Result, Ok, Err, ◌≡◌, ◌≤◌, ⊤}
+use Rattle.std.specs.Prelude.{ℕ, ◌+◌, ◌-◌, Bool, not, ◌&&◌, ◌==◌, nat_lt, if◌then◌else◌, List, [], ◌∷◌, length, map, slice_index, pos, Option, Some, None, option_and_then, Result, Ok, Err, ◌≡◌, ⊤}
 use Rattle.std.specs.Cmp.Lexicographic.{pointwise}
+use Rattle.std.specs.Option.{option_eq}
 use Rattle.std.specs.Ordering.{int_eq}
 use Rattle.irv_base.specs.Names.{Id, is_same}
 use Rattle.irv_base.specs.Tabulation.{least}
@@ -9,14 +10,15 @@ use Rattle.assertions.specs.declared.assertion.Claim.{Claim}
 use Rattle.assertions.specs.Assertions.{margin}
 use Rattle.assertions.specs.Hardness.{low, refuter}
 use Rattle.ballot_reader.specs.Ballots.{BallotFile}
-use Rattle.assertion_file.specs.Content.{Content, candidate_count}
+use Rattle.assertion_file.specs.Content.{Content, Plan, candidate_count}
 use Rattle.cover_checker.specs.Covers.{covered_is}
+use Rattle.cover_checker.specs.Draws.{clean_draws_of}
 use Rattle.cover_checker.specs.declared.cover.Verdict.{Verdict}
 use Rattle.cover_checker.specs.declared.cover.Verdict.TheVariants.{Covered, Stands as OrderStands}
 use Rattle.cover_checker.specs.declared.cover.CoverFault.{CoverFault}
 use Rattle.cover_checker.specs.declared.cover.CoverFault.TheVariants.{Spent as CoverSpent, Memory as CoverMemory}
 use Rattle.cover_checker.specs.declared.checked.Checked.{Checked}
-use Rattle.cover_checker.specs.declared.checked.Checked.TheVariants.{OtherWinner, OtherMargin, Stands, NotLeast, NotAlternative, Harder}
+use Rattle.cover_checker.specs.declared.checked.Checked.TheVariants.{OtherWinner, OtherMargin, Stands, NotLeast, NotAlternative, Harder, OtherDraws}
 use Rattle.cover_checker.specs.declared.checked.CheckFault.{CheckFault}
 use Rattle.cover_checker.specs.declared.checked.CheckFault.TheVariants.{Spent, Memory}
 
@@ -97,6 +99,28 @@ harder records file =
     let hardness = low (candidate_count file) records file.order in
     if nat_lt file.margin hardness
     then refuted_by hardness (refuter (candidate_count file) records file.order) else None
+
+-- ---- the plan of the file
+
+abbrev pub are_same_draws : Option ℕ → Option ℕ → Bool
+are_same_draws draws others = option_eq ◌==◌ draws others
+
+-- the first claim that has other draws than its clean ones, where the claims are counted from this number on
+abbrev pub other_draws_from : Plan → ℕ → List Claim → List (Option ℕ) → Option Answer
+other_draws_from plan at [] draws = None
+other_draws_from plan at (claim ∷ claims) [] = None
+other_draws_from plan at (claim ∷ claims) (draws ∷ more) =
+    let found = clean_draws_of plan claim in
+    if are_same_draws found draws
+    then other_draws_from plan (at + 1) claims more
+    else Some (Ok (OtherDraws at found))
+
+abbrev pub other_draws_in : Content → Plan → Option Answer
+other_draws_in file plan = other_draws_from plan 1 file.claims plan.draws
+
+-- a file without a plan has none
+abbrev pub other_draws : Content → Option Answer
+other_draws file = option_and_then (other_draws_in file) file.plan
 
 -- the fault is the answer's
 abbrev pub IsErrOf : Answer → CheckFault → Type 0

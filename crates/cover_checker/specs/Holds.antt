@@ -8,6 +8,7 @@ use Rattle.assertions.specs.Refutation.{refutes}
 use Rattle.assertions.specs.Suffixes.{IsAlternative}
 use Rattle.ballot_reader.specs.Ballots.{BallotFile}
 use Rattle.assertion_file.specs.Content.{Content, candidate_count}
+use Rattle.cover_checker.specs.Draws.{HasCleanDraws}
 use Rattle.cover_checker.specs.Outcomes.{IsWinner}
 
 pub record Holds (ballots : BallotFile) (file : Content) : Type 0 where
@@ -29,8 +30,10 @@ pub record Holds (ballots : BallotFile) (file : Content) : Type 0 where
   -- the order elects another candidate, and no true assertion of larger margin refutes it
   pub alternative : IsAlternative (candidate_count file) file.winner file.order
   pub hardest : low (candidate_count file) ballots.rankings file.order ≤ file.margin
+  -- the draws that it plans are the clean ones
+  pub draws : HasCleanDraws file
 
--- the file says what the canonical certificate of the ballots does
+-- the file says what the canonical certificate of the ballots does, and plans its clean draws if any
 pub record IsCertificateOf (ballots : BallotFile) (file : Content) : Type 0 where
   pub contest : file.contest ≡ ballots.contest
   pub candidates : file.candidates ≡ ballots.candidates
@@ -44,3 +47,4 @@ pub record IsCertificateOf (ballots : BallotFile) (file : Content) : Type 0 wher
       (low (candidate_count file) ballots.rankings) file.margin
       ≡ Some file.order
   pub claims : file.claims ≡ certificate_claims (candidate_count file) ballots.rankings file.winner
+  pub draws : HasCleanDraws file

@@ -1,8 +1,11 @@
 pub mod Shorter
 pub mod Indexed
+pub mod Counts
 pub mod Covers
 pub mod Outcomes
+pub mod Draws
 pub mod Findings
 pub mod Checks
 pub mod Holds
 pub mod Laws
+pub mod Examples

@@ -27,6 +27,9 @@ pub enum Checked {
     /// An assertion whose margin is above the file's refutes the file's order. It is the one of the largest margin, and the
     /// first of these in the fixed order.
     Harder { assertion: Assertion, margin: u32 },
+    /// The claim with this number, from 1, is the first whose planned draws aren't its clean draws, which are `found`: `None` where
+    /// it takes a full count.
+    OtherDraws { index: u64, found: Option<u32> },
     /// It holds.
     Accepted,
 }

@@ -8,7 +8,7 @@ ghost use Rattle.cover_checker.specs.Findings.{IsErrOf, IsWant};
 
 use crate::checked::{CheckFault, Checked};
 use crate::findings::{
-    elected, harder, is_about, other_margin, other_smallest, other_winner, uncovered,
+    elected, harder, is_about, other_draws, other_margin, other_smallest, other_winner, uncovered,
 };
 use assertion_file::AssertionFile;
 use ballot_reader::Ballots;
@@ -63,6 +63,9 @@ fn judge(
         return Ok(found);
     }
     if let Some(found) = harder(file, tallies)? {
+        return Ok(found);
+    }
+    if let Some(found) = other_draws(file) {
         return Ok(found);
     }
     Ok(Checked::Accepted)

@@ -1,8 +1,9 @@
 //! Worked examples: the answers at three candidates, computed by the checker.
-ghost use Rattle.std.specs.Prelude.{◌≡◌, [], ◌∷◌, Ok, Err, drop};
+ghost use Rattle.std.specs.Prelude.{◌≡◌, [], ◌∷◌, Ok, Err, None, Some, drop};
 ghost use Rattle.assertions.specs.Contests as contests;
 ghost use Rattle.assertion_file.specs.Examples as files;
 ghost use Rattle.cover_checker.specs.Covers.{covered_is};
+ghost use Rattle.cover_checker.specs.Examples as own;
 ghost use Rattle.cover_checker.specs.Checks.{checked_is};
 
 use crate::{Checked, CoverFault, Verdict};
@@ -43,4 +44,15 @@ pub fn certificate()
     ensures other_order { checked_is 1 contests.three_candidates
         (record files.three_candidates { order = 2 ∷ 1 ∷ 0 ∷ [] }) 1
         ≡ Ok (Checked.Harder (Assertion.Nen 1 0 3) 2) }
+{}
+
+/// Five cards, whose ballots are all for the first of two candidates, take five clean draws: a file that plans four, or a full count,
+/// is told so.
+pub fn planned()
+    ensures accepted { checked_is 1 own.five_ballots (own.planning (Some 5)) 0
+        ≡ Ok Checked.Accepted }
+    ensures too_few { checked_is 1 own.five_ballots (own.planning (Some 4)) 0
+        ≡ Ok (Checked.OtherDraws 1 (Some 5)) }
+    ensures full_count { checked_is 1 own.five_ballots (own.planning None) 0
+        ≡ Ok (Checked.OtherDraws 1 (Some 5)) }
 {}

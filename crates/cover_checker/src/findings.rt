@@ -1,17 +1,21 @@
 // What can be found wrong with an assertion file.
-ghost use Rattle.std.specs.Prelude.{◌≡◌, ◌-◌, ℕ, List, length, map, option_map, All, IfOk, IfErr, IsTrue};
+ghost use Rattle.std.specs.Prelude.{◌≡◌, ◌-◌, ◌<◌, ◌≤◌, ℕ, List, length, map, option_map, slice_index_or, None, All, IfOk, IfErr, IsTrue};
 ghost use Rattle.irv_base.specs.Tabulation.{least};
 ghost use Rattle.set_tallies.specs.Bags.{IsOf};
 ghost use Rattle.assertions.specs.Assertions.{is_proper};
 ghost use Rattle.assertion_file.specs.Content.{candidate_count};
-ghost use Rattle.cover_checker.specs.Findings.{is_about, other_winner, other_margin_from, uncovered, unless_covered, other_smallest, elected, harder, IsFindingOf};
+ghost use Rattle.cover_checker.specs.Findings.{is_about, other_winner, other_margin_from, uncovered, unless_covered, other_smallest, elected, harder, are_same_draws, other_draws, other_draws_from, IsFindingOf};
+ghost use Rattle.cover_checker.specs.Draws.{clean_draws_of};
+ghost use Rattle.km_risk.specs.Factor.{IsSetting};
+ghost use Rattle.irv_base.specs.declared.limits.TheConstants.{GREATEST_LIMIT};
 
 use crate::checked::{CheckFault, Checked};
 use crate::cover::{Verdict, covered};
-use assertion_file::AssertionFile;
+use assertion_file::{AssertionFile, PlanFacts};
 use assertions::{Assertion, Claim, margin};
 use ballot_reader::Ballots;
 use irv_base::{Candidate, Memory, Order};
+use km_risk::clean_draws;
 use set_tallies::Tallies;
 use std::alloc::Global;
 use suffix_tree::{Tail, score};
@@ -143,4 +147,47 @@ pub fn harder(file: &AssertionFile, tallies: &mut Tallies<'_>) -> Result<Option<
         Some(assertion) => Ok(Some(Checked::Harder { assertion, margin })),
         None => Ok(None),
     }
+}
+
+// The clean draws of a claim, on the terms of the plan.
+fn clean_draws_of(plan: &PlanFacts, claim: &Claim) -> Option<u32>
+    requires setting { IsSetting plan.now.cards claim.now.margin plan.now.gamma }
+    requires limit { (1 ≤ plan.now.limit) × (plan.now.limit ≤ GREATEST_LIMIT) }
+    ensures { result ≡ clean_draws_of plan.now claim.now }
+{
+    clean_draws(plan.cards, claim.margin, plan.gamma, plan.limit)
+}
+
+// Whether these are the draws that are planned at this place.
+fn are_planned(draws: Option<u32>, plan: &PlanFacts, at: usize) -> bool
+    requires { at < length plan.now.draws }
+    ensures { result ≡ are_same_draws draws (slice_index_or plan.now.draws at None) }
+{
+    draws == plan.draws[at]
+}
+
+// The first claim that has other draws in the plan than its clean ones.
+fn other_draws_in(plan: &PlanFacts, claims: &[Claim]) -> Option<Checked>
+    requires each { length plan.now.draws ≡ length claims.now }
+    requires settings { All (λ claim. IsSetting plan.now.cards claim.margin plan.now.gamma) claims.now }
+    requires limit { (1 ≤ plan.now.limit) × (plan.now.limit ≤ GREATEST_LIMIT) }
+    ensures { option_map Ok result ≡ other_draws_from plan.now 1 claims.now (plan.now).draws }
+{
+    for (i, claim) in claims.iter().enumerate() {
+        let found = clean_draws_of(plan, claim);
+        if !are_planned(found, plan, i) {
+            return Some(Checked::OtherDraws {
+                index: i as u64 + 1,
+                found,
+            });
+        }
+    }
+    None
+}
+
+/// The first of the claims, if there is one, whose planned draws aren't its clean draws. A file without a plan has none.
+pub fn other_draws(file: &AssertionFile) -> Option<Checked>
+    ensures { option_map Ok result ≡ other_draws file.now }
+{
+    other_draws_in(file.plan()?, file.claims())
 }

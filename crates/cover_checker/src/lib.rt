@@ -6,6 +6,7 @@
 
 mod checked;
 mod checks;
+mod counted;
 mod cover;
 pub mod examples;
 mod findings;
@@ -15,5 +16,6 @@ mod unrefuted;
 
 pub use checked::{CheckFault, Checked};
 pub use checks::check;
+pub use counted::Counted;
 pub use cover::{CoverFault, Verdict, covered};
 pub use index::Index;

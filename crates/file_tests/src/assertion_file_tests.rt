@@ -1,7 +1,8 @@
 // Tests of `assertion_file`: the texts of whole files, byte for byte.
+mod planned;
 mod reading;
 
-use assertion_file::{AssertionFile, print_file};
+use assertion_file::{AssertionFile, Parts, print_file};
 use assertions::{Assertion, Claim};
 use irv_base::{CandSet, Candidate, Name, Order};
 use std::test::Fail;
@@ -49,7 +50,16 @@ fn three_candidates_canonical_certificate(rt: HostRuntime) -> Result<(), Fail> {
         },
     ]?;
     let candidates = vec![in alloc; one, two, three]?;
-    let file = AssertionFile::new(one, candidates, 12, TWO, 1, order, claims);
+    let file = AssertionFile::new(Parts {
+        contest: one,
+        candidates,
+        records: 12,
+        winner: TWO,
+        margin: 1,
+        order,
+        claims,
+        plan: None,
+    });
     let text = print_file(alloc, &file)?;
     assert!(rt; text.as_slice() == THREE_CANDIDATES.as_bytes());
     Ok(())
@@ -70,7 +80,16 @@ fn backslash_in_an_id(rt: HostRuntime) -> Result<(), Fail> {
         },
     ]?;
     let candidates = vec![in alloc; one, two]?;
-    let file = AssertionFile::new(contest, candidates, 5, ONE, 1, order, claims);
+    let file = AssertionFile::new(Parts {
+        contest,
+        candidates,
+        records: 5,
+        winner: ONE,
+        margin: 1,
+        order,
+        claims,
+        plan: None,
+    });
     let text = print_file(alloc, &file)?;
     assert!(rt;
         text.as_slice()

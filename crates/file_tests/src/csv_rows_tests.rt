@@ -1,6 +1,6 @@
 // Tests of `csv_rows`, over texts as an office may export them.
 use csv::ByteRecord;
-use csv_rows::{Fields, Rows, number_of, without_mark};
+use csv_rows::{Fields, Records, Rows, number_of, without_mark};
 
 #[test]
 fn reads_numbered_records(rt: HostRuntime) {
@@ -29,6 +29,34 @@ fn reads_every_record(rt: HostRuntime) {
     assert!(rt; rows.read(&mut row) == Ok(true));
     assert!(rt; rows.read(&mut row) == Ok(true));
     assert!(rt; rows.read(&mut row) == Ok(false));
+}
+
+#[test]
+fn reads_lines(rt: HostRuntime) {
+    let mut records = Records::of(rt.alloc(), b"a ,\tb,\r\n\r \t\rc".as_slice());
+    assert!(rt; records.read() == Ok(true));
+    let mut fields = records.fields();
+    assert!(rt; fields.len() == 3);
+    assert!(rt; fields.next() == Some(b"a".as_slice()));
+    assert!(rt; fields.next() == Some(b"b".as_slice()));
+    assert!(rt; fields.next() == Some(b"".as_slice()));
+    assert!(rt; fields.next().is_none());
+    assert!(rt; records.read() == Ok(true));
+    assert!(rt; records.fields().next() == Some(b"c".as_slice()));
+    assert!(rt; records.read() == Ok(false));
+}
+
+#[test]
+fn reads_quotes(rt: HostRuntime) {
+    let mut records = Records::of(rt.alloc(), b"\"a\n,\",b\nc".as_slice());
+    assert!(rt; records.read() == Ok(true));
+    let mut fields = records.fields();
+    assert!(rt; fields.len() == 2);
+    assert!(rt; fields.next() == Some(b"a\n,".as_slice()));
+    assert!(rt; fields.next() == Some(b"b".as_slice()));
+    assert!(rt; records.read() == Ok(true));
+    assert!(rt; records.fields().next() == Some(b"c".as_slice()));
+    assert!(rt; records.read() == Ok(false));
 }
 
 #[test]

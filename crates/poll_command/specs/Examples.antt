@@ -1,5 +1,5 @@
 -- The polls of the worked examples.
-use Rattle.std.specs.Prelude.{ℕ, List, [], ◌∷◌, codes}
+use Rattle.std.specs.Prelude.{ℕ, List, [], ◌∷◌, codes, None}
 use Rattle.assertions.specs.declared.assertion.Assertion.TheVariants.{Neb}
 use Rattle.assertions.specs.declared.assertion.Claim.{Claim}
 use Rattle.assertion_file.specs.Content.{Content}
@@ -19,6 +19,7 @@ file_of claims = record {
   margin = 1;
   order = 1 ∷ 0 ∷ 2 ∷ [];
   claims = claims;
+  plan = None;
 }
 
 -- so many draws are for the winner

@@ -14,12 +14,13 @@ const CALLS: u32 = 3;
 // Bytes that a narrow sink takes at most of a write.
 const NARROW: usize = 7;
 
-// A call that has an answer: its words, its status, and the files that it reads, first read first.
-const ANSWERED: [(&str, u8, &[&str]); 18] = [
+// A call that has an answer: its words, its status, and the files that it reads, first read first. These are on a contest.
+const OF_CONTESTS: [(&str, u8, &[&str]); 10] = [
     ("search row1.raire", 0, &["row1.raire"]),
     ("search tie.raire", 3, &["tie.raire"]),
     ("search row1.raire --nodes 1", 4, &["row1.raire"]),
     ("search row1.raire --floor 2", 5, &["row1.raire"]),
+    ("search five_ones.raire --cards 5", 0, &["five_ones.raire"]),
     ("trial --number 7 --candidates 4 --ballots 30", 0, &[]),
     ("tabulate row1.raire", 0, &["row1.raire"]),
     (
@@ -32,6 +33,11 @@ const ANSWERED: [(&str, u8, &[&str]); 18] = [
         6,
         &["row1.raire", "no_neb.json"],
     ),
+    ("trim row1.raire row1.json", 0, &["row1.raire", "row1.json"]),
+];
+
+// And these on an audit.
+const OF_AUDITS: [(&str, u8, &[&str]); 10] = [
     ("sample three.csv --seed 2024! --draws 6", 0, &["three.csv"]),
     ("plan twelve.csv row1.json", 0, &["twelve.csv", "row1.json"]),
     (
@@ -110,23 +116,46 @@ const REFUSED: [(&str, u32, u8); 12] = [
 
 // ---- the desk
 
-#[test]
-fn each_call_of_the_desk_fails(rt: HostRuntime) -> Result<(), Fail> {
+// The first failing call after which something is wrong, where each call of the desk for a file fails in turn, and then one that isn't made.
+fn wrong_call<R: AllocGlobal + Threads + Sync>(
+    rt: &R,
+    line: &str,
+    files: &[&str],
+    own: &Ran,
+) -> Result<Option<u32>, AllocError> {
     let alloc = rt.alloc();
-    for (line, status, files) in ANSWERED {
-        let mut call = 0u32;
-        for file in files {
-            let said = format!(in alloc; "raire: {file}: read fault\n")?;
-            for _ in 0..CALLS {
-                call = call.saturating_add(1);
-                let ran = case_ran(&rt, line, &[call], &[])?;
-                assert!(rt; is_as_wanted(&ran, 7, said.as_str()), "{line}, call {call}");
+    let mut call = 0u32;
+    for file in files {
+        let said = format!(in alloc; "raire: {file}: read fault\n")?;
+        for _ in 0..CALLS {
+            call = call.saturating_add(1);
+            let ran = case_ran(rt, line, &[call], &[])?;
+            if !is_as_wanted(&ran, 7, said.as_str()) {
+                return Ok(Some(call));
             }
         }
+    }
+    call = call.saturating_add(1);
+    let ran = case_ran(rt, line, &[call], &[])?;
+    Ok(if is_same(&ran, own) { None } else { Some(call) })
+}
+
+#[test]
+fn each_call_of_the_desk_fails(rt: HostRuntime) -> Result<(), Fail> {
+    for (line, status, files) in OF_CONTESTS {
         let own = case_ran(&rt, line, &[], &[])?;
         assert!(rt; own.status == status, "{line}");
-        let ran = case_ran(&rt, line, &[call.saturating_add(1)], &[])?;
-        assert!(rt; is_same(&ran, &own), "{line}, after call {call}");
+        assert!(rt; wrong_call(&rt, line, files, &own)?.is_none(), "{line}");
+    }
+    Ok(())
+}
+
+#[test]
+fn each_call_of_the_desk_fails_in_an_audit(rt: HostRuntime) -> Result<(), Fail> {
+    for (line, status, files) in OF_AUDITS {
+        let own = case_ran(&rt, line, &[], &[])?;
+        assert!(rt; own.status == status, "{line}");
+        assert!(rt; wrong_call(&rt, line, files, &own)?.is_none(), "{line}");
     }
     Ok(())
 }
@@ -230,7 +259,18 @@ fn is_prefix(part: &[u8], text: &[u8], taken: usize) -> bool {
 
 #[test]
 fn each_write_of_an_answer_fails(rt: HostRuntime) -> Result<(), Fail> {
-    for (line, status, _) in ANSWERED {
+    for (line, status, _) in OF_CONTESTS {
+        let own = case_ran(&rt, line, &[], &[])?;
+        assert!(rt; own.status == status, "{line}");
+        assert!(rt; own.err.is_empty() && !own.out.is_empty(), "{line}");
+        assert!(rt; wrong_write(&rt, line, 0, &own)?.is_none(), "{line}");
+    }
+    Ok(())
+}
+
+#[test]
+fn each_write_of_an_answer_fails_in_an_audit(rt: HostRuntime) -> Result<(), Fail> {
+    for (line, status, _) in OF_AUDITS {
         let own = case_ran(&rt, line, &[], &[])?;
         assert!(rt; own.status == status, "{line}");
         assert!(rt; own.err.is_empty() && !own.out.is_empty(), "{line}");

@@ -7,6 +7,8 @@ pub mod again;
 #[cfg(test)]
 mod audit_table;
 #[cfg(test)]
+mod cards_table;
+#[cfg(test)]
 mod cases;
 #[cfg(test)]
 mod checks;

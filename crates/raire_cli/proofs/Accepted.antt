@@ -8,7 +8,7 @@ use Rattle.assertion_file.specs.Reading.{assertion_file_of}
 use Rattle.cover_checker.specs.Checks.{IsAnswer}
 use Rattle.cover_checker.specs.Findings.{Answer}
 use Rattle.cover_checker.proofs.Held.{accepted_iff_holds}
-use Rattle.cover_checker.specs.declared.checked.Checked.TheVariants.{OtherContest, OtherWinner, OtherMargin, Stands, NotLeast, NotAlternative, Harder, Accepted}
+use Rattle.cover_checker.specs.declared.checked.Checked.TheVariants.{OtherContest, OtherWinner, OtherMargin, Stands, NotLeast, NotAlternative, Harder, OtherDraws, Accepted}
 use Rattle.cover_checker.specs.declared.checked.CheckFault.TheVariants.{Spent, Memory}
 use Rattle.cli_base.specs.Outcome.{Answered}
 use Rattle.cli_base.specs.Script.{Script, Ends, AsHeld, ComesTo}
@@ -29,6 +29,7 @@ accepted_answer file (Ok (Stands order)) text told = absurd (cc told)
 accepted_answer file (Ok (NotLeast found)) text told = absurd (cc told)
 accepted_answer file (Ok NotAlternative) text told = absurd (cc told)
 accepted_answer file (Ok (Harder assertion margin)) text told = absurd (cc told)
+accepted_answer file (Ok (OtherDraws index found)) text told = absurd (cc told)
 accepted_answer file (Ok Accepted) text told = refl
 accepted_answer file (Err (Spent last)) text told = absurd (cc told)
 accepted_answer file (Err Memory) text told = absurd (cc told)

@@ -20,9 +20,9 @@ use Rattle.contest_search.proofs.Contests.{winner-one, same_tabulated}
 use Rattle.contest_search.proofs.Nodes.{spent_above}
 use Rattle.contest_search.proofs.ReadBallots.{ballots_fit}
 use Rattle.search_commands.specs.Ends.{HasSpent}
-use Rattle.search_commands.specs.Search.{full_count_text, HasCertificate, HasFullCount, Finds}
+use Rattle.search_commands.specs.Search.{full_count_text, printed, HasCertificate, HasFullCount, Finds}
 use Rattle.search_commands.specs.Trial.{contest_of, Tries}
-use Rattle.search_commands.proofs.Searches.{spent_is}
+use Rattle.search_commands.proofs.Searches.{found_by, searched_with, spent_is}
 use Rattle.raire_cli.specs.Answers.{asked, asked_by}
 use Rattle.raire_cli.specs.Promises.{IsSearchable, IsTriable}
 use Rattle.raire_cli.proofs.Headline.{search_came, searching}
@@ -35,18 +35,18 @@ module _ (words : List (List ℕ)) (files : List File) (ok : IsSearchable words 
   -- what the search ends with is found in its ballots, and what is found there it may end with
 
   found_there : (kind : AnswerKind) (text : List ℕ) → ComesTo (AsHeld files) (asked words) (Answered kind text) →
-      Finds task.nodes task.floor ok.ballots (Answered kind text)
+      Finds task.nodes task.floor task.plan ok.ballots (Answered kind text)
   found_there kind text comes =
       let came = search_came words files ok.asks.search kind text comes in
       let whole : came.bytes ≡ ok.asks.bytes = some_is (sym came.held ∙ ok.asks.held) in
       let same : came.value ≡ ok.ballots = only came.is (ap (λ b. ballots_of b task.contest) whole ∙ ok.asks.accepted) in
-      subst (λ ballots. Finds task.nodes task.floor ballots (Answered kind text)) same came.rest
+      subst (λ ballots. Finds task.nodes task.floor task.plan ballots (Answered kind text)) same (found_by task came.value kind text came.rest).1
 
-  comes_there : (v : Verdict) → Finds task.nodes task.floor ok.ballots v → ComesTo (AsHeld files) (asked words) v
+  comes_there : (v : Verdict) → Finds task.nodes task.floor task.plan ok.ballots v → ComesTo (AsHeld files) (asked words) v
   comes_there v finds =
       subst (λ command. ComesTo (AsHeld files) (asked_by command) v) (sym ok.asks.search.asked)
       (saying files task.ballots (refused_ballots task.ballots) (λ bytes. ballots_of bytes task.contest) (searching words files ok.asks.search)
-      ok.asks.bytes ok.asks.held ok.is_short ok.ballots ok.asks.accepted v finds)
+      ok.asks.bytes ok.asks.held ok.is_short ok.ballots ok.asks.accepted v (searched_with task ok.ballots v ok.asks.cards finds))
 
   enough_spent : (text : List ℕ) → HasSpent task.nodes ok.ballots text → ⊥
   enough_spent text spent =
@@ -63,7 +63,7 @@ module _ (words : List (List ℕ)) (files : List File) (ok : IsSearchable words 
   -- its budget isn't spent
   pub not_spent : HasAnswer (asked words) files Spent → ⊥
   not_spent (text, comes) =
-      enough_spent text (spent_is task.nodes task.floor ok.ballots text (found_there Spent text comes))
+      enough_spent text (spent_is task.nodes task.floor task.plan ok.ballots text (found_there Spent text comes))
 
   in_budget : (winner : ℕ) → winner ≡ ok.winner → IsInBudget ok.ballots winner task.nodes
   in_budget winner w c other =
@@ -78,8 +78,8 @@ module _ (words : List (List ℕ)) (files : List File) (ok : IsSearchable words 
       let budget = in_budget is.winner (winner-one ok.ballots is.winner ok.winner is.won ok.asks.won) in
       elim (leb_tells task.floor file.margin) [
         | inl (test, le) ↦
-            let text = assertion_file_text file in
-            let has : HasCertificate task.nodes task.floor ok.ballots text = record { file = file; is = is; budget = budget; floor = le; shown = refl } in
+            let text = assertion_file_text (printed task.plan file) in
+            let has : HasCertificate task.nodes task.floor task.plan ok.ballots text = record { file = file; is = is; budget = budget; floor = le; shown = refl } in
             inl (text, comes_there (Answered Done text) (inl (text, has, refl)))
         | inr (test, lt) ↦
             let text = full_count_text file task.floor in

@@ -11,7 +11,7 @@ use Rattle.session_state.specs.Inputs.{HasFacts}
 use Rattle.session_file.specs.Reading.{session_of}
 use Rattle.session_file.proofs.SoundFiles.{read_is_sound}
 use Rattle.contest_search.proofs.ReadBallots.{ballots_fit}
-use Rattle.plurality.specs.Laws.{AreTied}
+use Rattle.plurality.specs.Ties.{AreTied}
 use Rattle.plurality.specs.Plural.{Outcome, Tie, lead, values_of}
 use Rattle.plurality.specs.Plurality.{WinsPlurality, leaders}
 use Rattle.plurality.proofs.Leads.{each-assorter}

@@ -23,7 +23,7 @@ use Rattle.cli_base.specs.Outcome.{Verdict, Answered, outcome, bad_words, no_suc
 use Rattle.cli_base.specs.Script.{Ends, Bytes, Missing, TooLong, AsHeld, May, MayCome, limit, reading_of}
 use Rattle.cli_base.specs.declared.outcome.AnswerKind.TheVariants.{Done, Tie, Spent, FullCount}
 use Rattle.command_line.specs.Line.{command_of}
-use Rattle.command.specs.declared.limits.TheConstants.{DEFAULT_NODES}
+use Rattle.command.specs.declared.limits.TheConstants.{DEFAULT_NODES, DEFAULT_WORKERS}
 use Rattle.cover_checker.specs.Checks.{IsAnswer, checked_is}
 use Rattle.cover_checker.specs.Findings.{Answer}
 use Rattle.cover_checker.specs.Outcomes.{IsWinner}
@@ -31,12 +31,13 @@ use Rattle.cover_checker.specs.declared.checked.Checked.TheVariants.{Stands}
 use Rattle.cover_checker.specs.declared.checked.CheckFault.TheVariants.{Spent as SpentAt}
 use Rattle.command_line.specs.declared.commands.Command.TheVariants.{Check}
 use Rattle.command.specs.declared.check.CheckTask.{CheckTask}
+use Rattle.command.specs.declared.search.SearchTask.{SearchTask}
 use Rattle.contest_search.specs.Certificate.{certificate_of, margin_of}
 use Rattle.contest_search.specs.Contest.{IsElected, IsWon}
 use Rattle.input_files.specs.Judged.{told, go_on}
 use Rattle.input_files.specs.Refusals.{refused_assertions, refused_ballots}
 use Rattle.search_commands.specs.Ends.{HasTie}
-use Rattle.search_commands.specs.Search.{Finds, HasFullCount, full_count_text}
+use Rattle.search_commands.specs.Search.{Finds, Searches, HasFullCount, full_count_text}
 use Rattle.search_commands.specs.Tabulate.{HasRounds, Tabulates}
 use Rattle.check_command.specs.Check.{Checks, after_ballots, differs, stands, verdict_on}
 use Rattle.report.specs.Ends.{spent_at, tie_text}
@@ -211,11 +212,13 @@ full_count = record {
 
 full_count_end : IsOfSome 5
 full_count_end =
+    let task : SearchTask =
+    record { ballots = f; contest = None; workers = DEFAULT_WORKERS; nodes = DEFAULT_NODES; floor = 2; plan = None } in
     let verdict : Verdict = Answered FullCount (full_count_text certificate 2) in
-    let finds : Finds DEFAULT_NODES 2 one verdict = inr (inr (inr (full_count_text certificate 2, full_count, refl))) in
-    let ends : May (AsHeld (one_file one_bytes)) (go_on (told (refused_ballots f) (ballots_of one_bytes None)) (λ ballots. Ends (Finds DEFAULT_NODES 2 ballots)))
+    let finds : Finds DEFAULT_NODES 2 None one verdict = inr (inr (inr (full_count_text certificate 2, full_count, refl))) in
+    let ends : May (AsHeld (one_file one_bytes)) (go_on (told (refused_ballots f) (ballots_of one_bytes None)) (λ ballots. Ends (Searches task ballots)))
     (outcome verdict) =
-    going (AsHeld (one_file one_bytes)) (told (refused_ballots f) (ballots_of one_bytes None)) one (λ ballots. Ends (Finds DEFAULT_NODES 2 ballots))
+    going (AsHeld (one_file one_bytes)) (told (refused_ballots f) (ballots_of one_bytes None)) one (λ ballots. Ends (Searches task ballots))
     (outcome verdict) (ap (told (refused_ballots f)) one_read) (verdict, finds, refl) in (
       search_words,
       one_file one_bytes,
@@ -247,7 +250,7 @@ unfolding strip_bom records_from next_record
 three_read = refl
 
 abbrev empty : Content
-empty = record { contest = three.contest; candidates = three.candidates; records = 3; winner = 0; margin = 1; order = 2 ∷ 0 ∷ 1 ∷ []; claims = [] }
+empty = record { contest = three.contest; candidates = three.candidates; records = 3; winner = 0; margin = 1; order = 2 ∷ 0 ∷ 1 ∷ []; claims = []; plan = None }
 
 abbrev empty_bytes : List ℕ
 empty_bytes = codes "{\"assertions\":[],\"candidates\":[\"a\",\"b\",\"c\"],\"contest\":\"1\",\"margin\":1,\"order\":[\"c\",\"a\",\"b\"],\"records\":3,\"version\":1,\"winner\":\"a\"}\n"
@@ -267,6 +270,7 @@ empty_is_sound = record {
   order = refl;
   margin = record { some = omega arith; most = omega arith };
   claims = All-nil (IsSoundClaim 3 3);
+  plan = tt;
 }
 
 read_empty : assertion_file_of empty_bytes ≡ Ok empty

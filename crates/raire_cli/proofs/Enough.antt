@@ -23,7 +23,7 @@ use Rattle.session_state.specs.declared.digests.Digests.{Digests}
 use Rattle.cover_checker.specs.Checks.{IsAnswer}
 use Rattle.cover_checker.specs.Covers.{first_over, or_spent, standing_order, verdict_on as cover_verdict_on}
 use Rattle.cover_checker.specs.Findings.{Answer, assertions_of}
-use Rattle.cover_checker.specs.declared.checked.Checked.TheVariants.{OtherContest, OtherWinner, OtherMargin, Stands, NotLeast, NotAlternative, Harder, Accepted}
+use Rattle.cover_checker.specs.declared.checked.Checked.TheVariants.{OtherContest, OtherWinner, OtherMargin, Stands, NotLeast, NotAlternative, Harder, OtherDraws, Accepted}
 use Rattle.cover_checker.specs.declared.checked.CheckFault.TheVariants.{Spent as SpentAt, Memory}
 use Rattle.cover_checker.proofs.Enough.{never_spent as cover_never_spent}
 use Rattle.cover_checker.proofs.Existing.{answer_never_spent}
@@ -74,6 +74,7 @@ spent_answer file (Ok (Stands order)) text is = absurd (cc is)
 spent_answer file (Ok (NotLeast found)) text is = absurd (cc is)
 spent_answer file (Ok NotAlternative) text is = absurd (cc is)
 spent_answer file (Ok (Harder assertion margin)) text is = absurd (cc is)
+spent_answer file (Ok (OtherDraws index found)) text is = absurd (cc is)
 spent_answer file (Ok Accepted) text is = absurd (cc is)
 spent_answer file (Err (SpentAt last)) text is = (last, refl)
 spent_answer file (Err Memory) text is = absurd (cc is)
@@ -103,6 +104,7 @@ trims-never nodes ballots file text enough (Ok (Stands order), found, is) = chec
 trims-never nodes ballots file text enough (Ok (NotLeast m), found, is) = checks-never nodes ballots file text enough (Ok (NotLeast m), found, is)
 trims-never nodes ballots file text enough (Ok NotAlternative, found, is) = checks-never nodes ballots file text enough (Ok NotAlternative, found, is)
 trims-never nodes ballots file text enough (Ok (Harder a m), found, is) = checks-never nodes ballots file text enough (Ok (Harder a m), found, is)
+trims-never nodes ballots file text enough (Ok (OtherDraws at d), found, is) = checks-never nodes ballots file text enough (Ok (OtherDraws at d), found, is)
 trims-never nodes ballots file text enough (Err (SpentAt last), found, is) = checks-never nodes ballots file text enough (Err (SpentAt last), found, is)
 trims-never nodes ballots file text enough (Err Memory, found, is) = checks-never nodes ballots file text enough (Err Memory, found, is)
 

@@ -1,5 +1,5 @@
 -- Status 0 of a search comes with a file that confirms the winner, and status 5 with reason for a full count.
-use Rattle.std.proofs.Common.{◌≡◌, ℕ, List, Some, Ok, ap, subst, ◌∙◌}
+use Rattle.std.proofs.Common.{◌≡◌, ℕ, true, List, Some, Ok, refl, ap, subst, ◌∙◌}
 use Rattle.desk.specs.Desk.{File, held_bytes}
 use Rattle.ballot_reader.specs.Ballots.{BallotFile}
 use Rattle.ballot_reader.specs.Grammar.{ballots_of}
@@ -13,8 +13,8 @@ use Rattle.cli_base.specs.declared.outcome.AnswerKind.TheVariants.{Done, FullCou
 use Rattle.input_files.specs.Refusals.{refused_ballots}
 use Rattle.contest_search.specs.Contest.{candidate_count}
 use Rattle.contest_search.proofs.ReadBallots.{ballots_fit}
-use Rattle.search_commands.specs.Search.{HasCertificate, HasFullCount, Finds, full_count_lines}
-use Rattle.search_commands.proofs.Searches.{done_is, full_count_is}
+use Rattle.search_commands.specs.Search.{HasCertificate, HasFullCount, Searches, full_count_lines, has_cards, printed}
+use Rattle.search_commands.proofs.Searches.{done_is, found_by, full_count_is}
 use Rattle.raire_cli.specs.Answers.{asked, asked_by}
 use Rattle.raire_cli.specs.Confirmation.{AsksForSearch, ConfirmsAsked, GivesReason}
 use Rattle.raire_cli.proofs.Confirmed.{certificate-confirms, confirms-least}
@@ -23,7 +23,7 @@ use Rattle.raire_cli.proofs.Said.{IsSaid, said}
 module _ (words : List (List ℕ)) (files : List File) (asks : AsksForSearch words) where
   -- how a search goes on with its ballots
   abbrev pub searching : List ℕ → BallotFile → Script
-  searching bytes ballots = Ends (Finds asks.task.nodes asks.task.floor ballots)
+  searching bytes ballots = Ends (Searches asks.task ballots)
 
   -- what a search comes to is found in the ballots that it reads
   pub search_came : (kind : AnswerKind) (text : List ℕ) → ComesTo (AsHeld files) (asked words) (Answered kind text) →
@@ -37,34 +37,44 @@ module _ (words : List (List ℕ)) (files : List File) (asks : AsksForSearch wor
   Confirmed text = (file : Content) × ConfirmsAsked words files file × (text ≡ assertion_file_text file)
 
   confirmed : (bytes : List ℕ) (ballots : BallotFile) (text : List ℕ) → held_bytes asks.task.ballots files ≡ Some bytes →
-      ballots_of bytes asks.task.contest ≡ Ok ballots → HasCertificate asks.task.nodes asks.task.floor ballots text → Confirmed text
-  confirmed bytes ballots text held is has =
-      let c = has.is in (
-        has.file,
+      ballots_of bytes asks.task.contest ≡ Ok ballots → has_cards asks.task.plan ballots ≡ true →
+      HasCertificate asks.task.nodes asks.task.floor asks.task.plan ballots text → Confirmed text
+  confirmed bytes ballots text held is cards has =
+      let c = has.is in
+      let confirms = certificate-confirms ballots has.file (ballots_fit bytes asks.task.contest ballots is).fewest c in (
+        printed asks.task.plan has.file,
         record {
           ballots = ballots;
           winner = c.winner;
-          asks = record { search = asks; bytes = bytes; held = held; accepted = is; won = c.won };
+          asks = record { search = asks; bytes = bytes; held = held; accepted = is; cards = cards; won = c.won };
           elected = c.decided;
           contest = ap (λ (f : Content). f.contest) c.is;
           candidates = ap (λ (f : Content). f.candidates) c.is;
           records = ap (λ (f : Content). f.records) c.is;
           named = ap (λ (f : Content). f.winner) c.is;
           floor = has.floor;
-          confirms = certificate-confirms ballots has.file (ballots_fit bytes asks.task.contest ballots is).fewest c;
+          confirms = record {
+            hold = confirms.hold;
+            cover = confirms.cover;
+            reached = confirms.reached;
+            smallest = confirms.smallest;
+            order = confirms.order;
+          };
+          plan = refl;
         },
         has.shown,
       )
 
   reasoned : (bytes : List ℕ) (ballots : BallotFile) (text : List ℕ) → held_bytes asks.task.ballots files ≡ Some bytes →
-      ballots_of bytes asks.task.contest ≡ Ok ballots → HasFullCount asks.task.nodes asks.task.floor ballots text → GivesReason words files text
-  reasoned bytes ballots text held is has =
+      ballots_of bytes asks.task.contest ≡ Ok ballots → has_cards asks.task.plan ballots ≡ true →
+      HasFullCount asks.task.nodes asks.task.floor ballots text → GivesReason words files text
+  reasoned bytes ballots text held is cards has =
       let c = has.is in
       let confirms = certificate-confirms ballots has.file (ballots_fit bytes asks.task.contest ballots is).fewest c in
       record {
         ballots = ballots;
         winner = c.winner;
-        asks = record { search = asks; bytes = bytes; held = held; accepted = is; won = c.won };
+        asks = record { search = asks; bytes = bytes; held = held; accepted = is; cards = cards; won = c.won };
         elected = c.decided;
         order = has.file.order;
         margin = has.file.margin;
@@ -78,9 +88,11 @@ module _ (words : List (List ℕ)) (files : List File) (asks : AsksForSearch wor
   pub confirms_asked : (text : List ℕ) → ComesTo (AsHeld files) (asked words) (Answered Done text) → Confirmed text
   confirms_asked text comes =
       let came = search_came Done text comes in
-      confirmed came.bytes came.value text came.held came.is (done_is asks.task.nodes asks.task.floor came.value text came.rest)
+      let (cards, finds) = found_by asks.task came.value Done text came.rest in
+      confirmed came.bytes came.value text came.held came.is cards (done_is asks.task.nodes asks.task.floor asks.task.plan came.value text finds)
 
   pub gives_reason : (text : List ℕ) → ComesTo (AsHeld files) (asked words) (Answered FullCount text) → GivesReason words files text
   gives_reason text comes =
       let came = search_came FullCount text comes in
-      reasoned came.bytes came.value text came.held came.is (full_count_is asks.task.nodes asks.task.floor came.value text came.rest)
+      let (cards, finds) = found_by asks.task came.value FullCount text came.rest in
+      reasoned came.bytes came.value text came.held came.is cards (full_count_is asks.task.nodes asks.task.floor asks.task.plan came.value text finds)

@@ -1,15 +1,17 @@
 -- A later call accepts what a search printed.
-use Rattle.std.proofs.Common.{◌≡◌, inl, inr, ℕ, ◌≤◌, List, ◌++◌, length, Option, Some, None, Ok, MatchBool, true, refl, sym, ap, subst, ◌∙◌, arith}
+use Rattle.std.proofs.Common.{◌≡◌, inl, inr, ℕ, ◌≤◌, List, ◌++◌, length, Option, Some, None, Ok, IfSome, MatchBool, true, refl, sym, ap, subst, ◌∙◌, arith, leb-true}
 use Rattle.std.specs.Prelude.{option_map}
 use Rattle.std.specs.Io.KnownBytes.{Appends}
 use Rattle.std.proofs.lemmas.List.{append_cancel_left}
 use Rattle.sha2.specs.Sha256.{sha256}
 use Rattle.desk.specs.Desk.{File, held_bytes}
 use Rattle.irv_base.specs.Names.{Id}
-use Rattle.assertion_file.specs.Content.{Content}
+use Rattle.assertions.specs.declared.assertion.Claim.{Claim}
+use Rattle.assertion_file.specs.Content.{Content, IsSoundPlan}
 use Rattle.assertion_file.specs.Reading.{assertion_file_of}
 use Rattle.session_state.specs.declared.digests.Digests.{Digests}
 use Rattle.cover_checker.specs.Checks.{IsAnswer}
+use Rattle.cover_checker.specs.Draws.{IsPlanOf}
 use Rattle.cover_checker.specs.declared.checked.Checked.TheVariants.{Accepted}
 use Rattle.ballot_reader.specs.Ballots.{BallotFile}
 use Rattle.ballot_reader.specs.Grammar.{ballots_of}
@@ -22,16 +24,20 @@ use Rattle.cli_base.specs.Script.{Script, Ends, AsHeld, Concludes, May, MayCome,
 use Rattle.cli_base.specs.declared.outcome.AnswerKind.TheVariants.{Done}
 use Rattle.cli_base.proofs.Scripts.{ended}
 use Rattle.cli_base.proofs.Statuses.{answer_verdict, stopped}
+use Rattle.command.specs.PlanTerms.{AreWithinLimits}
+use Rattle.command.specs.declared.plan_terms.PlanTerms.{PlanTerms}
 use Rattle.command.specs.declared.search.SearchTask.{SearchTask}
-use Rattle.command_line.specs.declared.commands.Command.TheVariants.{Check, Open}
+use Rattle.command_line.specs.declared.commands.Command.TheVariants.{Check, Open, Search}
+use Rattle.command_line.proofs.Checked.{are_checked}
 use Rattle.check_command.specs.Check.{Checks, after_ballots, yes_text}
 use Rattle.check_command.proofs.Checks.{accepted_is_yes}
-use Rattle.contest_search.proofs.Accepted.{found_is_accepted}
+use Rattle.contest_search.proofs.Accepted.{accepted_with, IsTaken}
+use Rattle.contest_search.proofs.Plans.{plan_sound}
 use Rattle.input_files.specs.Cards.{cards_for}
 use Rattle.input_files.specs.Judged.{told, then_judged, unless}
 use Rattle.input_files.specs.Refusals.{no_card, refused_assertions, refused_ballots, refused_manifest}
-use Rattle.search_commands.specs.Search.{HasCertificate, script}
-use Rattle.search_commands.proofs.Searches.{done_is}
+use Rattle.search_commands.specs.Search.{has_cards, plan_by, printed, HasCertificate, script}
+use Rattle.search_commands.proofs.Searches.{done_is, found_by as searches_found}
 use Rattle.session_commands.specs.Accepted.{is_accepted}
 use Rattle.session_commands.specs.Open as opened
 use Rattle.session_commands.proofs.Acceptance.{decided}
@@ -61,7 +67,8 @@ module _ {words : List (List ℕ)} (files : List File) (search : AsksForSearch w
     pub is_short : length bytes ≤ limit
     pub ballots : BallotFile
     pub read : ballots_of bytes task.contest ≡ Ok ballots
-    pub has : HasCertificate task.nodes task.floor ballots text
+    pub cards : has_cards task.plan ballots ≡ true
+    pub has : HasCertificate task.nodes task.floor task.plan ballots text
 
   found_by : (d : Outcome) → d.status ≡ 0 → May (AsHeld files) (script task) d → Found d.out
   found_by d zero may = elim (ended (AsHeld files) (script task) d may) [
@@ -70,13 +77,15 @@ module _ {words : List (List ℕ)} (files : List File) (search : AsksForSearch w
         let shown : d.out ≡ text = ap (λ (o : Outcome). o.out) is ∙ ap (λ v. (outcome v).out) answered in
         let came = said files task.ballots (refused_ballots task.ballots) (λ bytes. ballots_of bytes task.contest) (searching words files search) Done d.out
         (λ why. tt) (subst (Concludes (AsHeld files) (script task)) (answered ∙ ap (Answered Done) (sym shown)) concludes) in
+        let (cards, finds) = searches_found task came.value Done d.out came.rest in
         record {
           bytes = came.bytes;
           held = came.held;
           is_short = came.is_short;
           ballots = came.value;
           read = came.is;
-          has = done_is task.nodes task.floor came.value d.out came.rest;
+          cards = cards;
+          has = done_is task.nodes task.floor task.plan came.value d.out finds;
         }
     | inr (name, reading, reaches, there, stops) ↦ absurd (stopped 0 name reading d stops zero refl refl refl)
   ]
@@ -91,17 +100,46 @@ module _ {words : List (List ℕ)} (files : List File) (search : AsksForSearch w
         (found_by ended printed.done (subst (λ command. MayCome (AsHeld files) (asked_by command) ended) search.asked may'))
   ]
 
--- what a search printed reads back, and is accepted
-module _ (nodes least : ℕ) (bytes : List ℕ) (contest : Option Id) (ballots : BallotFile) (text : List ℕ) (read : ballots_of bytes contest ≡ Ok ballots)
-    (has : HasCertificate nodes least ballots text) where
-  printed_reads : assertion_file_of text ≡ Ok has.file
-  printed_reads =
-      let (is, reads, accepted) = found_is_accepted nodes bytes contest ballots has.file read (record { is = has.is; budget = has.budget }) in
-      subst (λ t. assertion_file_of t ≡ Ok has.file) (sym has.shown) reads
+-- what a search printed
+abbrev file_of : {nodes least : ℕ} {ballots : BallotFile} {text : List ℕ} (plan : Option PlanTerms) → HasCertificate nodes least plan ballots text → Content
+file_of plan has = printed plan has.file
 
-  printed_accepted : IsAnswer nodes ballots has.file (Ok Accepted)
-  printed_accepted =
-      let (is, reads, accepted) = found_is_accepted nodes bytes contest ballots has.file read (record { is = has.is; budget = has.budget }) in accepted
+-- the plan that is printed can be one, and has the clean draws of the claims
+sound_by : (plan : Option PlanTerms) (ballots : BallotFile) (file : Content) → file.records ≡ length ballots.rankings → IfSome plan AreWithinLimits →
+    has_cards plan ballots ≡ true → IfSome (option_map (plan_by file.claims) plan) (IsSoundPlan file.records (length file.claims))
+sound_by None ballots file same limits cards = tt
+sound_by (Some terms) ballots file same limits cards =
+    let enough : length ballots.rankings ≤ terms.cards = leb-true (length ballots.rankings) terms.cards cards in
+    plan_sound terms.cards terms.gamma terms.limit file.records file.claims (record {
+      some_cards = omega (arith, same, enough);
+      most_cards = limits.cards.1;
+      some_gamma = limits.gamma.0;
+      most_gamma = limits.gamma.1;
+      some_limit = limits.limit.0;
+      most_limit = limits.limit.1;
+    })
+
+clean_by : (plan : Option PlanTerms) (claims : List Claim) → IfSome (option_map (plan_by claims) plan) (IsPlanOf claims)
+clean_by None claims = tt
+clean_by (Some terms) claims = refl
+
+-- it reads back, and is accepted
+module _ (nodes least : ℕ) (plan : Option PlanTerms) (limits : IfSome plan AreWithinLimits) (bytes : List ℕ) (contest : Option Id) (ballots : BallotFile)
+    (text : List ℕ) (read : ballots_of bytes contest ≡ Ok ballots) (cards : has_cards plan ballots ≡ true) (has : HasCertificate nodes least plan ballots text)
+  where
+    taken : IsTaken nodes ballots (file_of plan has)
+    taken =
+        let file = has.file in
+        let records : file.records ≡ length ballots.rankings = ap (λ (f : Content). f.records) has.is.is in
+        accepted_with nodes bytes contest ballots file (option_map (plan_by file.claims) plan) read (record { is = has.is; budget = has.budget })
+        (sound_by plan ballots file records limits cards) (clean_by plan file.claims)
+
+    printed_reads : assertion_file_of text ≡ Ok (file_of plan has)
+    printed_reads = subst (λ t. assertion_file_of t ≡ Ok (file_of plan has)) (sym has.shown)
+        (let (is, reads, accepted) = taken in reads)
+
+    printed_accepted : IsAnswer nodes ballots (file_of plan has) (Ok Accepted)
+    printed_accepted = let (is, reads, accepted) = taken in accepted
 
 -- ---- a check
 
@@ -109,9 +147,12 @@ pub printed_is_accepted : PrintedIsAccepted
 printed_is_accepted words others search check files more first second text printed holds settled =
     let task = check.task in
     let found = found files search first text printed in
-    let file = found.has.file in
-    let reads = printed_reads search.task.nodes search.task.floor found.bytes search.task.contest found.ballots text found.read found.has in
-    let known = printed_accepted search.task.nodes search.task.floor found.bytes search.task.contest found.ballots text found.read found.has in
+    let file = file_of search.task.plan found.has in
+    let limits = (are_checked words (Search search.task) search.asked).plan in
+    let reads = printed_reads search.task.nodes search.task.floor search.task.plan limits found.bytes search.task.contest found.ballots text found.read
+    found.cards found.has in
+    let known = printed_accepted search.task.nodes search.task.floor search.task.plan limits found.bytes search.task.contest found.ballots text found.read
+    found.cards found.has in
     let yes : Verdict = Answered Done (yes_text file) in
     let checks : Checks task.nodes found.ballots file yes =
     subst (λ nodes. Checks nodes found.ballots file yes) (sym check.same_nodes)
@@ -142,15 +183,18 @@ printed_is_opened words others search opening files more first second text print
     let task = opening.task in
     let found = found files search first text printed in
     let ballots = found.ballots in
-    let file = found.has.file in
-    let reads = printed_reads search.task.nodes search.task.floor found.bytes search.task.contest ballots text found.read found.has in
-    let known = printed_accepted search.task.nodes search.task.floor found.bytes search.task.contest ballots text found.read found.has in
+    let file = file_of search.task.plan found.has in
+    let limits = (are_checked words (Search search.task) search.asked).plan in
+    let reads = printed_reads search.task.nodes search.task.floor search.task.plan limits found.bytes search.task.contest ballots text found.read
+    found.cards found.has in
+    let known = printed_accepted search.task.nodes search.task.floor search.task.plan limits found.bytes search.task.contest ballots text found.read
+    found.cards found.has in
     let held = AsHeld more in
     let digests : Digests = opened.all_digests (record { ballots = sha256 found.bytes; manifest = sha256 cards.bytes }) text in
     let session : Verdict = opened.opened task cards.batches file digests in
     let due = outcome session in
     let asks : AsksFor words files ballots found.has.is.winner =
-    record { search = search; bytes = found.bytes; held = found.held; accepted = found.read; won = found.has.is.won } in
+    record { search = search; bytes = found.bytes; held = found.held; accepted = found.read; cards = found.cards; won = found.has.is.won } in
     let placed = cards.placed ballots found.has.is.winner asks in
     let accepted : is_accepted task.nodes ballots file ≡ true =
     ap (λ nodes. is_accepted nodes ballots file) opening.same_nodes ∙ (decided search.task.nodes ballots file).1 known in

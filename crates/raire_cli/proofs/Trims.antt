@@ -1,25 +1,27 @@
 -- Status 0 of a trim comes with the trimmed file.
-use Rattle.std.proofs.Common.{◌≡◌, ◌≤◌, ℕ, List, length, Some, Result, Ok, Err, refl, sym, subst}
+use Rattle.std.proofs.Common.{◌≡◌, ◌≤◌, ℕ, List, [], length, Option, Some, None, IfSome, Result, Ok, Err, refl, sym, subst}
+use Rattle.std.specs.Prelude.{option_map}
 use Rattle.desk.specs.Desk.{File}
 use Rattle.ballot_reader.specs.Ballots.{BallotFile}
 use Rattle.ballot_reader.specs.Grammar.{ballots_of}
-use Rattle.assertion_file.specs.Content.{Content, HasNames, IsSound, IsSoundClaim, candidate_count}
+use Rattle.assertion_file.specs.Content.{Content, Plan, HasNames, IsDrawCount, IsSound, IsSoundClaim, IsSoundPlan, candidate_count}
 use Rattle.assertion_file.specs.Reading.{assertion_file_of}
 use Rattle.assertion_file.specs.Text.{assertion_file_text}
 use Rattle.assertion_file.proofs.Printed.{printed_reads_back}
 use Rattle.assertion_file.proofs.SoundFiles.{read_is_sound, read_keeps}
 use Rattle.cover_checker.specs.Checks.{IsAnswer}
 use Rattle.cover_checker.specs.Findings.{Answer}
-use Rattle.cover_checker.specs.declared.checked.Checked.TheVariants.{OtherContest, OtherWinner, OtherMargin, Stands, NotLeast, NotAlternative, Harder, Accepted}
+use Rattle.cover_checker.specs.declared.checked.Checked.TheVariants.{OtherContest, OtherWinner, OtherMargin, Stands, NotLeast, NotAlternative, Harder, OtherDraws, Accepted}
 use Rattle.cover_checker.specs.declared.checked.CheckFault.TheVariants.{Spent, Memory}
-use Rattle.trimmer.specs.Trimmed.{trimmed}
+use Rattle.trimmer.specs.Trimmed.{draws_left, left_of as claims_left, trimmed, with_draws}
 use Rattle.trimmer.specs.declared.fault.TrimFault.{TrimFault}
 use Rattle.trimmer.specs.declared.fault.TrimFault.TheVariants.{Spent as TrimSpent, Memory as TrimMemory}
 use Rattle.assertions.specs.declared.assertion.Claim.{Claim}
 use Rattle.trimmer.specs.Laws.{IsPartOf}
 use Rattle.trimmer.proofs.Accepted.{all-part, trimmed_is_accepted}
 use Rattle.trimmer.proofs.Kept.{trimmed_is_irredundant}
-use Rattle.trimmer.proofs.Lefts.{trimmed_is_part}
+use Rattle.trimmer.proofs.Draws.{draws-all, draws-many, trimmed_is_part}
+use Rattle.trimmer.proofs.Lefts.{from_trimmed}
 use Rattle.cli_base.specs.Outcome.{Answered}
 use Rattle.cli_base.specs.Script.{Script, Ends, AsHeld, ComesTo, limit}
 use Rattle.cli_base.specs.declared.outcome.AnswerKind.TheVariants.{Done}
@@ -47,13 +49,31 @@ trimmed_answer nodes file (Ok (Stands order)) text told = accepted_answer file (
 trimmed_answer nodes file (Ok (NotLeast found)) text told = accepted_answer file (Ok (NotLeast found)) text told
 trimmed_answer nodes file (Ok NotAlternative) text told = accepted_answer file (Ok NotAlternative) text told
 trimmed_answer nodes file (Ok (Harder assertion margin)) text told = accepted_answer file (Ok (Harder assertion margin)) text told
+trimmed_answer nodes file (Ok (OtherDraws index found)) text told = accepted_answer file (Ok (OtherDraws index found)) text told
 trimmed_answer nodes file (Ok Accepted) text told = refl
 trimmed_answer nodes file (Err (Spent last)) text told = accepted_answer file (Err (Spent last)) text told
 trimmed_answer nodes file (Err Memory) text told = accepted_answer file (Err Memory) text told
 
+-- the plan of the claims that are left is one where that of all claims is
+left_sound : (nodes : ℕ) (file : Content) (claims : List Claim) → claims_left nodes file [] file.claims ≡ Ok claims → (plan : Option Plan) →
+    IfSome plan (IsSoundPlan file.records (length file.claims)) →
+    IfSome (option_map (λ (plan : Plan). with_draws (draws_left nodes file [] file.claims plan.draws) plan) plan) (IsSoundPlan file.records (length claims))
+left_sound nodes file claims left None sound = tt
+left_sound nodes file claims left (Some plan) sound = record {
+  some_cards = sound.some_cards;
+  most_cards = sound.most_cards;
+  some_gamma = sound.some_gamma;
+  most_gamma = sound.most_gamma;
+  some_limit = sound.some_limit;
+  most_limit = sound.most_limit;
+  each = draws-many nodes file [] file.claims claims plan.draws left sound.each;
+  draws = draws-all nodes file (λ draws. IfSome draws IsDrawCount) [] file.claims claims plan.draws left sound.draws;
+}
+
 -- a part of the claims of a file that was read reads back
-part_sound : (file : Content) (claims : List Claim) → IsPartOf claims file.claims → IsSound file → IsSound (record file { claims = claims })
-part_sound file claims part sound = record {
+part_sound : (file : Content) (claims : List Claim) (plan : Option Plan) → IsPartOf claims file.claims → IsSound file →
+    IfSome plan (IsSoundPlan file.records (length claims)) → IsSound (record file { claims = claims; plan = plan })
+part_sound file claims plan part sound planned = record {
   fewest = sound.fewest;
   most = sound.most;
   differ = sound.differ;
@@ -63,18 +83,24 @@ part_sound file claims part sound = record {
   order = sound.order;
   margin = sound.margin;
   claims = all-part (IsSoundClaim (candidate_count file) file.records) part sound.claims;
+  plan = planned;
 }
 
-part_names : (file : Content) (claims : List Claim) → HasNames file → HasNames (record file { claims = claims })
-part_names file claims names = record { contest = names.contest; candidates = names.candidates }
+part_names : (file : Content) (claims : List Claim) (plan : Option Plan) → HasNames file → HasNames (record file { claims = claims; plan = plan })
+part_names file claims plan names = record { contest = names.contest; candidates = names.candidates }
 
 pub trimmed_reads_back : (bytes : List ℕ) (nodes : ℕ) (file left : Content) → assertion_file_of bytes ≡ Ok file → trimmed nodes file ≡ Ok left →
     assertion_file_of (assertion_file_text left) ≡ Ok left
 trimmed_reads_back bytes nodes file left read is =
-    let (part, same) = trimmed_is_part nodes file left is in
+    let (part, draws, terms, same) = trimmed_is_part nodes file left is in
     let (sound, names) = read_keeps bytes file read in
+    let t = from_trimmed nodes file left is in
+    let planned : IfSome left.plan (IsSoundPlan file.records (length left.claims)) =
+    subst (λ plan. IfSome plan (IsSoundPlan file.records (length left.claims))) (sym t.plan)
+    (left_sound nodes file left.claims t.claims file.plan sound.plan) in
     subst (λ content. assertion_file_of (assertion_file_text content) ≡ Ok content) (sym same)
-    (printed_reads_back (record file { claims = left.claims }) (part_sound file left.claims part sound) (part_names file left.claims names))
+    (printed_reads_back (record file { claims = left.claims; plan = left.plan }) (part_sound file left.claims left.plan part sound planned)
+    (part_names file left.claims left.plan names))
 
 module _ (words : List (List ℕ)) (files : List File) (asks : AsksForTrim words) (text : List ℕ) where
   -- what a trim that answers has read, and what is left of it
@@ -128,7 +154,7 @@ module _ (words : List (List ℕ)) (files : List File) (asks : AsksForTrim words
       (left : Content) × IsTrimmedOf words files left × (text ≡ assertion_file_text left)
   printed_of comes =
       let l = left_by comes in
-      let (part, same) = trimmed_is_part asks.task.nodes l.file l.left l.is in (
+      let (part, draws, terms, same) = trimmed_is_part asks.task.nodes l.file l.left l.is in (
         l.left,
         record {
           asks = asks;
@@ -136,8 +162,11 @@ module _ (words : List (List ℕ)) (files : List File) (asks : AsksForTrim words
           file = l.file;
           are = l.are;
           reads_back = reads_back l;
+          was_accepted = l.accepts;
           accepted = accepted_left l;
           part = part;
+          draws = draws;
+          terms = terms;
           same = same;
           needed = trimmed_is_irredundant asks.task.nodes l.file l.left l.is;
         },

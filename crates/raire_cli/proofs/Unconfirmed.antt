@@ -80,7 +80,7 @@ abbrev claim : Claim
 claim = record { assertion = Neb 0 1; margin = 1 }
 
 abbrev file : FileContent
-file = record { contest = codes "7"; candidates = codes "1" ∷ codes "2" ∷ []; records = 1; winner = 0; margin = 1; order = 0 ∷ 1 ∷ []; claims = claim ∷ [] }
+file = record { contest = codes "7"; candidates = codes "1" ∷ codes "2" ∷ []; records = 1; winner = 0; margin = 1; order = 0 ∷ 1 ∷ []; claims = claim ∷ []; plan = None }
 
 file_text : assertion_file_text file ≡ assertions_bytes
 unfolding file_value digits serde_json_on_literals
@@ -100,6 +100,7 @@ file_is_sound = record {
   order = refl;
   margin = one_vote;
   claims = All-cons (IsSoundClaim 2 1) claim [] (record { proper = refl; margin = one_vote }) (All-nil (IsSoundClaim 2 1));
+  plan = tt;
 }
 
 file_read : assertion_file_of assertions_bytes ≡ Ok file

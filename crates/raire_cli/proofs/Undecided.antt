@@ -15,6 +15,7 @@ use Rattle.cli_base.specs.Statuses.{HasAnswer}
 use Rattle.cli_base.specs.declared.outcome.AnswerKind.{AnswerKind}
 use Rattle.cli_base.specs.declared.outcome.AnswerKind.TheVariants.{Tie, Spent}
 use Rattle.cli_base.proofs.Scripts.{some_is}
+use Rattle.command.specs.declared.plan_terms.PlanTerms.{PlanTerms}
 use Rattle.command.specs.declared.trial.TrialTask.{TrialTask}
 use Rattle.command_line.specs.Laws.{IsChecked}
 use Rattle.command_line.specs.Line.{command_of}
@@ -29,11 +30,11 @@ use Rattle.contest_search.specs.Contest.{candidate_count, IsOther, IsUndecided, 
 use Rattle.contest_search.proofs.Contests.{winner-below}
 use Rattle.contest_search.proofs.ReadBallots.{ballots_fit}
 use Rattle.search_commands.specs.Ends.{HasSpent, HasTie}
-use Rattle.search_commands.specs.Search.{Finds}
+use Rattle.search_commands.specs.Search.{Finds, Searches}
 use Rattle.search_commands.specs.Tabulate.{Tabulates}
 use Rattle.search_commands.specs.Trial.{contest_of, Tries}
 use Rattle.search_commands.proofs.Ends.{undecided_has_tie}
-use Rattle.search_commands.proofs.Searches.{spent_is}
+use Rattle.search_commands.proofs.Searches.{found_by, searched_with, spent_is}
 use Rattle.raire_cli.specs.Answers.{asked, asked_by, script_of}
 use Rattle.raire_cli.specs.Ballots.{AreBallots}
 use Rattle.raire_cli.specs.PluralityTies.{TellsPluralityTie}
@@ -46,11 +47,11 @@ use Rattle.raire_cli.proofs.Said.{only, said, saying}
 -- ---- a tie that is told
 
 module _ (text : List ℕ) where
-  tie_found : (nodes least : ℕ) (ballots : BallotFile) → Finds nodes least ballots (Answered Tie text) → HasTie ballots text
-  tie_found nodes least ballots (inl (other, has, e)) = absurd (cc e)
-  tie_found nodes least ballots (inr (inl (other, has, e))) = let same : other ≡ text = cc in subst (HasTie ballots) same has
-  tie_found nodes least ballots (inr (inr (inl (other, has, e)))) = absurd (cc e)
-  tie_found nodes least ballots (inr (inr (inr (other, has, e)))) = absurd (cc e)
+  tie_found : (nodes least : ℕ) (plan : Option PlanTerms) (ballots : BallotFile) → Finds nodes least plan ballots (Answered Tie text) → HasTie ballots text
+  tie_found nodes least plan ballots (inl (other, has, e)) = absurd (cc e)
+  tie_found nodes least plan ballots (inr (inl (other, has, e))) = let same : other ≡ text = cc in subst (HasTie ballots) same has
+  tie_found nodes least plan ballots (inr (inr (inl (other, has, e)))) = absurd (cc e)
+  tie_found nodes least plan ballots (inr (inr (inr (other, has, e)))) = absurd (cc e)
 
   tie_tabulated : (nodes : ℕ) (ballots : BallotFile) → Tabulates nodes ballots (Answered Tie text) → HasTie ballots text
   tie_tabulated nodes ballots (inl (other, has, e)) = absurd (cc e)
@@ -104,8 +105,9 @@ module _ (words : List (List ℕ)) (files : List File) (text : List ℕ) where
   tells : (command : Option Command) → command_of words ≡ command → ComesTo (AsHeld files) (asked_by command) (Answered Tie text) → Tells
   tells None is comes = absurd comes
   tells (Some (Search task)) is comes =
-      let (ballots, are, ends) = said_of files task.ballots task.contest (Finds task.nodes task.floor) Tie text comes in
-      inl (told_of (Search task) ballots is are (tie_found text task.nodes task.floor ballots ends))
+      let (ballots, are, ends) = said_of files task.ballots task.contest (Searches task) Tie text comes in
+      let (cards, finds) = found_by task ballots Tie text ends in
+      inl (told_of (Search task) ballots is (are, cards) (tie_found text task.nodes task.floor task.plan ballots finds))
   tells (Some (Tabulate task)) is comes =
       let (ballots, are, ends) = said_of files task.ballots task.contest (Tabulates task.nodes) Tie text comes in
       inl (told_of (Tabulate task) ballots is are (tie_tabulated text task.nodes ballots ends))
@@ -128,7 +130,7 @@ module _ (files : List File) (ballots : BallotFile) where
   fewest_in name contest are = let fit = (ballots_fit are.bytes contest ballots are.accepted).fewest in omega (arith, fit)
 
   fewest_of : (command : Command) → IsChecked command → IsAbout files command ballots → FEWEST_CANDIDATES ≤ candidate_count ballots
-  fewest_of (Search task) checked are = fewest_in task.ballots task.contest are
+  fewest_of (Search task) checked (are, cards) = fewest_in task.ballots task.contest are
   fewest_of (Tabulate task) checked are = fewest_in task.ballots task.contest are
   fewest_of (Trial task) checked is =
       let long : candidate_count ballots ≡ task.candidates =
@@ -139,8 +141,9 @@ module _ (files : List File) (ballots : BallotFile) where
 
   comes_to_tie : (text : List ℕ) → HasTie ballots text → (command : Command) → IsAbout files command ballots →
       Concludes (AsHeld files) (script_of command) (Answered Tie text)
-  comes_to_tie text tie (Search task) are =
-      comes_of files task.ballots task.contest (Finds task.nodes task.floor) ballots are (Answered Tie text) (inr (inl (text, tie, refl)))
+  comes_to_tie text tie (Search task) (are, cards) =
+      comes_of files task.ballots task.contest (Searches task) ballots are (Answered Tie text)
+      (searched_with task ballots (Answered Tie text) cards (inr (inl (text, tie, refl))))
   comes_to_tie text tie (Tabulate task) are =
       comes_of files task.ballots task.contest (Tabulates task.nodes) ballots are (Answered Tie text) (inr (inl (text, tie, refl)))
   comes_to_tie text tie (Trial task) is = inr (inl (text, subst (λ contest. HasTie contest text) is tie, refl))
@@ -189,9 +192,10 @@ module _ (files : List File) (ballots : BallotFile) (text : List ℕ) (fewest : 
     (undecided : IsUndecided ballots) where
   never_spent : (command : Command) → IsAbout files command ballots → Suffice ballots (nodes_of command) →
       Concludes (AsHeld files) (script_of command) (Answered Spent text) → ⊥
-  never_spent (Search task) are budget comes =
-      let spent = spent_is task.nodes task.floor ballots text
-      (ends_there files task.ballots task.contest (Finds task.nodes task.floor) ballots are Spent text comes) in
+  never_spent (Search task) (are, cards) budget comes =
+      let (has, finds) = found_by task ballots Spent text
+      (ends_there files task.ballots task.contest (Searches task) ballots are Spent text comes) in
+      let spent = spent_is task.nodes task.floor task.plan ballots text finds in
       never_spent_so ballots task.nodes fewest undecided budget spent.last spent.order spent.margin spent.is
   never_spent (Tabulate task) are budget comes =
       never_stopped ballots task.nodes fewest undecided budget text

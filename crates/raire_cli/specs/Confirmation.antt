@@ -1,5 +1,5 @@
 -- What it means that assertions confirm the winner of some records.
-use Rattle.std.specs.Prelude.{◌≡◌, ◌≤◌, ◌<◌, ℕ, List, All, Contains, Option, Some, IfSome, Ok, IsTrue, length}
+use Rattle.std.specs.Prelude.{◌≡◌, ◌≤◌, ◌<◌, ℕ, List, All, Contains, Option, Some, IfSome, Ok, IsTrue, length, option_map}
 use Rattle.desk.specs.Desk.{File, held_bytes}
 use Rattle.assertions.specs.declared.assertion.Assertion.{Assertion}
 use Rattle.assertions.specs.declared.assertion.Claim.{Claim}
@@ -16,7 +16,7 @@ use Rattle.command_line.specs.Line.{command_of}
 use Rattle.command_line.specs.declared.commands.Command.TheVariants.{Search}
 use Rattle.command.specs.declared.search.SearchTask.{SearchTask}
 use Rattle.contest_search.specs.Contest.{candidate_count, IsElected, IsWon}
-use Rattle.search_commands.specs.Search.{full_count_lines}
+use Rattle.search_commands.specs.Search.{full_count_lines, has_cards, plan_by}
 
 -- an assertion among n candidates that is true of the records, by the margin that is claimed
 pub record ClaimHolds (n : ℕ) (records : List (List ℕ)) (claim : Claim) : Type 0 where
@@ -56,13 +56,15 @@ pub record AsksForSearch (words : List (List ℕ)) : Type 0 where
   pub task : SearchTask
   pub asked : command_of words ≡ Some (Search task)
 
--- its file is held and accepted, and the tabulated order of the contest elects this candidate
+-- its file is held and accepted, each ballot of the contest has one of the cards that the words give, if they give a number, and the
+-- tabulated order elects this candidate
 pub record AsksFor (words : List (List ℕ)) (files : List File) (ballots : BallotFile)
     (winner : ℕ) : Type 0 where
   pub search : AsksForSearch words
   pub bytes : List ℕ
   pub held : held_bytes search.task.ballots files ≡ Some bytes
   pub accepted : ballots_of bytes search.task.contest ≡ Ok ballots
+  pub cards : IsTrue (has_cards search.task.plan ballots)
   pub won : IsWon ballots winner
 
 -- this is a file that confirms the winner of the contest that was asked for, whom each way of breaking its ties elects, by a margin
@@ -78,6 +80,8 @@ pub record ConfirmsAsked (words : List (List ℕ)) (files : List File) (file : C
   pub named : file.winner ≡ winner
   pub floor : asks.search.task.floor ≤ file.margin
   pub confirms : Confirms (candidate_count ballots) ballots.rankings winner file
+  -- it has the clean draws of its assertions, where the words give a number of cards
+  pub plan : file.plan ≡ option_map (plan_by file.claims) asks.search.task.plan
 
 -- this is a text that gives an order as reason for a full count: it elects another candidate than the winner of the contest that was
 -- asked for, whom each way of breaking its ties elects, and no true assertion whose margin reaches the floor refutes it
@@ -98,7 +102,8 @@ pub record GivesReason (words : List (List ℕ)) (files : List File) (text : Lis
 
 -- Status 0 of a search: each way of breaking ties elects the winner. The printed assertions are all true of the records, and refute
 -- every elimination order that elects another candidate. The printed margin is the smallest of theirs, and no true assertion of larger
--- margin refutes the printed order.
+-- margin refutes the printed order. Where the words give a number of cards, the printed draws are those of a clean audit; else there are
+-- none.
 abbrev pub IsConfirmed : Option (List File) → List (List ℕ) → ℕ → Writing → Type 0
 IsConfirmed held words status out = IfSome held (λ files. AsksForSearch words → status ≡ 0 →
     (file : Content) × ConfirmsAsked words files file × Took out (assertion_file_text file))

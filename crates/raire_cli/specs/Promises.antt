@@ -19,8 +19,9 @@ use Rattle.raire_cli.specs.Answers.{asked, is_open}
 use Rattle.raire_cli.specs.Ballots.{AreBallots}
 use Rattle.raire_cli.specs.Confirmation.{AsksFor}
 
--- The words ask for a search of a file that is held, not too long and accepted. Its contest is decided: each way of breaking its
--- ties elects the winner. The budget has as many nodes as may be needed for each candidate who didn't win.
+-- The words ask for a search of a file that is held, not too long and accepted, with as many cards as ballots if they give a number.
+-- Its contest is decided: each way of breaking its ties elects the winner. The budget has as many nodes as may be needed for each
+-- candidate who didn't win.
 pub record IsSearchable (words : List (List ℕ)) (files : List File) : Type 0 where
   pub ballots : BallotFile
   pub winner : ℕ

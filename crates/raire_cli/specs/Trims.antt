@@ -7,11 +7,11 @@ use Rattle.ballot_reader.specs.Ballots.{BallotFile}
 use Rattle.ballot_reader.specs.Grammar.{ballots_of}
 use Rattle.assertion_file.specs.Content.{Content, candidate_count}
 use Rattle.assertion_file.specs.Reading.{assertion_file_of}
-use Rattle.assertion_file.specs.Text.{assertion_file_text}
+use Rattle.assertion_file.specs.Text.{assertion_file_text, told_of}
 use Rattle.cover_checker.specs.Checks.{IsAnswer}
 use Rattle.cover_checker.specs.Covers.{stands}
 use Rattle.cover_checker.specs.declared.checked.Checked.TheVariants.{Accepted}
-use Rattle.trimmer.specs.Laws.{IsPartOf}
+use Rattle.trimmer.specs.Laws.{IsPartOf, IsPlannedAlike}
 use Rattle.cli_base.specs.Ends.{Writing, Took}
 use Rattle.command.specs.declared.trim.TrimTask.{TrimTask}
 use Rattle.command_line.specs.Line.{command_of}
@@ -46,11 +46,15 @@ pub record IsTrimmedOf (words : List (List ℕ)) (files : List File) (left : Con
   pub are : AreTrimFiles asks.task files ballots file
   -- what is printed of it says the same when it is read
   pub reads_back : assertion_file_of (assertion_file_text left) ≡ Ok left
-  -- a check of the same ballots with the same nodes accepts it
+  -- a check of the same ballots with the same nodes accepts the file that was read
+  pub was_accepted : IsAnswer asks.task.nodes ballots file (Ok Accepted)
+  -- and what is left of it
   pub accepted : IsAnswer asks.task.nodes ballots left (Ok Accepted)
-  -- its claims are among those that were read, in their order, and all else is the same
+  -- its claims are among those that were read, in their order and each with its draws, and all else is the same
   pub part : IsPartOf left.claims file.claims
-  pub same : left ≡ record file { claims = left.claims }
+  pub draws : IsPartOf (told_of left.plan left.claims) (told_of file.plan file.claims)
+  pub terms : IsPlannedAlike file.plan left.plan
+  pub same : left ≡ record file { claims = left.claims; plan = left.plan }
   -- each of its claims is needed
   pub needed : (before : List Claim) (claim : Claim) (behind : List Claim) →
       left.claims ≡ before ++ claim ∷ behind → IsNeeded file before behind

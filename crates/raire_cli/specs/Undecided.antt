@@ -1,5 +1,5 @@
 -- What it means that ways of breaking a contest's ties elect different candidates: what status 3 tells.
-use Rattle.std.specs.Prelude.{◌≡◌, ◌⊎◌, ◌≤◌, ℕ, List, Option, Some, IfSome}
+use Rattle.std.specs.Prelude.{◌≡◌, ◌⊎◌, ◌≤◌, ℕ, List, Option, Some, IfSome, IsTrue}
 use Rattle.desk.specs.Desk.{File}
 use Rattle.ballot_reader.specs.Ballots.{BallotFile}
 use Rattle.cli_base.specs.Ends.{Writing, Took}
@@ -10,15 +10,17 @@ use Rattle.command_line.specs.declared.commands.Command.TheVariants.{Search, Tab
 use Rattle.bound_search.specs.Race.{work_for}
 use Rattle.contest_search.specs.Contest.{candidate_count, IsOther, IsUndecided, IsWon}
 use Rattle.search_commands.specs.Ends.{HasTie}
+use Rattle.search_commands.specs.Search.{has_cards}
 use Rattle.search_commands.specs.Trial.{contest_of}
 use Rattle.raire_cli.specs.Ballots.{AreBallots}
 use Rattle.raire_cli.specs.PluralityTies.{TellsPluralityTie}
 
 -- ---- the contest of a command
 
--- a search, a tabulation or a trial asks who has won this contest
+-- a search, a tabulation or a trial asks who has won this contest; a search that is given a number of cards, if they are enough
 abbrev pub IsAbout : List File → Command → BallotFile → Type 0
-IsAbout files (Search task) ballots = AreBallots files task.ballots task.contest ballots
+IsAbout files (Search task) ballots =
+    AreBallots files task.ballots task.contest ballots × IsTrue (has_cards task.plan ballots)
 IsAbout files (Tabulate task) ballots = AreBallots files task.ballots task.contest ballots
 IsAbout files (Trial task) ballots = ballots ≡ contest_of task
 IsAbout files (Check task) ballots = ⊥

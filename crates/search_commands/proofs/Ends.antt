@@ -1,5 +1,5 @@
 -- A search has an end, and so has a tabulation: a tie exactly where the contest isn't decided.
-use Rattle.std.proofs.Common.{◌≡◌, ◌↔◌, ◌⊎◌, inl, inr, ℕ, zero, suc, ◌<◌, ◌≤◌, List, refl, sym, subst, arith}
+use Rattle.std.proofs.Common.{◌≡◌, ◌↔◌, ◌⊎◌, inl, inr, ℕ, zero, suc, ◌<◌, ◌≤◌, List, Option, refl, sym, subst, arith}
 use Rattle.std.proofs.lemmas.Bool.{cases_eq, cases_lt}
 use Rattle.irv_base.specs.declared.limits.TheConstants.{FEWEST_CANDIDATES}
 use Rattle.irv_base.proofs.Ties.{tie_or_none}
@@ -13,6 +13,7 @@ use Rattle.report.specs.Ends.{spent_text, tie_text}
 use Rattle.report.specs.Tabulations.{tabulation_text}
 use Rattle.cli_base.specs.Outcome.{Verdict, Answered, One}
 use Rattle.cli_base.specs.declared.outcome.AnswerKind.TheVariants.{Done, Tie, Spent, FullCount}
+use Rattle.command.specs.declared.plan_terms.PlanTerms.{PlanTerms}
 use Rattle.contest_search.specs.Budget.{certificate_nodes, IsInBudget}
 use Rattle.contest_search.specs.Certificate.{low_of, margin_of}
 use Rattle.contest_search.specs.Contest.{candidate_count, IsElected, IsOther, IsUndecided, IsWon}
@@ -20,7 +21,7 @@ use Rattle.contest_search.proofs.Certificates.{won-certificate}
 use Rattle.contest_search.proofs.Contests.{winner-below, winner-one, winner_exists}
 use Rattle.contest_search.proofs.Findings.{best-first}
 use Rattle.search_commands.specs.Ends.{HasTie, HasSpent}
-use Rattle.search_commands.specs.Search.{full_count_text, Finds, HasCertificate, HasFullCount}
+use Rattle.search_commands.specs.Search.{full_count_text, printed, Finds, HasCertificate, HasFullCount}
 use Rattle.search_commands.specs.Tabulate.{HasRounds, HasStopped, Tabulates}
 
 -- ---- the contest
@@ -60,13 +61,13 @@ elected-or_tie ballots winner two won =
     ]
 
 -- ---- a search
-module _ (nodes floor : ℕ) (ballots : BallotFile) where
-  tied : (text : List ℕ) × HasTie ballots text → (verdict : Verdict) × Finds nodes floor ballots verdict × (One (HasSpent nodes ballots) Spent verdict → ⊥)
+module _ (nodes floor : ℕ) (plan : Option PlanTerms) (ballots : BallotFile) where
+  tied : (text : List ℕ) × HasTie ballots text → (verdict : Verdict) × Finds nodes floor plan ballots verdict × (One (HasSpent nodes ballots) Spent verdict → ⊥)
   tied (text, tie) = (Answered Tie text, inr (inl (text, tie, refl)), λ spent. cc spent.2)
 
   -- within the budget
   told : (winner : ℕ) → 1 < candidate_count ballots → IsWon ballots winner → IsElected ballots winner → IsInBudget ballots winner nodes →
-      (verdict : Verdict) × Finds nodes floor ballots verdict × (One (HasSpent nodes ballots) Spent verdict → ⊥)
+      (verdict : Verdict) × Finds nodes floor plan ballots verdict × (One (HasSpent nodes ballots) Spent verdict → ⊥)
   told winner two won elected within =
       let (file, is) = won-certificate ballots winner won elected two in
       let budget : IsInBudget ballots is.winner nodes =
@@ -77,8 +78,8 @@ module _ (nodes floor : ℕ) (ballots : BallotFile) where
             let has : HasFullCount nodes floor ballots text = record { file = file; is = is; budget = budget; floor = lt; shown = refl } in
             (Answered FullCount text, inr (inr (inr (text, has, refl))), λ spent. cc spent.2)
         | inr ge ↦
-            let text = assertion_file_text file in
-            let has : HasCertificate nodes floor ballots text = record { file = file; is = is; budget = budget; floor = ge; shown = refl } in
+            let text = assertion_file_text (printed plan file) in
+            let has : HasCertificate nodes floor plan ballots text = record { file = file; is = is; budget = budget; floor = ge; shown = refl } in
             (Answered Done text, inl (text, has, refl), λ spent. cc spent.2)
       ]
 
@@ -141,7 +142,7 @@ module _ (nodes floor : ℕ) (ballots : BallotFile) where
           },
         )
 
-    elected-end : 1 < candidate_count ballots → IsWon ballots winner → IsElected ballots winner → (verdict : Verdict) × Finds nodes floor ballots verdict
+    elected-end : 1 < candidate_count ballots → IsWon ballots winner → IsElected ballots winner → (verdict : Verdict) × Finds nodes floor plan ballots verdict
     elected-end two won elected = elim (least_over (candidate_count ballots) (omega arith)) [
       | inl (last, over) ↦
           let (text, spent) = spent-there last two won elected over in (Answered Spent text, inr (inr (inl (text, spent, refl))))
@@ -149,7 +150,7 @@ module _ (nodes floor : ℕ) (ballots : BallotFile) where
           let end = told winner two won elected (λ c other. all c other other.candidate) in (end.0, end.1)
     ]
 
-  pub end_exists : FEWEST_CANDIDATES ≤ candidate_count ballots → (verdict : Verdict) × Finds nodes floor ballots verdict
+  pub end_exists : FEWEST_CANDIDATES ≤ candidate_count ballots → (verdict : Verdict) × Finds nodes floor plan ballots verdict
   end_exists fewest =
       let two : 1 < candidate_count ballots = omega (arith, fewest) in
       let (winner, won) = winner_exists ballots two in
@@ -159,7 +160,7 @@ module _ (nodes floor : ℕ) (ballots : BallotFile) where
       ]
 
   pub unspent_end_exists : (winner : ℕ) → FEWEST_CANDIDATES ≤ candidate_count ballots → IsWon ballots winner → IsInBudget ballots winner nodes →
-      (verdict : Verdict) × Finds nodes floor ballots verdict × (One (HasSpent nodes ballots) Spent verdict → ⊥)
+      (verdict : Verdict) × Finds nodes floor plan ballots verdict × (One (HasSpent nodes ballots) Spent verdict → ⊥)
   unspent_end_exists winner fewest won budget =
       let two : 1 < candidate_count ballots = omega (arith, fewest) in
       elim (elected-or_tie ballots winner two won) [
@@ -167,10 +168,10 @@ module _ (nodes floor : ℕ) (ballots : BallotFile) where
         | inr tie ↦ tied tie
       ]
 
-  pub tie_iff_undecided : (verdict : Verdict) → Finds nodes floor ballots verdict → (One (HasSpent nodes ballots) Spent verdict → ⊥) →
+  pub tie_iff_undecided : (verdict : Verdict) → Finds nodes floor plan ballots verdict → (One (HasSpent nodes ballots) Spent verdict → ⊥) →
       (One (HasTie ballots) Tie verdict ↔ IsUndecided ballots)
   tie_iff_undecided verdict found unspent = (λ tie. tie.1.is.undecided, λ undecided. by found undecided) where
-    by : Finds nodes floor ballots verdict → IsUndecided ballots → One (HasTie ballots) Tie verdict
+    by : Finds nodes floor plan ballots verdict → IsUndecided ballots → One (HasTie ballots) Tie verdict
     by (inl (text, has, e)) undecided = absurd (undecided (has.is.winner, has.is.decided))
     by (inr (inl tie)) undecided = tie
     by (inr (inr (inl spent))) undecided = absurd (unspent spent)

@@ -1,5 +1,5 @@
 -- A trial is a search of its contest at floor 1, and isn't spent with enough nodes.
-use Rattle.std.proofs.Common.{◌≡◌, ◌⊎◌, inl, inr, ℕ, ◌<◌, ◌≤◌, ◌-◌, ◌*◌, List, refl, ap, arith}
+use Rattle.std.proofs.Common.{◌≡◌, ◌⊎◌, inl, inr, ℕ, ◌<◌, ◌≤◌, ◌-◌, ◌*◌, List, None, refl, ap, arith}
 use Rattle.std.specs.Prelude.{◌↔◌}
 use Rattle.irv_base.specs.declared.limits.TheConstants.{FEWEST_CANDIDATES}
 use Rattle.assertions.specs.Suffixes.{factorial}
@@ -18,7 +18,7 @@ use Rattle.contest_search.proofs.Contests.{winner-below}
 use Rattle.contest_search.proofs.Nodes.{nodes_are_few, spent_above}
 use Rattle.search_commands.specs.Ends.{HasTie, HasSpent}
 use Rattle.search_commands.specs.Laws.{IsAmongKinds}
-use Rattle.search_commands.specs.Search.{Finds, HasCertificate}
+use Rattle.search_commands.specs.Search.{printed, Finds, HasCertificate}
 use Rattle.search_commands.specs.Trial.{contest_of, trial_text, HasLines, Tries}
 use Rattle.search_commands.proofs.TrialCandidates.{length-trial_candidates}
 
@@ -34,18 +34,18 @@ module _ (task : TrialTask) (kind : AnswerKind) (fewest : FEWEST_CANDIDATES ≤ 
   two : 1 < candidate_count (contest_of task)
   two = let long = length-trial_candidates task.candidates in omega (arith, fewest, long)
 
-  searched_so : IsAmongKinds (Tries task) kind → IsAmongKinds (Finds task.nodes 1 (contest_of task)) kind
+  searched_so : IsAmongKinds (Tries task) kind → IsAmongKinds (Finds task.nodes 1 None (contest_of task)) kind
   searched_so (text, inl (other, has, e)) =
       let file = has.found.is in
-      let shown = assertion_file_text has.file in
+      let shown = assertion_file_text (printed None has.file) in
       let done : kind ≡ Done = cc e in
-      let found : HasCertificate task.nodes 1 (contest_of task) shown =
+      let found : HasCertificate task.nodes 1 None (contest_of task) shown =
       record { file = has.file; is = has.found.is; budget = has.found.budget; floor = positive (contest_of task) has.file two has.found.is; shown = refl } in
       (shown, inl (shown, found, ap (λ k. Answered k shown) done))
   searched_so (text, inr (inl has)) = (text, inr (inl has))
   searched_so (text, inr (inr has)) = (text, inr (inr (inl has)))
 
-  tried_so : IsAmongKinds (Finds task.nodes 1 (contest_of task)) kind → IsAmongKinds (Tries task) kind
+  tried_so : IsAmongKinds (Finds task.nodes 1 None (contest_of task)) kind → IsAmongKinds (Tries task) kind
   tried_so (text, inl (other, has, e)) =
       let shown = trial_text task.number has.file in
       let done : kind ≡ Done = cc e in
@@ -58,7 +58,7 @@ module _ (task : TrialTask) (kind : AnswerKind) (fewest : FEWEST_CANDIDATES ≤ 
       let below = has.floor in
       absurd (omega (arith, some, below))
 
-  pub trial_is_a_search : IsAmongKinds (Tries task) kind ↔ IsAmongKinds (Finds task.nodes 1 (contest_of task)) kind
+  pub trial_is_a_search : IsAmongKinds (Tries task) kind ↔ IsAmongKinds (Finds task.nodes 1 None (contest_of task)) kind
   trial_is_a_search = (searched_so, tried_so)
 
 -- ---- enough nodes

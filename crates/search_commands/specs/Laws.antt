@@ -1,11 +1,12 @@
 -- How a search and a tabulation end, and that a trial is a search.
-use Rattle.std.specs.Prelude.{◌⊎◌, ◌↔◌, ℕ, ◌≤◌, ◌<◌, ◌-◌, ◌*◌, List}
+use Rattle.std.specs.Prelude.{◌⊎◌, ◌↔◌, ℕ, ◌≤◌, ◌<◌, ◌-◌, ◌*◌, List, Option, None}
 use Rattle.assertions.specs.Suffixes.{factorial}
 use Rattle.irv_base.specs.declared.limits.TheConstants.{FEWEST_CANDIDATES}
 use Rattle.ballot_reader.specs.Ballots.{BallotFile}
 use Rattle.cli_base.specs.Outcome.{Verdict, Answered, One}
 use Rattle.cli_base.specs.declared.outcome.AnswerKind.{AnswerKind}
 use Rattle.cli_base.specs.declared.outcome.AnswerKind.TheVariants.{Done, Tie, Spent}
+use Rattle.command.specs.declared.plan_terms.PlanTerms.{PlanTerms}
 use Rattle.command.specs.declared.trial.TrialTask.{TrialTask}
 use Rattle.contest_search.specs.Budget.{certificate_nodes, IsInBudget}
 use Rattle.contest_search.specs.Contest.{candidate_count, IsElected, IsOther, IsUndecided, IsWon}
@@ -25,22 +26,24 @@ UndecidedHasTie =
 -- Whatever its nodes and its floor, a search has an end.
 abbrev pub EndExists : Type 0
 EndExists =
-    (nodes least : ℕ) (ballots : BallotFile) → FEWEST_CANDIDATES ≤ candidate_count ballots →
-    (verdict : Verdict) × Finds nodes least ballots verdict
+    (nodes least : ℕ) (plan : Option PlanTerms) (ballots : BallotFile) →
+    FEWEST_CANDIDATES ≤ candidate_count ballots →
+    (verdict : Verdict) × Finds nodes least plan ballots verdict
 
 -- Where the nodes suffice for the certificate, it has one at which it isn't spent.
 abbrev pub UnspentEndExists : Type 0
 UnspentEndExists =
-    (nodes least : ℕ) (ballots : BallotFile) (winner : ℕ) →
+    (nodes least : ℕ) (plan : Option PlanTerms) (ballots : BallotFile) (winner : ℕ) →
     FEWEST_CANDIDATES ≤ candidate_count ballots → IsWon ballots winner →
     IsInBudget ballots winner nodes →
-    (verdict : Verdict) × Finds nodes least ballots verdict
+    (verdict : Verdict) × Finds nodes least plan ballots verdict
     × (One (HasSpent nodes ballots) Spent verdict → ⊥)
 
 -- A search that isn't spent ends with a tie exactly where its contest isn't decided.
 abbrev pub TieIffUndecided : Type 0
 TieIffUndecided =
-    (nodes least : ℕ) (ballots : BallotFile) (verdict : Verdict) → Finds nodes least ballots verdict →
+    (nodes least : ℕ) (plan : Option PlanTerms) (ballots : BallotFile) (verdict : Verdict) →
+    Finds nodes least plan ballots verdict →
     (One (HasSpent nodes ballots) Spent verdict → ⊥) →
     (One (HasTie ballots) Tie verdict ↔ IsUndecided ballots)
 
@@ -63,9 +66,10 @@ NoWinnerIffUndecided =
 -- Where the certificate of a decided contest needs more nodes for a candidate, a search is spent.
 abbrev pub SpentWhereAbove : Type 0
 SpentWhereAbove =
-    (nodes least : ℕ) (ballots : BallotFile) (winner c : ℕ) (verdict : Verdict) →
+    (nodes least : ℕ) (plan : Option PlanTerms) (ballots : BallotFile) (winner c : ℕ)
+    (verdict : Verdict) →
     IsWon ballots winner → IsElected ballots winner → IsOther ballots winner c →
-    nodes < certificate_nodes ballots winner c → Finds nodes least ballots verdict →
+    nodes < certificate_nodes ballots winner c → Finds nodes least plan ballots verdict →
     One (HasSpent nodes ballots) Spent verdict
 
 -- ---- a trial
@@ -78,7 +82,7 @@ IsAmongKinds verdicts kind = (text : List ℕ) × verdicts (Answered kind text)
 abbrev pub TrialIsASearch : Type 0
 TrialIsASearch =
     (task : TrialTask) (kind : AnswerKind) → FEWEST_CANDIDATES ≤ task.candidates →
-    IsAmongKinds (Tries task) kind ↔ IsAmongKinds (Finds task.nodes 1 (contest_of task)) kind
+    IsAmongKinds (Tries task) kind ↔ IsAmongKinds (Finds task.nodes 1 None (contest_of task)) kind
 
 -- With twice the factorial of the number of the other candidates as nodes it has its lines, or a tie.
 abbrev pub TrialIsComplete : Type 0

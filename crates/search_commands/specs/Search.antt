@@ -1,20 +1,23 @@
 -- `search FILE`: the assertions that together confirm the winner of a ballot file's contest, or why there are none.
-use Rattle.std.specs.Prelude.{◌≡◌, ◌⊎◌, ◌≤◌, ◌<◌, ℕ, List, [], ◌∷◌, ◌++◌, codes}
+use Rattle.std.specs.Prelude.{◌≡◌, ◌⊎◌, ◌≤◌, ◌<◌, ℕ, Bool, true, nat_le, List, [], ◌∷◌, ◌++◌, length, Option, None, Some, option_map, MatchBool, codes}
 use Rattle.std.specs.Fmt.{decimal}
 use Rattle.ballot_reader.specs.Ballots.{BallotFile}
 use Rattle.ballot_reader.specs.Grammar.{ballots_of}
-use Rattle.assertion_file.specs.Content.{Content}
+use Rattle.assertions.specs.declared.assertion.Claim.{Claim}
+use Rattle.assertion_file.specs.Content.{Content, Plan}
 use Rattle.assertion_file.specs.Text.{assertion_file_text}
 use Rattle.report.specs.Texts.{order_text}
-use Rattle.cli_base.specs.Outcome.{Verdict, One}
+use Rattle.cli_base.specs.Outcome.{Verdict, Refused, One, broken_at}
 use Rattle.cli_base.specs.declared.outcome.AnswerKind.{AnswerKind}
 use Rattle.cli_base.specs.declared.outcome.AnswerKind.TheVariants.{Done, Tie, Spent, FullCount}
 use Rattle.cli_base.specs.Script.{Script, Read, Ends}
+use Rattle.command.specs.declared.plan_terms.PlanTerms.{PlanTerms}
 use Rattle.command.specs.declared.search.SearchTask.{SearchTask}
 use Rattle.input_files.specs.Judged.{told, go_on}
 use Rattle.input_files.specs.Refusals.{refused_ballots}
 use Rattle.contest_search.specs.Budget.{IsInBudget}
 use Rattle.contest_search.specs.Certificate.{IsCertificateOfDecided}
+use Rattle.contest_search.specs.Planned.{plan_over}
 use Rattle.search_commands.specs.Ends.{HasTie, HasSpent}
 
 -- ---- the text of a full count
@@ -28,15 +31,35 @@ abbrev pub full_count_text : Content → ℕ → List ℕ
 full_count_text file floor =
     full_count_lines (order_text file.candidates file.order) file.margin floor
 
+-- ---- the draws of a clean audit
+
+-- of these claims, by these terms
+abbrev pub plan_by : List Claim → PlanTerms → Plan
+plan_by claims terms = plan_over terms.cards terms.gamma terms.limit claims
+
+-- a certificate as it is printed: with them, where there are terms for them
+abbrev pub printed : Option PlanTerms → Content → Content
+printed plan file = record file { plan = option_map (plan_by file.claims) plan }
+
+-- there are at least as many cards as ballots, where a number of cards is given
+abbrev pub has_cards : Option PlanTerms → BallotFile → Bool
+has_cards None ballots = true
+has_cards (Some terms) ballots = nat_le (length ballots.rankings) terms.cards
+
+-- there are more ballots than cards
+abbrev pub more_ballots : List ℕ → Verdict
+more_ballots name = Refused name (broken_at (codes "B11") 0)
+
 -- ---- how a search ends, with so many nodes, where a margin below `least` calls for a full count
 
--- with the certificate where its margin reaches that
-pub record HasCertificate (nodes least : ℕ) (ballots : BallotFile) (text : List ℕ) : Type 0 where
+-- with the certificate where its margin reaches that, as it is printed with such a plan
+pub record HasCertificate (nodes least : ℕ) (plan : Option PlanTerms) (ballots : BallotFile)
+    (text : List ℕ) : Type 0 where
   pub file : Content
   pub is : IsCertificateOfDecided ballots file
   pub budget : IsInBudget ballots is.winner nodes
   pub floor : least ≤ file.margin
-  pub shown : text ≡ assertion_file_text file
+  pub shown : text ≡ assertion_file_text (printed plan file)
 
 -- and with the certificate's order alone where it doesn't
 pub record HasFullCount (nodes least : ℕ) (ballots : BallotFile) (text : List ℕ) : Type 0 where
@@ -46,18 +69,24 @@ pub record HasFullCount (nodes least : ℕ) (ballots : BallotFile) (text : List 
   pub floor : file.margin < least
   pub shown : text ≡ full_count_text file least
 
-abbrev pub Finds : ℕ → ℕ → BallotFile → Verdict → Type 0
-Finds nodes least ballots verdict =
-    One (HasCertificate nodes least ballots) Done verdict ⊎ One (HasTie ballots) Tie verdict
+abbrev pub Finds : ℕ → ℕ → Option PlanTerms → BallotFile → Verdict → Type 0
+Finds nodes least plan ballots verdict =
+    One (HasCertificate nodes least plan ballots) Done verdict ⊎ One (HasTie ballots) Tie verdict
     ⊎ One (HasSpent nodes ballots) Spent verdict
     ⊎ One (HasFullCount nodes least ballots) FullCount verdict
 
 -- ---- the command
 
+-- the contest is searched where each of its ballots has a card; else the ballots are refused
+abbrev pub Searches : SearchTask → BallotFile → Verdict → Type 0
+Searches task ballots verdict =
+    MatchBool (has_cards task.plan ballots)
+    (Finds task.nodes task.floor task.plan ballots verdict) (verdict ≡ more_ballots task.ballots)
+
 abbrev pub script : SearchTask → Script
 script task = Read task.ballots (λ bytes.
     go_on (told (refused_ballots task.ballots) (ballots_of bytes task.contest)) (λ ballots.
-    Ends (Finds task.nodes task.floor ballots)))
+    Ends (Searches task ballots)))
 
 -- the kinds of its answers
 abbrev pub kinds : List AnswerKind

@@ -1,22 +1,24 @@
 // `search FILE`: the assertions that together confirm the winner of a ballot file's contest, or why there are none.
-ghost use Rattle.std.specs.Prelude.{◌≡◌, ◌≤◌};
+ghost use Rattle.std.specs.Prelude.{◌≡◌, ◌≤◌, None, IfOk, IfSome, IsTrue};
 ghost use Rattle.desk.specs.Count.{Rose};
 ghost use Rattle.cli_base.specs.Accounts.{IsAccountedFor};
 ghost use Rattle.cli_base.specs.Due.{due, IsOneOrMemory};
 ghost use Rattle.cli_base.specs.Script.{ByDesk, MayOrMemory};
+ghost use Rattle.command.specs.PlanTerms.{AreWithinLimits};
 ghost use Rattle.command.specs.Search.{IsWithinLimits};
 ghost use Rattle.contest_search.specs.Found.{IsFoundIn};
-ghost use Rattle.search_commands.specs.Search.{Finds, script};
+ghost use Rattle.search_commands.specs.Search.{Finds, Searches, has_cards, printed, script};
 
 use crate::answers::{first_tie, spent};
 use crate::search_texts::full_count;
 use assertion_file::{AssertionFile, print_file};
 use ballot_reader::Ballots;
-use cli_base::{Answer, AnswerKind, Refusal};
-use command::SearchTask;
-use contest_search::{Found, Searchable, find};
+use cli_base::{Answer, AnswerKind, Refusal, refuse_at};
+use command::{PlanTerms, SearchTask};
+use contest_search::{Found, Searchable, find, planned};
 use desk::{Desk, Gate};
 use input_files::{ballots_in, bytes_of};
+use irv_base::Memory;
 use std::alloc::Global;
 use std::thread::Threads;
 
@@ -38,24 +40,52 @@ pub fn answer<R: AllocGlobal + Threads + Sync, D: Desk, G: Gate + Sync>(
     let alloc = rt.alloc();
     let bytes = bytes_of(alloc, desk, &task.ballots)?;
     let ballots = ballots_in(alloc, &task.ballots, &bytes, task.contest.as_ref())?;
-    search(rt, &ballots, task, gate)
+    after_ballots(rt, &ballots, task, gate)
 }
 
-// The answer to the ballots of the contest. The search of them knows nothing of their ids and places.
-fn search<R: AllocGlobal + Threads + Sync, G: Gate + Sync>(
+// The answer to the ballots of the contest, unless there are more of them than the cards that are asked for.
+fn after_ballots<R: AllocGlobal + Threads + Sync, G: Gate + Sync>(
     rt: &R,
     ballots: &Ballots,
     task: &SearchTask,
     gate: &G,
 ) -> Result<Answer, Refusal>
     requires { IsWithinLimits task.now }
-    ensures { IsOneOrMemory (Finds task.now.nodes task.now.floor ballots.now) (due result) }
+    ensures { IsOneOrMemory (Searches task.now ballots.now) (due result) }
+{
+    if !has_cards(task.plan, ballots) {
+        return Err(refuse_at(rt.alloc(), task.ballots.as_str(), "B11", 0));
+    }
+    search(rt, ballots, task, gate)
+}
+
+// Whether there are at least as many cards as ballots, where a number of cards is given.
+fn has_cards(plan: Option<PlanTerms>, ballots: &Ballots) -> bool
+    ensures { result ≡ has_cards plan ballots.now }
+{
+    match plan {
+        Some(terms) => ballots.rankings().len() as u32 <= terms.cards,
+        None => true,
+    }
+}
+
+// What is found in the ballots. The search of them knows nothing of their ids and places.
+fn search<R: AllocGlobal + Threads + Sync, G: Gate + Sync>(
+    rt: &R,
+    ballots: &Ballots,
+    task: &SearchTask,
+    gate: &G,
+) -> Result<Answer, Refusal>
+    requires limits { IsWithinLimits task.now }
+    requires cards { IsTrue (has_cards task.now.plan ballots.now) }
+    ensures { IsOneOrMemory (Finds task.now.nodes task.now.floor task.now.plan ballots.now)
+        (due result) }
 {
     let alloc = rt.alloc();
     let names = ballots.candidates();
     let found = find(rt, &Searchable::of(ballots), task.workers, task.nodes, gate)?;
     match found {
-        Found::Certificate(file) => certificate(alloc, ballots, &file, task.nodes, task.floor),
+        Found::Certificate(file) => certificate(alloc, ballots, file, task),
         Found::Tie { round, tied, votes } => first_tie(alloc, names, round, tied, votes),
         Found::Spent {
             last,
@@ -65,25 +95,45 @@ fn search<R: AllocGlobal + Threads + Sync, G: Gate + Sync>(
     }
 }
 
-// The certificate, or its order as reason for a full count, where its margin is below the floor.
+// The certificate as it is printed, or its order as reason for a full count, where its margin is below the floor.
 fn certificate(
     alloc: Global,
     ballots: &Ballots,
-    file: &AssertionFile,
-    nodes: u32,
-    floor: u32,
+    file: AssertionFile,
+    task: &SearchTask,
 ) -> Result<Answer, Refusal>
-    requires { IsFoundIn nodes ballots.now file.now }
-    ensures { IsOneOrMemory (Finds nodes floor ballots.now) (due result) }
+    requires limits { IsWithinLimits task.now }
+    requires cards { IsTrue (has_cards task.now.plan ballots.now) }
+    requires found { IsFoundIn task.now.nodes ballots.now file }
+    ensures { IsOneOrMemory (Finds task.now.nodes task.now.floor task.now.plan ballots.now)
+        (due result) }
 {
-    if file.margin() < floor {
+    if file.margin() < task.floor {
         return Ok(Answer {
             kind: AnswerKind::FullCount,
-            text: full_count(alloc, file, floor)?,
+            text: full_count(alloc, &file, task.floor)?,
         });
     }
+    let file = printed(alloc, file, task.plan)?;
     Ok(Answer {
         kind: AnswerKind::Done,
-        text: print_file(alloc, file)?,
+        text: print_file(alloc, &file)?,
     })
+}
+
+// The file as it is printed: with the draws of a clean audit, where there are terms for them.
+fn printed(
+    alloc: Global,
+    file: AssertionFile,
+    plan: Option<PlanTerms>,
+) -> Result<AssertionFile, Memory>
+    requires limits { IfSome plan AreWithinLimits }
+    requires cards { IfSome plan (λ terms. file.records ≤ terms.cards) }
+    requires unplanned { file.plan ≡ None }
+    ensures { IfOk result (λ new. new ≡ printed plan file) }
+{
+    match plan {
+        Some(terms) => planned(alloc, file, terms.cards, terms.gamma, terms.limit),
+        None => Ok(file),
+    }
 }

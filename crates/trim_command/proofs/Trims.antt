@@ -11,14 +11,14 @@ use Rattle.assertion_file.specs.Reading.{assertion_file_of}
 use Rattle.cover_checker.specs.Checks.{IsAnswer}
 use Rattle.cover_checker.specs.Covers.{covered_is, first_over, standing_order, or_spent, verdict_on as cover_verdict}
 use Rattle.cover_checker.specs.Findings.{Answer}
-use Rattle.cover_checker.specs.declared.checked.Checked.TheVariants.{OtherContest, OtherWinner, OtherMargin, Stands, NotLeast, NotAlternative, Harder, Accepted}
+use Rattle.cover_checker.specs.declared.checked.Checked.TheVariants.{OtherContest, OtherWinner, OtherMargin, Stands, NotLeast, NotAlternative, Harder, OtherDraws, Accepted}
 use Rattle.cover_checker.specs.declared.checked.CheckFault.TheVariants.{Spent as CheckSpent, Memory as CheckMemory}
 use Rattle.cover_checker.specs.declared.cover.Verdict.{Verdict as CoverVerdict}
 use Rattle.cover_checker.specs.declared.cover.Verdict.TheVariants.{Covered, Stands as OrderStands}
 use Rattle.cover_checker.specs.declared.cover.CoverFault.{CoverFault}
 use Rattle.cover_checker.specs.declared.cover.CoverFault.TheVariants.{Spent as CoverSpent, Memory as CoverMemory}
 use Rattle.cover_checker.proofs.OneAnswer.{answer_is_one}
-use Rattle.trimmer.specs.Trimmed.{can_go, unless_it_goes, covered_by, tried, left_of, with_claims, trimmed}
+use Rattle.trimmer.specs.Trimmed.{can_go, unless_it_goes, covered_by, tried, left_of, plan_left, with_claims, trimmed}
 use Rattle.trimmer.specs.declared.fault.TrimFault.{TrimFault}
 use Rattle.trimmer.specs.declared.fault.TrimFault.TheVariants.{Spent as TrimSpent, Memory as TrimMemory}
 use Rattle.cli_base.specs.Outcome.{Outcome, Verdict, Answered, outcome, out_of_memory, status_of}
@@ -67,6 +67,7 @@ trims-kind nodes ballots file v (Ok (Stands order), is, told) = answer-kind file
 trims-kind nodes ballots file v (Ok (NotLeast found), is, told) = answer-kind file (Ok (NotLeast found)) v told
 trims-kind nodes ballots file v (Ok NotAlternative, is, told) = answer-kind file (Ok NotAlternative) v told
 trims-kind nodes ballots file v (Ok (Harder a margin), is, told) = answer-kind file (Ok (Harder a margin)) v told
+trims-kind nodes ballots file v (Ok (OtherDraws at found), is, told) = answer-kind file (Ok (OtherDraws at found)) v told
 trims-kind nodes ballots file v (Err (CheckSpent last), is, told) = answer-kind file (Err (CheckSpent last)) v told
 trims-kind nodes ballots file v (Err CheckMemory, is, told) = answer-kind file (Err CheckMemory) v told
 
@@ -100,6 +101,7 @@ done-accepted nodes ballots file verdict (answer, is, told) zero' = go answer is
   go (Ok (NotLeast found)) is told = absurd (cc (other _ told))
   go (Ok NotAlternative) is told = absurd (cc (other _ told))
   go (Ok (Harder a margin)) is told = absurd (cc (other _ told))
+  go (Ok (OtherDraws at found)) is told = absurd (cc (other _ told))
   go (Err (CheckSpent last)) is told = absurd (cc (other _ told))
   go (Err CheckMemory) is told = absurd (cc told)
 
@@ -115,6 +117,7 @@ other-checked nodes ballots file verdict (answer, is, told) ne = (answer, is, go
   go (Ok (NotLeast found)) told = told
   go (Ok NotAlternative) told = told
   go (Ok (Harder a margin)) told = told
+  go (Ok (OtherDraws at found)) told = told
   go (Err (CheckSpent last)) told = told
   go (Err CheckMemory) told = told
 
@@ -150,7 +153,7 @@ module _ (nodes : ℕ) (file : Content) where
 
   pub spent-below : (claim last : ℕ) → trimmed nodes file ≡ Err (TrimSpent claim last) → last < candidate_count file
   spent-below claim last e = go (left_of nodes file [] file.claims) refl e where
-    go : (r : Result (List Claim) TrimFault) → left_of nodes file [] file.claims ≡ r → with_claims file r ≡ Err (TrimSpent claim last) →
+    go : (r : Result (List Claim) TrimFault) → left_of nodes file [] file.claims ≡ r → with_claims file (plan_left nodes file) r ≡ Err (TrimSpent claim last) →
         last < candidate_count file
     go (Ok left) f e = cc
     go (Err fault) f e = let same : fault ≡ TrimSpent claim last = cc in left-below [] file.claims claim last (f ∙ ap Err same)

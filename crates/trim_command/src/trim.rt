@@ -1,30 +1,24 @@
 // `trim BALLOTS ASSERTIONS`: an assertion file that a check accepts, without the claims that can go.
-ghost use Rattle.std.specs.Prelude.{◌≡◌, ◌≤◌, ◌<◌, Ok, Some, length};
+ghost use Rattle.std.specs.Prelude.{◌≡◌, ◌≤◌, Ok, Some};
 ghost use Rattle.desk.specs.Count.{Rose};
 ghost use Rattle.assertion_file.specs.Content.{IsSound, candidate_count};
-ghost use Rattle.assertion_file.specs.Ids.{id_of};
 ghost use Rattle.cover_checker.specs.Covers.{covered_is};
 ghost use Rattle.cover_checker.specs.Findings.{assertions_of};
 ghost use Rattle.cover_checker.specs.declared.cover.Verdict.TheVariants.{Covered};
 ghost use Rattle.trimmer.specs.Trimmed.{trimmed};
 ghost use Rattle.cli_base.specs.Accounts.{IsAccountedFor};
 ghost use Rattle.cli_base.specs.Due.{due, IsOneOrMemory};
-ghost use Rattle.cli_base.specs.Outcome.{Answered};
 ghost use Rattle.cli_base.specs.Script.{ByDesk, MayOrMemory};
-ghost use Rattle.cli_base.specs.declared.outcome.AnswerKind.TheVariants.{Spent};
 ghost use Rattle.command.specs.Trim.{IsWithinLimits};
-ghost use Rattle.report.specs.Ends.{spent_at};
 ghost use Rattle.trim_command.specs.Trim.{Trims, after_ballots, script, trim_verdict};
 
-use assertion_file::{AssertionFile, id_of, print_file};
+use assertion_file::{AssertionFile, print_file};
 use ballot_reader::Ballots;
-use check_command::check::check;
+use check_command::check::{check, spent_answer};
 use cli_base::{Answer, AnswerKind, Refusal};
 use command::{FileName, TrimTask};
 use desk::Desk;
 use input_files::{assertions_in, ballots_in, bytes_of};
-use irv_base::Candidate;
-use report::spent_at;
 use std::alloc::Global;
 use std::thread::Threads;
 use trimmer::{TrimFault, trim};
@@ -105,17 +99,4 @@ fn accepted(alloc: Global, file: &AssertionFile, nodes: u32) -> Result<Answer, R
             TrimFault::Memory => Err(Refusal::Memory),
         },
     }
-}
-
-// The answer where the nodes don't suffice for a trial, at this candidate.
-fn spent_answer(alloc: Global, file: &AssertionFile, last: Candidate) -> Result<Answer, Refusal>
-    requires { last < length (file.now).candidates }
-    ensures { IsOneOrMemory (λ verdict.
-        verdict ≡ Answered Spent (spent_at (id_of (file.now).candidates last))) (due result) }
-{
-    let text = spent_at(alloc, id_of(file.candidates(), last))?;
-    Ok(Answer {
-        kind: AnswerKind::Spent,
-        text: text.into_bytes(),
-    })
 }

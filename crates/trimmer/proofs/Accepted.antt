@@ -1,5 +1,6 @@
 -- A trimmed file is accepted where the file that was read is.
-use Rattle.std.proofs.Common.{◌≡◌, ℕ, ◌≤◌, List, [], map, Ok, All, Contains, refl, sym, subst, arith, true}
+use Rattle.std.proofs.Common.{◌≡◌, ℕ, ◌≤◌, List, [], map, Option, Some, None, Ok, All, Contains, refl, sym, ap, subst, arith, true, ◌∙◌}
+use Rattle.std.specs.Prelude.{option_map, IfSome}
 use Rattle.std.proofs.lemmas.List.Elements.{All-contains}
 use Rattle.irv_base.proofs.Members.{contains-from_member, member-from_contains}
 use Rattle.assertions.specs.declared.assertion.Claim.{Claim}
@@ -9,8 +10,9 @@ use Rattle.assertions.proofs.Elections.{from_covers}
 use Rattle.assertions.proofs.Endings.{alternative-member}
 use Rattle.assertions.proofs.Lows.{low-refuter}
 use Rattle.ballot_reader.specs.Ballots.{BallotFile}
-use Rattle.assertion_file.specs.Content.{Content, IsSound, IsSoundClaim, candidate_count}
+use Rattle.assertion_file.specs.Content.{Content, Plan, IsSound, IsSoundClaim, candidate_count}
 use Rattle.cover_checker.specs.Checks.{IsAnswer}
+use Rattle.cover_checker.specs.Draws.{HasCleanDraws, IsPlanOf, clean_draws_of}
 use Rattle.cover_checker.specs.Holds.{Holds}
 use Rattle.cover_checker.specs.declared.checked.Checked.TheVariants.{Accepted}
 use Rattle.cover_checker.specs.declared.cover.Verdict.TheVariants.{Covered}
@@ -20,7 +22,8 @@ use Rattle.cover_checker.proofs.Held.{accepted-held, held-accepted, refuting_cla
 use Rattle.cover_checker.proofs.Nothing.{HasItsMargin}
 use Rattle.cover_checker.proofs.Verdicts.{covered_iff_covers}
 use Rattle.trimmer.specs.Laws.{IsPartOf}
-use Rattle.trimmer.specs.Trimmed.{trimmed, covered_by}
+use Rattle.trimmer.specs.Trimmed.{trimmed, covered_by, draws_left, left_of, plan_left, with_draws}
+use Rattle.trimmer.proofs.Draws.{draws-map}
 use Rattle.trimmer.proofs.Kept.{part-member}
 use Rattle.trimmer.proofs.Lefts.{assertion_in, from_trimmed, left-part, left-covered}
 
@@ -28,9 +31,9 @@ pub all-part : (P : Claim → Type 0) {part whole : List Claim} → IsPartOf par
 all-part P {part} {whole} p h = all-from_members P part (λ claim m. All-contains P whole claim h (contains-from_member (part-member p claim m)))
 
 module _ (ballots : BallotFile) (file : Content) (claims : List Claim) (sound : IsSound file) (h : Holds ballots file) (part : IsPartOf claims file.claims)
-    (covering : covers (candidate_count file) file.winner (map assertion_in claims) ≡ true) where
+    (covering : covers (candidate_count file) file.winner (map assertion_in claims) ≡ true) (plan : Option Plan) (planned : IfSome plan (IsPlanOf claims)) where
   abbrev left : Content
-  left = record file { claims = claims }
+  left = record file { claims = claims; plan = plan }
 
   refuted : (order : List ℕ) → IsAlternative (candidate_count file) file.winner order →
       (claim : Claim) × Contains claims claim × (refutes claim.assertion order ≡ true)
@@ -64,7 +67,19 @@ module _ (ballots : BallotFile) (file : Content) (claims : List Claim) (sound : 
     smallest = all-part (λ claim. file.margin ≤ claim.margin) part h.smallest;
     alternative = h.alternative;
     hardest = h.hardest;
+    draws = planned;
   }
+
+-- the clean draws of all claims are so of those that are left
+clean-left : (nodes : ℕ) (file : Content) (left : List Claim) → left_of nodes file [] file.claims ≡ Ok left → HasCleanDraws file →
+    IfSome (plan_left nodes file) (IsPlanOf left)
+clean-left nodes file left e has = by file.plan has where
+  by : (plan : Option Plan) → IfSome plan (IsPlanOf file.claims) →
+      IfSome (option_map (λ plan. with_draws (draws_left nodes file [] file.claims plan.draws) plan) plan) (IsPlanOf left)
+  by None has = tt
+  by (Some plan) has =
+      ap (draws_left nodes file [] file.claims) has
+      ∙ draws-map nodes file (clean_draws_of plan) [] file.claims left e
 
 pub trimmed_is_accepted : (nodes : ℕ) (ballots : BallotFile) (file left : Content) → IsSound file → IsAnswer nodes ballots file (Ok Accepted) →
     trimmed nodes file ≡ Ok left → IsAnswer nodes ballots left (Ok Accepted)
@@ -75,6 +90,9 @@ trimmed_is_accepted nodes ballots file left sound h e =
     let covering : covers (candidate_count file) file.winner (map assertion_in left.claims) ≡ true =
     (covered_iff_covers (candidate_count file) file.winner nodes (map assertion_in left.claims) Covered covered).0 refl in
     let part : IsPartOf left.claims file.claims = left-part nodes file [] file.claims left.claims t.claims in
-    let holds = part-holds ballots file left.claims sound (accepted-held nodes ballots file sound h) part covering in
+    let held = accepted-held nodes ballots file sound h in
+    let planned : IfSome left.plan (IsPlanOf left.claims) = subst (λ plan. IfSome plan (IsPlanOf left.claims)) (sym t.plan)
+    (clean-left nodes file left.claims t.claims held.draws) in
+    let holds = part-holds ballots file left.claims sound held part covering left.plan planned in
     subst (λ content. IsAnswer nodes ballots content (Ok Accepted)) (sym t.same)
-    (held-accepted nodes ballots (record file { claims = left.claims }) holds covered)
+    (held-accepted nodes ballots (record file { claims = left.claims; plan = left.plan }) holds covered)

@@ -1,5 +1,5 @@
 -- With nodes enough no trial is spent.
-use Rattle.std.proofs.Common.{◌≡◌, ℕ, ◌+◌, ◌-◌, ◌*◌, ◌≤◌, List, [], ◌∷◌, ◌++◌, length, map, Result, Ok, Err, refl, sym, ap, ◌∙◌}
+use Rattle.std.proofs.Common.{◌≡◌, ℕ, ◌+◌, ◌-◌, ◌*◌, ◌≤◌, List, [], ◌∷◌, ◌++◌, length, map, Result, Ok, Err, refl, ap, ◌∙◌}
 use Rattle.assertions.specs.Suffixes.{factorial}
 use Rattle.assertions.specs.declared.assertion.Claim.{Claim}
 use Rattle.assertion_file.specs.Content.{Content, candidate_count}
@@ -9,9 +9,9 @@ use Rattle.cover_checker.specs.declared.cover.CoverFault.{CoverFault}
 use Rattle.cover_checker.specs.declared.cover.CoverFault.TheVariants.{Spent as CoverSpent, Memory as CoverMemory}
 use Rattle.cover_checker.proofs.Enough.{never_spent}
 use Rattle.trimmer.specs.Laws.{TrimIsNeverSpent}
-use Rattle.trimmer.specs.Trimmed.{can_go, unless_it_goes, with_claims, covered_by, tried, left_of, trimmed}
+use Rattle.trimmer.specs.Trimmed.{can_go, unless_it_goes, with_claims, covered_by, tried, left_of, plan_left, trimmed}
 use Rattle.trimmer.specs.declared.fault.TrimFault.{TrimFault}
-use Rattle.trimmer.specs.declared.fault.TrimFault.TheVariants.{Spent, Memory}
+use Rattle.trimmer.specs.declared.fault.TrimFault.TheVariants.{Spent}
 use Rattle.trimmer.proofs.Lefts.{assertion_in}
 
 trial-never : (number : ℕ) (claim : Claim) (later : List Claim) (r : Result Verdict CoverFault) → ((last : ℕ) → r ≡ Err (CoverSpent last) → ⊥) →
@@ -37,7 +37,7 @@ module _ (nodes : ℕ) (file : Content) (enough : 2 * factorial (candidate_count
 
   file-never : (at last : ℕ) → trimmed nodes file ≡ Err (Spent at last) → ⊥
   file-never at last e = go (left_of nodes file [] file.claims) refl e where
-    go : (r : Result (List Claim) TrimFault) → left_of nodes file [] file.claims ≡ r → with_claims file r ≡ Err (Spent at last) → ⊥
+    go : (r : Result (List Claim) TrimFault) → left_of nodes file [] file.claims ≡ r → with_claims file (plan_left nodes file) r ≡ Err (Spent at last) → ⊥
     go (Ok claims) is e = cc e
     go (Err fault) is e = let same : fault ≡ Spent at last = cc in left-never [] file.claims at last (is ∙ ap Err same)
 

@@ -14,6 +14,7 @@ use Rattle.cover_checker.specs.declared.cover.Verdict.TheVariants.{Covered, Stan
 use Rattle.cover_checker.proofs.Verdicts.{covered_iff_covers, stands_is_least}
 use Rattle.trimmer.specs.Laws.{IsPartOf, nothing, kept, dropped}
 use Rattle.trimmer.specs.Trimmed.{covered_by, left_of, trimmed}
+use Rattle.trimmer.proofs.Draws.{plan-stays}
 use Rattle.trimmer.proofs.Lefts.{assertion_in, fate, from_trimmed}
 
 -- what no claim of a list refutes, none refutes of a list that has fewer
@@ -100,7 +101,7 @@ module _ (nodes : ℕ) (file : Content) where
 -- ---- parts
 pub part-member : {part whole : List Claim} → IsPartOf part whole → (claim : Claim) → Member claim part → Member claim whole
 part-member nothing claim m = m
-part-member (kept {claim = first} {part} {whole} p) claim m = elim (member_cases m) [
+part-member (kept {x = first} {part} {whole} p) claim m = elim (member_cases m) [
   | inl e ↦ member_at e
   | inr k ↦ there (part-member p claim k)
 ]
@@ -113,7 +114,7 @@ Lacks part whole = (before : List Claim) × (claim : Claim) × (behind : List Cl
 
 pub part_lacks : {part whole : List Claim} → IsPartOf part whole → part ≢ whole → Lacks part whole
 part_lacks nothing ne = absurd (ne refl)
-part_lacks (kept {claim = first} {part} {whole} p) ne =
+part_lacks (kept {x = first} {part} {whole} p) ne =
     let (before, claim, behind, e, m) = part_lacks p (λ same. ne (ap (λ r. first ∷ r) same)) in (
       first ∷ before,
       claim,
@@ -124,7 +125,7 @@ part_lacks (kept {claim = first} {part} {whole} p) ne =
         | inr l ↦ there (m other l)
       ],
     )
-part_lacks (dropped {claim = first} {part} {whole} p) ne = ([], first, whole, refl, part-member p)
+part_lacks (dropped {x = first} {part} {whole} p) ne = ([], first, whole, refl, part-member p)
 
 -- ---- the laws
 pub trimmed_is_irredundant : (nodes : ℕ) (file left : Content) → trimmed nodes file ≡ Ok left → (before : List Claim) (claim : Claim) (behind : List Claim) →
@@ -148,4 +149,7 @@ trimmed_stays nodes file left again e f =
     let (order, alternative, h) = trimmed_is_irredundant nodes file left e before claim behind split in
     subst (λ (content : Content). covers (candidate_count content) content.winner (map assertion_in (before ++ behind)) ≡ false) (sym t.same)
     (stands-uncovered (candidate_count file) file.winner (before ++ behind) order alternative h)) in
-    u.same ∙ ap (λ claims. record left { claims = claims }) (needed-stay nodes left left.claims needed [] left.claims again.claims refl u.claims)
+    let claims : again.claims ≡ left.claims = needed-stay nodes left left.claims needed [] left.claims again.claims refl u.claims in
+    let whole : left_of nodes left [] left.claims ≡ Ok left.claims = u.claims ∙ ap Ok claims in
+    let plan : again.plan ≡ left.plan = u.plan ∙ plan-stays nodes file left t.claims t.plan whole in
+    u.same ∙ (λ i. record left { claims = claims i; plan = plan i })

@@ -9,7 +9,7 @@ use Rattle.cover_checker.specs.declared.cover.CoverFault.{CoverFault}
 use Rattle.cover_checker.specs.declared.cover.CoverFault.TheVariants.{Spent as CoverSpent, Memory as CoverMemory}
 use Rattle.trimmer.specs.declared.fault.TrimFault.{TrimFault}
 use Rattle.trimmer.specs.Laws.{IsPartOf, nothing, kept, dropped}
-use Rattle.trimmer.specs.Trimmed.{can_go, unless_it_goes, with_claims, covered_by, tried, left_of, trimmed}
+use Rattle.trimmer.specs.Trimmed.{can_go, unless_it_goes, with_claims, covered_by, tried, left_of, plan_left, trimmed}
 
 abbrev pub assertion_in : Claim → Assertion
 assertion_in claim = claim.assertion
@@ -72,19 +72,20 @@ module _ (nodes : ℕ) (file : Content) where
 -- ---- the trimmed file
 pub record IsTrimmed (nodes : ℕ) (file left : Content) : Type 0 where
   pub claims : left_of nodes file [] file.claims ≡ Ok left.claims
-  pub same : left ≡ record file { claims = left.claims }
+  pub plan : left.plan ≡ plan_left nodes file
+  pub same : left ≡ record file { claims = left.claims; plan = left.plan }
 
 pub from_trimmed : (nodes : ℕ) (file left : Content) → trimmed nodes file ≡ Ok left → IsTrimmed nodes file left
 from_trimmed nodes file left e = go (left_of nodes file [] file.claims) refl e where
-  go : (r : Result (List Claim) TrimFault) → left_of nodes file [] file.claims ≡ r → with_claims file r ≡ Ok left → IsTrimmed nodes file left
+  go : (r : Result (List Claim) TrimFault) → left_of nodes file [] file.claims ≡ r → with_claims file (plan_left nodes file) r ≡ Ok left →
+      IsTrimmed nodes file left
   go (Ok claims) f e =
-      let same : record file { claims = claims } ≡ left = cc in
+      let same : record file { claims = claims; plan = plan_left nodes file } ≡ left = cc in
       let its : claims ≡ left.claims = ap (λ (content : Content). content.claims) same in
-      record { claims = f ∙ ap Ok its; same = sym same ∙ ap (λ claims. record file { claims = claims }) its }
+      let planned : plan_left nodes file ≡ left.plan = ap (λ (content : Content). content.plan) same in
+      record {
+        claims = f ∙ ap Ok its;
+        plan = sym planned;
+        same = sym same ∙ (λ i. record file { claims = its i; plan = planned i });
+      }
   go (Err fault) f e = cc
-
-pub trimmed_is_part : (nodes : ℕ) (file left : Content) → trimmed nodes file ≡ Ok left → IsPartOf left.claims file.claims
-    × (left ≡ record file { claims = left.claims })
-trimmed_is_part nodes file left e =
-    let t = from_trimmed nodes file left e in
-    (left-part nodes file [] file.claims left.claims t.claims, t.same)

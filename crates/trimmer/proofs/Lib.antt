@@ -1,5 +1,7 @@
 pub mod Lefts
+pub mod Draws
 pub mod Steps
+pub mod DrawSteps
 pub mod Below
 pub mod Walking
 pub mod Puts

@@ -1,31 +1,18 @@
 -- From the counts with a claim of a file to those without it.
-use Rattle.std.proofs.Common.{◌≡◌, ℕ, ◌+◌, ◌<◌, Bool, true, false, not, ◌&&◌, MatchBool, List, ◌++◌, length, map, take, get_or, Option, Some, Ok, refl, ap, subst, ◌∙◌}
+use Rattle.std.proofs.Common.{◌≡◌, ℕ, ◌+◌, ◌<◌, not, ◌&&◌, List, ◌++◌, length, map, take, get_or, Option, Some, Ok, ap, subst, ◌∙◌}
 use Rattle.assertions.specs.declared.assertion.Assertion.{Assertion}
 use Rattle.assertions.specs.declared.assertion.Claim.{Claim}
 use Rattle.assertions.specs.Refutation.{refutes}
 use Rattle.assertion_file.specs.Content.{Content, candidate_count}
 use Rattle.cover_checker.specs.Covers.{stands}
-use Rattle.cover_checker.specs.declared.cover.Verdict.{Verdict}
 use Rattle.cover_checker.specs.declared.cover.Verdict.TheVariants.{Covered, Stands}
 use Rattle.trimmer.specs.Counts.{CountWith, Scanned}
-use Rattle.trimmer.specs.Trimmed.{can_go, covered_by}
+use Rattle.trimmer.specs.Trimmed.{covered_by}
 use Rattle.trimmer.specs.declared.scan.Scan.{Scan}
 use Rattle.trimmer.specs.declared.scan.Scan.TheVariants.{Covered as ScanCovered, Stands as ScanStands}
 use Rattle.trimmer.proofs.Lefts.{assertion_in}
 use Rattle.trimmer.proofs.Parted.{stands-parted, take-midst}
 use Rattle.trimmer.proofs.Trials.{next-counts, next-covered, next-stands}
-
-pub goes-verdict : (verdict : Verdict) → can_go 0 (Ok verdict) ≡ Ok true → verdict ≡ Covered
-goes-verdict Covered h = refl
-goes-verdict (Stands order) h = cc
-
-pub match-true : (b : Bool) (P Q : Type 0) → b ≡ true → P → MatchBool b P Q
-match-true true P Q e p = p
-match-true false P Q e p = cc
-
-pub match-false : (b : Bool) (P Q : Type 0) → b ≡ false → Q → MatchBool b P Q
-match-false false P Q e q = q
-match-false true P Q e q = cc
 
 -- what is scanned, by other names
 pub scanned-moved : (nodes n m winner other : ℕ) (list same : List Assertion) (claim its : Option Assertion) (counts : List ℕ) (scan : Scan) →

@@ -21,9 +21,9 @@ walked-rises n nodes kept count (s ∷ xs) k h =
     go true true false h next stay = cc
     go true true true h next stay = let le : count + 1 ≤ k = next h in omega arith
 
--- the walk of all comes to the same end, with a count that is no larger
+-- the walk of all comes to the same end, with the same count
 abbrev pub Like : Result ℕ Stop → Result ℕ Stop → Type 0
-Like (Ok j) w = (z : ℕ) × (w ≡ Ok z) × (z ≤ j)
+Like (Ok j) w = w ≡ Ok j
 Like (Err (Found order)) w = w ≡ Err (Found order)
 Like (Err Spent) w = Unit {0}
 
@@ -32,11 +32,12 @@ module _ (n nodes : ℕ) (covered all by : List ℕ → Bool) (parted : (s : Lis
   opened s = all s && by s
 
   -- covered: what counted before; a and b: the counts so far of both walks; the one has yet to count what was covered
-  pub likens : (xs : List (List ℕ)) (e k a b : ℕ) → walked n nodes covered e xs ≡ Ok k → a + k ≤ b + e → b ≤ nodes → (r : Result ℕ Stop) →
+  pub likens : (xs : List (List ℕ)) (e k a b : ℕ) → walked n nodes covered e xs ≡ Ok k → a + k ≡ b + e → b ≤ nodes → (r : Result ℕ Stop) →
       walked n nodes opened b xs ≡ r → Like r (walked n nodes all a xs)
   likens [] e k a b h le within r p =
       let same : e ≡ k = cc in
-      subst (λ r. Like r (Ok a)) p (a, refl, omega arith)
+      let at-end : a ≡ b = omega (arith, same, le) in
+      subst (λ r. Like r (Ok a)) p (ap Ok at-end)
   likens (s ∷ xs) e k a b h le within r p =
       let given : step (all s && not (by s)) (nat_lt (length s) n) (nat_lt e nodes) s (walked n nodes covered (e + 1) xs) (walked n nodes covered e xs) ≡ Ok k =
       ap (λ x. step x (nat_lt (length s) n) (nat_lt e nodes) s (walked n nodes covered (e + 1) xs) (walked n nodes covered e xs)) (sym (parted s)) ∙ h in
@@ -45,7 +46,7 @@ module _ (n nodes : ℕ) (covered all by : List ℕ → Bool) (parted : (s : Lis
       go : (x y short f g d : Bool) → nat_lt b nodes ≡ g → nat_lt a nodes ≡ d →
           step (x && not y) short f s (walked n nodes covered (e + 1) xs) (walked n nodes covered e xs) ≡ Ok k →
           step (x && y) short g s (walked n nodes opened (b + 1) xs) (walked n nodes opened b xs) ≡ r →
-          ((e k a b : ℕ) → walked n nodes covered e xs ≡ Ok k → a + k ≤ b + e → b ≤ nodes → (r : Result ℕ Stop) → walked n nodes opened b xs ≡ r →
+          ((e k a b : ℕ) → walked n nodes covered e xs ≡ Ok k → a + k ≡ b + e → b ≤ nodes → (r : Result ℕ Stop) → walked n nodes opened b xs ≡ r →
           Like r (walked n nodes all a xs)) →
           Like r (step x short d s (walked n nodes all (a + 1) xs) (walked n nodes all a xs))
       go false y short f g d room other h p ih = ih e k a b h le within r p

@@ -1,6 +1,6 @@
 -- How a trial goes on from what is left of the claims behind it.
-use Rattle.std.proofs.Common.{◌≡◌, ℕ, zero, suc, ◌+◌, ◌<◌, ◌≤◌, Bool, if◌then◌else◌, List, [], ◌∷◌, ◌++◌, length, get_or, take, drop, Result, Ok, Err, sym, ap, arith, ◌∙◌}
-use Rattle.std.proofs.lemmas.List.{drop_more, take_more, take_all, drop_all, append-nil, length-take-le}
+use Rattle.std.proofs.Common.{◌≡◌, ℕ, zero, suc, ◌+◌, ◌<◌, ◌≤◌, ◌-◌, Bool, if◌then◌else◌, List, [], ◌∷◌, ◌++◌, length, get_or, take, drop, Result, Ok, Err, sym, ap, ap₂, arith, ◌∙◌}
+use Rattle.std.proofs.lemmas.List.{drop_more, take_more, take_all, drop_all, append-nil, length-take-le, take-take}
 use Rattle.assertions.specs.declared.assertion.Assertion.TheVariants.{Neb}
 use Rattle.assertions.specs.declared.assertion.Claim.{Claim}
 use Rattle.assertion_file.specs.Content.{Content}
@@ -54,3 +54,11 @@ module _ (nodes : ℕ) (file : Content) (claims : List Claim) where
 
   pub start-all : (n : ℕ) → length claims ≡ n → take n claims ++ [] ≡ claims
   start-all n e = append-nil (take n claims) ∙ take_all n claims (omega arith)
+
+-- the claims before the last of so many
+pub take-before : (claims : List Claim) (i : ℕ) (untried : List Claim) → i < length claims → untried ≡ take (i + 1) claims →
+    take (length untried - 1) untried ≡ take i claims
+take-before claims i untried below same =
+    let some : length untried ≡ i + 1 = ap length same ∙ length-take-le (i + 1) claims (omega (arith, below)) in
+    let last : length untried - 1 ≡ i = omega (arith, some) in
+    ap₂ take last same ∙ take-take i (i + 1) claims (omega arith)

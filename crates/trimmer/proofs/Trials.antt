@@ -17,8 +17,7 @@ use Rattle.cover_checker.specs.declared.cover.Verdict.TheVariants.{Covered, Stan
 use Rattle.cover_checker.proofs.Verdicts.{none-covered, some-stands}
 use Rattle.trimmer.specs.Counts.{AreCounts, AreWithin, Scanned}
 use Rattle.trimmer.specs.Opened.{opens}
-use Rattle.trimmer.specs.declared.scan.Scan.TheVariants.{Covered as ScanCovered, Stands as ScanStands}
-use Rattle.suffix_walk.proofs.Runs.{walked-bounded}
+use Rattle.trimmer.specs.declared.scan.Scan.TheVariants.{Covered as ScanCovered, Stands as ScanStands, Unclear as ScanUnclear}
 use Rattle.irv_base.specs.declared.limits.TheConstants.{ROOM}
 use Rattle.std.proofs.lemmas.List.{get_or-replicate, get_or_past}
 use Rattle.trimmer.proofs.Sims.{Like, likens, step}
@@ -103,21 +102,31 @@ and-all true = refl
 and-all false = refl
 
 module _ (nodes n winner : ℕ) (list : List Assertion) (claim : Option Assertion) (none : claim ≡ None) (room : n ≤ ROOM) where
-  pub all-counts : (more : List ℕ) → Scanned nodes n winner list claim (replicate ROOM 0) (ScanCovered more) → AreCounts nodes n winner list more
-  all-counts more scanned c below ne =
-      let zero' : ◌≡◌ {A = ℕ} (get_or (replicate ROOM 0) c 0) 0 = get_or-replicate ROOM c 0 0 (omega (arith, below, room)) in (
-        get_or more c 0,
-        walked-same n nodes (stands list) (opens list None) (λ s. sym (and-all (stands list s))) 0 (all_ending n (c ∷ []))
-            ∙ ap₂ (λ claim k. walked n nodes (opens list claim) k (all_ending n (c ∷ []))) (sym none) (sym zero') ∙ scanned.0 c below ne,
-        omega arith,
-      )
+  -- from nothing on, what is looked at without a claim is what stands
+  none-left : (c : ℕ) → c < n → (start : List ℕ) → start ≡ replicate ROOM 0 →
+      walked n nodes (stands list) 0 (all_ending n (c ∷ [])) ≡ walked n nodes (opens list claim) (get_or start c 0) (all_ending n (c ∷ []))
+  none-left c below start from =
+      let zero' : ◌≡◌ {A = ℕ} (get_or start c 0) 0 = ap (λ counts. get_or counts c 0) from ∙ get_or-replicate ROOM c 0 0 (omega (arith, below, room)) in
+      walked-same n nodes (stands list) (opens list None) (λ s. sym (and-all (stands list s))) 0 (all_ending n (c ∷ []))
+      ∙ ap₂ (λ claim k. walked n nodes (opens list claim) k (all_ending n (c ∷ []))) (sym none) (sym zero')
 
-  pub filled-counts : 0 < n → covered_is n winner list nodes ≡ Ok Covered → AreCounts nodes n winner list (replicate ROOM nodes)
-  filled-counts some h c below ne =
-      let (k, e) = covered-ends nodes n winner list some h c below ne in
-      let full : ◌≡◌ {A = ℕ} (get_or (replicate ROOM nodes) c 0) nodes = get_or-replicate ROOM c nodes 0 (omega (arith, below, room)) in
-      let le = walked-bounded n nodes (stands list) 0 (all_ending n (c ∷ [])) k (omega arith) e in
-      (k, e, omega (arith, le, full))
+  pub all-counts : (more : List ℕ) → Scanned nodes n winner list claim (replicate ROOM 0) (ScanCovered more) → AreCounts nodes n winner list more
+  all-counts more scanned c below ne = none-left c below (replicate ROOM 0) refl ∙ scanned.0 c below ne
+
+  -- where the list covers, no walk stops before its end
+  module _ (some : 0 < n) (h : covered_is n winner list nodes ≡ Ok Covered) where
+    never-stops : (last : ℕ) (stop : Stop) → last < n → last ≢ winner →
+        walked n nodes (opens list claim) (get_or (replicate ROOM 0) last 0) (all_ending n (last ∷ [])) ≡ Err stop → ⊥
+    never-stops last stop below ne e =
+        let (k, ends) = covered-ends nodes n winner list some h last below ne in
+        let both : Ok k ≡ Err stop = sym ends ∙ none-left last below (replicate ROOM 0) refl ∙ e in
+        cc
+
+    pub never-stands : Scanned nodes n winner list claim (replicate ROOM 0) ScanStands → ⊥
+    never-stands (last, below, ne, before, (order, e)) = never-stops last (Found order) below ne e
+
+    pub never-unclear : Scanned nodes n winner list claim (replicate ROOM 0) ScanUnclear → ⊥
+    never-unclear (last, below, ne, before, e) = never-stops last Spent below ne e
 
 -- ---- from the counts of a list to those without one of its claims
 module _ (nodes n winner : ℕ) (list others : List Assertion) (claim : Assertion) (some : 0 < n)
@@ -127,19 +136,19 @@ module _ (nodes n winner : ℕ) (list others : List Assertion) (claim : Assertio
       walked n nodes (opens others (Some claim)) (get_or counts c 0) (all_ending n (c ∷ [])) ≡ r →
       Like r (walked n nodes (stands others) 0 (all_ending n (c ∷ [])))
   like c below ne r e =
-      let (k, w, le) = were c below ne in
-      likens n nodes (stands list) (stands others) (refutes claim) parted (all_ending n (c ∷ [])) 0 k 0 (get_or counts c 0) w (omega (arith, le)) (within c) r e
+      likens n nodes (stands list) (stands others) (refutes claim) parted (all_ending n (c ∷ [])) 0 (get_or counts c 0) 0 (get_or counts c 0)
+      (were c below ne) (omega arith) (within c) r e
 
   pub next-counts : (more : List ℕ) → Scanned nodes n winner others (Some claim) counts (ScanCovered more) → AreCounts nodes n winner others more
   next-counts more scanned c below ne = like c below ne (Ok (get_or more c 0)) (scanned.0 c below ne)
 
   pub next-covered : (more : List ℕ) → Scanned nodes n winner others (Some claim) counts (ScanCovered more) → covered_is n winner others nodes ≡ Ok Covered
-  next-covered more scanned = ends-covered nodes n winner others some (λ c lt ne. let (k, w, le) = next-counts more scanned c lt ne in (k, w))
+  next-covered more scanned = ends-covered nodes n winner others some (λ c lt ne. (get_or more c 0, next-counts more scanned c lt ne))
 
   pub next-stands : Scanned nodes n winner others (Some claim) counts ScanStands → (order : List ℕ) × (covered_is n winner others nodes ≡ Ok (OrderStands order))
   next-stands (last, below, ne, before, (order, e)) = (
     order,
     found-stands nodes n winner others some last order below ne
-        (λ c lt other. let (count, goes) = before c lt other in let (k, w, le) = like c (omega arith) other (Ok count) goes in (k, w))
+        (λ c lt other. let (count, goes) = before c lt other in (count, like c (omega arith) other (Ok count) goes))
         (like last below ne (Err (Found order)) e),
   )

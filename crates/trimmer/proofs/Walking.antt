@@ -30,6 +30,11 @@ from_told-found (Ok other) e = cc
 from_told-found (Err (WalkFound order)) e = (order, refl)
 from_told-found (Err WalkSpent) e = cc
 
+pub from_told-spent : (r : Result ℕ WalkStop) → Err Spent ≡ told r → r ≡ Err WalkSpent
+from_told-spent (Ok other) e = cc
+from_told-spent (Err (WalkFound order)) e = cc
+from_told-spent (Err WalkSpent) e = refl
+
 module _ (n nodes : ℕ) (others : List Assertion) (claim : Option Assertion) (count : ℕ) (t : List ℕ) where
   abbrev test : List ℕ → Bool
   test = opens others claim

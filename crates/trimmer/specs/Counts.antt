@@ -1,22 +1,21 @@
 -- How many suffixes count, where claims cover, and what a scan of the alternative winners says of them.
-use Rattle.std.specs.Prelude.{◌≡◌, ◌≢◌, ◌<◌, ◌≤◌, ℕ, List, [], ◌∷◌, map, slice_index, Option, Ok, Err, ⊤}
+use Rattle.std.specs.Prelude.{◌≡◌, ◌≢◌, ◌<◌, ◌≤◌, ℕ, List, [], ◌∷◌, map, slice_index, Option, Ok, Err}
 use Rattle.assertions.specs.declared.assertion.Assertion.{Assertion}
 use Rattle.assertions.specs.declared.assertion.Claim.{Claim}
 use Rattle.assertion_file.specs.Content.{Content, candidate_count}
 use Rattle.suffix_walk.specs.Kept.{all_ending}
 use Rattle.suffix_walk.specs.Walks.{walked}
-use Rattle.suffix_walk.specs.declared.walk.Stop.TheVariants.{Found as WalkFound}
+use Rattle.suffix_walk.specs.declared.walk.Stop.TheVariants.{Found as WalkFound, Spent as WalkSpent}
 use Rattle.cover_checker.specs.Covers.{stands}
 use Rattle.trimmer.specs.Opened.{opens}
 use Rattle.trimmer.specs.declared.scan.Scan.{Scan}
 use Rattle.trimmer.specs.declared.scan.Scan.TheVariants.{Covered, Stands, Unclear}
 
--- for each alternative winner a walk comes to its end, and counts at most so many suffixes
+-- for each alternative winner a walk comes to its end, and counts so many suffixes
 abbrev pub AreCounts : ℕ → ℕ → ℕ → List Assertion → List ℕ → Type 0
 AreCounts nodes n winner list counts =
     (c : ℕ) → c < n → c ≢ winner →
-    (k : ℕ) × (walked n nodes (stands list) 0 (all_ending n (c ∷ [])) ≡ Ok k)
-    × (k ≤ slice_index counts c)
+    walked n nodes (stands list) 0 (all_ending n (c ∷ [])) ≡ Ok (slice_index counts c)
 
 abbrev pub AreWithin : ℕ → List ℕ → Type 0
 AreWithin nodes counts = (c : ℕ) → slice_index counts c ≤ nodes
@@ -36,7 +35,10 @@ module _ (nodes n winner : ℕ) (others : List Assertion) (claim : Option Assert
       (last : ℕ) × (last < n) × (last ≢ winner) × GoesBelow last × ((order : List ℕ)
       × (walked n nodes (opens others claim) (slice_index counts last) (all_ending n (last ∷ []))
       ≡ Err (WalkFound order)))
-  Scanned Unclear = ⊤
+  Scanned Unclear =
+      (last : ℕ) × (last < n) × (last ≢ winner) × GoesBelow last
+      × (walked n nodes (opens others claim) (slice_index counts last) (all_ending n (last ∷ []))
+      ≡ Err WalkSpent)
 
 -- the counts with these claims of the file
 abbrev pub CountWith : ℕ → Content → List Claim → List ℕ → Type 0

@@ -1,10 +1,11 @@
 -- What is known of a trimmed file.
-use Rattle.std.specs.Prelude.{◌≡◌, ◌≢◌, ◌≤◌, ◌-◌, ◌*◌, ℕ, List, [], ◌∷◌, ◌++◌, map, Ok, Err, IsTrue, IsFalse}
+use Rattle.std.specs.Prelude.{◌≡◌, ◌≢◌, ◌≤◌, ◌-◌, ◌*◌, ℕ, List, [], ◌∷◌, ◌++◌, map, Option, Some, None, Ok, Err, IsTrue, IsFalse, ⊤}
 use Rattle.assertions.specs.declared.assertion.Claim.{Claim}
 use Rattle.assertions.specs.Refutation.{covers}
 use Rattle.assertions.specs.Suffixes.{IsAlternative, factorial}
 use Rattle.ballot_reader.specs.Ballots.{BallotFile}
-use Rattle.assertion_file.specs.Content.{Content, IsSound, candidate_count}
+use Rattle.assertion_file.specs.Content.{Content, Plan, IsSound, candidate_count}
+use Rattle.assertion_file.specs.Text.{told_of}
 use Rattle.cover_checker.specs.Covers.{stands}
 use Rattle.cover_checker.specs.Checks.{IsAnswer}
 use Rattle.cover_checker.specs.declared.checked.Checked.TheVariants.{Accepted}
@@ -12,12 +13,21 @@ use Rattle.trimmer.specs.Trimmed.{trimmed}
 use Rattle.trimmer.specs.declared.fault.TrimFault.TheVariants.{Spent}
 
 -- the one list is the other without some of its claims, in the same order
-pub data IsPartOf : List Claim → List Claim → Type 0 where
+pub data IsPartOf {X : Type 0} : List X → List X → Type 0 where
   nothing : IsPartOf [] []
-  kept : {claim : Claim} {part whole : List Claim} → IsPartOf part whole →
-      IsPartOf (claim ∷ part) (claim ∷ whole)
-  dropped : {claim : Claim} {part whole : List Claim} → IsPartOf part whole →
-      IsPartOf part (claim ∷ whole)
+  kept : {x : X} {part whole : List X} → IsPartOf part whole → IsPartOf (x ∷ part) (x ∷ whole)
+  dropped : {x : X} {part whole : List X} → IsPartOf part whole → IsPartOf part (x ∷ whole)
+
+-- a plan for the same cards, gamma and limit
+abbrev pub HasSameTerms : Plan → Plan → Type 0
+HasSameTerms plan other = other ≡ record plan { draws = other.draws }
+
+-- there is a plan exactly where there was one, for the same cards, gamma and limit
+abbrev pub IsPlannedAlike : Option Plan → Option Plan → Type 0
+IsPlannedAlike None None = ⊤
+IsPlannedAlike None (Some other) = ⊥
+IsPlannedAlike (Some plan) None = ⊥
+IsPlannedAlike (Some plan) (Some other) = HasSameTerms plan other
 
 -- a check accepts the trimmed file where it accepts the one that was read
 abbrev pub TrimmedIsAccepted : Type 0
@@ -26,11 +36,14 @@ TrimmedIsAccepted =
     IsAnswer nodes ballots file (Ok Accepted) → trimmed nodes file ≡ Ok left →
     IsAnswer nodes ballots left (Ok Accepted)
 
--- the claims are a part of those that were read, and all else is the same
+-- the claims are a part of those that were read, each with what was told of its draws, and all else is the same
 abbrev pub TrimmedIsPart : Type 0
 TrimmedIsPart =
     (nodes : ℕ) (file left : Content) → trimmed nodes file ≡ Ok left →
-    IsPartOf left.claims file.claims × (left ≡ record file { claims = left.claims })
+    IsPartOf left.claims file.claims
+    × IsPartOf (told_of left.plan left.claims) (told_of file.plan file.claims)
+    × IsPlannedAlike file.plan left.plan
+    × (left ≡ record file { claims = left.claims; plan = left.plan })
 
 -- for each claim an alternative order stands that no other claim refutes
 abbrev pub TrimmedIsIrredundant : Type 0

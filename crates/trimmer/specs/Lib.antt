@@ -1,4 +1,6 @@
+pub mod Remaining
 pub mod Opened
 pub mod Counts
 pub mod Trimmed
 pub mod Laws
+pub mod Examples

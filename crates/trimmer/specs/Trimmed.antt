@@ -1,7 +1,7 @@
 -- What is left of an assertion file once each claim that can go is dropped, from the last to the first.
-use Rattle.std.specs.Prelude.{ℕ, ◌+◌, Bool, true, false, if◌then◌else◌, List, [], ◌∷◌, ◌++◌, length, map, Result, Ok, Err}
+use Rattle.std.specs.Prelude.{ℕ, ◌+◌, Bool, true, false, if◌then◌else◌, List, [], ◌∷◌, ◌++◌, length, map, Option, option_map, Result, Ok, Err}
 use Rattle.assertions.specs.declared.assertion.Claim.{Claim}
-use Rattle.assertion_file.specs.Content.{Content, candidate_count}
+use Rattle.assertion_file.specs.Content.{Content, Plan, candidate_count}
 use Rattle.cover_checker.specs.Covers.{covered_is}
 use Rattle.cover_checker.specs.declared.cover.Verdict.{Verdict}
 use Rattle.cover_checker.specs.declared.cover.Verdict.TheVariants.{Covered, Stands}
@@ -22,9 +22,16 @@ abbrev pub unless_it_goes : Claim → List Claim → Result Bool TrimFault →
 unless_it_goes claim later (Ok goes) = Ok (if goes then later else claim ∷ later)
 unless_it_goes claim later (Err fault) = Err fault
 
-abbrev pub with_claims : Content → Result (List Claim) TrimFault → Result Content TrimFault
-with_claims file (Ok claims) = Ok (record file { claims = claims })
-with_claims file (Err fault) = Err fault
+abbrev pub unless_gone : Option ℕ → List (Option ℕ) → Result Bool TrimFault → List (Option ℕ)
+unless_gone draws later (Ok goes) = if goes then later else draws ∷ later
+unless_gone draws later (Err fault) = later
+
+abbrev pub with_draws : List (Option ℕ) → Plan → Plan
+with_draws draws plan = record plan { draws = draws }
+
+abbrev pub with_claims : Content → Option Plan → Result (List Claim) TrimFault → Result Content TrimFault
+with_claims file plan (Ok claims) = Ok (record file { claims = claims; plan = plan })
+with_claims file plan (Err fault) = Err fault
 
 module _ (nodes : ℕ) (file : Content) where
   -- whether these claims refute every order that elects another candidate than the file's winner
@@ -32,12 +39,15 @@ module _ (nodes : ℕ) (file : Content) where
   covered_by claims =
       covered_is (candidate_count file) file.winner (map (λ claim. claim.assertion) claims) nodes
 
-  -- the trial of a claim, where the earlier ones are all there, and this is left of the later ones; it is numbered from 1
+  -- whether a claim can go, where the earlier ones are all there, and this is left of the later ones; it is numbered from 1
+  abbrev pub trial : List Claim → Result (List Claim) TrimFault → Result Bool TrimFault
+  trial earlier (Err fault) = Err fault
+  trial earlier (Ok later) = can_go (length earlier + 1) (covered_by (earlier ++ later))
+
   abbrev pub tried : List Claim → Claim → Result (List Claim) TrimFault →
       Result (List Claim) TrimFault
   tried earlier claim (Err fault) = Err fault
-  tried earlier claim (Ok later) =
-      unless_it_goes claim later (can_go (length earlier + 1) (covered_by (earlier ++ later)))
+  tried earlier claim (Ok later) = unless_it_goes claim later (trial earlier (Ok later))
 
   -- what is left of the later claims: each is tried after all that come behind it
   abbrev pub left_of : List Claim → List Claim → Result (List Claim) TrimFault
@@ -45,5 +55,18 @@ module _ (nodes : ℕ) (file : Content) where
   left_of earlier (claim ∷ later) =
       tried earlier claim (left_of (earlier ++ claim ∷ []) later)
 
+  -- what is left of their draws: those of the claims that are left
+  abbrev pub draws_left : List Claim → List Claim → List (Option ℕ) → List (Option ℕ)
+  draws_left earlier [] draws = []
+  draws_left earlier (claim ∷ later) [] = []
+  draws_left earlier (claim ∷ later) (draws ∷ more) =
+      unless_gone draws (draws_left (earlier ++ claim ∷ []) later more)
+      (trial earlier (left_of (earlier ++ claim ∷ []) later))
+
+  -- the plan of the claims that are left
+  abbrev pub plan_left : Option Plan
+  plan_left =
+      option_map (λ plan. with_draws (draws_left [] file.claims plan.draws) plan) file.plan
+
   abbrev pub trimmed : Result Content TrimFault
-  trimmed = with_claims file (left_of [] file.claims)
+  trimmed = with_claims file plan_left (left_of [] file.claims)

@@ -3,6 +3,7 @@ ghost use Rattle.std.specs.Prelude.{◌≡◌, ◌≤◌, None, Ok};
 ghost use Rattle.irv_base.specs.declared.limits.TheConstants.{ROOM};
 ghost use Rattle.cover_checker.specs.Covers.{covered_is};
 ghost use Rattle.cover_checker.specs.declared.cover.Verdict.TheVariants.{Covered as AllCovered};
+ghost use Rattle.trimmer.specs.Remaining.{assertions_in};
 ghost use Rattle.trimmer.specs.Counts.{AreCounts, AreWithin};
 
 use crate::opened::Without;
@@ -14,12 +15,12 @@ pub fn counts_of(claims: &Without<'_>, winner: Candidate, nodes: u32) -> [u32; R
     requires number { 1 ≤ claims.now.n }
     requires room { claims.now.n ≤ ROOM }
     requires none { claims.now.claim ≡ None }
-    requires covered { covered_is claims.now.n winner claims.now.others nodes ≡ Ok AllCovered }
-    ensures counts { AreCounts nodes claims.now.n winner claims.now.others result }
+    requires covered { covered_is claims.now.n winner (assertions_in claims.now.others.now) nodes ≡ Ok AllCovered }
+    ensures counts { AreCounts nodes claims.now.n winner (assertions_in claims.now.others.now) result }
     ensures within { AreWithin nodes result }
 {
     match scanned(claims, winner, nodes, &[0; ROOM as usize]) {
         Scan::Covered(counts) => counts,
-        _ => [nodes; ROOM as usize],
+        Scan::Stands | Scan::Unclear => unreachable!(),
     }
 }

@@ -1,6 +1,7 @@
 //! Worked examples: what is left of three claims, computed by the checker.
-ghost use Rattle.std.specs.Prelude.{◌≡◌, Ok, Err, take, drop};
+ghost use Rattle.std.specs.Prelude.{◌≡◌, [], ◌∷◌, Ok, Err, None, Some, take};
 ghost use Rattle.assertion_file.specs.Examples as files;
+ghost use Rattle.trimmer.specs.Examples as own;
 ghost use Rattle.trimmer.specs.Trimmed.{trimmed};
 
 use crate::TrimFault;
@@ -16,4 +17,11 @@ pub fn three_candidates()
 /// One claim of two candidates is needed.
 pub fn two_candidates()
     ensures { trimmed 1 files.two_candidates ≡ Ok files.two_candidates }
+{}
+
+/// The claims that are left keep their draws.
+pub fn planned()
+    ensures { trimmed 2 (own.planning (None ∷ Some 30 ∷ Some 31 ∷ []))
+        ≡ Ok (record (own.planning (None ∷ Some 30 ∷ []))
+        { claims = take 2 files.three_candidates.claims }) }
 {}

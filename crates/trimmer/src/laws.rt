@@ -6,7 +6,8 @@ pub fn trimmed_is_accepted()
     ensures { TrimmedIsAccepted }
 {}
 
-/// The claims of a trimmed file are among those that were read, in their order, and all else of it is the same.
+/// The claims of a trimmed file are among those that were read, in their order and with their draws, and all else of it is the
+/// same.
 pub fn trimmed_is_part()
     ensures { TrimmedIsPart }
 {}

@@ -9,6 +9,7 @@ pub mod examples;
 mod fault;
 pub mod laws;
 mod opened;
+mod remaining;
 mod scan;
 mod trimming;
 

@@ -6,11 +6,14 @@ ghost use Rattle.cover_checker.specs.Covers.{stands};
 ghost use Rattle.cover_checker.specs.Indexed.{is_new};
 ghost use Rattle.suffix_walk.specs.Kept.{is_parent_kept, all_ending};
 ghost use Rattle.suffix_walk.specs.Walks.{walked};
+ghost use Rattle.cover_checker.specs.Shorter.{stands-shrinks};
+ghost use Rattle.trimmer.specs.Remaining.{assertions_in};
 ghost use Rattle.trimmer.specs.Opened.{counted, is_open, is_past, opens, told};
 
+use crate::remaining::Remaining;
 use assertions::Assertion;
-use cover_checker::Index;
 use irv_base::{CandSet, Candidate, Suffix};
+use suffix_walk::Keeps;
 
 /// Why a walk stops before its end.
 #[derive(Clone, Copy)]
@@ -41,7 +44,7 @@ pub struct Without<'a> {
     /// How many candidates the contest has.
     pub n: u32,
     /// The others.
-    pub others: Index<'a>,
+    pub others: &'a Remaining<'a>,
     /// The claim.
     pub claim: Option<Assertion>,
 }
@@ -65,6 +68,20 @@ fn is_past(a: &Assertion, set: CandSet) -> bool
         Assertion::Nen { w, l: _, rest } => {
             set.has(w) || set.number() | rest.number() != rest.number()
         }
+    }
+}
+
+/// The test that keeps what none of the others refutes.
+impl Keeps for Without<'_> {
+    ghost size = { λ w. w.n };
+
+    ghost kept = { λ w suffix. stands (assertions_in w.others.now) suffix };
+
+    ghost shrinks = { λ w c suffix proper h.
+        stands-shrinks w.n (assertions_in w.others.now) c suffix proper h };
+
+    fn keeps(&self, suffix: &Suffix) -> bool {
+        !self.others.is_any_new(suffix.first(), suffix.set())
     }
 }
 
@@ -92,16 +109,6 @@ impl Without<'_> {
         }
     }
 
-    // Whether none of the others refutes the suffix, where none refutes its parent.
-    fn stands(&self, suffix: &Suffix) -> bool
-        requires proper { IsTrue (is_suffix self.now.n suffix.now) }
-        requires some { 0 < length suffix.now }
-        requires parent { IsTrue (is_parent_kept (stands self.now.others) suffix.now) }
-        ensures { result ≡ stands self.now.others suffix.now }
-    {
-        !self.others.is_any_new(suffix.first(), suffix.set())
-    }
-
     /// Walks the suffixes that end in this one, and adds those that open, and aren't whole orders, to the count.
     ///
     /// It goes nowhere where the others refute all, or the claim nothing.
@@ -116,17 +123,17 @@ impl Without<'_> {
         requires room { self.now.n ≤ ROOM }
         requires proper { IsTrue (is_suffix self.now.n suffix.now) }
         requires some { 0 < length suffix.now }
-        requires parent { IsTrue (is_parent_kept (stands self.now.others) suffix.now) }
+        requires parent { IsTrue (is_parent_kept (stands (assertions_in self.now.others.now)) suffix.now) }
         requires open { is_parent_open ≡ is_open self.now.claim (drop 1 suffix.now) }
         requires left { count ≤ nodes }
         ensures { result ≡ told (walked self.now.n nodes
-            (opens self.now.others self.now.claim) count (all_ending self.now.n suffix.now)) }
+            (opens (assertions_in self.now.others.now) self.now.claim) count (all_ending self.now.n suffix.now)) }
     {
         let is_open = self.is_open(is_parent_open, suffix);
         if !is_open && self.is_past(suffix.set()) {
             return Ok(count);
         }
-        if !self.stands(suffix) {
+        if !self.keeps(suffix) {
             return Ok(count);
         }
         if suffix.len() == self.n {

@@ -2,6 +2,7 @@
 ghost use Rattle.std.specs.Prelude.{◌≡◌, ◌≤◌, Ok, length};
 ghost use Rattle.irv_base.specs.declared.limits.TheConstants.{ROOM};
 ghost use Rattle.cover_checker.specs.Covers.{covered_is};
+ghost use Rattle.trimmer.specs.Remaining.{assertions_in};
 ghost use Rattle.trimmer.specs.Counts.{AreCounts, AreWithin, Scanned};
 
 use crate::opened::{Stop, Without};
@@ -11,11 +12,12 @@ use irv_base::{Candidate, ROOM, Suffix};
 /// What a scan finds.
 #[derive(Clone, Copy)]
 pub enum Scan {
-    /// The others cover, and at most so many suffixes count for each alternative winner.
+    /// The others cover, and so many suffixes count for each alternative winner.
     Covered([u32; ROOM as usize]),
     /// An order stands.
     Stands,
-    /// That isn't known without a whole trial.
+    /// More suffixes open for an alternative winner than the budget has left, before an order that stands: which of the two a trial
+    /// comes to isn't known without one.
     Unclear,
 }
 
@@ -29,7 +31,7 @@ pub fn scanned(
     requires number { 1 ≤ without.now.n }
     requires room { without.now.n ≤ ROOM }
     requires within { AreWithin nodes counts.now }
-    ensures { Scanned nodes without.now.n winner without.now.others without.now.claim counts.now
+    ensures { Scanned nodes without.now.n winner (assertions_in without.now.others.now) without.now.claim counts.now
         result }
 {
     let mut more = *counts;

@@ -1,131 +1,80 @@
 // An assertion file without the claims that can go.
-ghost use Rattle.std.specs.Prelude.{◌≡◌, ◌≢◌, ◌<◌, ◌≤◌, ◌+◌, ℕ, [], ◌++◌, None, Ok, Err, length, map, take, reverse, All, IfOk, IfErr, MatchBool};
-ghost use Rattle.irv_base.specs.declared.limits.TheConstants.{MOST_CANDIDATES};
-ghost use Rattle.assertion_file.specs.Content.{candidate_count, IsSoundClaim};
+ghost use Rattle.std.specs.Prelude.{◌≡◌, ◌≢◌, ◌<◌, ◌≤◌, ◌+◌, [], ◌∷◌, ◌++◌, None, Ok, Err, length, take, option_map, slice_index_or, All, IfOk, IfErr, IfSome, MatchBool};
+ghost use Rattle.irv_base.specs.declared.limits.TheConstants.{ROOM};
+ghost use Rattle.assertion_file.specs.Content.{candidate_count, IsDrawCount, IsSoundClaim};
 ghost use Rattle.cover_checker.specs.Findings.{assertions_of};
 ghost use Rattle.cover_checker.specs.Covers.{covered_is};
 ghost use Rattle.trimmer.specs.Counts.{AreCounts, AreWithin, CountWith};
-ghost use Rattle.trimmer.specs.Trimmed.{can_go, covered_by, left_of, trimmed};
+ghost use Rattle.trimmer.specs.Remaining.{assertions_in};
+ghost use Rattle.trimmer.specs.Trimmed.{can_go, covered_by, draws_left, left_of, trimmed, with_draws};
 
 use crate::counts::counts_of;
 use crate::fault::TrimFault;
 use crate::opened::Without;
+use crate::remaining::Remaining;
 use crate::scan::{Scan, scanned};
-use assertion_file::AssertionFile;
-use assertions::{Assertion, Claim};
-use cover_checker::{CoverFault, Index, Verdict, covered};
-use irv_base::{Memory, ROOM};
+use assertion_file::{AssertionFile, Parts, PlanFacts};
+use assertions::Claim;
+use cover_checker::Verdict;
+use irv_base::{Candidate, Memory, ROOM};
 use std::alloc::Global;
+use suffix_walk::first_within;
 
-// The assertions of the earlier claims and of those that are left of the later ones, which stand last first.
-fn list_of(alloc: Global, earlier: &[Claim], later: &[Claim]) -> Result<Vec<Assertion>, Memory>
-    ensures { IfOk result (λ list. list.items
-        ≡ map (λ claim. claim.assertion) (earlier.now ++ reverse later.now)) }
-{
-    let claims = earlier.iter().chain(later.iter().rev());
-    Ok(claims.map(|claim| claim.assertion).collect(alloc)?)
-}
-
-fn is_covered(verdict: &Verdict) -> bool
-    ensures { (number : ℕ) → can_go number (Ok verdict.now) ≡ Ok result }
-{
-    matches!(verdict, Verdict::Covered)
-}
-
-fn at_claim(claim: u64, fault: CoverFault) -> TrimFault
-    ensures { can_go claim (Err fault) ≡ Err result }
-{
-    match fault {
-        CoverFault::Spent { last } => TrimFault::Spent { claim, last },
-        CoverFault::Memory => TrimFault::Memory,
-    }
-}
-
-// How many suffixes count with all claims of the file.
-fn first_counts(
-    alloc: Global,
-    f: &AssertionFile,
-    nodes: u32,
-) -> Result<[u32; ROOM as usize], Memory>
-    requires { covered_is (candidate_count f.now) f.now.winner (assertions_of f.now) nodes
-        ≡ Ok Verdict.Covered }
-    ensures { IfOk result (CountWith nodes f.now f.now.claims) }
-{
-    let list = list_of(alloc, f.claims(), &[])?;
-    let all = all_of(alloc, f, &list)?;
-    Ok(counts_of(&all, f.winner(), nodes))
-}
-
-// The claims of the list, with none left out.
-fn all_of<'a>(
-    alloc: Global,
-    f: &AssertionFile,
-    list: &'a [Assertion],
-) -> Result<Without<'a>, Memory>
-    ensures all { IfOk result (λ all. all
-        ≡ record { n = candidate_count f.now; others = list.now; claim = None }) }
-    ensures few { candidate_count f.now ≤ MOST_CANDIDATES }
-{
-    Ok(Without {
-        n: f.candidates().len() as u32,
-        others: Index::of(alloc, list)?,
-        claim: None,
-    })
-}
-
-// A whole trial: whether a claim of this number can go, by the list without it. Where it goes, the counts are those of the list.
+// Whether the claim with this number can go, by a trial of all that the others let stand. If it can, the counts become those of the
+// others.
 fn whole_trial(
-    alloc: Global,
-    f: &AssertionFile,
+    all: &Without<'_>,
+    winner: Candidate,
     number: u64,
-    list: &[Assertion],
     nodes: u32,
     counts: &mut [u32; ROOM as usize],
 ) -> Result<bool, TrimFault>
-    ensures goes { result ≢ Err TrimFault.Memory → result ≡ can_go number
-        (covered_is (candidate_count f.now) f.now.winner list.now nodes) }
+    requires some { 1 ≤ all.now.n }
+    requires room { all.now.n ≤ ROOM }
+    requires none { all.now.claim ≡ None }
+    ensures goes { result ≡ can_go number
+        (covered_is all.now.n winner (assertions_in all.now.others.now) nodes) }
     ensures counts { IfOk result (λ goes. MatchBool goes
-        (AreCounts nodes (candidate_count f.now) f.now.winner list.now counts.new
+        (AreCounts nodes all.now.n winner (assertions_in all.now.others.now) counts.new
         × AreWithin nodes counts.new) (counts.new ≡ counts.old)) }
 {
-    let n = f.candidates().len() as u32;
-    match covered(alloc, n, f.winner(), list, nodes) {
-        Ok(verdict) => {
-            let goes = is_covered(&verdict);
-            if goes {
-                *counts = counts_of(&all_of(alloc, f, list)?, f.winner(), nodes);
-            }
-            Ok(goes)
+    match first_within(all, all.n, winner, nodes) {
+        Ok(None) => {
+            *counts = counts_of(all, winner, nodes);
+            Ok(true)
         }
-        Err(fault) => Err(at_claim(number, fault)),
+        Ok(Some(_)) => Ok(false),
+        Err(last) => Err(TrimFault::Spent {
+            claim: number,
+            last,
+        }),
     }
 }
 
-// Whether the claim at this place can go, where this is left of the later ones, last first. The counts are those with the claim, and
-// then those of what is left.
+// Whether the claim at this place can go, where these are the others. The counts are those with the claim, and then those of what is
+// left.
 fn can_go(
-    alloc: Global,
     f: &AssertionFile,
     place: usize,
-    later: &[Claim],
+    others: &Remaining<'_>,
     nodes: u32,
     counts: &mut [u32; ROOM as usize],
 ) -> Result<bool, TrimFault>
     requires place { place < length f.now.claims }
-    requires counts { CountWith nodes f.now (take (place + 1) f.now.claims ++ reverse later.now)
-        counts.old }
-    ensures goes { result ≢ Err TrimFault.Memory → result ≡ can_go (place + 1)
-        (covered_by nodes f.now (take place f.now.claims ++ reverse later.now)) }
+    requires others { (others.now).untried ≡ take place f.now.claims }
+    requires counts { CountWith nodes f.now
+        (take (place + 1) f.now.claims ++ (others.now).kept) counts.old }
+    ensures goes { result ≡ can_go (place + 1)
+        (covered_by nodes f.now (take place f.now.claims ++ (others.now).kept)) }
     ensures counts { IfOk result (λ goes. MatchBool goes
-        (CountWith nodes f.now (take place f.now.claims ++ reverse later.now) counts.new)
+        (CountWith nodes f.now (take place f.now.claims ++ (others.now).kept) counts.new)
         (counts.new ≡ counts.old)) }
 {
-    let claims = f.claims();
-    let list = list_of(alloc, &claims[..place], later)?;
+    let n = f.candidates().len() as u32;
     let without = Without {
-        n: f.candidates().len() as u32,
-        others: Index::of(alloc, &list)?,
-        claim: Some(claims[place].assertion),
+        n,
+        others,
+        claim: Some(f.claims()[place].assertion),
     };
     match scanned(&without, f.winner(), nodes, counts) {
         Scan::Covered(more) => {
@@ -133,62 +82,138 @@ fn can_go(
             Ok(true)
         }
         Scan::Stands => Ok(false),
-        Scan::Unclear => whole_trial(alloc, f, place as u64 + 1, &list, nodes, counts),
+        Scan::Unclear => {
+            let all = Without {
+                n,
+                others,
+                claim: None,
+            };
+            whole_trial(&all, f.winner(), place as u64 + 1, nodes, counts)
+        }
     }
 }
 
-// What is left of the claims, last first.
-fn left_of(alloc: Global, f: &AssertionFile, nodes: u32) -> Result<Vec<Claim>, TrimFault>
+// How many suffixes count with all claims of the file.
+fn first_counts(f: &AssertionFile, all: &Remaining<'_>, nodes: u32) -> [u32; ROOM as usize]
+    requires covered { covered_is (candidate_count f.now) f.now.winner (assertions_of f.now) nodes
+        ≡ Ok Verdict.Covered }
+    requires all { all.now ≡ record { untried = f.now.claims; kept = [] } }
+    ensures { CountWith nodes f.now f.now.claims result }
+{
+    let all = Without {
+        n: f.candidates().len() as u32,
+        others: all,
+        claim: None,
+    };
+    counts_of(&all, f.winner(), nodes)
+}
+
+// What is left of the claims and of their draws. Without a plan there are no draws.
+#[derive(Drop)]
+struct Left {
+    claims: Vec<Claim>,
+    draws: Vec<Option<u32>>,
+}
+
+// One more of the draws that a plan has, if there is one.
+fn push_draws(
+    draws: &mut Vec<Option<u32>>,
+    plan: Option<&PlanFacts>,
+    place: usize,
+) -> Result<(), Memory>
+    requires { IfSome plan (λ facts. place < length facts.now.draws) }
+    ensures { IfOk result (λ _. IfSome plan.entry (λ facts.
+        draws.new.items ≡ draws.old.items ++ slice_index_or facts.now.draws place None ∷ [])) }
+{
+    if let Some(plan) = plan {
+        draws.push(plan.draws[place])?;
+    }
+    Ok(())
+}
+
+fn left_of(alloc: Global, f: &AssertionFile, nodes: u32) -> Result<Left, TrimFault>
     requires { covered_is (candidate_count f.now) f.now.winner (assertions_of f.now) nodes
         ≡ Ok Verdict.Covered }
     ensures left { IfOk result (λ left. left_of nodes f.now [] f.now.claims
-        ≡ Ok (reverse left.items)) }
+        ≡ Ok left.claims.items) }
     ensures sound { IfOk result (λ left.
-        All (IsSoundClaim (candidate_count f.now) f.now.records) (reverse left.items)) }
+        All (IsSoundClaim (candidate_count f.now) f.now.records) left.claims.items) }
+    ensures draws { IfOk result (λ left. IfSome f.now.plan (λ plan.
+        draws_left nodes f.now [] f.now.claims plan.draws ≡ left.draws.items)) }
+    ensures each { IfOk result (λ left. IfSome f.now.plan (λ _.
+        length left.draws.items ≡ length left.claims.items)) }
+    ensures few { IfOk result (λ left. IfSome f.now.plan (λ _.
+        All (λ draws. IfSome draws IsDrawCount) left.draws.items)) }
     ensures spent { IfErr result (λ fault. fault ≢ TrimFault.Memory
         → left_of nodes f.now [] f.now.claims ≡ Err fault) }
 {
     let claims = f.claims();
-    let mut counts = first_counts(alloc, f, nodes)?;
-    let mut left: Vec<Claim> = Vec::new(alloc);
+    let plan = f.plan();
+    let mut left = Remaining::all(alloc, claims)?;
+    let mut draws: Vec<Option<u32>> = Vec::new(alloc);
+    let mut counts = first_counts(f, &left, nodes);
     for j in (0..claims.len()).rev() {
-        if !can_go(alloc, f, j, &left, nodes, &mut counts)? {
-            left.push(claims[j])?;
-        }
+        let others = left.without_last()?;
+        left = if can_go(f, j, &others, nodes, &mut counts)? {
+            others
+        } else {
+            push_draws(&mut draws, plan, j)?;
+            others.with(claims[j])?
+        };
     }
-    Ok(left)
+    draws.reverse();
+    Ok(Left {
+        claims: left.into_kept(),
+        draws,
+    })
 }
 
-// The file with these of its claims.
-fn with_claims(
-    alloc: Global,
-    f: &AssertionFile,
-    claims: Vec<Claim>,
-) -> Result<AssertionFile, Memory>
-    requires { All (IsSoundClaim (candidate_count f.now) f.now.records) claims.items }
-    ensures { IfOk result (λ file. file ≡ record f.now { claims = claims.items }) }
+// A plan for the same audit, with these draws.
+fn plan_with(plan: Option<&PlanFacts>, draws: Vec<Option<u32>>) -> Option<PlanFacts>
+    ensures { result ≡ option_map (λ facts. with_draws draws.items facts.now) plan.entry }
 {
-    let names = f.candidates().to_vec(alloc)?;
-    Ok(AssertionFile::new(
-        *f.contest(),
-        names,
-        f.records(),
-        f.winner(),
-        f.margin(),
-        *f.order(),
-        claims,
-    ))
+    let plan = plan?;
+    Some(PlanFacts {
+        cards: plan.cards,
+        gamma: plan.gamma,
+        limit: plan.limit,
+        draws,
+    })
 }
 
-/// The file without the claims that can go. They are tried from the last to the first: a claim is dropped exactly where `covered`,
-/// at so many nodes, says of those that are left without it that they cover. All else of the file stays.
+// The file with these of its claims and of their draws.
+fn with_claims(alloc: Global, f: &AssertionFile, left: Left) -> Result<AssertionFile, Memory>
+    requires claims { All (IsSoundClaim (candidate_count f.now) f.now.records) left.claims.items }
+    requires each { IfSome f.now.plan (λ _.
+        length left.draws.items ≡ length left.claims.items) }
+    requires draws { IfSome f.now.plan (λ _.
+        All (λ draws. IfSome draws IsDrawCount) left.draws.items) }
+    ensures { IfOk result (λ file. file ≡ record f.now {
+      claims = left.claims.items;
+      plan = option_map (with_draws left.draws.items) f.now.plan;
+    }) }
+{
+    let candidates = f.candidates().to_vec(alloc)?;
+    Ok(AssertionFile::new(Parts {
+        contest: *f.contest(),
+        candidates,
+        records: f.records(),
+        winner: f.winner(),
+        margin: f.margin(),
+        order: *f.order(),
+        claims: left.claims,
+        plan: plan_with(f.plan(), left.draws),
+    }))
+}
+
+/// The file without the claims that can go, and without their draws. They are tried from the last to the first: a claim is dropped
+/// exactly where `covered`, at so many nodes, says of those that are left without it that they cover. All else of the file stays.
 ///
 /// `Spent` comes exactly at the first trial for which `covered` says so. The other error is want of memory.
 pub fn trim(alloc: Global, f: &AssertionFile, nodes: u32) -> Result<AssertionFile, TrimFault>
     requires { covered_is (candidate_count f.now) f.now.winner (assertions_of f.now) nodes ≡ Ok Verdict.Covered }
     ensures { result ≢ Err TrimFault.Memory → result ≡ trimmed nodes f.now }
 {
-    let mut left = left_of(alloc, f, nodes)?;
-    left.reverse();
+    let left = left_of(alloc, f, nodes)?;
     Ok(with_claims(alloc, f, left)?)
 }

@@ -109,6 +109,63 @@ fn tie_that_changes_nothing(rt: HostRuntime) {
     assert!(rt; matches!(answer, Ok(Checked::OtherContest)));
 }
 
+// Five ballots for one of two candidates. Their certificate plans the draws for five cards.
+const FIVE_BALLOTS: &str = "1\nContest,1,2,1,2\n1,t_1,1\n1,t_2,1\n1,t_3,1\n1,t_4,1\n1,t_5,1\n";
+
+const CERTIFICATE_PLANNED: &str =
+    "{\"assertions\":[{\"draws\":5,\"kind\":\"NEB\",\"loser\":\"2\",\"margin\":5,\"winner\":\"1\"}],\"candidates\":[\"1\",\"2\"],\"cards\":5,\"contest\":\"1\",\"gamma\":100,\"limit\":50000,\"margin\":5,\"order\":[\"1\",\"2\"],\"records\":5,\"version\":2,\"winner\":\"1\"}\n";
+
+// The answer to the planned certificate with one text in place of another.
+fn replanned<R: Abort + AllocGlobal + Threads + Sync>(
+    rt: &R,
+    from: &str,
+    to: &str,
+) -> Result<Checked, CheckFault> {
+    let file = CERTIFICATE_PLANNED
+        .replace(rt.alloc(), from, to)
+        .expect(rt, "text");
+    checked(rt, FIVE_BALLOTS, file.as_str(), 1)
+}
+
+#[test]
+fn planned_draws(rt: HostRuntime) {
+    let found = replanned(&rt, "\"draws\":5", "\"draws\":5");
+    assert!(rt; matches!(found, Ok(Checked::Accepted)));
+    let five = Some(5);
+    for draws in ["\"draws\":4", "\"draws\":6", "\"draws\":null"] {
+        match replanned(&rt, "\"draws\":5", draws) {
+            Ok(Checked::OtherDraws { index, found }) => assert!(rt; index == 1 && found == five),
+            _ => assert!(rt; false),
+        }
+    }
+}
+
+// With a limit of a millionth no five draws suffice, nor do six where there is a sixth card.
+#[test]
+fn planned_full_count(rt: HostRuntime) {
+    for (from, to) in [
+        ("\"limit\":50000", "\"limit\":1"),
+        ("\"cards\":5", "\"cards\":6"),
+    ] {
+        match replanned(&rt, from, to) {
+            Ok(Checked::OtherDraws { index, found }) => assert!(rt; index == 1 && found.is_none()),
+            _ => assert!(rt; false),
+        }
+    }
+}
+
+// The draws are judged last: of a file of another margin they aren't told.
+#[test]
+fn draws_are_judged_last(rt: HostRuntime) {
+    let draws = "\"draws\":5,\"kind\":\"NEB\",\"loser\":\"2\",\"margin\":5";
+    let found = replanned(
+        &rt,
+        draws,
+        "\"draws\":4,\"kind\":\"NEB\",\"loser\":\"2\",\"margin\":4",
+    );
+    assert!(rt; matches!(found, Ok(Checked::OtherMargin { index: 1, found: 5 })));
+}
+
 // Candidates 1 and 2 have a vote each; the tabulated order elects 2, whom no true claim proves the winner.
 const TIED_FOR_THE_WIN: &str = "1\nContest,1,2,1,2\n1,t_1,1\n1,t_2,2\n";
 

@@ -8,9 +8,11 @@ pub returns-in-Nen : goal.returns-in-Nen
 returns-in-Nen g c =
     let ids = c.args.names.now in
     let claim = c.args.claim.now in
-    let same : nen_value c.id_of-winner.result.now c.id_of-loser.result.now (ids_value (ids_in ids c.in-Nen.rest)) claim.margin ≡ claim_value ids claim =
-    ap₂ (λ winner loser. nen_value winner loser (ids_value (ids_in ids c.in-Nen.rest)) claim.margin) c.id_of-winner.ensures c.id_of-loser.ensures
-    ∙ ap (λ a. assertion_value ids a claim.margin) (sym c.in-Nen.is) in
+    let draws = c.args.draws in
+    let rest = ids_value (ids_in ids c.in-Nen.rest) in
+    let same : nen_value draws c.id_of-winner.result.now c.id_of-loser.result.now rest claim.margin ≡ claim_value ids (claim, draws) =
+    ap₂ (λ winner loser. nen_value draws winner loser rest claim.margin) c.id_of-winner.ensures c.id_of-loser.ensures
+    ∙ ap (λ a. assertion_value ids draws a claim.margin) (sym c.in-Nen.is) in
     subst
     (λ value. OnOk c.send_nen.result (SendsValue value (g.S.Serializer.written c.args.out.now) (g.S.Serializer.written c.send_nen.new.out))) same
     c.send_nen.ensures

@@ -1,15 +1,16 @@
 use Rattle.std.proofs.Common.{refl}
 use Rattle.std.proofs.lemmas.Result.{on_ok_weaker}
 use Rattle.assertion_file.specs.Ids.{ids_in}
-use Rattle.assertion_file.specs.Text.{ids_value, nen_members}
-use Rattle.assertion_file.proofs.Sent.{object_is_sent}
+use Rattle.assertion_file.specs.Text.{ids_value, nen_others}
+use Rattle.assertion_file.proofs.Sent.{with_draws_sent}
 use Rattle.assertion_file.proofs.print.send_nen.Goals as goal
 
 pub returns : goal.returns
 returns g c =
     let rest = ids_value (ids_in c.args.names.now c.args.rest) in
     on_ok_weaker c.end_map.result (λ ended.
-    object_is_sent (nen_members c.args.winner.now c.args.loser.now rest c.args.margin) _ _ _ _ c.in_ok-begin_map.ensures (
+    with_draws_sent c.args.draws (nen_others c.args.winner.now c.args.loser.now rest c.args.margin) _ _ _ _ _ _ c.with_draws.ensures
+    c.in_ok-begin_map.ensures c.in_ok-send_draws.ensures (
       _,
       c.in_ok-send_text.ensures,
       (

@@ -1,15 +1,17 @@
-use Rattle.std.proofs.Common.{◌≡◌, ◌∙◌, Ok, All, length, sym, ap, subst, arith}
-use Rattle.std.specs.Prelude.{option_map}
+use Rattle.std.proofs.Common.{◌≡◌, ◌∙◌, Ok, All, length, map, sym, ap, subst, arith}
+use Rattle.std.specs.Prelude.{is_some, option_map, IfSome}
 use Rattle.std.proofs.lemmas.Result.{err_from_is_err_and}
 use Rattle.serde_json.specs.View.{view}
 use Rattle.irv_base.specs.Names.{all_differ}
 use Rattle.irv_base.specs.Orders.{is_order}
-use Rattle.assertion_file.specs.Content.{IsSoundClaim}
+use Rattle.assertion_file.specs.Content.{IsSoundClaim, IsSoundPlan}
 use Rattle.assertion_file.specs.Faults.{Refuses}
-use Rattle.assertion_file.specs.Reading.{claims_from, content_of, content_with, ◌>>=◌}
+use Rattle.assertion_file.specs.Reading.{claim_in, content_of, content_with, plan_with, ◌>>=◌}
 use Rattle.assertion_file.specs.Views.{stated_heading}
+use Rattle.assertion_file.specs.declared.claims.Planned.{Planned}
 use Rattle.assertion_file.proofs.Headings.{content-none, content-kept, content-is, refused_heading, refused_claims, sound}
 use Rattle.assertion_file.proofs.SoundClaims.{claims-sound}
+use Rattle.assertion_file.proofs.SoundFiles.{sound-claims, plan-sound}
 use Rattle.assertion_file.proofs.read.content_of.Goals as goal
 
 pub returns-in_default-clause-refused : goal.returns-in_default-clause-refused
@@ -22,16 +24,14 @@ returns-in_err-named-clause-refused c =
     let p = err_from_is_err_and c.from_residual.result c.from_residual.ensures.1 in
     rw (p.1, p.2) (refused_heading (view c.args.value.now) (stated_heading c.in-Some.heading) _ (sym c.in-Some.ensures) c.in_err-named.ensures.refused)
 
-pub returns-in_err-claims-clause-refused : goal.returns-in_err-claims-clause-refused
-returns-in_err-claims-clause-refused c =
-    let heading = stated_heading c.in-Some.heading in
-    let names = c.as_slice.ensures.value ∙ c.in_ok-named.ensures.candidates in
-    let p = err_from_is_err_and c.from_residual-in_err-claims.result c.from_residual-in_err-claims.ensures.1 in
-    rw (p.1, p.2) (refused_claims (view c.args.value.now) heading _ (sym c.in-Some.ensures) c.in_ok-named.ensures.kept
-    (subst (λ ids. Refuses (claims_from ids heading.records 1 heading.assertions) c.in_err-claims.field-0.0) names c.in_err-claims.ensures.refused))
+pub returns-in_err-planned-clause-refused : goal.returns-in_err-planned-clause-refused
+returns-in_err-planned-clause-refused c =
+    let p = err_from_is_err_and c.from_residual-in_err-planned.result c.from_residual-in_err-planned.ensures.1 in
+    rw (p.1, p.2) (refused_claims (view c.args.value.now) (stated_heading c.in-Some.heading) _ (sym c.in-Some.ensures) c.in_ok-named.ensures.kept
+    c.in_err-planned.ensures.refused)
 
-pub claims-requires : goal.claims-requires
-claims-requires c =
+pub claims_in-requires-clause-few : goal.claims_in-requires-clause-few
+claims_in-requires-clause-few c =
     let s = sound (stated_heading c.in-Some.heading) c.in_ok-named.ensures.kept in
     omega (arith, s.most, ap length (c.as_slice.ensures.value ∙ c.in_ok-named.ensures.candidates))
 
@@ -70,16 +70,31 @@ new-requires-clause-order c =
 pub new-requires-clause-claims : goal.new-requires-clause-claims
 new-requires-clause-claims c =
     let heading = stated_heading c.in-Some.heading in
-    subst (λ ids. All (IsSoundClaim (length ids) heading.records) c.in_ok-claims.claims.items) c.as_slice.ensures.value
-    (claims-sound c.as_slice.result.now heading.records 1 heading.assertions c.in_ok-claims.claims.items c.in_ok-claims.ensures.read)
+    let all = claims-sound heading.candidates heading.records (is_some heading.terms) 1 heading.assertions c.in_ok-planned.planned.items
+    c.in_ok-planned.ensures.read in
+    let claims = sym (c.in_ok-claims.ensures ∙ ap (map claim_in) c.deref.ensures.value) in
+    subst (λ ids. All (IsSoundClaim (length ids) heading.records) c.in_ok-claims.claims.items) (sym c.in_ok-named.ensures.candidates)
+    (subst (All (IsSoundClaim (length heading.candidates) heading.records)) claims (sound-claims heading c.in_ok-planned.planned.items all))
+
+pub new-requires-clause-plan : goal.new-requires-clause-plan
+new-requires-clause-plan c =
+    let heading = stated_heading c.in-Some.heading in
+    let s = sound heading c.in_ok-named.ensures.kept in
+    let planned = c.in_ok-planned.planned.items in
+    let all = claims-sound heading.candidates heading.records (is_some heading.terms) 1 heading.assertions planned c.in_ok-planned.ensures.read in
+    let claims = sym (c.in_ok-claims.ensures ∙ ap (map claim_in) c.deref.ensures.value) in
+    let plan = sym (c.in_ok-plan.ensures ∙ ap (plan_with heading.terms) c.deref-2.ensures.value) in
+    subst (λ claims. IfSome c.in_ok-plan.plan (IsSoundPlan heading.records (length claims))) claims
+    (subst (λ plan. IfSome plan (IsSoundPlan heading.records (length (map claim_in planned)))) plan
+    (plan-sound (length heading.candidates) heading.records heading.terms planned s.terms all))
 
 pub returns-clause-read : goal.returns-clause-read
 returns-clause-read c =
     let heading = stated_heading c.in-Some.heading in
-    let names = c.as_slice.ensures.value ∙ c.in_ok-named.ensures.candidates in
-    let claims : claims_from heading.candidates heading.records 1 heading.assertions ≡ Ok c.in_ok-claims.claims.items =
-    ap (λ ids. claims_from ids heading.records 1 heading.assertions) (sym names) ∙ c.in_ok-claims.ensures.read in
+    let planned = c.in_ok-planned.planned.items in
     let named = c.in_ok-named.ensures in
-    let same = content-is heading c.in_ok-claims.claims.items _ _ _ _ named.contest named.candidates named.winner named.order in
+    let claims = c.in_ok-claims.ensures ∙ ap (map claim_in) c.deref.ensures.value in
+    let plan = c.in_ok-plan.ensures ∙ ap (plan_with heading.terms) c.deref-2.ensures.value in
+    let same = content-is heading planned _ _ _ _ _ _ named.contest named.candidates named.winner named.order claims plan in
     content-kept (view c.args.value.now) heading (sym c.in-Some.ensures) c.in_ok-named.ensures.kept
-    ∙ ap (λ said. said >>= λ claims. Ok (content_with heading claims)) claims ∙ ap Ok (sym (c.new.ensures ∙ same))
+    ∙ ap (λ said. said >>= λ claims. Ok (content_with heading claims)) c.in_ok-planned.ensures.read ∙ ap Ok (sym (c.new.ensures ∙ same))

@@ -1,17 +1,8 @@
-use Rattle.std.proofs.Common.{◌≡◌, ◌∙◌, Some, true, sym, ap, ap₂, subst}
-use Rattle.clap.specs.Matches.{found_of}
-use Rattle.clap.specs.Walk.{first_of, rows_of}
-use Rattle.command_line.specs.OneForm.{may_be_number, number_or, value_text}
+use Rattle.std.proofs.Common.{◌∙◌, ap, ap₂}
+use Rattle.std.specs.Prelude.{unwrap_or}
 use Rattle.command_line.specs.Table.{default_of}
-use Rattle.command_line.proofs.Meanings.{may_be, number-is}
 use Rattle.command_line.proofs.arguments.number.Goals as goal
 
 pub returns : goal.returns
 returns c = λ pieces fit shown.
-    let option = c.args.option in
-    let rows = rows_of (found_of c.args.matches.now) in
-    let text = value_text option pieces in
-    let read = c.text-2.ensures text (subst (λ id. first_of id rows ≡ Some text) (sym c.text.ensures) shown) in
-    let default = c.default.ensures ∙ ap default_of c.kind.ensures in
-    c.number_or.ensures (subst (λ t. may_be_number t ≡ true) (sym read) (may_be option c.requires pieces fit))
-    ∙ ap₂ number_or default read ∙ number-is option c.requires pieces fit
+    c.unwrap_or.ensures ∙ ap₂ unwrap_or (c.given_number.ensures pieces fit shown) (c.default.ensures ∙ ap default_of c.kind.ensures)

@@ -8,4 +8,5 @@ returns c = λ pieces fit shows i. Search (record {
   workers = c.number.ensures pieces fit shows.options.1.0 i;
   nodes = c.number-2.ensures pieces fit shows.options.1.1.0 i;
   floor = c.number-3.ensures pieces fit shows.options.1.1.1.0 i;
+  plan = c.plan_terms.ensures pieces fit shows.options.1.1.1.1.0 shows.options.1.1.1.1.1.0 shows.options.1.1.1.1.1.1.0 i;
 })

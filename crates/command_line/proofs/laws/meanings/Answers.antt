@@ -6,6 +6,7 @@ returns c = record {
   tabulate = refl;
   tabulate_left_out = refl;
   search = refl;
+  search_of_cards = refl;
   search_left_out = refl;
   check = refl;
   check_left_out = refl;

@@ -1,20 +1,21 @@
-use Rattle.std.proofs.Common.{inl, inr, refl, arith}
+use Rattle.std.proofs.Common.{inl, inr, refl, ap, arith, ◌∙◌}
+use Rattle.assertion_file.specs.Text.{assertion_file_text}
 use Rattle.cli_base.specs.Outcome.{Answered}
 use Rattle.cli_base.specs.declared.outcome.AnswerKind.TheVariants.{Done, FullCount}
 use Rattle.search_commands.proofs.search.certificate.Goals as goal
 
-pub returns-then-margin-floor : goal.returns-then-margin-floor
-returns-then-margin-floor c =
-    let below = c.if-margin-floor.true in
+pub returns-then-margin-task : goal.returns-then-margin-task
+returns-then-margin-task c =
+    let below = c.if-margin-task.true in
     let same = c.margin.ensures.same in
     inl (
       Answered FullCount _,
       inr (inr (inr (
         _,
         record {
-          file = c.args.file.now;
-          is = c.requires.is;
-          budget = c.requires.budget;
+          file = c.args.file;
+          is = c.requires.found.is;
+          budget = c.requires.found.budget;
           floor = omega (arith, below, same);
           shown = c.in_ok-full_count.ensures;
         },
@@ -25,18 +26,18 @@ returns-then-margin-floor c =
 
 pub returns : goal.returns
 returns c =
-    let reached = c.if-margin-floor.false in
+    let reached = c.if-margin-task.false in
     let same = c.margin.ensures.same in
     inl (
       Answered Done _,
       inl (
         _,
         record {
-          file = c.args.file.now;
-          is = c.requires.is;
-          budget = c.requires.budget;
+          file = c.args.file;
+          is = c.requires.found.is;
+          budget = c.requires.found.budget;
           floor = omega (arith, reached, same);
-          shown = c.in_ok-print_file.ensures.text;
+          shown = c.in_ok-print_file.ensures.text ∙ ap assertion_file_text c.in_ok-file.ensures;
         },
         refl,
       ),

@@ -8,8 +8,8 @@ use Rattle.search_commands.specs.Search.{Finds}
 use Rattle.search_commands.proofs.Ties.{tie_told}
 use Rattle.search_commands.proofs.search.search.Goals as goal
 
-pub certificate-requires : goal.certificate-requires
-certificate-requires g c =
+pub certificate-requires-clause-found : goal.certificate-requires-clause-found
+certificate-requires-clause-found g c =
     found_of c.args.ballots.now c.args.task.now.nodes c.in_ok-found.found _ c.of.result c.in-Certificate.is c.of.ensures c.in_ok-found.ensures
 
 pub returns-in-Tie : goal.returns-in-Tie
@@ -17,7 +17,7 @@ returns-in-Tie g c =
     let task = c.args.task.now in
     let is = found_of c.args.ballots.now task.nodes c.in_ok-found.found _ c.of.result c.in-Tie.is c.of.ensures c.in_ok-found.ensures in
     let told = tie_told c.args.ballots.now c.candidates-names.result.now c.in-Tie.round c.in-Tie.tied c.in-Tie.votes c.candidates-names.ensures.same is in
-    told_as (Finds task.nodes task.floor c.args.ballots.now) _ (due c.first_tie.result) (inr (inl (_, told, refl))) c.first_tie.ensures
+    told_as (Finds task.nodes task.floor task.plan c.args.ballots.now) _ (due c.first_tie.result) (inr (inl (_, told, refl))) c.first_tie.ensures
 
 pub returns-in-Spent : goal.returns-in-Spent
 returns-in-Spent g c =
@@ -30,4 +30,4 @@ returns-in-Spent g c =
       is = is;
       shown = ap (λ names. spent_text names c.in-Spent.last c.in-Spent.order c.in-Spent.margin) c.candidates-names.ensures.same;
     } in
-    told_as (Finds task.nodes task.floor c.args.ballots.now) _ (due c.spent.result) (inr (inr (inl (_, spent, refl)))) c.spent.ensures
+    told_as (Finds task.nodes task.floor task.plan c.args.ballots.now) _ (due c.spent.result) (inr (inr (inl (_, spent, refl)))) c.spent.ensures

@@ -1,4 +1,4 @@
-use Rattle.trimmer.proofs.Lefts.{trimmed_is_part}
+use Rattle.trimmer.proofs.Draws.{trimmed_is_part}
 use Rattle.trimmer.proofs.laws.trimmed_is_part.Goals as goal
 
 pub returns : goal.returns

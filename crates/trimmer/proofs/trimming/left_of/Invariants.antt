@@ -1,10 +1,14 @@
-use Rattle.std.proofs.Common.{◌≡◌, ◌++◌, Ok, reverse, take, drop}
+use Rattle.std.proofs.Common.{◌≡◌, ◌++◌, Ok, take, drop}
+use Rattle.std.specs.Prelude.{IfSome}
 use Rattle.trimmer.specs.Counts.{CountWith}
 use Rattle.trimmer.specs.Trimmed.{left_of}
+use Rattle.trimmer.proofs.DrawSteps.{AreLeft}
 use Rattle.trimmer.proofs.trimming.left_of.Given as goal
 
 abbrev pub invariant-loop-j : goal.invariant-loop-j
 invariant-loop-j l = record {
-  behind : left_of l.nodes l.f (take l.j l.f.claims) (drop l.j l.f.claims) ≡ Ok (reverse l.left.items);
-  counted : CountWith l.nodes l.f (take l.j l.f.claims ++ reverse l.left.items) l.counts;
+  untried : l.left.untried ≡ take l.j l.f.claims;
+  behind : left_of l.nodes l.f (take l.j l.f.claims) (drop l.j l.f.claims) ≡ Ok l.left.kept;
+  counted : CountWith l.nodes l.f (take l.j l.f.claims ++ l.left.kept) l.counts;
+  planned : IfSome l.f.plan (AreLeft l.nodes l.f l.f.claims l.j l.draws.items);
 }

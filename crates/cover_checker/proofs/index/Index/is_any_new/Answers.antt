@@ -4,4 +4,5 @@ use Rattle.cover_checker.specs.Indexed.{is_new}
 use Rattle.cover_checker.proofs.index.Index.is_any_new.Goals as goal
 
 pub returns : goal.returns
-returns c = c.is_any_new.ensures ∙ c.self.invariant c.args.first c.args.set ∙ ap (λ list. list_any (λ a. is_new a c.args.first c.args.set) list) c.self.view_is
+returns c =
+    c.is_any_new.ensures _ c.self.invariant ∙ ap (λ list. list_any (λ a. is_new a c.args.first c.args.set) list) c.self.view_is

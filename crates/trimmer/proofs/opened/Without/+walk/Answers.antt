@@ -6,6 +6,7 @@ use Rattle.suffix_walk.specs.Kept.{is_parent_kept, all_ending}
 use Rattle.suffix_walk.specs.Walks.{walked}
 use Rattle.suffix_walk.proofs.Runs.{rest, parent-kept, walked-bounded, rest-passes, rest-goes, rest-stops}
 use Rattle.cover_checker.specs.Covers.{stands}
+use Rattle.trimmer.specs.Remaining.{assertions_in}
 use Rattle.trimmer.specs.Opened.{counted, is_open, is_past, opens, told}
 use Rattle.trimmer.proofs.Walking.{from_told-ok, from_told-err, walked-refuted, enters, spends, walked-past}
 use Rattle.trimmer.proofs.opened.Without.+walk.Goals as goal
@@ -14,13 +15,13 @@ use Rattle.trimmer.proofs.opened.Without.+walk.Goals.{then-not-contains+in_ok-se
 pub returns-then-is_past : goal.returns-then-is_past
 returns-then-is_past t c =
     let w = c.args.self.now in
-    walked-past w.n c.args.nodes w.others w.claim c.args.count c.args.suffix.now c.requires.proper c.if-not-is_open.ensures
+    walked-past w.n c.args.nodes (assertions_in w.others.now) w.claim c.args.count c.args.suffix.now c.requires.proper c.if-not-is_open.ensures
     (subst (λ set. MatchOption w.claim (true ≡ false) (λ claim. true ≡ is_past claim set)) c.set.ensures c.if-is_past.ensures)
 
-pub returns-then-not-stands : goal.returns-then-not-stands
-returns-then-not-stands t c =
+pub returns-then-not-keeps : goal.returns-then-not-keeps
+returns-then-not-keeps t c =
     let w = c.args.self.now in
-    walked-refuted w.n c.args.nodes w.others w.claim c.args.count c.args.suffix.now c.requires.proper (sym c.stands.ensures ∙ c.if-not-stands.true)
+    walked-refuted w.n c.args.nodes (assertions_in w.others.now) w.claim c.args.count c.args.suffix.now c.requires.proper (sym c.keeps.ensures ∙ c.if-not-keeps.true)
 
 pub returns-in_err-own : goal.returns-in_err-own
 returns-in_err-own t c =
@@ -31,7 +32,7 @@ returns-in_err-own t c =
     let given : c.from_residual.result ≡ Err c.in_err-own.field-0.0 = search rules in
     let e : counted (is_open w.claim suffix) c.args.count c.args.nodes ≡ Err c.in_err-own.field-0.0 =
     ap (λ b. counted b c.args.count c.args.nodes) (sym c.is_open-is_open.ensures) ∙ sym c.counted.ensures ∙ c.in_err-own.was in
-    given ∙ spends w.n c.args.nodes w.others w.claim c.args.count suffix c.in_err-own.field-0.0 (sym c.stands.ensures ∙ c.if-not-stands.false) short e
+    given ∙ spends w.n c.args.nodes (assertions_in w.others.now) w.claim c.args.count suffix c.in_err-own.field-0.0 (sym c.keeps.ensures ∙ c.if-not-keeps.false) short e
 
 pub loop-c-init : goal.loop-c-init
 loop-c-init t c =
@@ -41,7 +42,7 @@ loop-c-init t c =
     let short : length suffix < w.n = omega (arith, c.len.ensures.same, few, c.if-len-self.false) in
     let e : counted (is_open w.claim suffix) c.args.count c.args.nodes ≡ Ok c.in_ok-own.own =
     ap (λ b. counted b c.args.count c.args.nodes) (sym c.is_open-is_open.ensures) ∙ sym c.counted.ensures ∙ c.in_ok-own.was in
-    let p = enters w.n c.args.nodes w.others w.claim c.args.count suffix c.in_ok-own.own (sym c.stands.ensures ∙ c.if-not-stands.false) short
+    let p = enters w.n c.args.nodes (assertions_in w.others.now) w.claim c.args.count suffix c.in_ok-own.own (sym c.keeps.ensures ∙ c.if-not-keeps.false) short
     c.requires.left e in
     record { within = p.0; same = p.1 }
 
@@ -67,8 +68,8 @@ walk-requires t c =
             (
               omega arith,
               (
-                ap (is_parent_kept (stands w.others)) same
-                    ∙ parent-kept (stands w.others) front suffix c.requires.some (sym c.stands.ensures ∙ c.if-not-stands.false),
+                ap (is_parent_kept (stands (assertions_in w.others.now))) same
+                    ∙ parent-kept (stands (assertions_in w.others.now)) front suffix c.requires.some (sym c.keeps.ensures ∙ c.if-not-keeps.false),
                 (c.is_open-is_open.ensures ∙ ap (λ s. is_open w.claim (drop 1 s)) (sym same), c.loop-c.invariant.within),
               ),
             ),
@@ -81,7 +82,7 @@ pub returns-in_err-seen : goal.returns-in_err-seen
 returns-in_err-seen t c =
     let w = c.args.self.now in
     let suffix = c.args.suffix.now in
-    let test = opens w.others w.claim in
+    let test = opens (assertions_in w.others.now) w.claim in
     let out : is_in suffix c.loop-c.c ≡ false = sym c.contains.ensures ∙ c.if-not-contains.true in
     let given : c.from_residual-in_err-seen.result ≡ Err c.in_err-seen.field-0.0 = search rules in
     let (cause, e, f) = from_told-err (walked w.n c.args.nodes test c.loop-c.seen (all_ending w.n c.with.result)) c.in_err-seen.field-0.0
@@ -96,7 +97,7 @@ loop-c-preserved t c =
     let v = c.args.self.now in
     let nodes = c.args.nodes in
     let suffix = c.args.suffix.now in
-    let test = opens v.others v.claim in
+    let test = opens (assertions_in v.others.now) v.claim in
     elim c.if-not-contains.branch [
       | then-not-contains+in_ok-seen w ↦
           let out : is_in suffix c.loop-c.c ≡ false = sym c.contains.ensures ∙ w.if-not-contains.true in

@@ -1,0 +1,115 @@
+// The claims that are left while they are tried, from the last to the first.
+ghost use Rattle.std.specs.Prelude.{◌≡◌, ◌<◌, ◌+◌, ◌-◌, ◌^◌, [], ◌∷◌, length, take, IfOk};
+ghost use Rattle.std.specs.List.{list_any};
+ghost use Rattle.cover_checker.specs.Indexed.{is_new};
+ghost use Rattle.trimmer.specs.Remaining.{assertions_in};
+
+use assertions::Claim;
+use cover_checker::Counted;
+use irv_base::{CandSet, Candidate, Memory};
+use std::alloc::Global;
+use std::marker::Model;
+
+/// The claims that are left: those that aren't tried yet, and those that stay of the ones behind them. It tells in a time that
+/// doesn't grow with them whether one of them refutes a suffix anew, and one is left out or kept in such a time as well.
+///
+/// To a contract it is the two lists.
+#[derive(Drop)]
+pub struct Remaining<'a> {
+    untried: &'a [Claim],
+    // Last first.
+    kept: Vec<Claim>,
+    counted: Counted,
+}
+
+impl<'a> Model for Remaining<'a> {
+    ghost use Rattle.std.specs.Prelude.{reverse, length, ◌+◌, ◌<◌, ◌^◌};
+    ghost use Rattle.trimmer.specs.Remaining.{Left, assertions_in};
+    ghost use Rattle.cover_checker.specs.Counts.{IsCountOf};
+
+    ghost Value = { Left };
+
+    ghost view = { λ r. record { untried = r.untried.now; kept = reverse r.kept.items } };
+
+    ghost invariant = { λ r. IsCountOf
+        (assertions_in (record { untried = r.untried.now; kept = reverse r.kept.items })) r.counted
+        × (length r.untried.now + length r.kept.items < 2 ^ 64) };
+}
+
+impl<'a> Remaining<'a> {
+    /// All of the claims, none of them tried.
+    pub fn all(alloc: Global, claims: &'a [Claim]) -> Result<Remaining<'a>, Memory>
+        ensures { IfOk result (λ r. r ≡ record { untried = claims.now; kept = [] }) }
+    {
+        let mut counted = Counted::none(alloc);
+        for claim in claims {
+            counted.add(&claim.assertion)?;
+        }
+        Ok(Remaining {
+            untried: claims,
+            kept: Vec::new(alloc),
+            counted,
+        })
+    }
+
+    /// The others of the last that isn't tried yet.
+    pub fn without_last(self) -> Result<Remaining<'a>, Memory>
+        requires { 0 < length self.untried }
+        ensures others { IfOk result (λ r. r ≡ record {
+          untried = take (length self.entry.untried - 1) self.entry.untried;
+          kept = self.entry.kept;
+        }) }
+        ensures few { length self.entry.untried + length self.entry.kept < 2 ^ 64 }
+    {
+        let Remaining {
+            untried,
+            kept,
+            mut counted,
+        } = self;
+        let place = untried.len() - 1;
+        counted.forget(&untried[place].assertion)?;
+        Ok(Remaining {
+            untried: &untried[..place],
+            kept,
+            counted,
+        })
+    }
+
+    /// These, and one that stays before those that stayed.
+    pub fn with(self, claim: Claim) -> Result<Remaining<'a>, Memory>
+        requires few { length self.untried + length self.kept < 2 ^ 64 - 1 }
+        ensures { IfOk result (λ r. r ≡ record {
+          untried = self.entry.untried;
+          kept = claim ∷ self.entry.kept;
+        }) }
+    {
+        let Remaining {
+            untried,
+            mut kept,
+            mut counted,
+        } = self;
+        counted.add(&claim.assertion)?;
+        kept.push(claim)?;
+        Ok(Remaining {
+            untried,
+            kept,
+            counted,
+        })
+    }
+
+    /// Those that stayed.
+    pub fn into_kept(self) -> Vec<Claim>
+        ensures { result.items ≡ self.entry.kept }
+    {
+        let Remaining { mut kept, .. } = self;
+        kept.reverse();
+        kept
+    }
+
+    /// Whether one of the claims refutes a suffix with this first candidate and this set, if none refutes its parent.
+    pub fn is_any_new(&self, first: Candidate, set: CandSet) -> bool
+        ensures { result ≡ list_any (λ a. is_new a first set) (assertions_in self.now) }
+    {
+        self.counted.is_any_new(first, set)
+    }
+}

@@ -2,8 +2,9 @@
 """Assertion files that hold, that differ or that are refused, tried on the built program.
 
 acceptance/assertion_files.py PROGRAM [FILES] checks each file of the tables below against examples/row1.raire. Then it
-takes what a search prints of generated contests, changes it, and checks so many files, 500 if no number is given. Each
-answer is also compared with plain.py. The last lines say how many came out as they should.
+takes what a search prints of generated contests, one of three in version 1 and the others in version 2, with draws, changes it, and
+checks so many files, 1,500 if no number is given. Each answer is also compared with plain.py. The last lines say how many came out
+as they should.
 """
 import collections
 import copy
@@ -16,7 +17,7 @@ import tempfile
 import compare
 import plain
 from draws import Draws
-from limits import DEFAULT_NODES, MOST_CANDIDATES, MOST_NUMBER, MOST_RECORDS
+from limits import DEFAULT_NODES, GREATEST_GAMMA, GREATEST_LIMIT, MOST_CANDIDATES, MOST_CARDS, MOST_NUMBER, MOST_RECORDS
 
 EXAMPLES = os.path.join(os.path.dirname(os.path.abspath(__file__)), "..", "examples")
 BALLOTS = os.path.join(EXAMPLES, "row1.raire")
@@ -60,6 +61,8 @@ def ids(count):
 CONTEST, MARGIN, RECORDS, VERSION = b'"contest":"1"', b'"margin":1,"order"', b'"records":12', b'"version":1'
 WINNER, LIST, ORDER = b'"winner":"2"}\n', b'"candidates":["1","2","3"]', b'"order":["2","1","3"]'
 LOSER, REST = b'"loser":"3"', b'"rest":["1","2"]'
+PLANNED = b'"cards":12,"gamma":100,"limit":50000,"version":2'
+FIRST_2, SECOND_2, THIRD_2 = (with_member(claim, draws=None) for claim in (NEB, NEN_2, NEN_3))
 
 
 def further(value):
@@ -97,6 +100,8 @@ ACCEPTED = [
     ("an assertion twice", claims(NEB, NEN_2, NEN_3, NEB), 4),
     ("a true assertion more", claims(NEB, NEN_2, NEN_3, NEN_1), 4),
     ("an assertion less, which isn't needed", claims(NEB, NEN_2), 2),
+    ("members of version 2, which say nothing in version 1", put(VERSION, b'"cards":-1,"gamma":[],"limit":null,' + VERSION, LOSER, b'"draws":"x",' + LOSER), 3),
+    ("version 2, whose draws are no fewer than the cards", put(VERSION, PLANNED, NEB, FIRST_2, NEN_2, SECOND_2, NEN_3, THIRD_2), 3),
     ("a name twice: the last stands", put(RECORDS, b'"records":"x",' + RECORDS), 3),
     ("escapes", put(CONTEST, b'"con\\u0074est":"\\u0031"'), 3),
     ("a pair of surrogates in a further member", further(b'"\\ud83d\\ude00"'), 3),
@@ -131,6 +136,8 @@ DIFFERENT = [
     ("too few nodes", claims(), 4, "spent\ncandidate 1", "--nodes", "1"),
     ("just as many nodes", claims(), 6, "no: order 3,2,1 stands", "--nodes", "2"),
     ("too few nodes for the other candidate", claims(NEN_2, NEN_3), 4, "spent\ncandidate 3", "--nodes", "1"),
+    ("draws of version 2", put(VERSION, PLANNED, NEB, with_member(NEB, draws=12), NEN_2, with_member(NEN_2, draws=1), NEN_3, with_member(NEN_3, draws=1)), 6,
+     "no: assertion 1 needs a full count"),
     ("margins come before nodes", claims(with_member(NEN_2, margin=1)), 6, "no: assertion 1 has margin 2", "--nodes=1"),
 ]
 
@@ -190,7 +197,7 @@ REFUSED = [
     ("an assertion's margin with a point", claims(NEB, with_member(NEN_2, margin=2.5), NEN_3), "F2 at 2"),
     ("an assertion's loser as a number", claims(with_member(NEB, loser=3), NEN_2, NEN_3), "F2 at 1"),
     ("version 3", put(VERSION, b'"version":3'), "F3 at 0"),
-    ("version 2", put(VERSION, b'"version":2'), "F3 at 0"),
+    ("version 2 without its members", put(VERSION, b'"version":2'), "F2 at 0"),
     ("version 0", put(VERSION, b'"version":0'), "F3 at 0"),
     ("the version comes before ids", put(VERSION, b'"version":3', CONTEST, b'"contest":""'), "F3 at 0"),
     ("a contest without an id", contest(b'""'), "F4 at 0"),
@@ -236,6 +243,14 @@ REFUSED = [
     ("a margin of 0 in the first", claims(with_member(NEB, margin=0), NEN_2, NEN_3), "F6 at 1"),
     ("the second comes before the third", claims(NEB, with_member(NEN_2, margin=13), with_member(NEN_3, kind="NEC")), "F6 at 2"),
 ]
+REFUSED += [(f"version 2: {shows}", put(VERSION, head, NEB, claim, NEN_2, SECOND_2, NEN_3, THIRD_2), rule) for shows, head, claim, rule in [
+    ("no cards", b'"gamma":100,"limit":50000,"version":2', FIRST_2, "F2 at 0"), ("cards below the records", PLANNED.replace(b"12", b"11"), FIRST_2, "F6 at 0"),
+    ("cards too many", PLANNED.replace(b"12", b"%d" % (MOST_CARDS + 1)), FIRST_2, "F6 at 0"), ("no gamma", PLANNED.replace(b"100", b"0"), FIRST_2, "F6 at 0"),
+    ("gamma above a half", PLANNED.replace(b"100", b"%d" % (GREATEST_GAMMA + 1)), FIRST_2, "F6 at 0"),
+    ("no limit", PLANNED.replace(b"50000", b"0"), FIRST_2, "F6 at 0"), ("a limit of all", PLANNED.replace(b"50000", b"%d" % (GREATEST_LIMIT + 1)), FIRST_2, "F6 at 0"),
+    ("no draws", PLANNED, NEB, "F2 at 1"), ("draws of 0", PLANNED, with_member(NEB, draws=0), "F6 at 1"),
+    ("draws as a text", PLANNED, with_member(NEB, draws="full count"), "F2 at 1"),
+]]
 REFUSED += [(f"no member {name}", without(name), "F2 at 0") for name in json.loads(PRINTED)]
 REFUSED += [
     (f"no member {name} of the first", claims(compact({key: value for key, value in json.loads(NEB).items() if key != name}), NEN_2), "F2 at 1")
@@ -307,13 +322,15 @@ def claim_in(draws, file):
     return one_of(draws, file["assertions"] or [{"kind": "NEB", "loser": "", "margin": 1, "winner": ""}])
 
 
-def true_claim(draws, contest):
-    """A proper assertion, with its margin."""
+def true_claim(draws, contest, file):
+    """A proper assertion, with its margin and, in version 2, its draws."""
     w = draws.below(contest.n)
     l = (w + 1 + draws.below(contest.n - 1)) % contest.n
     standing = sorted({w, l} | {c for c in range(contest.n) if draws.below(2)})
     assertion = ("NEN", w, l, frozenset(standing)) if draws.below(3) else ("NEB", w, l)
     claim = {"kind": assertion[0], "loser": contest.ids[l], "margin": contest.margin(assertion), "winner": contest.ids[w]}
+    if file["version"] == 2:
+        claim["draws"] = plain.Plan(file["cards"], file["limit"], file["gamma"]).draws(claim["margin"]) if claim["margin"] > 0 else 1
     return {**claim, "rest": [contest.ids[c] for c in standing]} if assertion[0] == "NEN" else claim
 
 
@@ -323,7 +340,7 @@ def drop(draws, contest, file):
 
 
 def add(draws, contest, file):
-    claim = true_claim(draws, contest)
+    claim = true_claim(draws, contest, file)
     if claim["margin"] > 0 or not draws.below(5):
         file["assertions"].insert(draws.below(len(file["assertions"]) + 1), claim)
 
@@ -416,6 +433,24 @@ def unkind(draws, contest, file):
     holder[one_of(draws, sorted(holder))] = one_of(draws, [None, 1, "1", 1.0, -1, 2**32, [], {}, True])
 
 
+def redraw(draws, contest, file):
+    claim = claim_in(draws, file)
+    claim["draws"] = one_of(draws, [None, 1, (claim.get("draws") or 1) + 1, (claim.get("draws") or 3) - 1, 100_000, 100_001])
+
+
+def replan(draws, contest, file):
+    off_by_one(draws, file, one_of(draws, ["cards", "gamma", "limit"]))
+
+
+def replan_far(draws, contest, file):
+    name = one_of(draws, ["cards", "gamma", "limit"])
+    file[name] = one_of(draws, [0, 1, contest.records, {"cards": MOST_CARDS, "gamma": GREATEST_GAMMA, "limit": GREATEST_LIMIT}[name] + draws.below(2)])
+
+
+def reversion(draws, contest, file):
+    file["version"] = one_of(draws, [0, 1, 2, 3])
+
+
 def keep(draws, contest, file):
     file["note"] = {"assertions": file["margin"]}
 
@@ -425,6 +460,7 @@ CHANGES = [
     reclaim, remargin, recount, crown, permute, permute, permute, permute_whole, permute_whole, permute_whole, misorder, relist,
     recontest, remove, unkind,
 ]
+CHANGES_2 = [*CHANGES, redraw, redraw, redraw, replan, replan, replan_far, replan_far, remove, unkind, reversion]
 
 
 def damaged(draws, data):
@@ -439,17 +475,22 @@ def changed(draws, contest, printed):
     file, data = copy.deepcopy(printed), None
     try:
         for _ in range(1 + draws.below(2)):
-            one_of(draws, CHANGES)(draws, contest, file)
+            one_of(draws, CHANGES_2 if "cards" in printed else CHANGES)(draws, contest, file)
     except (AttributeError, KeyError, TypeError):
         pass  # the first change took away what the second one wanted
     data = compact(file) + b"\n"
     return data if draws.below(10) else damaged(draws, data)
 
 
-def printed_of(contest):
+def plan_of(draws, contest):
+    """Cards, limit and gamma of a file of version 2."""
+    return plain.Plan(contest.records + draws.below(one_of(draws, [3, 100, 10_000])), 1 + draws.below(400_000), 1 + draws.below(GREATEST_GAMMA))
+
+
+def printed_of(contest, plan):
     """What a search prints, or, where the contest isn't decided, some file of it."""
     try:
-        return json.loads(plain.certificate(contest))
+        return json.loads(plain.certificate(contest, plan))
     except plain.Tie:
         neb = {"kind": "NEB", "loser": contest.ids[1], "margin": 1, "winner": contest.ids[0]}
         return {
@@ -467,7 +508,7 @@ def failures_of_changes(program, folder, files):
             rankings = compare.contest_of(draws, len(names), 8 + draws.below(60))
             compare.write(ballots, names, rankings)
             contest = plain.Contest("9", names, rankings)
-            printed = printed_of(contest)
+            printed = printed_of(contest, plan_of(draws, contest) if number // 5 % 3 else None)
         data = changed(draws, contest, printed)
         with open(path, "wb") as file:
             file.write(data)
@@ -482,7 +523,7 @@ def failures_of_changes(program, folder, files):
 
 
 def main():
-    program, files = sys.argv[1], int(sys.argv[2]) if len(sys.argv) > 2 else 500
+    program, files = sys.argv[1], int(sys.argv[2]) if len(sys.argv) > 2 else 1500
     with tempfile.TemporaryDirectory() as folder:
         failed = failures_of_tables(program, folder) + failures_of_changes(program, folder, files)
     sys.exit(1 if failed else 0)

@@ -2,8 +2,8 @@
 """Whole audits, from the search to the report, compared with plain_audit.py.
 
 acceptance/audits.py PROGRAM [AUDITS] first goes through audits that were worked out by hand. Then it makes so many
-others, 1,000 if no number is given: a contest of 2 to 5 candidates, in some files beside another one, a manifest with cards
-that have no ballot, and what was seen of the cards, now and then another ranking or no card; in most of them something is
+others, 1,000 if no number is given: a contest of 2 to 5 candidates, now and then of 21 to 32 with few strong ones, in some files
+beside another one, assertions with draws or without, a manifest with cards that have no ballot, and what was seen of the cards, now and then another ranking or no card; in most of them something is
 damaged. Each command of an audit is run by plain_audit.py and, where the program has it, by the program: status and both
 texts have to agree. The last line says how many commands did.
 """
@@ -19,7 +19,7 @@ import compare
 import plain
 import plain_audit
 from draws import Draws
-from limits import GREATEST_GAMMA, GREATEST_LIMIT, MOST_CANDIDATES, MOST_DRAWS, MOST_NODES, MOST_NUMBER, MOST_RECORDS, MOST_SEED_BYTES, MOST_WORKERS
+from limits import GREATEST_GAMMA, GREATEST_LIMIT, MOST_CANDIDATES, MOST_CARDS, MOST_DRAWS, MOST_NODES, MOST_NUMBER, MOST_RECORDS, MOST_SEED_BYTES, MOST_WORKERS
 
 UNIT = plain_audit.UNIT
 
@@ -206,6 +206,9 @@ def words(runs):
         ["plan", "manifest.csv", "a.json", "--limit", "0"], ["plan", "manifest.csv", "a.json", f"--limit={GREATEST_LIMIT + 1}"],
         ["plan", "manifest.csv", "a.json", f"--gamma={GREATEST_GAMMA + 1}"], ["plan", "manifest.csv"], ["report"], ["report", "a", "b"],
         ["search", "a.raire", "--workers", "0"], ["search", "a.raire", f"--workers={MOST_WORKERS + 1}"], ["search", "a.raire", "--workers"],
+        *(["search", "a.raire", *more] for more in [
+            ["--limit=1"], ["--gamma=1"], ["--cards=0"], [f"--cards={MOST_CARDS + 1}"], ["--cards=9", "--limit=0"], ["--cards=9", f"--gamma={GREATEST_GAMMA + 1}"],
+        ]),
         ["search", "a.raire", "--workers=2", "--workers=2"], ["search", "--workers", "a.raire"], ["check", "a.raire", "a.json", "--workers=1"],
         *([*POLL_WORDS, *more] for more in [
             ["--seed=1"], ["--draws=1"], ["--seed=1", f"--draws={MOST_DRAWS + 1}"], *(["--seed=1", "--draws=1", word] for word in [
@@ -238,10 +241,11 @@ def rankings_of(draws, ids):
 class Made:
     """The files of an audit."""
 
-    def __init__(self, draws, may_have_two=False):
-        self.draws, n = draws, 2 + draws.below(4)
+    def __init__(self, draws, may_have_two=False, may_be_many=False):
+        is_many = may_be_many and draws.below(40) == 0
+        self.draws, n = draws, compare.many_of(draws) if is_many else 2 + draws.below(4)
         self.ids = [str(15 + c) for c in range(n)]
-        self.rankings = rankings_of(draws, self.ids)
+        self.rankings = compare.few_strong(draws, n) if is_many else rankings_of(draws, self.ids)
         self.has_two = may_have_two and draws.below(4) == 0
         batches = [(f"9{k}_{k}", 1 + draws.below(15)) for k in range(1 + draws.below(3))]
         lacking = len(self.rankings) - sum(size for _, size in batches)
@@ -345,12 +349,14 @@ def damage_seen(draws):
 
 
 def damage_assertions(draws):
-    """An assertion less, or another margin."""
+    """An assertion less, another margin, or other draws."""
     with open("assertions.json") as file:
         published = json.load(file)
     claim = one_of(draws, published["assertions"])
     if draws.below(2):
         published["assertions"].remove(claim)
+    elif "draws" in claim and draws.below(2):
+        claim["draws"] = one_of(draws, [None, 1, (claim["draws"] or 0) + 1])
     else:
         one_of(draws, [published, claim])["margin"] += 1
     write("assertions.json", json.dumps(published))
@@ -365,7 +371,7 @@ DAMAGES = [("session.json", damage_session)] * 3 + [("seen.csv", damage_seen)] *
 
 def audit(runs, draws):
     """One audit; the damage comes before one of its commands."""
-    contest = Made(draws, may_have_two=True).contest_words()
+    contest = Made(draws, may_have_two=True, may_be_many=True).contest_words()
     seed = one_of(draws, ["2024", 'a "seed"', "a, b\\c"])
     options = ["--gamma", str(1 + draws.below(500))] if draws.below(3) == 0 else []
     limits = options + (["--limit", str(1 + draws.below(400_000))] if draws.below(2) else [])
@@ -376,7 +382,8 @@ def audit(runs, draws):
             one_of(draws, [damage for name, damage in DAMAGES if os.path.exists(name)])(draws)
         return runs.run(list(words))
 
-    status, text, _ = runs.run(["search", "ballots.raire", *contest])
+    planned = [f"--cards={20 + draws.below(one_of(draws, [20, 2000]))}", *limits] if draws.below(3) == 0 else []
+    status, text, _ = runs.run(["search", "ballots.raire", *contest, *planned])
     if status != 0:
         return
     write("assertions.json", text)

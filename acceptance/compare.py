@@ -2,8 +2,8 @@
 """Compares what the built program prints with plain.py, on contests that are made by a fixed generator.
 
 acceptance/compare.py PROGRAM [CONTESTS] searches and tabulates so many contests of 2 to 6 candidates, 400 if no number
-is given, and a few of 8 to 12. Then it searches each example, those of the audits too, at one worker, and several times at two,
-four and eight. The last line says how many agreed.
+is given, a few of 8 to 12, and some of 21 to 32, of whom few are strong. Then it searches each example, those of the audits too, at one
+worker, and several times at two, four and eight. The last line says how many agreed.
 """
 import glob
 import os
@@ -13,9 +13,11 @@ import tempfile
 
 import plain
 from draws import Draws
+from limits import MOST_CANDIDATES
 
 TOP = os.path.dirname(os.path.dirname(os.path.abspath(__file__)))
 RUNS = {2: 5, 4: 5, 8: 10}  # so often with so many workers
+FEWEST_MANY = 21  # candidates, of whom few are strong
 
 
 def contest_of(draws, n, ballots):
@@ -29,6 +31,26 @@ def contest_of(draws, n, ballots):
                 ranking.append(c)
         rankings.append(tuple(ranking))
     return rankings
+
+
+def many_of(draws):
+    """A number of candidates that only contests with few strong ones have."""
+    return FEWEST_MANY + draws.below(MOST_CANDIDATES + 1 - FEWEST_MANY)
+
+
+def few_strong(draws, n):
+    """Two to four candidates, the first ones, have most votes. Each other one is first on few ballots, three of them on as many, so that not too
+    many tie; most of these pass on to a strong one, some to another weak one before."""
+    strong = 2 + draws.below(3)
+
+    def behind():
+        return [min(draws.below(strong), draws.below(strong)) for _ in range(draws.below(strong + 1))]
+
+    rankings = [behind() for _ in range(200 + draws.below(200))]
+    rankings += [[c] + behind() for c in range(strong) for _ in range(40 * (strong - c))]
+    for c in range(strong, n):
+        rankings += [[c] + ([strong + draws.below(n - strong)] if draws.below(6) == 0 else []) + behind() for _ in range(1 + (c - strong) // 3)]
+    return [tuple(dict.fromkeys(ranking)) for ranking in rankings]
 
 
 def write(path, ids, rankings):
@@ -71,12 +93,12 @@ def hangs_on_turns(program, path):
 
 def main():
     program, contests = sys.argv[1], int(sys.argv[2]) if len(sys.argv) > 2 else 400
-    sizes = [2 + number % 5 for number in range(contests)] + [8, 8, 9, 9, 10, 12]
     draws, failed = Draws(20), 0
+    sizes = [2 + number % 5 for number in range(contests)] + [8, 8, 9, 9, 10, 12] + [MOST_CANDIDATES] * 3 + [many_of(draws) for _ in range(37)]
     with tempfile.TemporaryDirectory() as folder:
         for number, n in enumerate(sizes):
             ids = [str(11 + c) for c in range(n)]
-            rankings = contest_of(draws, n, 20 + draws.below(100) if n < 8 else 3000)
+            rankings = few_strong(draws, n) if n >= FEWEST_MANY else contest_of(draws, n, 20 + draws.below(100) if n < 8 else 3000)
             path = os.path.join(folder, f"{number}.raire")
             write(path, ids, rankings)
             contest = plain.Contest("9", ids, rankings)

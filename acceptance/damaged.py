@@ -6,6 +6,7 @@ number is given. Each run has to end with the status and both texts that plain_a
 docs/formats.md. The last line says how many did.
 """
 import collections
+import json
 import multiprocessing
 import os
 import subprocess
@@ -28,6 +29,7 @@ COMMANDS = {
         ["check", "whole.raire", "assertions.json"], ["trim", "whole.raire", "assertions.json"], ["plan", "whole.csv", "assertions.json"],
         ["poll", "whole.csv", "assertions.json", "whole_seen.csv", "--seed=1", "--draws=5"],
     ],
+    "planned.json": [["check", "whole.raire", "planned.json"], ["trim", "whole.raire", "planned.json"], ["plan", "whole.csv", "planned.json"]],
     "manifest.csv": [
         ["sample", "manifest.csv", "--seed=1", "--draws=5"], ["open", "whole.raire", "manifest.csv", "whole.json", "--seed=1"],
         ["poll", "manifest.csv", "whole.json", "whole_seen.csv", "--seed=1", "--draws=5"], ["plurality", "whole.raire", "manifest.csv", "--seed=1"],
@@ -46,7 +48,8 @@ WORDS = {
     "csv": [b",", b"\n", b"\r\n", b"\r", b'"', b'""', b" ", b"\t", b"\xef\xbb\xbf", b"\0", b"\xff", b"0", b"1", b"-1", b"1000001", b"Contest",
             b"ballot", b"missing", b"batch,cards\n", b"_", b"x" * 65, b"99999999999"],
     "json": [b",", b"\n", b'"', b"{", b"}", b"[", b"]", b":", b"\\", b"\\u0041", b"\\ud800", b"\xff", b"0", b"-1", b"1.0", b"1e1", b"1e999", b"null",
-             b"true", b"4294967296", b"18446744073709551616", b"NaN", b'"version":1,', b'"margin":1,', b"[" * 130, b"NEB", b"NEN"],
+             b"true", b"4294967296", b"18446744073709551616", b"NaN", b'"version":1,', b'"margin":1,', b"[" * 130, b"NEB", b"NEN", b'"version":2,',
+            b'"cards":9,', b'"draws":null,', b'"draws":1,', b'"limit":1,'],
 }
 
 
@@ -89,6 +92,8 @@ def whole_files(draws):
         if status == opened[0] == 0:
             break
     audits.write("assertions.json", text)
+    cards = json.loads(text)["records"] + draws.below(100)
+    audits.write("planned.json", plain_audit.run(["search", "ballots.raire", f"--cards={cards}", "--limit=300000"])[1])
     names = {"ballots.raire": "whole.raire", "manifest.csv": "whole.csv", "assertions.json": "whole.json", "seen.csv": "whole_seen.csv"}
     for name, other in names.items():
         with open(name) as file:

@@ -33,6 +33,8 @@ ASSERTIONS = (
     '"contest":"9","margin":1,"order":["Ann","Ben"],"records":3,"version":1,"winner":"Ann"}\n'
 )
 CHANGED = ASSERTIONS.replace
+CLAIM = '{"kind":"NEN","loser":"Ben","margin":1,"rest":["Ann","Ben"],"winner":"Ann"}'
+PLANNED = CHANGED('"version":1', '"version":2').replace('"contest"', '"cards":4,"gamma":100,"limit":50000,"contest"').replace('{"kind"', '{"draws":null,"kind"').replace
 MANY = json.dumps([f"c{c}" for c in range(limits.MOST_CANDIDATES + 1)])
 
 # What a ballot file is, by `tabulate`; the sentences behind the rule's cause.
@@ -78,7 +80,7 @@ OF_ASSERTIONS = [
     (BALLOTS, "F1", 'It begins with "1", as a ballot file does'),
     (ASSERTIONS[:60], "F1", "The file ends before the object does"),
     (CHANGED('"margin":1,"rest"', '"rest"'), "F2", 'It lacks "margin". Assertion 1: {"kind":"NEN","loser":"Ben","rest":["Ann","Ben"],"winner":"Ann"}'),
-    (CHANGED('"version":1', '"version":2'), "F3", "It says version 2"),
+    (CHANGED('"version":1', '"version":3'), "F3", "It says version 3"),
     (CHANGED('"loser":"Ben"', '"loser":"ben"'), "F4", '"ben" is no candidate; the file has "Ben". Assertion 1: {"kind":"NEN","loser":"ben","margin":1,"rest":["Ann","Ben"],"winner":"Ann"}'),
     (CHANGED('"rest":["Ann","Ben"]', '"rest":["Ann"]'), "F5", 'The rest lacks "Ben". Assertion 1: {"kind":"NEN","loser":"Ben","margin":1,"rest":["Ann"],"winner":"Ann"}'),
     (CHANGED('"rest":["Ann","Ben"]', '"rest":["Ann","Ann","Ben"]'), "F5",
@@ -97,6 +99,14 @@ OF_ASSERTIONS = [
     (CHANGED('"margin":1,"rest"', '"margin":4,"rest"'), "F6",
      'Its margin 4 is above the 3 records. Assertion 1: {"kind":"NEN","loser":"Ben","margin":4,"rest":["Ann","Ben"],"winner":"Ann"}'),
     (CHANGED('"records":3', '"records":0'), "F6", "It says 0 records"),
+    *[(PLANNED(*change), rule, told) for change, rule, told in [
+        (('"cards":4,', ""), "F2", 'It lacks "cards"'), (('"draws":null,', ""), "F2", f'It lacks "draws". Assertion 1: {CLAIM}'),
+        (('"draws":null,', '"draws":"4",'), "F2", f'Its draws are "4", neither a whole number nor null. Assertion 1: {{"draws":"4",{CLAIM[1:]}'),
+        (('"draws":null,', '"draws":0,'), "F6", f'Its draws are 0. Assertion 1: {{"draws":0,{CLAIM[1:]}'),
+        (('"draws":null,', '"draws":100001,'), "F6", f'Its draws are 100,001. Assertion 1: {{"draws":100001,{CLAIM[1:]}'),
+        (('"cards":4', '"cards":2'), "F6", "It says 2 cards for 3 records"), (('"cards":4', '"cards":10000001'), "F6", "It says 10,000,001 cards"),
+        (('"limit":50000', '"limit":0'), "F6", "Its limit is 0"), (('"gamma":100', '"gamma":501'), "F6", "Its gamma is 501"),
+    ]],
     (CHANGED('"records":3', '"records":5'), "F7", "The assertions are about 5 ballots, and the manifest has 4 cards"),
 ]
 # Seen cards, by `audit` and by `poll` with four draws, of cards 1, 2, 3 and 4 (seed 10).
@@ -118,7 +128,8 @@ OF_WORDS = [
     (["x"], '"x" is no command; they are audit, check, open, plan, plurality, poll, report, sample, search, tabulate, trial, trim'),
     *[([script, "x"], f'"{script}" is no command; it is a script of its own: ./{script}') for script in SCRIPTS],
     (["audit", "--draw", "5"], '"--draw" is no option of audit; nearly right is "--draws"'),
-    (["search", "-x", "b"], '"-x" is no option of search; it has --contest, --workers, --nodes, --floor'),
+    (["search", "-x", "b"], '"-x" is no option of search; it has --contest, --workers, --nodes, --floor, --cards, --limit, --gamma'),
+    (["search", "b", "--gamma=100"], "search has --gamma with --cards alone"),
     (["check", "--workers=5", "b"], '"--workers=5" is no option of check; it has --contest, --nodes'),
     (["report", "--nodes=5", "b"], '"--nodes=5" is no option of report; it has none'),
     (["search", "b", "--nodes", "1", "--nodes", "1"], "--nodes stands twice"),
@@ -197,6 +208,8 @@ def files_are_told(tried):
         tried.breaks("broken.raire", text, rule, told, "tabulate", "broken.raire")
     two = next(text for text, rule, _ in OF_BALLOTS if rule == "B5")
     tried.breaks("two.raire", two, "B5", 'The file has the contests "9", "10". "90" is none of them', "search", "two.raire", "--contest=90")
+    told = "The contest has 3 ballots, and --cards says 2"
+    tried.breaks("few.raire", BALLOTS, "B11", told, "search", "few.raire", "--cards=2")
     for text, rule, told in OF_MANIFEST:
         tried.breaks("broken.csv", text, rule, told, "sample", "broken.csv", "--seed=1", "--draws=1")
     for text, rule, told in OF_ASSERTIONS:

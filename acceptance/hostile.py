@@ -20,8 +20,6 @@ import plain_audit
 from limits import MOST_FILE_BYTES as LARGEST, MOST_LISTED, MOST_RECORDS
 
 MOST_SECONDS = 10
-# A trim takes a time that grows with the square of the number of assertions, so it isn't given more of them.
-MOST_TRIMMED = 10_000
 MIB = 2**20
 WITH_LINE = {1, 2, 7, 9, 11, 12}
 WITH_TEXT = {0, 3, 4, 5, 6, 10}
@@ -31,7 +29,9 @@ NOBODY = 65534
 LINES = {
     "tabulate": ["tabulate", "ballots.raire"],
     "search": ["search", "ballots.raire"],
+    "search for cards": ["search", "ballots.raire", "--cards=1", "--limit=600000"],
     "check": ["check", "ballots.raire", "assertions.json"],
+    "check of draws": ["check", "ballots.raire", "planned.json"],
     "trim": ["trim", "ballots.raire", "assertions.json"],
     "sample": ["sample", "manifest.csv", "--seed=2024", "--draws=3"],
     "plan": ["plan", "manifest.csv", "assertions.json"],
@@ -43,13 +43,14 @@ LINES = {
     "plurality": ["plurality", "ballots.raire", "manifest.csv", "--seed=2024"],
     "plurality, a round": ["plurality", "plural.json", "ballots.raire", "manifest.csv", "seen.csv", "--draws=5"],
 }
-FILES = {"ballots.raire", "manifest.csv", "assertions.json", "session.json", "plural.json", "seen.csv"}
+FILES = {"ballots.raire", "manifest.csv", "assertions.json", "planned.json", "session.json", "plural.json", "seen.csv"}
 
 
 def good_files():
     audits.write("ballots.raire", audits.BALLOTS)
     audits.write("manifest.csv", audits.MANIFEST)
     audits.write("assertions.json", audits.ASSERTIONS)
+    audits.write("planned.json", plain_audit.run(LINES["search for cards"])[1])
     audits.write("session.json", audits.session_with([audits.FIRST], False))
     audits.write("plural.json", plain_audit.run(LINES["plurality"])[1])
     audits.write("seen.csv", audits.SEEN)
@@ -194,6 +195,8 @@ def in_json(name, text):
 
 HEAD = b"1\nContest,1,2,1,2\n"
 NEB = b'{"kind":"NEB","loser":"2","margin":1,"winner":"1"},'
+NEB_2 = b'{"draws":1,' + NEB[1:]
+NO_DRAWS = b'{"draws":null,' + NEB[1:]
 
 # what it shows, the bytes, the statuses
 COMMA_SEPARATED = [
@@ -222,7 +225,6 @@ ASSERTIONS = [
     ("lists", in_json("note", b"[" + repeated(b"[],", 30_000_000) + b"0]"), {6, 9}),
     ("one member again and again", b"{" + repeated(b'"margin":1,', 50_000_000 // 11 * 11) + in_json("note", b"1")[1:], {6}),
     ("assertions", in_json("assertions", b"[" + NEB * ((LARGEST - 500) // len(NEB) - 1) + NEB[:-1] + b"]"), {0, 6, 9}),
-    ("assertions, some", in_json("assertions", b"[" + NEB * (MOST_TRIMMED - 1) + NEB[:-1] + b"]"), {0, 6, 9}),
     ("candidates", in_json("candidates", b"[" + repeated(b'"1",', 50_000_000) + b'"2"]'), {2, 9}),
     ("a byte too many", repeated(b" ", LARGEST + 1), {11}),
 ]
@@ -243,11 +245,26 @@ MANIFESTS = COMMA_SEPARATED + [
     ("more cards than there may be", b"batch,cards\n" + b"".join(b"%d,1000000\n" % k for k in range(100_000)), {2}),
 ]
 
+def in_version_2(name, text, cards=b"1", gamma=b"100", limit=b"600000"):
+    """The same, of the version that says draws."""
+    further = b'"version":2,"cards":%s,"gamma":%s,"limit":%s' % (cards, gamma, limit)
+    return in_json(name, text).replace(b'"version":1', further)
+
+
+PLANNED = [
+    ("assertions with draws", in_version_2("assertions", b"[" + NEB_2 * ((LARGEST - 500) // len(NEB_2) - 1) + NEB_2[:-1] + b"]"), {0, 9}),
+    ("digits of draws", in_version_2("assertions", NEB_2[:-1].replace(b":1,", b":" + repeated(b"1", LARGEST - 500) + b",", 1).join([b"[", b"]"])), {2}),
+    ("digits of cards", in_version_2("assertions", b"[]", cards=repeated(b"1", LARGEST - 500)), {2}), ("cards of no one", in_version_2("note", b"[]", cards=b"0"), {2}),
+    ("the most cards", in_version_2("assertions", b"[" + NO_DRAWS * 100_000 + NO_DRAWS[:-1] + b"]", cards=b"10000000", limit=b"1"), {0}),
+]
+
+
 # Of each kind of file the commands that are given malicious ones, with the statuses that may come beside those of the table. All go to the
 # first command; a further one, which reads them likewise, gets few of those that have to be refused.
 MALICIOUS = {
     "ballots.raire": (BALLOTS, {"tabulate": set(), "open": {2, 6}, "plurality": {2, 3}}), "plural.json": (SESSIONS, {"plurality, a round": {2}}),
     "assertions.json": (ASSERTIONS, {"check": set(), "trim": {0, 2}, "plan": {0, 2}, "poll": {0, 2}}),
+    "planned.json": (PLANNED, {"check of draws": set()}),
     "manifest.csv": (MANIFESTS, {"sample": set(), "open": {2}, "poll": {2}, "plurality": {2}}), "session.json": (SESSIONS, {"report": set(), "audit": {2}}),
     "seen.csv": (SEEN, {"audit": set(), "poll": set(), "plurality, a round": set()}),
 }
@@ -260,11 +277,29 @@ def malicious(runs):
                 file.write(data)
             for command, more in commands.items():
                 is_first = command == next(iter(commands))
-                if command == "trim" and shows == "assertions":
-                    continue
                 if command in runs.lines and (is_first or statuses != {2} or shows == "brackets"):
                     words = ["malicious" if word == name else word for word in runs.lines[command]]
                     runs.run(f"{command}: {shows}", words, statuses | (more if 11 not in statuses else set()))
+
+
+    if "check of draws" in runs.lines:
+        doubtful(runs)
+
+
+# Where a risk is very near the limit, bounds don't tell whether it is within it, and each draw is a step. A file may ask that of each of its
+# assertions, so it isn't given more of them.
+MOST_DOUBTFUL = 1_000
+
+
+def doubtful(runs):
+    """Draws of which bounds of the risk don't tell whether they are enough."""
+    margin, cards, gamma, limit = 34, 103_962, 50, 1
+    audits.write("doubtful.raire", audits.BALLOTS.replace("7,b_1,1\n", "".join(f"7,b_{k},1\n" for k in range(margin))))
+    claim = NEB_2.replace(b'"margin":1', b'"margin":%d' % margin).replace(b'"draws":1', b'"draws":%d' % plain_audit.clean_draws(cards, margin, gamma, limit))
+    data = in_version_2("assertions", b"[" + claim * (MOST_DOUBTFUL - 1) + claim[:-1] + b"]", *(b"%d" % number for number in (cards, gamma, limit)))
+    with open("doubtful.json", "wb") as file:
+        file.write(data.replace(b'"margin":1,"order"', b'"margin":%d,"order"' % margin).replace(b'"records":1', b'"records":%d' % margin))
+    runs.run("check of draws that bounds leave open", ["check", "doubtful.raire", "doubtful.json"], {0})
 
 
 # ---- little memory
@@ -281,13 +316,14 @@ def memory(runs):
     large = {
         "tabulate": ["large.raire"], "search": ["large.raire"], "check": ["large.raire", "large.json"], "trim": ["large.raire", "large.json"],
         "open": ["large.raire", "large.csv", "large.json", "--seed=1"], "plurality": ["large.raire", "large.csv", "--seed=1"],
+        "search for cards": ["large.raire", f"--cards={MOST_RECORDS}"],
     }
     for size in (16, 24, 32, 64, 128, 256, 1024):
         for line in runs.lines.values():
             runs.run(f"{line[0]} in {size} MB", line, {0, 9, 10}, preexec_fn=lambda: limit(size))
         for command in large.keys() & runs.lines.keys():
             wanted = {0, 9} if size < 1024 else {0}
-            runs.run(f"{command} of a million ballots in {size} MB", [command, *large[command]], wanted, preexec_fn=lambda: limit(size))
+            runs.run(f"{command} of a million ballots in {size} MB", [runs.lines[command][0], *large[command]], wanted, preexec_fn=lambda: limit(size))
 
 
 def limit(size):

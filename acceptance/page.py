@@ -450,6 +450,52 @@ def bytes_of_sessions(shows, tried):
             tried.see(f"other bytes are told, {told}", (told is None) == ("isn’t as the program prints it" not in words) and (told or "") in words, words[:300])
 
 
+# ---- clean draws
+
+def town_draws(name, *words):
+    """The town's ballots and manifest, and assertions with their draws in a file of this name."""
+    ballots, manifest = (os.path.join(TOP, "examples", "town", each) for each in ("ballots.raire", "manifest.csv"))
+    write(name, plain_audit.run(["search", ballots, *words])[1])
+    return ballots, manifest
+
+
+def clean_draws(shows, tried):
+    """The draws that an assertion file says, beside those of a plan; whether they are for the same terms."""
+    ballots, manifest = town_draws("said.json", "--cards=480")
+    town_draws("far.json", "--cards=600", "--limit=100000")
+    town_draws("none.json", "--cards=9000000", "--limit=1")
+    with open("said.json") as file:
+        said = file.read()
+    write("changed.json", said.replace('"draws":56', '"draws":55'))
+    write("opened.json", plain_audit.run(["open", ballots, manifest, "said.json", "--seed=1", "--limit=40000"])[1])
+    enough, terms = "For all of them: 56 draws.", "for 480 cards, a risk limit of 0.05 and a gamma of 100 thousandths."
+    for files, top, told in [
+        (["said.json"], None, f"{enough} So the assertion file says, {terms} Give the ballot file too"),
+        (["said.json", ballots], None, f"{enough} So the assertion file says, {terms} The program’s check worked out the same."),
+        (["said.json", manifest], None, f"{enough} So the program’s plan says, {terms} The assertion file says the same."),
+        (["said.json", ballots, manifest], None, f"{enough} So the program’s plan says, {terms} The assertion file says the same."),
+        (["none.json", ballots], None, "For all of them: a full count. A full count: as many draws as there are cards, or 100,000, aren’t enough. So the assertion file says"),
+        (["far.json", manifest], "for other terms: for 600 cards; the manifest has 480 cards.", "“By the file” is what the assertion file says, for 600 cards"),
+        (["changed.json", ballots], "The assertion file isn’t accepted : no: assertion 3 needs 56 draws", "The program hasn’t confirmed it."),
+        (["changed.json", manifest], "assertion 3 has 55 draws, and needs 56 draws, by the same cards, risk limit and gamma.", f"plan says, {terms} “By the file”"),
+        (["said.json", ballots, manifest, "opened.json"], "for a risk limit of 0.05; the session has a risk limit of 0.04.", "for 480 cards, a risk limit of 0.04 and"),
+        (["said.json", "opened.json"], "for a risk limit of 0.05; the session has a risk limit of 0.04.", f"So the assertion file says, {terms}"),
+    ]:
+        status, page, err = shows.run(*files)
+        text, found = (text_of(page), text_of("<main>" + top_of(page))) if status == 0 else (err, "")
+        tried.see(f"draws of {files}", status == 0 and told in text, text.partition("Clean draws: ")[2][:500] or err)
+        is_other = top is not None and "isn’t accepted" not in top
+        tried.see(f"what stands on top of {files}", (top or "") in found and ("The assertion file’s draws" in found) == is_other, found[-600:])
+    manifest, _, seen = harbor()
+    write("polled.json", plain_audit.run(["search", os.path.join(TOP, "examples", "harbor", "ballots.raire"), "--cards=9999"])[1])
+    status, page, err = shows.run(manifest, "polled.json", seen, f"--seed={SEED}", "--draws=20")
+    text = text_of(page) if status == 0 else err
+    tried.see("a poll asks for no draws", "the file’s margins, its draws and its number of ballots aren’t used" in text and "Clean draws" not in text, text[:600])
+    page = shows.run("said.json", ballots)[1]
+    for claim in json.loads(said)["assertions"]:
+        tried.see("the draws of a row", f"Margin {claim['margin']} " in text_of(page) and f"Clean draws {claim['draws']} draws" in text_of(page), claim)
+
+
 # ---- a full count, cards, names, ties
 
 def counts(shows, tried):
@@ -751,14 +797,14 @@ def ties(shows, tried):
 # ---- numbers
 
 def numbers(shows, tried, draws):
-    """A page of a generated audit has the numbers of the program's own texts."""
-    audits.Made(draws)
+    """A page of a generated audit has the numbers of the program's own texts, also where the assertion file says draws."""
+    audits.Made(draws, may_be_many=True)
     if plain_audit.run(["search", "ballots.raire"])[0] != 0:
         status, page, _ = shows.run("ballots.raire")
         tried.see("a tie is shown", status == 0 and "Candidates share the least votes in round" in text_of(page))
         return
     for words, name in [
-        ("search ballots.raire", "assertions.json"),
+        ("search ballots.raire" + " --cards 2000" * draws.below(2), "assertions.json"),
         (f"open ballots.raire manifest.csv assertions.json --seed {1 + draws.below(99)}", "session.json"),
         (f"audit session.json ballots.raire manifest.csv assertions.json seen.csv --draws {1 + draws.below(30)}", "session.json"),
         (f"audit session.json ballots.raire manifest.csv assertions.json seen.csv --draws {31 + draws.below(90)}", "session.json"),
@@ -921,6 +967,7 @@ def looks(shows, tried, folder, keep):
     town = os.path.join(TOP, "examples", "town")
     pages = {
         "town": shows.run(*example("town")),
+        "draws": shows.run("draws.json", *town_draws("draws.json", "--cards=6000", "--limit=1000")),
         "names": shows.run(*names_that_are_none(folder)),
         "many": shows.run(*many_candidates(folder)),
         "most": shows.run(*most_candidates(shows, folder)),
@@ -1067,7 +1114,7 @@ def main():
     made = (numbers, plurality_numbers, poll_numbers)
     with tempfile.TemporaryDirectory() as tools:
         shows = Shows(program, tools)
-        cases = (refusals, words, programs, sessions, promises, belonging, seen_alone, kinds, states, later, bytes_of_sessions, counts, pluralities, polls, cards, names, ties)
+        cases = (refusals, words, programs, sessions, promises, belonging, seen_alone, kinds, states, later, bytes_of_sessions, clean_draws, counts, pluralities, polls, cards, names, ties)
         makers = [lambda case=case: case(shows, tried) for case in cases] + [lambda case=case: case(shows, tried, draws) for case in made] * count
         makers += [lambda: without_browser(tried), lambda: bars(shows, tried, draws, count), lambda: looks(shows, tried, os.getcwd(), keep)]
         for maker in makers:

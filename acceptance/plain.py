@@ -4,8 +4,9 @@
 Rankings are tuples of candidate numbers, orders and suffixes are tuples with the first eliminated first. A contest is
 searched by walking all suffixes in full (`certificate`) or, for larger ones, from the end under a bound
 (`certificate_by_bound`); both give the text that `raire search` prints. `tabulation` gives that of `raire tabulate`.
-`judge` reads an assertion file and walks all orders; it gives the status and the text of `raire check`, or the rule
-that the file breaks and its place.
+`judge` reads an assertion file and walks all orders, of more than `MOST_LISTED_WHOLE` candidates those that nothing refutes; it gives
+the status and the text of `raire check`, or the rule that the file breaks and its place. A search with a `Plan` prints version 2 of
+the file, with the clean draws of each margin.
 
     acceptance/plain.py search BALLOTS      acceptance/plain.py tabulate BALLOTS
     acceptance/plain.py check BALLOTS ASSERTIONS
@@ -15,8 +16,16 @@ import json
 import re
 import sys
 from collections import Counter
+from typing import NamedTuple
 
-from limits import DEFAULT_NODES, FEWEST_CANDIDATES, MOST_CANDIDATES, MOST_DEPTH, MOST_NAME_BYTES, MOST_NUMBER, MOST_RECORDS
+from limits import (
+    DEFAULT_NODES, FEWEST_CANDIDATES, GREATEST_GAMMA, GREATEST_LIMIT, MOST_CANDIDATES, MOST_CARDS, MOST_DEPTH, MOST_DRAWS, MOST_NAME_BYTES,
+    MOST_NUMBER, MOST_RECORDS,
+)
+from plain_draws import clean_draws, in_words
+
+
+MOST_LISTED_WHOLE = 7  # candidates of whose contest all orders are listed
 
 
 class Contest:
@@ -160,7 +169,18 @@ class Lows:
         return suffix, best
 
 
-def text_of(contest, winner, best, order, claims):
+class Plan(NamedTuple):
+    """What the clean draws of version 2 are of: cards, risk limit in millionths, gamma in thousandths."""
+
+    cards: int
+    limit: int
+    gamma: int
+
+    def draws(self, margin):
+        return clean_draws(self.cards, margin, self.gamma, self.limit)
+
+
+def text_of(contest, winner, best, order, claims, plan):
     ids = contest.ids
     shown = []
     for assertion, margin in sorted(claims.items(), key=lambda claim: key(claim[0])):
@@ -168,15 +188,19 @@ def text_of(contest, winner, best, order, claims):
         claim = {"kind": kind, "loser": ids[l], "margin": margin, "winner": ids[w]}
         if kind == "NEN":
             claim["rest"] = [ids[c] for c in sorted(assertion[3])]
+        if plan:
+            claim["draws"] = plan.draws(margin)
         shown.append(claim)
     value = {
         "assertions": shown, "candidates": ids, "contest": contest.name, "margin": best,
         "order": [ids[c] for c in order], "records": contest.records, "version": 1, "winner": ids[winner],
     }
+    if plan:
+        value |= {**plan._asdict(), "version": 2}
     return json.dumps(value, sort_keys=True, separators=(",", ":")) + "\n"
 
 
-def certificate(contest):
+def certificate(contest, plan=None):
     """By the definition alone: every order, every suffix, every assertion that refutes it."""
     tabulated_order, _ = decided(contest)
     winner, n, lows = tabulated_order[-1], contest.n, Lows(contest)
@@ -191,10 +215,10 @@ def certificate(contest):
         margin, assertion = known[suffix]
         if margin >= best and (len(suffix) == 1 or known[suffix[1:]][0] < best):
             claims[assertion] = margin
-    return text_of(contest, winner, best, order, claims)
+    return text_of(contest, winner, best, order, claims, plan)
 
 
-def certificate_by_bound(contest):
+def certificate_by_bound(contest, plan=None):
     """The same from the end, under a bound, for contests whose orders are too many."""
     tabulated_order, _ = decided(contest)
     winner, n, lows = tabulated_order[-1], contest.n, Lows(contest)
@@ -243,7 +267,7 @@ def certificate_by_bound(contest):
 
     for suffix, low in alone.items():
         walk(suffix, low)
-    return text_of(contest, winner, best, order, claims)
+    return text_of(contest, winner, best, order, claims, plan)
 
 
 # ---- assertion files
@@ -332,11 +356,15 @@ HEADING = {
 }
 ENTRY = {"kind": lambda kind: kind in ("NEB", "NEN"), "winner": is_text, "loser": is_text, "margin": is_number}
 
+# What belongs to version 2 alone; in version 1 these are further members, which say nothing.
+HEADING_2 = {name: is_number for name in Plan._fields}
+ENTRY_2 = {"draws": lambda draws: draws is None or is_number(draws)}
+
 
 def judge_heading(value):
-    if not has(value, HEADING):
+    if not has(value, HEADING) or (value["version"] == 2 and not has(value, HEADING_2)):
         raise Refused("F2", 0)
-    if value["version"] != 1:
+    if value["version"] not in (1, 2):
         raise Refused("F3", 0)
     ids = value["candidates"]
     if not (is_id(value["contest"]) and all(map(is_id, ids)) and FEWEST_CANDIDATES <= len(ids) <= MOST_CANDIDATES and len(set(ids)) == len(ids)):
@@ -347,11 +375,19 @@ def judge_heading(value):
         raise Refused("F5", 0)
     if not (1 <= value["records"] <= MOST_RECORDS and 1 <= value["margin"] <= value["records"]):
         raise Refused("F6", 0)
+    if value["version"] == 2 and not are_terms(value):
+        raise Refused("F6", 0)
 
 
-def claim_of(value, ids, records, at):
+def are_terms(value):
+    """Each record may have a card of its own, and limit and gamma are in their ranges."""
+    return value["records"] <= value["cards"] <= MOST_CARDS and 1 <= value["gamma"] <= GREATEST_GAMMA and 1 <= value["limit"] <= GREATEST_LIMIT
+
+
+def claim_of(value, file, at):
     """The assertion and the margin that is claimed for it."""
-    if not has(value, ENTRY) or (value["kind"] == "NEN" and not has(value, {"rest": are_texts})):
+    ids, is_2 = file["candidates"], file["version"] == 2
+    if not has(value, {**ENTRY, **(ENTRY_2 if is_2 else {})}) or (value["kind"] == "NEN" and not has(value, {"rest": are_texts})):
         raise Refused("F2", at)
     winner, loser = value["winner"], value["loser"]
     rest = value["rest"] if value["kind"] == "NEN" else [winner, loser]
@@ -359,7 +395,7 @@ def claim_of(value, ids, records, at):
         raise Refused("F4", at)
     if len(set(rest)) < len(rest) or not {winner, loser} <= set(rest):
         raise Refused("F5", at)
-    if not 1 <= value["margin"] <= records:
+    if not 1 <= value["margin"] <= file["records"] or (is_2 and value["draws"] is not None and not 1 <= value["draws"] <= MOST_DRAWS):
         raise Refused("F6", at)
     assertion = (value["kind"], ids.index(winner), ids.index(loser))
     if value["kind"] == "NEN":
@@ -368,15 +404,16 @@ def claim_of(value, ids, records, at):
 
 
 def read_assertions(data):
-    """The members of an assertion file, with a list of assertions and claimed margins."""
+    """The members of an assertion file, with a list of assertions and claimed margins, and in version 2 the `plan` and the claimed draws."""
     try:
         value = json_value(data)
     except (ValueError, RecursionError):
         raise Refused("F1", 0) from None
     judge_heading(value)
-    ids, records = value["candidates"], value["records"]
-    claims = [claim_of(entry, ids, records, at) for at, entry in enumerate(value["assertions"], 1)]
-    return {**value, "assertions": claims}
+    claims = [claim_of(entry, value, at) for at, entry in enumerate(value["assertions"], 1)]
+    is_2 = value["version"] == 2
+    plan, draws = (Plan(*map(value.get, Plan._fields)), [entry["draws"] for entry in value["assertions"]]) if is_2 else (None, None)
+    return {**value, "assertions": claims, "plan": plan, "draws": draws}
 
 
 # ---- whether an assertion file holds
@@ -416,11 +453,34 @@ def standing_count(contest, last, claims, before):
 
 def unproved(contest, winner, claims, nodes):
     """The status and the text where an order stands, or the budget ends before that is known; None where the claims prove the winner."""
+    return (unproved_by_list if contest.n <= MOST_LISTED_WHOLE else unproved_by_walk)(contest, winner, claims, nodes)
+
+
+def unproved_by_list(contest, winner, claims, nodes):
+    """By the definition alone: every order, every suffix."""
     standing = least_standing(contest, winner, claims)
     for last in range(contest.n):
         if last != winner and standing_count(contest, last, claims, standing) > nodes:
             return 4, f"spent\ncandidate {contest.ids[last]}\n"
     return (6, f"no: order {','.join(contest.ids[c] for c in standing)} stands\n") if standing else None
+
+
+def unproved_by_walk(contest, winner, claims, nodes):
+    """The same from the end, candidates in number order, no further than a suffix that some claim refutes."""
+    assertions = [assertion for assertion, _ in claims]
+    for last in range(contest.n):
+        stack, count = [(last,)] * (last != winner), 0
+        while stack:
+            suffix = stack.pop()
+            if any(refutes(assertion, suffix) for assertion in assertions):
+                continue
+            if len(suffix) == contest.n:
+                return 6, f"no: order {','.join(contest.ids[c] for c in suffix)} stands\n"
+            count += 1
+            if count > nodes:
+                return 4, f"spent\ncandidate {contest.ids[last]}\n"
+            stack += [(c,) + suffix for c in reversed(range(contest.n)) if c not in suffix]
+    return None
 
 
 def difference(contest, file, nodes):
@@ -446,6 +506,15 @@ def difference(contest, file, nodes):
     low, refuter = Lows(contest).low(order)
     if low > file["margin"]:
         return 6, f"no: order is refuted by {shown(contest, refuter)} margin {low}\n"
+    return other_draws(file)
+
+
+def other_draws(file):
+    """The first assertion of version 2 whose draws aren't the clean draws of its margin, or None."""
+    for number, ((_, margin), claimed) in enumerate(zip(file["assertions"], file["draws"] or []), 1):
+        needed = file["plan"].draws(margin)
+        if needed != claimed:
+            return 6, f"no: assertion {number} needs {in_words(needed)}\n"
     return None
 
 

@@ -18,13 +18,13 @@ import plain
 import plain_plurality
 import plain_poll
 import plain_trim
+from plain_draws import clean_draws, UNIT
 from limits import (
     DEFAULT_NODES, FEWEST_CANDIDATES, GREATEST_GAMMA, GREATEST_LIMIT, MOST_BATCH_BYTES, MOST_BATCH_CARDS, MOST_CANDIDATES, MOST_CARDS,
     MOST_CONTESTS, MOST_DRAWS, MOST_FILE_BYTES, MOST_FLOOR, MOST_LISTED, MOST_NODES, MOST_NUMBER, MOST_RECORDS, MOST_SEED_BYTES,
     MOST_WORKERS,
 )
 
-UNIT = 10**18
 MARK = b"\xef\xbb\xbf"
 
 
@@ -282,17 +282,6 @@ def risk(counts, cards, margin, gamma):
     return units
 
 
-def clean_draws(cards, margin, gamma, limit):
-    """The least number of clean draws that is enough, or None."""
-    left, units = 2 * cards - margin, UNIT
-    over, under = (500 + gamma) * left, 1000 * cards + gamma * left
-    for draws in range(1, min(cards, MOST_DRAWS) + 1):
-        units = -(-units * over // under)
-        if units <= limit * 10**12:
-            return draws
-    return None
-
-
 def drawn(seed, k, cards):
     return int.from_bytes(hashlib.sha256(f"{seed},{k}".encode()).digest(), "big") % cards + 1
 
@@ -402,9 +391,9 @@ def tabulate(options, ballots):
     return 0, plain.tabulation(contest)
 
 
-def certified(contest, floor):
+def certified(contest, floor, plan):
     """The status and the text of a search within its budget."""
-    text = plain.certificate_by_bound(contest)
+    text = plain.certificate_by_bound(contest, plan)
     file = json.loads(text)
     if file["margin"] >= floor:
         return 0, text
@@ -413,7 +402,14 @@ def certified(contest, floor):
 
 def search(options, ballots):
     contest = judged(ballots, ballots_of, read(ballots), options.get("contest"))
-    return certified(contest, options.get("floor", 1))
+    plan = plan_of(options) if "cards" in options else None
+    if plan and contest.records > plan.cards:
+        raise refused(ballots, "B11 at 0")
+    return certified(contest, options.get("floor", 1), plan)
+
+
+def plan_of(options):
+    return plain.Plan(options["cards"], options.get("limit", 50_000), options.get("gamma", 100))
 
 
 def check(options, ballots, assertions):
@@ -645,7 +641,7 @@ KINDS = {
     "contest": lambda text: text if plain.is_id(text) else None, "seed": lambda text: text if is_seed(text) else None,
     "workers": as_number(1, MOST_WORKERS), "nodes": as_number(1, MOST_NODES), "floor": as_number(1, MOST_FLOOR),
     "limit": as_number(1, GREATEST_LIMIT), "gamma": as_number(1, GREATEST_GAMMA), "draws": as_number(1, MOST_DRAWS),
-    "number": as_number(0, MOST_NUMBER), "candidates": as_number(FEWEST_CANDIDATES, MOST_CANDIDATES), "ballots": as_number(1, MOST_RECORDS),
+    "cards": as_number(1, MOST_CARDS), "number": as_number(0, MOST_NUMBER), "candidates": as_number(FEWEST_CANDIDATES, MOST_CANDIDATES), "ballots": as_number(1, MOST_RECORDS),
 }
 
 # the call, the number of its files, the options that must be given, those that may be
@@ -664,8 +660,8 @@ COMMANDS = {
     "plurality": (open_plurality, 2, "seed", "contest limit gamma"),
 }
 
-# a word's second line, of another number of files
-SECOND = {"plurality": (audit_plurality, 4, "draws", "")}
+# a word's second line: of another number of files, or with an option that others want
+SECOND = {"plurality": (audit_plurality, 4, "draws", ""), "search": (search, 1, "cards", "contest workers nodes floor limit gamma")}
 
 
 def line_of(words):

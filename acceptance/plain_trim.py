@@ -8,6 +8,9 @@ import json
 
 import plain
 
+HEADING = ("candidates", "contest", "margin", "order", "records", "version", "winner")
+ENTRY = ("kind", "loser", "margin", "winner")
+
 
 class Spent(Exception):
     """The nodes don't suffice for a trial: of this claim, counted from 1, at this candidate."""
@@ -70,11 +73,13 @@ def printed(data, nodes):
     except Spent as spent:
         return 4, f"spent\ncandidate {ids[spent.last]}\n"
     value = json.loads(data)
-    kept = {name: value[name] for name in ("candidates", "contest", "margin", "order", "records", "version", "winner")}
-    return 0, json.dumps({**kept, "assertions": [shown(value["assertions"][at], ids) for at in left]}, sort_keys=True, separators=(",", ":")) + "\n"
+    is_2 = value["version"] == 2
+    kept = {name: value[name] for name in HEADING + plain.Plan._fields * is_2}
+    claims = [shown(value["assertions"][at], ids, ENTRY + ("draws",) * is_2) for at in left]
+    return 0, json.dumps({**kept, "assertions": claims}, sort_keys=True, separators=(",", ":")) + "\n"
 
 
-def shown(assertion, ids):
+def shown(assertion, ids, names):
     """The members of an assertion that are printed, those left in the contest's order."""
-    members = {name: assertion[name] for name in ("kind", "loser", "margin", "winner")}
+    members = {name: assertion[name] for name in names}
     return members if assertion["kind"] == "NEB" else {**members, "rest": sorted(assertion["rest"], key=ids.index)}

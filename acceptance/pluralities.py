@@ -106,7 +106,7 @@ DAMAGES = [damage for damage in audits.DAMAGES if damage[0] != "assertions.json"
 
 def audit(runs, draws):
     """One audit; the damage comes before one of its commands."""
-    contest = audits.Made(draws, may_have_two=True).contest_words()
+    contest = audits.Made(draws, may_have_two=True, may_be_many=True).contest_words()
     options = [f"--gamma={1 + draws.below(500)}"] if draws.below(3) == 0 else []
     limits = options + ([f"--limit={1 + draws.below(400_000)}"] if draws.below(2) else [])
     at = draws.below(8)

@@ -2,7 +2,7 @@
 """Compares ballot polls of the built program with the plain poll.
 
 acceptance/polls.py PROGRAM [POLLS] [SEEDS] first goes through polls that were worked out by hand. Then it makes so many others, 1,000 if no
-number is given: assertions of a contest of 2 to 5 candidates, a manifest, and what was seen of the cards; in half of them something
+number is given: assertions of a contest of 2 to 5 candidates, now and then of 21 to 32, a manifest, and what was seen of the cards; in half of them something
 is damaged. Status and both texts have to agree with plain_poll.py, and each risk that is printed has to be at least the exact one, and
 no more than its roundings above it. Last come contests whose cards elect another candidate than the assertions prove, or could by
 breaking a tie: of so many seeds each, 2,000 if no number is given, few may confirm them, at whichever draw.
@@ -71,7 +71,7 @@ def options_of(draws):
 
 def poll(runs, draws):
     """A poll by the assertions of a contest's records, of which it sees nothing itself."""
-    audits.Made(draws)
+    audits.Made(draws, may_be_many=True)
     status, found, _ = plain_audit.run(["search", "ballots.raire"])
     if status != 0:
         return

@@ -14,8 +14,11 @@ import sys
 import tempfile
 
 import audits
+import compare
 import hostile
 import plain_audit
+from draws import Draws
+from limits import MOST_CANDIDATES
 
 TOP = os.path.dirname(os.path.dirname(os.path.abspath(__file__)))
 NONE = 2**63
@@ -80,9 +83,15 @@ LINES = {
     "search, tie": ["search", "tie.raire"],
     "search, refused": ["search", "manifest.csv"],
     "search, missing": ["search", "none"],
+    "search of 32": ["search", "many.raire", "--workers=2"],
+    "search for cards": ["search", "county.raire", "--cards=200", "--gamma=200"],
+    "search for too few cards": ["search", "county.raire", "--cards=9"],
     "check": ["check", "row1.raire", "row1.json"],
+    "check of draws": ["check", "county.raire", "planned.json"],
+    "check of 32": ["check", "many.raire", "many.json"],
     "check, other": ["check", "ballots.raire", "row1.json"],
     "trim": ["trim", "row1.raire", "row1.json"],
+    "trim of draws": ["trim", "county.raire", "planned.json"],
     "trim, other": ["trim", "ballots.raire", "row1.json"],
     "poll": ["poll", "manifest.csv", "assertions.json", "seen.csv", "--seed=2024", "--draws=40"],
     "poll, an order stands": ["poll", "manifest.csv", "unproved.json", "seen.csv", "--seed=2024", "--draws=5"],
@@ -150,6 +159,13 @@ class Sweep:
         return refused, wrong
 
 
+def many_candidates():
+    """A contest of as many candidates as there may be, with its assertions."""
+    ids = [str(11 + c) for c in range(MOST_CANDIDATES)]
+    compare.write("many.raire", ids, compare.few_strong(Draws(32), len(ids)))
+    audits.write("many.json", plain_audit.run(["search", "many.raire"])[1])
+
+
 def main():
     program = os.path.abspath(sys.argv[1])
     commands = audits.Runs(program).commands
@@ -162,6 +178,8 @@ def main():
         audits.write("unproved.json", hostile.in_json("assertions", b"[]").decode())
         for name in ("row1.raire", "row1.json", "county.raire", "tie.raire"):
             shutil.copy(os.path.join(TOP, "examples", name), name)
+        many_candidates()
+        audits.write("planned.json", plain_audit.run(LINES["search for cards"])[1])
         for shows, words in lines.items():
             if words[0] in commands:
                 sweep = Sweep(program, library, words)

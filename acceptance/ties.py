@@ -4,8 +4,9 @@
 acceptance/ties.py PROGRAM [CONTESTS] makes so many contests of 2 to 6 candidates, 2,000 if no number is given, most of them of
 fewer than ten ballots, searches each at 1, 2, 4 and 8 workers and tabulates it. Assertions that refute every other order have to be
 there exactly where each way of breaking the ties elects the same candidate. With a budget of one node the answer is the same, or
-that the budget is spent, with an order that some true assertion refutes; and the printed assertions pass a check. The last line
-says how many contests agreed.
+that the budget is spent, with an order that some true assertion refutes; and the printed assertions pass a check. Then come contests of
+21 to 32 candidates, of whom the weak ones tie; in every second one two strong ones are alike, so that it isn't decided. The last lines
+say how many contests agreed.
 """
 import os
 import subprocess
@@ -71,6 +72,40 @@ def faults(program, path, contest):
             yield "check of what was printed"
 
 
+MANY = 20  # contests of many candidates
+
+
+def mirrored(rankings):
+    """The same ballots twice, the second time with the first two candidates exchanged."""
+    return rankings + [tuple({0: 1, 1: 0}.get(c, c) for c in ranking) for ranking in rankings]
+
+
+def faults_of_many(program, path, contest):
+    """What differs at any number of workers; all orders are too many to be listed."""
+    wanted = (*compare.wanted(contest, plain.certificate_by_bound), "")
+    for workers in (1, 2, 4, MOST_WORKERS):
+        if ran(program, "search", path, f"--workers={workers}") != wanted:
+            yield f"search at {workers} workers, wanted {wanted}"
+    if ran(program, "tabulate", path) != (*compare.wanted(contest, plain.tabulation), ""):
+        yield "tabulate"
+
+
+def many(program, folder):
+    """How many contests of many candidates differ."""
+    draws, path, failed = Draws(32), os.path.join(folder, "many.raire"), 0
+    for number in range(MANY):
+        ids = [str(11 + c) for c in range(compare.many_of(draws))]
+        rankings = compare.few_strong(draws, len(ids))
+        contest = plain.Contest("9", ids, mirrored(rankings) if number % 2 else rankings)
+        compare.write(path, ids, mirrored(rankings) if number % 2 else rankings)
+        wrong = list(faults_of_many(program, path, contest))
+        failed += bool(wrong)
+        for fault in wrong:
+            print(f"{len(ids)} candidates, contest {number + 1}: {fault}")
+    print(f"{MANY} contests of many candidates with ties: {MANY - failed} agree, {failed} don't")
+    return failed
+
+
 def main():
     program, contests = os.path.abspath(sys.argv[1]), int(sys.argv[2]) if len(sys.argv) > 2 else 2000
     draws, failed, told = Draws(28), 0, {0: 0, 3: 0}
@@ -85,8 +120,9 @@ def main():
             failed += bool(wrong)
             for fault in wrong:
                 print(f"{ids} {rankings}: {fault}")
+        of_many = many(program, folder)
     print(f"{contests} contests with many ties ({told[0]} decided, {told[3]} not): {contests - failed} agree, {failed} don't")
-    sys.exit(1 if failed else 0)
+    sys.exit(1 if failed or of_many else 0)
 
 
 if __name__ == "__main__":

@@ -9,6 +9,7 @@ memory of `search`, its status, and the time of `cksum` on the file. The least o
     bench/search.py            all contests, a minute or two
     bench/search.py 4 10000    one realistic contest: candidates and ballots
     bench/search.py equal 15   one near-equal contest of so many candidates and 100,000 ballots
+    bench/search.py strong 20  one contest of so many candidates, four of them strong, and 100,000 ballots
 """
 import os
 import sys
@@ -23,6 +24,7 @@ from draws import Draws  # noqa: E402
 PROGRAM = os.path.join(TOP, "crates/raire/out/raire")
 
 REALISTIC = [(2, 1_000_000), (4, 10_000), (10, 200_000), (14, 940_000), (32, 100_000)]
+FEW_STRONG, STRONG = [20, 32], 4
 NEAR_EQUAL = [12, 15, 20]
 
 
@@ -43,10 +45,18 @@ def pool(draws, weights, size, most):
     return rankings
 
 
-def write_ballots(path, candidates, ballots, is_equal):
+def weights_of(candidates, kind):
+    """How often each candidate is ranked: all alike; a few far more often than the others; or each less often than the one before."""
+    if kind == "near-equal":
+        return [1000] * candidates
+    if kind == "few strong":
+        return [1000 - 150 * c for c in range(STRONG)] + [10] * (candidates - STRONG)
+    return [max(1, int(1000 * 0.75**c)) for c in range(candidates)]
+
+
+def write_ballots(path, candidates, ballots, kind=""):
     draws = Draws(candidates)
-    weights = [1000 if is_equal else max(1, int(1000 * 0.75**c)) for c in range(candidates)]
-    rankings = pool(draws, weights, 50_000, candidates if is_equal else 5)
+    rankings = pool(draws, weights_of(candidates, kind), 50_000, candidates if kind == "near-equal" else 5)
     with open(path, "w") as file:
         file.write(f"1\nContest,339,{candidates},{','.join(str(15 + c) for c in range(candidates))}\n")
         for number in range(ballots):
@@ -71,9 +81,9 @@ def least(*command):
     return min(run(command) for _ in range(3))
 
 
-def time_contest(name, candidates, ballots, is_equal):
+def time_contest(name, candidates, ballots, kind):
     with tempfile.NamedTemporaryFile(suffix=".raire") as file, tempfile.NamedTemporaryFile(suffix=".raire") as cut:
-        write_ballots(file.name, candidates, ballots, is_equal)
+        write_ballots(file.name, candidates, ballots, kind)
         os.system(f"cp {file.name} {cut.name} && echo nothing >> {cut.name}")
         size = os.path.getsize(file.name)
         read, _, refused = least(PROGRAM, "tabulate", cut.name)
@@ -92,14 +102,16 @@ def time_contest(name, candidates, ballots, is_equal):
 def main():
     words = sys.argv[1:]
     print(f"{'contest':<28} {'MB':>6} {'tabulate':>9} {'search':>8} | {'reading':>7} {'tally':>7} {'rest':>8} | {'MB/s':>6} {'peak MB':>8} {'status':>6} {'cksum':>7}")
-    if words[:1] == ["equal"]:
-        contests = [(int(words[1]), 100_000, True)]
+    kinds = {"equal": "near-equal", "strong": "few strong"}
+    if words[:1] and words[0] in kinds:
+        contests = [(int(words[1]), 100_000, kinds[words[0]])]
     elif words:
-        contests = [(int(words[0]), int(words[1]), False)]
+        contests = [(int(words[0]), int(words[1]), "")]
     else:
-        contests = [(n, ballots, False) for n, ballots in REALISTIC] + [(n, 100_000, True) for n in NEAR_EQUAL]
-    for n, ballots, is_equal in contests:
-        time_contest(f"{'near-equal ' if is_equal else ''}{n}, {ballots:,} ballots", n, ballots, is_equal)
+        contests = [(n, ballots, "") for n, ballots in REALISTIC]
+        contests += [(n, 100_000, kind) for kind, sizes in (("few strong", FEW_STRONG), ("near-equal", NEAR_EQUAL)) for n in sizes]
+    for n, ballots, kind in contests:
+        time_contest(f"{kind} {n}, {ballots:,} ballots".strip(), n, ballots, kind)
 
 
 if __name__ == "__main__":

@@ -4,7 +4,7 @@
 For each contest it prints how many assertions there are and how many are left, the seconds of `check` and of `trim`, the peak
 memory of `trim` and its status: 4 where the nodes don't suffice for a trial. The least of three runs counts.
 
-    bench/trim.py              10 candidates and 200,000 ballots; 8, 10 and 12 nearly equal ones
+    bench/trim.py              10 candidates and 200,000 ballots; 32, four of them strong; 8, 10 and 12 nearly equal ones
     bench/trim.py equal 11     one near-equal contest of so many candidates and 100,000 ballots
 """
 import json
@@ -14,18 +14,19 @@ import tempfile
 
 from search import PROGRAM, least, write_ballots
 
-CONTESTS = [(10, 200_000, False), (8, 100_000, True), (10, 100_000, True), (12, 100_000, True)]
+EQUAL = "near-equal"
+CONTESTS = [(10, 200_000, ""), (32, 100_000, "few strong"), (8, 100_000, EQUAL), (10, 100_000, EQUAL), (12, 100_000, EQUAL)]
 
 
 def assertions_in(text):
     return len(json.loads(text)["assertions"]) if text else 0
 
 
-def time_contest(candidates, ballots, is_equal):
+def time_contest(candidates, ballots, kind):
     with tempfile.NamedTemporaryFile(suffix=".raire") as file, tempfile.NamedTemporaryFile(suffix=".json") as found:
-        write_ballots(file.name, candidates, ballots, is_equal)
+        write_ballots(file.name, candidates, ballots, kind)
         searched = subprocess.run([PROGRAM, "search", file.name], capture_output=True)
-        name = f"{'near-equal ' if is_equal else ''}{candidates}, {ballots:,} ballots"
+        name = f"{kind} {candidates}, {ballots:,} ballots".strip()
         if searched.returncode != 0:
             print(f"{name:<28} search ends with {searched.returncode}")
             return
@@ -43,7 +44,7 @@ def time_contest(candidates, ballots, is_equal):
 def main():
     words = sys.argv[1:]
     print(f"{'contest':<28} {'assertions':>10} {'left':>6} {'check':>8} {'trim':>8} {'peak MB':>8} {'status':>6}")
-    for contest in [(int(words[1]), 100_000, True)] if words[:1] == ["equal"] else CONTESTS:
+    for contest in [(int(words[1]), 100_000, EQUAL)] if words[:1] == ["equal"] else CONTESTS:
         time_contest(*contest)
 
 

@@ -61,6 +61,8 @@ def found(call, path, said):
         return [rules.begins(data, "a ballot file" if rule == "B1" else "a manifest")]
     if rule == "B5":
         return rules.contest_asked_for(data, contest_of(call))
+    if rule == "B11":
+        return rules.more_ballots(data, contest_of(call), call.options["cards"])
     if rule == "M7":
         record = rules.record_at(data, at)
         return [rules.no_card(record.fields[1], rules.batches_of(rules.data_of(files["MANIFEST"]))), rules.where(record)]

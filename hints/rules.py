@@ -190,6 +190,13 @@ def too_many(data, at):
     return [where(record_at(data, at))]
 
 
+def more_ballots(data, contest, cards):
+    """B11"""
+    head = number_of_heads(data, 2)
+    own = sum(record.number > head and (contest is None or record.fields[0] == contest) for record in records(data))
+    return [f"The contest has {plural(own, 'ballot')}, and --cards says {cards}"]
+
+
 # ---- manifests, and ids of cards
 
 def batch_fields(data, at):
@@ -273,6 +280,7 @@ def unread(seed, manifest, seen, draws):
 
 MEMBERS = ("assertions", "candidates", "contest", "margin", "order", "records", "version", "winner")
 OF_ASSERTION = ("kind", "loser", "margin", "winner")
+TERMS = ("cards", "gamma", "limit")  # of version 2, as the draws of each assertion are
 OF_SESSION = ("assertions", "ballots", "cards", "contest", "gamma", "limit", "manifest", "margins", "rounds", "seed", "signed_off", "version")
 
 
@@ -332,12 +340,49 @@ def wrong_order(names, wanted, what):
     return f"The {what} lacks {listed(lacks)}" if lacks else None
 
 
+def most_of(name):
+    return int(limits()[name].replace(",", ""))
+
+
+def is_2(file):
+    return isinstance(file, dict) and file.get("version") == 2
+
+
 def wrong_margin(file, margin):
     """F6"""
-    most = int(limits()["MOST_RECORDS"].replace(",", ""))
-    if not 1 <= file["records"] <= most:
+    if not 1 <= file["records"] <= most_of("MOST_RECORDS"):
         return f"It says {plural(file['records'], 'record')}"
-    return f"Its margin {margin:,} is above the {plural(file['records'], 'record')}" if margin else "Its margin is 0"
+    if margin > file["records"]:
+        return f"Its margin {margin:,} is above the {plural(file['records'], 'record')}"
+    return None if margin else "Its margin is 0"
+
+
+def wrong_terms(file):
+    """F6 of what version 2 has at its head"""
+    if not is_2(file):
+        return None
+    if file["cards"] < file["records"]:
+        return f"It says {plural(file['cards'], 'card')} for {plural(file['records'], 'record')}"
+    if file["cards"] > most_of("MOST_CARDS"):
+        return f"It says {plural(file['cards'], 'card')}"
+    most = {"gamma": most_of("GREATEST_GAMMA"), "limit": most_of("GREATEST_LIMIT")}
+    name = next((name for name in most if not 1 <= file[name] <= most[name]), None)
+    return name and f"Its {name} is {file[name]:,}"
+
+
+def wrong_draws(file, one):
+    """F2 and F6 of an assertion of version 2: what its draws are."""
+    if not is_2(file) or not isinstance(one, dict) or one.get("draws") is None:
+        return None
+    if type(one["draws"]) is not int or not 0 <= one["draws"] <= most_of("MOST_NUMBER"):
+        return f"Its draws are {shown(json.dumps(one['draws']), 70)}, neither a whole number nor null"
+    return None if 1 <= one["draws"] <= most_of("MOST_DRAWS") else f"Its draws are {one['draws']:,}"
+
+
+def lacking(file, one):
+    """F2 of an assertion: the members that it lacks."""
+    is_nen = isinstance(one, dict) and one.get("kind") == "NEN"
+    return missing(one, OF_ASSERTION + ("rest",) * is_nen + ("draws",) * is_2(file))
 
 
 def wrong_name(file, one):
@@ -347,12 +392,13 @@ def wrong_name(file, one):
 
 
 OF_HEAD = {
-    "F2": lambda file: missing(file, MEMBERS), "F3": lambda file: f"It says version {file['version']}", "F4": wrong_list,
-    "F5": lambda file: wrong_order(file["order"], file["candidates"], "order"), "F6": lambda file: wrong_margin(file, file["margin"]),
+    "F2": lambda file: missing(file, MEMBERS + TERMS * is_2(file)), "F3": lambda file: f"It says version {file['version']}", "F4": wrong_list,
+    "F5": lambda file: wrong_order(file["order"], file["candidates"], "order"), "F6": lambda file: wrong_margin(file, file["margin"]) or wrong_terms(file),
 }
 OF_ONE = {
-    "F2": lambda file, one: missing(one, OF_ASSERTION + ("rest",) * (isinstance(one, dict) and one.get("kind") == "NEN")), "F4": wrong_name,
-    "F5": lambda file, one: wrong_order(one["rest"], [one["winner"], one["loser"]], "rest"), "F6": lambda file, one: wrong_margin(file, one["margin"]),
+    "F2": lambda file, one: lacking(file, one) or wrong_draws(file, one), "F4": wrong_name,
+    "F5": lambda file, one: wrong_order(one["rest"], [one["winner"], one["loser"]], "rest"),
+    "F6": lambda file, one: wrong_margin(file, one["margin"]) or wrong_draws(file, one),
 }
 
 

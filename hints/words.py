@@ -16,6 +16,7 @@ class Option(NamedTuple):
     has_to_be_given: bool
     low: int
     high: int
+    stands_with: str  # the option without which this one is none, or nothing
 
 
 class Form(NamedTuple):
@@ -59,7 +60,8 @@ def options_of(head, text):
         told = re.search(rf"^  --{name} .*\n(?: {{8,}}.*\n)*", text, re.MULTILINE)
         span = re.search("([0-9]+) to ([0-9]+)", told[0] if told else "")
         low, high = map(int, span.groups()) if span else (1, 64)
-        yield name, Option(not bracket, low, high)
+        other = re.search(r"with --(\w+) alone", told[0] if told else "")
+        yield name, Option(not bracket, low, high, other[1] if other else "")
 
 
 def is_value(name, option, text):
@@ -118,6 +120,8 @@ def call_by(form, command, words):
     for name, option in form.options.items():
         if option.has_to_be_given and name not in options:
             raise Wrong(f"{command} wants --{name}")
+        if name in options and option.stands_with not in ("", *options):
+            raise Wrong(f"{command} has --{name} with --{option.stands_with} alone")
     return Call(command, dict(zip(form.files, files)), options)
 
 

@@ -1,5 +1,6 @@
 """Makes the page: asks the program about each file, and fills page.html."""
 import os
+import re
 import sys
 
 import jinja2
@@ -10,6 +11,7 @@ import firsts
 import orders
 import plain
 import plain_audit
+import planned
 import polled
 import rounds
 import state
@@ -26,7 +28,7 @@ OPTIONS = ("--contest", "--nodes", *POLL)
 UNWRITTEN = Refusal(8, "show: the page could not be written\n")
 MOST_LISTED = 100
 POLLED = ("manifest", "assertions", "seen")
-UNCOUNTED = ("no: contest differs", "no: winner is", "no: assertion", "tie")
+UNCOUNTED = re.compile("no: contest differs|no: winner is |no: assertion [0-9]+ has |tie")  # the margins may be others
 
 
 def words_of(words):
@@ -85,7 +87,7 @@ class Page:
     def __init__(self, given, options, program):
         self.files, self.options, self.program, self.notes = given, options, program, []
         self.parts = dict.fromkeys((
-            "session", "contest", "tabulation", "firsts", "counted", "assertions", "verdict", "tree", "plan", "manifest", "claims", "seen_file",
+            "session", "contest", "tabulation", "firsts", "counted", "assertions", "verdict", "tree", "plan", "draws", "manifest", "claims", "seen_file",
             "other_form", "is_plurality", "is_opened", "is_replayed", "poll",
         ))
         self.names = Names(given.get("names"))
@@ -247,10 +249,21 @@ class Page:
         self.recorded = recorded
 
     def read_plan(self, path):
-        session = self.parts["session"]
-        limits = [f"--limit={session['limit']}", f"--gamma={session['gamma']}"] if session else []
+        """By the terms of the session, or of the assertion file where it has some."""
+        given = self.parts["session"] or planned.said_by(self.parts["assertions"])
+        limits = [f"--limit={given['limit']}", f"--gamma={given['gamma']}"] if given else []
         _, text = self.program.must_run("plan", [path, self.path("assertions")], *limits)
-        self.parts["plan"] = [line.rpartition(": ")[2] for line in text.splitlines()]
+        terms = {name: (given or planned.DEFAULTS)[name] for name in planned.DEFAULTS}
+        self.parts["plan"] = planned.planned(text, {**terms, "cards": self.manifest.cards})
+
+    def make_draws(self):
+        """The clean draws by the file and by the plan; terms of the file that aren't those of session or manifest."""
+        file, session, manifest = (self.parts[name] for name in ("assertions", "session", "manifest"))
+        if not file or self.is_poll():
+            return
+        known = session or (manifest and {"cards": manifest["cards"]}) or {}
+        whose = "the session" if session else "the manifest"
+        self.parts["draws"] = planned.shown(planned.said_by(file), self.parts["plan"], known, whose)
 
     def is_poll(self):
         return not self.options.keys().isdisjoint(POLL)
@@ -374,14 +387,15 @@ class Page:
             self.list_claims([{"margin": state["margin"], "state": state, "words": each} for state, each in zip(states or [], words)])
             return
         tree = orders.Tree(file["candidates"], file["winner"], file["assertions"])
-        counted = verdict and "rounds" in tabulation and not verdict["lines"][0].startswith(UNCOUNTED)
+        counted = verdict and "rounds" in tabulation and not UNCOUNTED.match(verdict["lines"][0])
         first = tabulation["rounds"][0]["votes"] if counted else None
-        plan = self.parts["plan"] or []
+        draws = self.parts["draws"] or {}
         self.parts["tree"] = tree
         self.list_claims([
             {
                 "claim": claim, "words": in_words(claim, first, self.is_poll()), "margin": claim["margin"], "cuts": tree.cuts_of[j],
-                "orders": tree.orders_of[j], "plan": plan[j] if plan else None, "state": states[j] if states else None,
+                "orders": tree.orders_of[j], "state": states[j] if states else None,
+                "draws": [draws[name][j] for name in ("first", "second") if draws.get(name)],
             }
             for j, claim in enumerate(file["assertions"])
         ])
@@ -428,6 +442,7 @@ class Page:
         self.replay()
         self.read_seen()
         self.note_unjudged()
+        self.make_draws()
         self.make_claims()
 
 
@@ -457,7 +472,7 @@ def filled(page):
     drawn = rounds_drawn(page.parts)
     return made.get_template("page.html").render(
         page.parts, files=page.files, judged=page.judged, notes=page.notes, asked=page.program.asked, program=page.program.told(),
-        chart=audit.chart(session, [row["number"] for row in page.parts["listed"]]) if session else None, title=title(page), most_counted=orders.MOST_COUNTED,
+        chart=audit.chart(session, [row["number"] for row in page.parts["listed"]]) if session else None, title=title(page), most_counted=orders.MOST_COUNTED, most_draws=MOST_DRAWS,
         states=state.states(page.parts), scale=rounds.scale_of(drawn) if drawn else None, names=page.names.by_id,
     )
 

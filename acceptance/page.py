@@ -468,16 +468,20 @@ def clean_draws(shows, tried):
         said = file.read()
     write("changed.json", said.replace('"draws":56', '"draws":55'))
     write("opened.json", plain_audit.run(["open", ballots, manifest, "said.json", "--seed=1", "--limit=40000"])[1])
+    write("wrong.json", said.replace('"margin":62', '"margin":63'))
     enough, terms = "For all of them: 56 draws.", "for 480 cards, a risk limit of 0.05 and a gamma of 100 thousandths."
+    plan, own = "So the program’s plan says, by the file’s margins", "for the file’s own margin, cards, risk limit and gamma."
     for files, top, told in [
         (["said.json"], None, f"{enough} So the assertion file says, {terms} Give the ballot file too"),
         (["said.json", ballots], None, f"{enough} So the assertion file says, {terms} The program’s check worked out the same."),
-        (["said.json", manifest], None, f"{enough} So the program’s plan says, {terms} The assertion file says the same."),
-        (["said.json", ballots, manifest], None, f"{enough} So the program’s plan says, {terms} The assertion file says the same."),
+        (["said.json", manifest], None, f"{enough} {plan}, {terms} The assertion file says the same."),
+        (["said.json", ballots, manifest], None, f"{enough} {plan}, {terms} The assertion file says the same."),
         (["none.json", ballots], None, "For all of them: a full count. A full count: as many draws as there are cards, or 100,000, aren’t enough. So the assertion file says"),
-        (["far.json", manifest], "for other terms: for 600 cards; the manifest has 480 cards.", "“By the file” is what the assertion file says, for 600 cards"),
-        (["changed.json", ballots], "The assertion file isn’t accepted : no: assertion 3 needs 56 draws", "The program hasn’t confirmed it."),
-        (["changed.json", manifest], "assertion 3 has 55 draws, and needs 56 draws, by the same cards, risk limit and gamma.", f"plan says, {terms} “By the file”"),
+        (["far.json", manifest], "for other terms: for 600 cards; the manifest has 480 cards. An audit doesn’t go by the file’s draws and terms.", "“By the file” is what the assertion file says, for 600 cards"),
+        (["changed.json", ballots], "The assertion file isn’t accepted : no: assertion 3 needs 56 draws. All else holds", "The program’s check worked out other draws."),
+        (["wrong.json", ballots], "The assertion file isn’t accepted : no: assertion 1 has margin 62", "The program hasn’t confirmed it."),
+        (["wrong.json", manifest], f"assertion 1 has 54 draws, and needs 53 draws, {own}", f"{plan}, {terms} “By the file”"),
+        (["changed.json", manifest], f"assertion 3 has 55 draws, and needs 56 draws, {own}", f"{plan}, {terms} “By the file”"),
         (["said.json", ballots, manifest, "opened.json"], "for a risk limit of 0.05; the session has a risk limit of 0.04.", "for 480 cards, a risk limit of 0.04 and"),
         (["said.json", "opened.json"], "for a risk limit of 0.05; the session has a risk limit of 0.04.", f"So the assertion file says, {terms}"),
     ]:

@@ -281,6 +281,7 @@ def unread(seed, manifest, seen, draws):
 MEMBERS = ("assertions", "candidates", "contest", "margin", "order", "records", "version", "winner")
 OF_ASSERTION = ("kind", "loser", "margin", "winner")
 TERMS = ("cards", "gamma", "limit")  # of version 2, as the draws of each assertion are
+NUMBERS = ("margin", "records", "version", *TERMS)
 OF_SESSION = ("assertions", "ballots", "cards", "contest", "gamma", "limit", "manifest", "margins", "rounds", "seed", "signed_off", "version")
 
 
@@ -303,6 +304,19 @@ def no_json(data, wanted):
 def missing(value, members):
     lacks = [name for name in members if not isinstance(value, dict) or name not in value]
     return f"It lacks {listed(lacks)}" if lacks else None
+
+
+def is_counted(value):
+    """Whether a member may be a number of an assertion file."""
+    return type(value) is int and 0 <= value <= most_of("MOST_NUMBER")
+
+
+def wrong_kind(file):
+    """F2 at 0: a member that isn't there, or a number that is none."""
+    members = MEMBERS + TERMS * is_2(file)
+    wrong = [name for name in members if name in NUMBERS and name in file and not is_counted(file[name])]
+    told = f"Its {quoted(wrong[0])} is {shown(json.dumps(file[wrong[0]]), 70)}, and 0 to {most_of('MOST_NUMBER'):,}, in digits alone, is looked for" if wrong else None
+    return missing(file, members) or told
 
 
 def assertion(data, rule, at):
@@ -367,15 +381,15 @@ def wrong_terms(file):
         return f"It says {plural(file['cards'], 'card')}"
     most = {"gamma": most_of("GREATEST_GAMMA"), "limit": most_of("GREATEST_LIMIT")}
     name = next((name for name in most if not 1 <= file[name] <= most[name]), None)
-    return name and f"Its {name} is {file[name]:,}"
+    return name and f"Its {name} is {file[name]:,}, and 1 to {most[name]:,} is looked for"
 
 
 def wrong_draws(file, one):
     """F2 and F6 of an assertion of version 2: what its draws are."""
     if not is_2(file) or not isinstance(one, dict) or one.get("draws") is None:
         return None
-    if type(one["draws"]) is not int or not 0 <= one["draws"] <= most_of("MOST_NUMBER"):
-        return f"Its draws are {shown(json.dumps(one['draws']), 70)}, neither a whole number nor null"
+    if not is_counted(one["draws"]):
+        return f"Its draws are {shown(json.dumps(one['draws']), 70)}, and null or 1 to {most_of('MOST_DRAWS'):,}, in digits alone, is looked for"
     return None if 1 <= one["draws"] <= most_of("MOST_DRAWS") else f"Its draws are {one['draws']:,}"
 
 
@@ -392,7 +406,7 @@ def wrong_name(file, one):
 
 
 OF_HEAD = {
-    "F2": lambda file: missing(file, MEMBERS + TERMS * is_2(file)), "F3": lambda file: f"It says version {file['version']}", "F4": wrong_list,
+    "F2": wrong_kind, "F3": lambda file: f"It says version {file['version']}", "F4": wrong_list,
     "F5": lambda file: wrong_order(file["order"], file["candidates"], "order"), "F6": lambda file: wrong_margin(file, file["margin"]) or wrong_terms(file),
 }
 OF_ONE = {

@@ -60,7 +60,7 @@ def options_of(head, text):
         told = re.search(rf"^  --{name} .*\n(?: {{8,}}.*\n)*", text, re.MULTILINE)
         span = re.search("([0-9]+) to ([0-9]+)", told[0] if told else "")
         low, high = map(int, span.groups()) if span else (1, 64)
-        other = re.search(r"with --(\w+) alone", told[0] if told else "")
+        other = re.search(r"only with --(\w+)", told[0] if told else "")
         yield name, Option(not bracket, low, high, other[1] if other else "")
 
 
@@ -121,7 +121,7 @@ def call_by(form, command, words):
         if option.has_to_be_given and name not in options:
             raise Wrong(f"{command} wants --{name}")
         if name in options and option.stands_with not in ("", *options):
-            raise Wrong(f"{command} has --{name} with --{option.stands_with} alone")
+            raise Wrong(f"{command} takes --{name} only together with --{option.stands_with}")
     return Call(command, dict(zip(form.files, files)), options)
 
 
@@ -138,7 +138,8 @@ def option_in(word, rest, command, form):
             raise Wrong(f"--{name} has no value" + (f"; {quoted(rest[0])} begins with -, so it is written behind --{name}=" if rest else ""))
         text = rest.pop(0)
     if not is_value(name, option, text):
-        span = {"contest": "an id", "seed": f"{option.low} to {option.high} characters from space to ~"}
+        span = {"contest": "an id", "seed": f"{option.low} to {option.high} characters from space to ~",
+                "limit": f"{option.low} to {option.high} millionths, such as 50000 for 5 percent", "gamma": f"{option.low} to {option.high} thousandths"}
         raise Wrong(f"{quoted(text)} is no value of --{name}, which is {span.get(name, f'{option.low} to {option.high}')}")
     return name, text
 

@@ -333,14 +333,14 @@ def limit(size):
 def main():
     runs, here = Runs(sys.argv[1]), os.getcwd()
     for part in (outputs, names, malicious, memory):
-        began = time.monotonic()
+        began, before = time.monotonic(), runs.count
         with tempfile.TemporaryDirectory() as folder:
             os.chmod(folder, 0o755)
             os.chdir(folder)
             good_files()
             part(runs)
             os.chdir(here)
-        print(f"{part.__name__}: {time.monotonic() - began:.0f} s")
+        print(f"{part.__name__}: {runs.count - before} runs, {time.monotonic() - began:.0f} s")
     print(f"{runs.count - runs.failed} runs among failing things as they should be, {runs.failed} not; tried: {' '.join(runs.lines)}")
     sys.exit(1 if runs.failed else 0)
 

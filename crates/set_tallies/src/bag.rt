@@ -16,8 +16,9 @@ use std::thread::Threads;
 /// So many candidates have the sums over all sets whatever the number of the records: their table has at most some 4 megabytes.
 pub const ALWAYS_SUMMED: u32 = 16;
 
-/// More candidates have sums where each record has at most so many sets of candidates: then entries take as much time and memory.
-pub const SETS_A_RECORD: u64 = 2;
+/// More candidates have sums where each record has at most so many sets of candidates: without sums a search that asks for the rows of
+/// all sets takes long then.
+pub const SETS_A_RECORD: u64 = 256;
 
 /// What is kept of the records: the sums over all sets, or of each candidate the different sets of those who stand before it on
 /// a ballot, each with the number of such ballots.

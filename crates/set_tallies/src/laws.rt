@@ -17,6 +17,6 @@ pub fn limits()
     ensures first_places { FIRST_PLACES ≡ 1023 }
     ensures summed { MOST_SUMMED ≡ 20 }
     ensures always_summed { ALWAYS_SUMMED ≡ 16 }
-    ensures sets_a_record { SETS_A_RECORD ≡ 2 }
+    ensures sets_a_record { SETS_A_RECORD ≡ 256 }
     ensures fewest_in_a_share { FEWEST_IN_A_SHARE ≡ 4096 }
 {}

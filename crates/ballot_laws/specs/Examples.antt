@@ -50,3 +50,19 @@ for_board = record {
 -- with a seventh record
 abbrev pub and_then_comes : Fields → List Fields
 and_then_comes row = two_contests ++ row ∷ []
+
+-- one candidate for the board, which is too few; nobody voted
+abbrev pub one_too_small : List Fields
+one_too_small =
+    count_of (codes "2") ∷ mayor
+    ∷ (codes "Contest" ∷ codes "board" ∷ codes "1" ∷ codes "Cedar" ∷ [])
+    ∷ []
+
+abbrev pub nobody_for_mayor : BallotFile
+nobody_for_mayor = record {
+  contest = codes "mayor";
+  candidates = codes "Ash" ∷ codes "Birch" ∷ [];
+  ids = [];
+  places = [];
+  rankings = [];
+}

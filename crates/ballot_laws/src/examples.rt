@@ -1,13 +1,14 @@
 //! Worked examples: a file of two contests, and for each rule records that break it first.
-ghost use Rattle.std.specs.Prelude.{◌≡◌, List, [], ◌∷◌, length, Some, None, true, false, codes};
+ghost use Rattle.std.specs.Prelude.{◌≡◌, ◌++◌, List, [], ◌∷◌, length, Some, None, Ok, true, false, codes};
 ghost use Rattle.csv_rows.specs.Rows.{Fields};
 ghost use Rattle.irv_base.specs.declared.limits.TheConstants.{MOST_RECORDS};
+ghost use Rattle.ballot_reader.specs.Grammar.{ballots_from, contests_from, refused};
 ghost use Rattle.ballot_reader.specs.declared.fault.BRule.TheVariants.{B1, B2, B3, B4, B5, B6, B7, B8, B9, B10};
 ghost use Rattle.ballot_laws.specs.Breaking.{IsRefused, ballot_rule, contest_rule};
 ghost use Rattle.ballot_laws.specs.Bytes.{is_plain_record, written};
 ghost use Rattle.ballot_laws.specs.Rows.{asked_place, candidates_in, preferences};
 ghost use Rattle.ballot_laws.specs.Spelling.{Spells};
-ghost use Rattle.ballot_laws.specs.Examples.{two_contests, for_mayor, for_board, and_then_comes};
+ghost use Rattle.ballot_laws.specs.Examples.{two_contests, for_mayor, for_board, and_then_comes, one_too_small, nobody_for_mayor};
 ghost use Rattle.ballot_laws.specs.Examples.{count_of, mayor, board, vote};
 
 /// Each contest is spelled, with its own ballots and their records; without one that is asked for the file is refused.
@@ -16,6 +17,24 @@ pub fn two_contests_in_a_file()
     ensures board { Spells (Some (codes "board")) two_contests for_board }
     ensures none { IsRefused None two_contests B5 1 }
     ensures other { IsRefused (Some (codes "sheriff")) two_contests B5 1 }
+{}
+
+/// All contests of a file, in their order, each as it is by its id.
+pub fn all_contests_of_a_file()
+    ensures all { contests_from two_contests ≡ Ok (for_mayor ∷ for_board ∷ []) }
+    ensures mayor { ballots_from (Some (codes "mayor")) two_contests ≡ Ok for_mayor }
+    ensures board { ballots_from (Some (codes "board")) two_contests ≡ Ok for_board }
+{}
+
+/// Where one contest has too few candidates, all are refused at its record, before a ballot is judged. The other is read by its id.
+pub fn one_contest_of_several_is_refused()
+    ensures all { contests_from one_too_small ≡ refused B3 3 }
+    ensures board { ballots_from (Some (codes "board")) one_too_small ≡ refused B3 3 }
+    ensures mayor { ballots_from (Some (codes "mayor")) one_too_small ≡ Ok nobody_for_mayor }
+    ensures before_ballots { contests_from (one_too_small ++ count_of (codes "mayor") ∷ [])
+        ≡ refused B3 3 }
+    ensures by_ballots { ballots_from (Some (codes "mayor"))
+        (one_too_small ++ count_of (codes "mayor") ∷ []) ≡ refused B6 4 }
 {}
 
 /// The records of contests: they are counted, each has the word, a new id, and as many candidates as it says.

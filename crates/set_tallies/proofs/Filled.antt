@@ -40,6 +40,9 @@ are-entries n lists records long h = record {
   few = λ k d l. subst (λ es. total es ≤ length records) (get_or_default lists k [] d l) (h k l).few;
 }
 
+pub more-entries : (n a b : ℕ) (lists : List (List Entry)) → a ≤ b → AreEntries n a lists → AreEntries n b lists
+more-entries n a b lists le h = record { one_each = h.one_each; few = λ k d l. omega (arith, h.few k d l, le) }
+
 -- ---- what the numbers of a bag say
 pub votes-read : (n : ℕ) (f : ℕ → ℕ → ℕ) (set c : ℕ) → set < 2 ^ n → c < n → get_or (get_or (all_votes n f) set []) c 0 ≡ f set c
 votes-read n f set c s l =
@@ -65,6 +68,10 @@ bag-of n votes records below says = record {
 pub map-same : {X : Type 0} (f g : ℕ → X) (a n : ℕ) → ((c : ℕ) → c < a + n → f c ≡ g c) → map f (range_with_len a n) ≡ map g (range_with_len a n)
 map-same f g a zero h = refl
 map-same f g a (suc n) h = ap₂ (λ x xs. x ∷ xs) (h a (omega arith)) (map-same f g (a + 1) n (λ c l. h c (omega arith)))
+
+pub all-same : (n : ℕ) (f g : ℕ → ℕ → ℕ) → ((set c : ℕ) → set < 2 ^ n → c < n → f set c ≡ g set c) → all_votes n f ≡ all_votes n g
+all-same n f g h = map-same (λ set. map (f set) (candidates n)) (λ set. map (g set) (candidates n)) 0 (2 ^ n)
+    (λ set s. map-same (f set) (g set) 0 n (λ c l. h set c (omega (arith, s)) (omega (arith, l))))
 
 -- ---- in another order
 pub order_is_free : (bag : Kept) (records others : List (List ℕ)) → IsPermutation records others → IsOf bag records → IsOf bag others

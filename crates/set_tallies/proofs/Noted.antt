@@ -2,44 +2,33 @@
 use Rattle.std.proofs.Common.{◌≡◌, ◌==◌, ℕ, ◌+◌, ◌<◌, ◌≤◌, Bool, true, false, cond, ◌&&◌, inl, inr, List, [], ◌∷◌, ◌++◌, All, length, map, set, take, replicate, get_or, count_by, refl, sym, ap, ap₂, subst, arith, eqb-true, length-append, ◌∙◌}
 use Rattle.std.proofs.Math.Seq.{get_or-append_seam}
 use Rattle.std.proofs.lemmas.Bool.{cases_Bool, cases_lt, eqb-false}
-use Rattle.std.proofs.lemmas.List.{get_or_push, get_or_append_left, get_or-set_same, get_or-set_other, get_or-replicate, length-replicate, get_or_default, map-set}
+use Rattle.std.proofs.lemmas.List.{get_or_push, get_or_append_left, get_or-set_same, get_or-set_other, get_or-replicate, length-map, length-replicate, get_or_default, map-set}
 use Rattle.std.proofs.lemmas.List.Sums.{sum_by_push, sum_by_more, sum_by-le-sum_by, count_by-le-length}
 use Rattle.set_tallies.specs.Bags.{misses, missing, total}
-use Rattle.set_tallies.specs.Befores.{has_missed, HasNoted, SayTheSame, AllSayTheSame, Counted, AllCounted}
+use Rattle.set_tallies.specs.Befores.{has_missed, HasNoted, HasOneMore, SayTheSame, AllSayTheSame, Counted, AllCounted}
 use Rattle.set_tallies.specs.declared.entry.Entry.{Entry}
 use Rattle.set_tallies.proofs.Apart.{misses-empty}
 use Rattle.set_tallies.proofs.Filled.{at-place, own-entries}
 
--- the lists, with one entry more for d
-abbrev pub with_entry : List (List Entry) → ℕ → Entry → List (List Entry)
-with_entry lists d e = set lists d (get_or lists d [] ++ e ∷ [])
-
-pub is-with_entry : {X : Type 0} (f : X → List Entry) (xs : List X) (i : ℕ) (old new : X) (e : Entry) → i < length xs → old ≡ get_or xs i old →
-    f new ≡ f old ++ e ∷ [] → map f (set xs i new) ≡ with_entry (map f xs) i e
-is-with_entry f xs i old new e l at is =
-    map-set f xs i new ∙ ap (set (map f xs) i) (is ∙ ap (λ es. es ++ e ∷ []) (sym (own-entries f xs i old l at)))
-
-same-list : (lists : List (List Entry)) (d c : ℕ) (e : Entry) → d < length lists → (c == d) ≡ true → get_or (with_entry lists d e) c [] ≡ get_or lists c [] ++ e ∷ []
-same-list lists d c e l t =
-    let at = eqb-true c d t in
-    ap (λ k. get_or (with_entry lists d e) k []) at ∙ get_or-set_same lists d (get_or lists d [] ++ e ∷ []) [] l
-    ∙ ap (λ k. get_or lists k [] ++ e ∷ []) (sym at)
-
-other-list : (lists : List (List Entry)) (d c : ℕ) (e : Entry) → (c == d) ≡ false → get_or (with_entry lists d e) c [] ≡ get_or lists c []
-other-list lists d c e f = get_or-set_other lists d c (get_or lists d [] ++ e ∷ []) [] (eqb-false c d f)
-
-pub with_entry-missing : (lists : List (List Entry)) (d seen : ℕ) (s c : ℕ) → d < length lists →
-    missing s (get_or (with_entry lists d (record { before = seen; count = 1 })) c []) ≡ missing s (get_or lists c []) + cond (c == d && misses s seen) 1 0
-with_entry-missing lists d seen s c l = elim (cases_Bool (c == d)) [
-  | inl t ↦ ap (missing s) (same-list lists d c e l t) ∙ sum_by_push (λ x. cond (misses s x.before) x.count 0) (get_or lists c []) e
-      ∙ ap (λ b. missing s (get_or lists c []) + cond (b && misses s seen) 1 0) (sym t)
-  | inr f ↦ ap (missing s) (other-list lists d c e f) ∙ plus-none (missing s (get_or lists c []))
-      ∙ ap (λ b. missing s (get_or lists c []) + cond (b && misses s seen) 1 0) (sym f)
+-- a list in whose place another one stands, with one ballot more
+pub put-counted : {X : Type 0} (f : X → List Entry) (xs : List X) (d : ℕ) (old new : X) (seen s c : ℕ) → d < length xs → old ≡ get_or xs d old →
+    HasOneMore seen (f old) (f new) → missing s (get_or (map f (set xs d new)) c []) ≡ missing s (get_or (map f xs) c []) + cond (c == d && misses s seen) 1 0
+put-counted f xs d old new seen s c l at more = elim (cases_Bool (c == d)) [
+  | inl t ↦
+      let here = eqb-true c d t in
+      let inside : d < length (map f xs) = omega (arith, l, length-map xs f) in
+      ap (λ ys. missing s (get_or ys c [])) (map-set f xs d new)
+      ∙ ap (λ k. missing s (get_or (set (map f xs) d (f new)) k [])) here
+      ∙ ap (missing s) (get_or-set_same (map f xs) d (f new) [] inside)
+      ∙ more s
+      ∙ ap₂ (λ es b. missing s es + cond (b && misses s seen) 1 0) (sym (own-entries f xs d old l at) ∙ ap (λ k. get_or (map f xs) k []) (sym here)) (sym t)
+  | inr e ↦
+      ap (λ ys. missing s (get_or ys c [])) (map-set f xs d new)
+      ∙ ap (missing s) (get_or-set_other (map f xs) d c (f new) [] (eqb-false c d e))
+      ∙ plus-none (missing s (get_or (map f xs) c []))
+      ∙ ap (λ b. missing s (get_or (map f xs) c []) + cond (b && misses s seen) 1 0) (sym e)
 ]
   where
-    e : Entry
-    e = record { before = seen; count = 1 }
-
     plus-none : (m : ℕ) → m ≡ m + 0
     plus-none m = omega arith
 

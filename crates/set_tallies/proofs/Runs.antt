@@ -1,10 +1,10 @@
 -- Entries that are joined where they have the same set.
-use Rattle.std.proofs.Common.{◌≡◌, ℕ, ◌+◌, ◌<◌, ◌≤◌, Bool, true, false, cond, List, [], ◌∷◌, ◌++◌, length, take, get_or, sum_by, IsPermutation, refl, sym, ap, arith, ◌∙◌}
+use Rattle.std.proofs.Common.{◌≡◌, ℕ, ◌+◌, ◌<◌, ◌≤◌, Bool, true, false, cond, List, [], ◌∷◌, ◌++◌, length, take, get_or, set, sum_by, IsPermutation, refl, sym, ap, arith, ◌∙◌}
 use Rattle.std.proofs.lemmas.List.{take_all}
 use Rattle.std.proofs.lemmas.List.Sorted.{sum_by-IsPermutation}
-use Rattle.std.proofs.lemmas.List.Sums.{sum_by_push, sum_by_more, sum_by_more_le_part}
+use Rattle.std.proofs.lemmas.List.Sums.{sum_by_push, sum_by_more, sum_by_more_le_part, sum_by-set, sum_by-le-sum_by}
 use Rattle.set_tallies.specs.Bags.{misses, missing, total}
-use Rattle.set_tallies.specs.Befores.{SayTheSame}
+use Rattle.set_tallies.specs.Befores.{HasOneMore, SayTheSame}
 use Rattle.set_tallies.specs.declared.entry.Entry.{Entry}
 
 abbrev votes : ℕ → Entry → ℕ
@@ -74,3 +74,35 @@ sorted-same entries sorted seen runs p s same = record {
   missing = λ set. same.missing set ∙ ap (missing set) s ∙ sum_by-IsPermutation (votes set) entries sorted p;
   total = same.total ∙ ap total s ∙ sum_by-IsPermutation (λ e. e.count) entries sorted p;
 }
+
+-- ---- one ballot more
+
+-- in the entry of the set
+pub one-here : (entries : List Entry) (i before : ℕ) (e : Entry) → i < length entries → e ≡ get_or entries i e → e.before ≡ before →
+    HasOneMore before entries (set entries i (record { before = e.before; count = e.count + 1 }))
+one-here entries i before e l at same s =
+    let apiece : votes s longer ≡ votes s e + cond (misses s before) 1 0 = both (misses s e.before) e.count
+    ∙ ap (λ b. votes s e + cond (misses s b) 1 0) same in
+    omega (arith, sum_by-set (votes s) entries i longer e l, ap (votes s) at, apiece)
+  where
+    longer : Entry
+    longer = record { before = e.before; count = e.count + 1 }
+
+    both : (b : Bool) (m : ℕ) → cond b (m + 1) 0 ≡ cond b m 0 + cond b 1 0
+    both true m = refl
+    both false m = refl
+
+-- in a new entry
+pub one-new : (entries others : List Entry) (before : ℕ) → others ≡ entries ++ record { before = before; count = 1 } ∷ [] → HasOneMore before entries others
+one-new entries others before is s = ap (missing s) is ∙ sum_by_push (votes s) entries (record { before = before; count = 1 })
+
+pub one-moved : (entries others moved : List Entry) (before : ℕ) → IsPermutation others moved → HasOneMore before entries others →
+    HasOneMore before entries moved
+one-moved entries others moved before p h s = sum_by-IsPermutation (votes s) others moved p ∙ h s
+
+pub missing-le : (set : ℕ) (entries : List Entry) → missing set entries ≤ total entries
+missing-le set entries = sum_by-le-sum_by (votes set) (λ e. e.count) entries (λ e. part (misses set e.before) e.count)
+  where
+    part : (b : Bool) (n : ℕ) → cond b n 0 ≤ n
+    part true n = omega arith
+    part false n = omega arith

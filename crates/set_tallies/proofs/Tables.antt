@@ -1,10 +1,13 @@
 -- The numbers of a table: those that ballots add, and the sums.
-use Rattle.std.proofs.Common.{◌≡◌, ◌==◌, ℕ, ◌+◌, ◌*◌, ◌^◌, ◌<◌, Bool, true, false, cond, ◌&&◌, ◌||◌, bit_or, eqb-true, not, IsTrue, Some, List, [], ◌∷◌, ◌++◌, length, take, drop, get_or, ◌⊎◌, inl, inr, refl, sym, ap, ap₂, arith, ◌∙◌, eq-eqb}
+use Rattle.std.proofs.Common.{◌≡◌, ◌==◌, ℕ, ◌+◌, ◌-◌, ◌*◌, ◌%◌, ◌^◌, ◌<◌, mod-eq_of_lt, bit_and, Bool, true, false, cond, ◌&&◌, ◌||◌, bit_or, eqb-true, not, IsTrue, Some, List, [], ◌∷◌, ◌++◌, length, take, drop, get_or, ◌⊎◌, inl, inr, refl, sym, ap, ap₂, arith, ◌∙◌, eq-eqb}
 use Rattle.std.proofs.lemmas.Bool.{cases_Bool, both_ways, eqb-false, and_parts}
 use Rattle.std.proofs.lemmas.List.{take_at}
+use Rattle.std.proofs.lemmas.List.Sums.{sum_by_more}
+use Rattle.std.proofs.lemmas.Nat.{and_comm, and_mask, and_assoc}
 use Rattle.irv_base.specs.Candidates.{has, is_in, is_distinct}
 use Rattle.irv_base.proofs.Bits.{has-with}
-use Rattle.set_tallies.specs.Bags.{misses}
+use Rattle.set_tallies.specs.Bags.{misses, missing}
+use Rattle.set_tallies.specs.declared.entry.Entry.{Entry}
 use Rattle.set_tallies.specs.Befores.{before_after, is_missed, has_missed}
 use Rattle.set_tallies.specs.Sums.{column, apart, sums_of}
 use Rattle.set_tallies.proofs.Apart.{sum-at}
@@ -19,6 +22,28 @@ pub says-sum : (n : ℕ) (table sums : List ℕ) (s c : ℕ) → s < 2 ^ n → c
     get_or sums (s * n + c) 0 ≡ apart s (column n n table c)
 says-sum n table sums s c l made =
     sym (column-at n n sums c s l) ∙ ap (λ xs. get_or xs s 0) made ∙ sum-at (column n n table c) s (omega (arith, l, column-long n n table c))
+
+-- ---- entries
+
+-- of a set the first n candidates count, where the other set has no others
+pub misses-own : (n s other : ℕ) → s < 2 ^ n → misses s (other % 2 ^ n) ≡ misses s other
+misses-own n s other small = ap (λ x. x == 0) (
+    ap (λ x. bit_and x s) (sym (and_mask other n))
+    ∙ and_assoc s other (2 ^ n - 1)
+    ∙ ap (bit_and other) (and_comm (2 ^ n - 1) s ∙ and_mask s n ∙ mod-eq_of_lt small))
+
+-- the entries so far, and one more
+pub entry-more : (n s c d : ℕ) (entries : List Entry) (i : ℕ) (e : Entry) → s < 2 ^ n → i < length entries → e ≡ get_or entries i e →
+    cond (d == c) (missing s (take (i + 1) entries)) 0 ≡ cond (d == c) (missing s (take i entries)) 0 + cond (d == c && misses s (e.before % 2 ^ n)) e.count 0
+entry-more n s c d entries i e small l at = go (d == c) where
+  more : missing s (take (i + 1) entries) ≡ missing s (take i entries) + cond (misses s (e.before % 2 ^ n)) e.count 0
+  more = sum_by_more (λ x. cond (misses s x.before) x.count 0) entries i e l
+      ∙ ap (λ x. missing s (take i entries) + cond (misses s x.before) x.count 0) (sym at)
+      ∙ ap (λ b. missing s (take i entries) + cond b e.count 0) (sym (misses-own n s e.before small))
+
+  go : (b : Bool) → cond b (missing s (take (i + 1) entries)) 0 ≡ cond b (missing s (take i entries)) 0 + cond (b && misses s (e.before % 2 ^ n)) e.count 0
+  go true = more
+  go false = refl
 
 -- ---- along a ranking
 

@@ -22,6 +22,11 @@ has_missed set c ranking = is_missed set (before ranking c)
 
 -- ---- entries
 
+-- one ballot more is counted that has just this set before the candidate
+abbrev pub HasOneMore : ℕ → List Entry → List Entry → Type 0
+HasOneMore before entries others =
+    (set : ℕ) → missing set others ≡ missing set entries + (if misses set before then 1 else 0)
+
 -- the ranking was noted in the entries of each of n candidates
 pub record HasNoted (n : ℕ) (ranking : List ℕ) (lists others : List (List Entry)) : Type 0 where
   pub each : length others ≡ length lists

@@ -1,11 +1,13 @@
 // The records of a contest.
-ghost use Rattle.std.specs.Prelude.{◌≡◌, ℕ, ◌<◌, ◌≤◌, ◌^◌, IsTrue, map, length, All, IfOk, List};
+ghost use Rattle.std.specs.Prelude.{◌≡◌, ℕ, ◌<◌, ◌≤◌, ◌^◌, map, length, count_by, All, IfOk, IfSome, IfNone, List};
 ghost use Rattle.irv_base.specs.declared.limits.TheConstants.{FEWEST_CANDIDATES, ROOM, MOST_RECORDS};
 ghost use Rattle.set_tallies.specs.Bags.{IsOf, votes_at};
+ghost use Rattle.set_tallies.specs.Befores.{AllCounted, has_missed};
 ghost use Rattle.set_tallies.specs.Sums.{AreHeld, votes_in};
 ghost use Rattle.set_tallies.specs.declared.sums.TheConstants.{MOST_SUMMED};
 
-use crate::count::{entries_of, missing};
+use crate::cost::rows_in_time;
+use crate::count::{all_joined, missing, noted};
 use crate::entry::Entry;
 use crate::sums::{MOST_SUMMED, Sums};
 use irv_base::{Candidate, Memory, Ranking};
@@ -13,12 +15,11 @@ use std::alloc::Global;
 use std::marker::Model;
 use std::thread::Threads;
 
-/// So many candidates have the sums over all sets whatever the number of the records: their table has at most some 4 megabytes.
-pub const ALWAYS_SUMMED: u32 = 16;
+/// So many candidates have the sums over all sets from the start: they are made as soon as entries would be.
+pub const ALWAYS_SUMMED: u32 = 14;
 
-/// More candidates have sums where each record has at most so many sets of candidates: without sums a search that asks for the rows of
-/// all sets takes long then.
-pub const SETS_A_RECORD: u64 = 256;
+/// So have more candidates where no more rows than this are counted from entries in the time in which the sums are made.
+pub const FEWEST_ROWS: u64 = 128;
 
 /// What is kept of the records: the sums over all sets, or of each candidate the different sets of those who stand before it on
 /// a ballot, each with the number of such ballots.
@@ -60,13 +61,54 @@ impl Model for Bag {
     }) × AreHeld b.n b.records b.votes };
 }
 
-// Whether the records are kept as the sums over all sets, and not as entries.
-fn has_sums(n: u32, records: usize) -> bool
-    requires { n ≤ ROOM }
-    ensures { IsTrue result → n ≤ MOST_SUMMED }
+// The entries of each candidate, if rows of tallies are to be counted from them, and not to be read from sums.
+fn few_entries(
+    alloc: Global,
+    n: u32,
+    rankings: &[Ranking],
+) -> Result<Option<Vec<Vec<Entry>>>, Memory>
+    requires room { n ≤ ROOM }
+    requires most { length rankings.now ≤ MOST_RECORDS }
+    requires below { All (λ ranking. All (λ c. c < n) ranking) rankings.now }
+    ensures each { IfOk result (λ few. IfSome few (λ lists. length lists.items ≡ n)) }
+    ensures counted { IfOk result (λ few. IfSome few (λ lists.
+        AllCounted (map (λ v. v.items) lists.items) rankings.now)) }
+    ensures none { IfOk result (λ few. IfNone few (n ≤ MOST_SUMMED)) }
 {
-    n <= MOST_SUMMED
-        && (n <= ALWAYS_SUMMED || 1u64 << n <= SETS_A_RECORD.saturating_mul(records as u64))
+    if n <= ALWAYS_SUMMED {
+        return Ok(None);
+    }
+    let noted = noted(alloc, n, rankings)?;
+    if n <= MOST_SUMMED && rows_in_time(n, &noted) <= FEWEST_ROWS {
+        return Ok(None);
+    }
+    let lists = all_joined(alloc, noted)?;
+    Ok(Some(lists))
+}
+
+// What is kept of these records.
+fn votes_of<R: AllocGlobal + Threads + Sync>(
+    rt: &R,
+    n: u32,
+    rankings: &[Ranking],
+    workers: u32,
+) -> Result<Votes, Memory>
+    requires fewest { FEWEST_CANDIDATES ≤ n }
+    requires room { n ≤ ROOM }
+    requires most { length rankings.now ≤ MOST_RECORDS }
+    requires below { All (λ ranking. All (λ c. c < n) ranking) rankings.now }
+    requires workers { 1 ≤ workers }
+    ensures held { IfOk result (AreHeld n (length rankings.now)) }
+    ensures says { IfOk result (λ votes. (set c : ℕ) → set < 2 ^ n → c < n
+        → votes_in votes set c ≡ count_by (has_missed set c) rankings.now) }
+{
+    match few_entries(rt.alloc(), n, rankings)? {
+        Some(lists) => Ok(Votes::Listed(lists)),
+        None => {
+            let sums = Sums::of(rt, n, rankings, workers)?;
+            Ok(Votes::Summed(sums))
+        }
+    }
 }
 
 impl Bag {
@@ -86,12 +128,27 @@ impl Bag {
         ensures records { IfOk result (λ bag. IsOf bag rankings.now) }
     {
         let records = rankings.len() as u32;
-        let votes = if has_sums(n, rankings.len()) {
-            Votes::Summed(Sums::of(rt, n, rankings, workers)?)
-        } else {
-            Votes::Listed(entries_of(rt.alloc(), n, rankings)?)
-        };
+        let votes = votes_of(rt, n, rankings, workers)?;
         Ok(Bag { n, records, votes })
+    }
+
+    /// The same bag with sums over all sets, where it has none and has no more candidates than can have them.
+    pub(crate) fn summed(&self, alloc: Global) -> Result<Option<Bag>, Memory>
+        ensures { IfOk result (λ summed. IfSome summed (λ bag. bag ≡ self.now)) }
+    {
+        let lists = match &self.votes {
+            Votes::Listed(lists) => lists,
+            Votes::Summed(_sums) => return Ok(None),
+        };
+        if self.n > MOST_SUMMED {
+            return Ok(None);
+        }
+        let sums = Sums::of_entries(alloc, self.n, lists)?;
+        Ok(Some(Bag {
+            n: self.n,
+            records: self.records,
+            votes: Votes::Summed(sums),
+        }))
     }
 
     /// How many candidates there are.

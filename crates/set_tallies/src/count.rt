@@ -1,12 +1,18 @@
 // Counting the ballots by the candidates who stand before another.
-ghost use Rattle.std.specs.Prelude.{◌≡◌, ◌≤◌, ◌<◌, [], All, length, map, replicate, IfOk};
+ghost use Rattle.std.specs.Prelude.{◌≡◌, ◌≤◌, ◌<◌, [], All, length, map, replicate, IfOk, OnOk};
 ghost use Rattle.irv_base.specs.declared.limits.TheConstants.{ROOM, MOST_RECORDS};
 ghost use Rattle.set_tallies.specs.Bags.{missing, total};
-ghost use Rattle.set_tallies.specs.Befores.{AllCounted, AllSayTheSame, HasNoted, SayTheSame};
+ghost use Rattle.set_tallies.specs.Befores.{AllCounted, AllSayTheSame, HasNoted, HasOneMore, SayTheSame};
 
 use crate::entry::Entry;
-use irv_base::{Memory, Ranking};
+use irv_base::{MOST_RECORDS, Memory, Ranking};
 use std::alloc::Global;
+
+// Of each candidate two to this power entries are at hand.
+const HAND_BITS: u32 = 8;
+
+// Sets that are numbers apart by little come to places far apart by it: it is 2 ^ 32 by the golden ratio.
+const SPREAD: u32 = 0x9E37_79B1;
 
 // No entries, for each of `n` candidates.
 fn none(alloc: Global, n: u32) -> Result<Vec<Vec<Entry>>, Memory>
@@ -19,6 +25,29 @@ fn none(alloc: Global, n: u32) -> Result<Vec<Vec<Entry>>, Memory>
     Ok(lists)
 }
 
+// The place at which the entry of this set is at hand, if it is.
+fn place_of(before: u32) -> usize {
+    (before.wrapping_mul(SPREAD) >> (u32::BITS - HAND_BITS)) as usize
+}
+
+// Counts one more ballot that has just this set before the candidate: in the entry at hand where that is of the set, else in a new
+// one, which is at hand from then on.
+fn put(entries: &mut Vec<Entry>, before: u32) -> Result<(), Memory>
+    ensures { OnOk result (HasOneMore before entries.old.items entries.new.items) }
+{
+    let place = place_of(before);
+    let last = entries.len();
+    if place < last && entries[place].before == before && entries[place].count < MOST_RECORDS {
+        entries[place].count += 1;
+        return Ok(());
+    }
+    entries.push(Entry { before, count: 1 })?;
+    if place < last {
+        entries.swap(place, last);
+    }
+    Ok(())
+}
+
 // Notes for each candidate of the ranking who stands before it.
 fn note(lists: &mut [Vec<Entry>], n: u32, ranking: &Ranking) -> Result<(), Memory>
     requires each { length lists.old ≡ n }
@@ -29,10 +58,7 @@ fn note(lists: &mut [Vec<Entry>], n: u32, ranking: &Ranking) -> Result<(), Memor
 {
     let mut seen = 0u32;
     for d in ranking.candidates() {
-        lists[d.index()].push(Entry {
-            before: seen,
-            count: 1,
-        })?;
+        put(&mut lists[d.index()], seen)?;
         seen |= 1 << d.index();
     }
     Ok(())
@@ -71,8 +97,8 @@ fn joined(alloc: Global, entries: Vec<Entry>) -> Result<Vec<Entry>, Memory>
     Ok(runs)
 }
 
-// One entry for each set that the entries of a candidate have.
-fn all_joined(alloc: Global, noted: Vec<Vec<Entry>>) -> Result<Vec<Vec<Entry>>, Memory>
+/// One entry for each set that the entries of a candidate have.
+pub fn all_joined(alloc: Global, noted: Vec<Vec<Entry>>) -> Result<Vec<Vec<Entry>>, Memory>
     requires { All (λ entries. total entries ≤ MOST_RECORDS) (map (λ v. v.items) noted.items) }
     ensures { IfOk result (λ lists. AllSayTheSame
         (map (λ v. v.items) noted.items) (map (λ v. v.items) lists.items)) }
@@ -84,10 +110,9 @@ fn all_joined(alloc: Global, noted: Vec<Vec<Entry>>) -> Result<Vec<Vec<Entry>>, 
     Ok(lists)
 }
 
-/// The entries of each of `n` candidates in these rankings: one for each set of those who stand before the candidate.
-pub fn entries_of(alloc: Global, n: u32, rankings: &[Ranking]) -> Result<Vec<Vec<Entry>>, Memory>
+/// The entries of each of `n` candidates in these rankings, for each set of those who stand before the candidate one or more.
+pub fn noted(alloc: Global, n: u32, rankings: &[Ranking]) -> Result<Vec<Vec<Entry>>, Memory>
     requires room { n ≤ ROOM }
-    requires most { length rankings.now ≤ MOST_RECORDS }
     requires below { All (λ ranking. All (λ c. c < n) ranking) rankings.now }
     ensures each { IfOk result (λ lists. length lists.items ≡ n) }
     ensures counted { IfOk result (λ lists.
@@ -97,8 +122,7 @@ pub fn entries_of(alloc: Global, n: u32, rankings: &[Ranking]) -> Result<Vec<Vec
     for ranking in rankings {
         note(&mut noted, n, ranking)?;
     }
-    let lists = all_joined(alloc, noted)?;
-    Ok(lists)
+    Ok(noted)
 }
 
 /// On how many ballots the candidate with these entries has nobody of the set before it.

@@ -1,11 +1,11 @@
 // The records of a contest, counted.
-ghost use Rattle.std.specs.Prelude.{◌≡◌, ◌<◌, ◌≤◌, length, All, IfOk};
+ghost use Rattle.std.specs.Prelude.{◌≡◌, ◌<◌, ◌≤◌, length, All, IfOk, IfSome};
 ghost use Rattle.irv_base.specs.declared.limits.TheConstants.{FEWEST_CANDIDATES, ROOM, MOST_RECORDS};
 ghost use Rattle.set_tallies.specs.Bags.{IsOf};
 
 use crate::ahead::Ahead;
 use crate::bag::Bag;
-use crate::tallies::Tallies;
+use crate::tallies::{Tallies, rows_before_sums};
 use irv_base::{Memory, Ranking};
 use std::alloc::Global;
 use std::marker::Model;
@@ -58,6 +58,35 @@ impl Counted {
         ensures bag { IfOk result (λ tallies. tallies.bag ≡ self.now.bag) }
         ensures counts { IfOk result (λ tallies. tallies.counts ≡ self.now.counts) }
     {
-        Tallies::new(self.alloc, &self.bag, &self.ahead)
+        Tallies::new(self.alloc, &self.bag, &self.ahead, u64::MAX)
+    }
+
+    /// The tallies for one of several workers. Where counting rows takes as long as making the sums over all sets, it ends as for
+    /// want of memory: then whoever has sent the workers has them begin anew with what is `summed`, and the sums are made once for all.
+    pub fn tallies_for_worker(&self) -> Result<Tallies<'_>, Memory>
+        ensures bag { IfOk result (λ tallies. tallies.bag ≡ self.now.bag) }
+        ensures counts { IfOk result (λ tallies. tallies.counts ≡ self.now.counts) }
+    {
+        Tallies::new(
+            self.alloc,
+            &self.bag,
+            &self.ahead,
+            rows_before_sums(&self.bag),
+        )
+    }
+
+    /// The same records with the sums over all sets, where they have none and there are few enough candidates for them.
+    pub fn summed(&self) -> Result<Option<Counted>, Memory>
+        ensures { IfOk result (λ summed. IfSome summed (λ counted. counted.bag ≡ self.now.bag)) }
+    {
+        let Some(bag) = self.bag.summed(self.alloc)? else {
+            return Ok(None);
+        };
+        let ahead = Ahead::fill(self.alloc, &bag)?;
+        Ok(Some(Counted {
+            alloc: self.alloc,
+            bag,
+            ahead,
+        }))
     }
 }

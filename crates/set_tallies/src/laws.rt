@@ -1,7 +1,8 @@
 //! The law of a bag, and the limits as equations. They have no code.
 ghost use Rattle.std.specs.Prelude.{◌≡◌};
 ghost use Rattle.set_tallies.specs.Laws.{OrderIsFree};
-ghost use Rattle.set_tallies.specs.declared.bag.TheConstants.{ALWAYS_SUMMED, SETS_A_RECORD};
+ghost use Rattle.set_tallies.specs.declared.bag.TheConstants.{ALWAYS_SUMMED, FEWEST_ROWS};
+ghost use Rattle.set_tallies.specs.declared.cost.TheConstants.{ENTRIES_A_NUMBER};
 ghost use Rattle.set_tallies.specs.declared.rows.TheConstants.{FIRST_PLACES, MOST_ROWS};
 ghost use Rattle.set_tallies.specs.declared.shares.TheConstants.{FEWEST_IN_A_SHARE};
 ghost use Rattle.set_tallies.specs.declared.sums.TheConstants.{MOST_SUMMED};
@@ -16,7 +17,8 @@ pub fn limits()
     ensures rows { MOST_ROWS ≡ 262143 }
     ensures first_places { FIRST_PLACES ≡ 1023 }
     ensures summed { MOST_SUMMED ≡ 20 }
-    ensures always_summed { ALWAYS_SUMMED ≡ 16 }
-    ensures sets_a_record { SETS_A_RECORD ≡ 256 }
+    ensures always_summed { ALWAYS_SUMMED ≡ 14 }
+    ensures fewest_rows { FEWEST_ROWS ≡ 128 }
+    ensures entries_a_number { ENTRIES_A_NUMBER ≡ 8 }
     ensures fewest_in_a_share { FEWEST_IN_A_SHARE ≡ 4096 }
 {}

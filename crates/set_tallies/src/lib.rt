@@ -4,6 +4,7 @@
 
 mod ahead;
 mod bag;
+mod cost;
 mod count;
 mod counted;
 mod entry;

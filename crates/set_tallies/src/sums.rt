@@ -2,12 +2,15 @@
 ghost use Rattle.std.specs.Prelude.{◌≡◌, ℕ, ◌<◌, ◌≤◌, ◌+◌, ◌*◌, ◌-◌, ◌^◌, ◌==◌, ◌&&◌, true, [], All, IfOk, length, slice_index, get_or, map, count_by, if◌then◌else◌};
 ghost use Rattle.irv_base.specs.Candidates.{candidates};
 ghost use Rattle.irv_base.specs.declared.limits.TheConstants.{MOST_RECORDS};
+ghost use Rattle.set_tallies.specs.Bags.{AreEntries, missing};
 ghost use Rattle.set_tallies.specs.Befores.{has_missed};
 ghost use Rattle.set_tallies.specs.Sums.{IsSummed, column, apart, sums_of, sum_at};
 
+use crate::entry::Entry;
 use crate::shares::counted;
-use crate::table::place;
+use crate::table::{place, table_of};
 use irv_base::{Candidate, Memory, Ranking};
+use std::alloc::Global;
 use std::thread::Threads;
 
 /// The most candidates for whom the sums over all sets are made.
@@ -77,6 +80,20 @@ impl Sums {
             → sum_at sums set c ≡ count_by (has_missed set c) rankings.now) }
     {
         let mut table = counted(rt, n, rankings, workers)?;
+        sum_apart(&mut table, n, n);
+        Ok(Sums { n, table })
+    }
+
+    /// The sums over the ballots that the entries of each candidate count.
+    pub fn of_entries(alloc: Global, n: u32, lists: &[Vec<Entry>]) -> Result<Sums, Memory>
+        requires some { 1 ≤ n }
+        requires few { n ≤ MOST_SUMMED }
+        requires entries { AreEntries n MOST_RECORDS (map (λ v. v.items) lists.now) }
+        ensures table { IfOk result (IsSummed n) }
+        ensures says { IfOk result (λ sums. (set c : ℕ) → set < 2 ^ n → c < n
+            → sum_at sums set c ≡ missing set (get_or (map (λ v. v.items) lists.now) c [])) }
+    {
+        let mut table = table_of(alloc, n, lists)?;
         sum_apart(&mut table, n, n);
         Ok(Sums { n, table })
     }

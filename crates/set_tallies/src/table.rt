@@ -1,12 +1,13 @@
 // A table with a number for each set of candidates and each candidate: how many ballots have just that set before the candidate.
-ghost use Rattle.std.specs.Prelude.{◌≡◌, ℕ, ◌<◌, ◌≤◌, ◌+◌, ◌*◌, ◌^◌, ◌==◌, ◌&&◌, All, IfOk, length, slice_index, map, if◌then◌else◌};
+ghost use Rattle.std.specs.Prelude.{◌≡◌, ℕ, ◌<◌, ◌≤◌, ◌+◌, ◌*◌, ◌^◌, ◌==◌, ◌&&◌, [], All, IfOk, length, slice_index, get_or, map, if◌then◌else◌};
 ghost use Rattle.irv_base.specs.Candidates.{candidates};
 ghost use Rattle.irv_base.specs.declared.limits.TheConstants.{MOST_RECORDS};
-ghost use Rattle.set_tallies.specs.Bags.{misses};
+ghost use Rattle.set_tallies.specs.Bags.{AreEntries, misses, missing, total};
 ghost use Rattle.set_tallies.specs.Befores.{has_missed};
 ghost use Rattle.set_tallies.specs.Sums.{column, apart};
 ghost use Rattle.set_tallies.specs.declared.sums.TheConstants.{MOST_SUMMED};
 
+use crate::entry::Entry;
 use irv_base::{Candidate, Memory, Ranking};
 use std::alloc::Global;
 
@@ -57,6 +58,37 @@ pub fn count(table: &mut [u32], n: u32, ranking: &Ranking)
         add(table, n, seen, *d, 1);
         seen |= 1 << d.index();
     }
+}
+
+// Counts the ballots of the entries of a candidate. Of their sets the first `n` candidates count: there are no others.
+fn count_entries(table: &mut [u32], n: u32, c: Candidate, entries: &[Entry])
+    requires few { n ≤ MOST_SUMMED }
+    requires long { length table.old ≡ n * 2 ^ n }
+    requires candidate { c < n }
+    requires fit { apart 0 (column n n table.old c) + total entries.now ≤ MOST_RECORDS }
+    ensures long { length table.new ≡ n * 2 ^ n }
+    ensures more { (s d : ℕ) → s < 2 ^ n → d < n → apart s (column n n table.new d)
+        ≡ apart s (column n n table.old d) + (if d == c then missing s entries.now else 0) }
+{
+    for entry in entries {
+        add(table, n, entry.before % (1 << n), c, entry.count);
+    }
+}
+
+/// A table of the ballots that the entries of each candidate count.
+pub fn table_of(alloc: Global, n: u32, lists: &[Vec<Entry>]) -> Result<Vec<u32>, Memory>
+    requires few { n ≤ MOST_SUMMED }
+    requires entries { AreEntries n MOST_RECORDS (map (λ v. v.items) lists.now) }
+    ensures long { IfOk result (λ table. length table.items ≡ n * 2 ^ n) }
+    ensures says { IfOk result (λ table. (s c : ℕ) → s < 2 ^ n → c < n
+        → apart s (column n n table.items c)
+        ≡ missing s (get_or (map (λ v. v.items) lists.now) c [])) }
+{
+    let mut table = zeros(alloc, n)?;
+    for c in 0..n {
+        count_entries(&mut table, n, Candidate(c as u8), &lists[c as usize]);
+    }
+    Ok(table)
 }
 
 /// Adds the numbers of another table.

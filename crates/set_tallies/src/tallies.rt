@@ -8,8 +8,9 @@ ghost use Rattle.set_tallies.specs.Sums.{AreSums};
 
 use crate::ahead::Ahead;
 use crate::bag::{Bag, Votes};
+use crate::cost::rows_in_time;
 use crate::rows::{Row, Rows};
-use crate::sums::Sums;
+use crate::sums::{MOST_SUMMED, Sums};
 use irv_base::{CandSet, Candidate, Memory};
 use std::alloc::Global;
 use std::marker::Model;
@@ -17,13 +18,16 @@ use std::marker::Model;
 /// The tallies of the sets of candidates, over the records of a bag.
 ///
 /// Where the bag has the sums over all sets, rows are read from them. Else a row that was counted is kept until another set's takes its
-/// place. To a contract the tallies are what they are made from, the bag and the two numbers of NEB's margin.
+/// place, and so many are counted at most. To a contract the tallies are what they are made from, the bag and the two numbers of NEB's
+/// margin.
 #[derive(Drop)]
 pub struct Tallies<'b> {
     alloc: Global,
     bag: &'b Bag,
     ahead: &'b Ahead,
     rows: Rows,
+    // how many more rows may be counted
+    left: u64,
 }
 
 impl<'b> Model for Tallies<'b> {
@@ -44,6 +48,17 @@ fn sums_in(bag: &Bag) -> Option<&Sums>
     match bag.kept() {
         Votes::Summed(sums) => Some(sums),
         Votes::Listed(_lists) => None,
+    }
+}
+
+/// How many rows are counted in the time in which the sums over all sets are made. Where they are made, or can't be, there is no limit.
+pub fn rows_before_sums(bag: &Bag) -> u64 {
+    match bag.kept() {
+        Votes::Listed(lists) if bag.candidates() <= MOST_SUMMED => rows_in_time(
+            bag.candidates(),
+            lists,
+        ),
+        _ => u64::MAX,
     }
 }
 
@@ -77,8 +92,13 @@ fn tallied(alloc: Global, n: u32, row: &[u32], s: CandSet) -> Result<Vec<u32>, M
 }
 
 impl<'b> Tallies<'b> {
-    /// The tallies over the records of the bag, which `ahead` was filled from.
-    pub fn new(alloc: Global, bag: &'b Bag, ahead: &'b Ahead) -> Result<Tallies<'b>, Memory>
+    /// The tallies over the records of the bag, which `ahead` was filled from. At most so many rows are counted.
+    pub fn new(
+        alloc: Global,
+        bag: &'b Bag,
+        ahead: &'b Ahead,
+        most: u64,
+    ) -> Result<Tallies<'b>, Memory>
         requires { AreFilledFrom bag.now ahead.now }
         ensures bag { IfOk result (λ t. t.bag ≡ bag.now) }
         ensures counts { IfOk result (λ t. t.counts ≡ ahead.now) }
@@ -89,6 +109,7 @@ impl<'b> Tallies<'b> {
             bag,
             ahead,
             rows,
+            left: most,
         })
     }
 
@@ -132,7 +153,8 @@ impl<'b> Tallies<'b> {
         }
     }
 
-    /// The tallies of the candidates in the set `s`, one number for each candidate, 0 for those outside.
+    /// The tallies of the candidates in the set `s`, one number for each candidate, 0 for those outside. Where no more rows may be
+    /// counted, that is want of memory.
     pub fn tally(&mut self, s: CandSet) -> Result<Vec<u32>, Memory>
         requires { s < 2 ^ self.old.bag.n }
         ensures tallies { IfOk result (λ row. (records : List (List ℕ)) → IsOf self.old.bag records
@@ -144,6 +166,10 @@ impl<'b> Tallies<'b> {
             let copied = tallied(self.alloc, self.bag.candidates(), row, s)?;
             return Ok(copied);
         }
+        if self.left == 0 {
+            return Err(Memory);
+        }
+        self.left -= 1;
         let set = s.number();
         let votes = row_of(self.alloc, self.bag, s, set)?;
         let answer = Vec::from_slice(self.alloc, &votes)?;

@@ -1,6 +1,6 @@
 use Rattle.std.proofs.Common.{◌≡◌, map, take, length}
 use Rattle.set_tallies.specs.Befores.{AllCounted}
-use Rattle.set_tallies.proofs.count.entries_of.Given as goal
+use Rattle.set_tallies.proofs.count.noted.Given as goal
 
 abbrev pub invariant-loop-ranking : goal.invariant-loop-ranking
 invariant-loop-ranking l = record {

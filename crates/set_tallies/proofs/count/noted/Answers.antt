@@ -1,9 +1,8 @@
 use Rattle.std.proofs.Common.{◌≡◌, ◌+◌, length, map, take, drop, sym, ap, subst, arith, ◌∙◌}
 use Rattle.std.proofs.lemmas.List.{take_all, take_at, length-map}
-use Rattle.irv_base.specs.declared.limits.TheConstants.{MOST_RECORDS}
 use Rattle.set_tallies.specs.Befores.{HasNoted, AllCounted}
-use Rattle.set_tallies.proofs.Noted.{one-counted, few-noted, counted-joined}
-use Rattle.set_tallies.proofs.count.entries_of.Goals as goal
+use Rattle.set_tallies.proofs.Noted.{one-counted}
+use Rattle.set_tallies.proofs.count.noted.Goals as goal
 
 pub loop-ranking-preserved : goal.loop-ranking-preserved
 loop-ranking-preserved c =
@@ -24,19 +23,7 @@ loop-ranking-preserved c =
           c.loop-ranking.invariant.counted);
     }
 
--- all rankings were noted
-all-noted : (c : goal.In_ok-lists) → AllCounted (map (λ v. v.items) c.loop-ranking.noted.items) c.args.rankings.now
-all-noted c =
-    subst (AllCounted (map (λ v. v.items) c.loop-ranking.noted.items)) (take_all c.loop-ranking.ranking-index c.args.rankings.now
-    (omega (arith, c.loop-ranking-test.false))) c.loop-ranking.invariant.counted
-
-pub all_joined-requires : goal.all_joined-requires
-all_joined-requires c =
-    few-noted MOST_RECORDS (map (λ v. v.items) c.loop-ranking.noted.items) c.args.rankings.now c.requires.most
-    (subst (AllCounted (map (λ v. v.items) c.loop-ranking.noted.items)) (take_all c.loop-ranking.ranking-index c.args.rankings.now
-    (omega (arith, c.loop-ranking-test.false))) c.loop-ranking.invariant.counted)
-
 pub returns-clause-counted : goal.returns-clause-counted
 returns-clause-counted c =
-    counted-joined (map (λ v. v.items) c.loop-ranking.noted.items) (map (λ v. v.items) c.in_ok-lists.lists.items) c.args.rankings.now
-    c.in_ok-lists.ensures (all-noted c)
+    subst (AllCounted (map (λ v. v.items) c.loop-ranking.noted.items)) (take_all c.loop-ranking.ranking-index c.args.rankings.now
+    (omega (arith, c.loop-ranking-test.false))) c.loop-ranking.invariant.counted

@@ -34,12 +34,12 @@ fn spent_above(margin: u32, spent: Option<u32>) -> Option<u32>
     if margin == 0 { None } else { spent }
 }
 
-/// Runs a race over these pieces, from the order `first` on.
-pub(crate) fn run_race<R: AllocGlobal + Threads + Sync, G: Gate + Sync>(
+// Runs a race over these pieces, from the order `first` on, unless memory is short or rows of tallies take long.
+fn run_once<R: AllocGlobal + Threads + Sync, G: Gate + Sync>(
     rt: &R,
     counted: &Counted,
     tails: &[Tail],
-    first: Best,
+    first: &Best,
     workers: u32,
     nodes: u32,
     gate: &G,
@@ -48,7 +48,7 @@ pub(crate) fn run_race<R: AllocGlobal + Threads + Sync, G: Gate + Sync>(
     requires some { 1 ≤ length tails.now }
     requires few { length tails.now ≤ MOST_PIECES }
     requires contest { All (λ tail. tail.n ≡ counted.now.bag.n) tails.now }
-    ensures { IfOk result (IsRaced counted.now.bag nodes tails.now workers first) }
+    ensures { IfOk result (IsRaced counted.now.bag nodes tails.now workers first.now) }
 {
     let alloc = rt.alloc();
     let Seats { race, seats } = Race::new(alloc, tails.len() as u32, first.margin, workers)?;
@@ -69,7 +69,7 @@ pub(crate) fn run_race<R: AllocGlobal + Threads + Sync, G: Gate + Sync>(
         reports,
         best,
         spent,
-    } = join(alloc, team, first)?;
+    } = join(alloc, team, *first)?;
     race.finish(seats);
     let spent = spent_above(best.margin, spent);
     Ok(Raced {
@@ -78,4 +78,30 @@ pub(crate) fn run_race<R: AllocGlobal + Threads + Sync, G: Gate + Sync>(
         best,
         spent,
     })
+}
+
+/// Runs a race over these pieces, from the order `first` on. Where rows of tallies take long, it is run anew with sums over all sets, which
+/// all workers share.
+pub(crate) fn run_race<R: AllocGlobal + Threads + Sync, G: Gate + Sync>(
+    rt: &R,
+    counted: &Counted,
+    tails: &[Tail],
+    first: Best,
+    workers: u32,
+    nodes: u32,
+    gate: &G,
+) -> Result<Raced, Memory>
+    requires workers { (1 ≤ workers) × (workers ≤ MOST_WORKERS) }
+    requires some { 1 ≤ length tails.now }
+    requires few { length tails.now ≤ MOST_PIECES }
+    requires contest { All (λ tail. tail.n ≡ counted.now.bag.n) tails.now }
+    ensures { IfOk result (IsRaced counted.now.bag nodes tails.now workers first) }
+{
+    if let Ok(raced) = run_once(rt, counted, tails, &first, workers, nodes, gate) {
+        return Ok(raced);
+    }
+    match counted.summed()? {
+        Some(summed) => run_once(rt, &summed, tails, &first, workers, nodes, gate),
+        None => Err(Memory),
+    }
 }

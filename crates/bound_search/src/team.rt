@@ -56,7 +56,7 @@ fn share<G: Gate + Sync>(
     ensures end { IfOk result (IsWorkerEnd counted.now.bag race.now.terms.first nodes worker
         tails.now seat.new.view) }
 {
-    let mut tallies = counted.tallies()?;
+    let mut tallies = counted.tallies_for_worker()?;
     work(alloc, race, seat, worker, tails, nodes, &mut tallies, gate)
 }
 

@@ -9,8 +9,8 @@ use Rattle.bound_search.specs.Team.{waiting, WorkerWaits, HasFewEnds, IsJoined, 
 use Rattle.bound_search.specs.declared.run.Raced.{Raced}
 use Rattle.bound_search.specs.declared.team.Worker.{Worker}
 use Rattle.bound_search.proofs.Raced.{whole_team, few_of_all, is_raced}
-use Rattle.bound_search.proofs.run.run_race.Goals as goal
-use Rattle.bound_search.proofs.run.run_race.Goals.{In_ok-seats}
+use Rattle.bound_search.proofs.run.run_once.Goals as goal
+use Rattle.bound_search.proofs.run.run_once.Goals.{In_ok-seats}
 
 pub run_team-requires-clause-cut : goal.run_team-requires-clause-cut
 run_team-requires-clause-cut g c κs within = record {
@@ -36,7 +36,7 @@ join-requires g c =
     let whole = whole_team c.in_ok-team.team.len team _ (c.run_team.ensures.len ∙ c.as_mut_slice.ensures.len) in
     record { few = All-same HasFewEnds _ _ whole (few_of_all bag c.args.nodes c.args.tails.now race team c.requires.few c.run_team.ensures.ran) }
 
-joined-is : (g : _) (c : In_ok-seats g) → IsJoined c.args.counted.now.bag c.args.nodes c.args.tails.now c.in_ok-race.field-0.race c.args.first
+joined-is : (g : _) (c : In_ok-seats g) → IsJoined c.args.counted.now.bag c.args.nodes c.args.tails.now c.in_ok-race.field-0.race c.args.first.now
     c.in_ok-seats.field-0
 joined-is g c =
     let bag = c.args.counted.now.bag in
@@ -60,10 +60,10 @@ returns g c =
     ∙ ap (λ (ss : List Seated). map waiting ss) c.in_ok-race.ensures.seats in
     let all = ap length made ∙ length-map (replicate c.args.workers (new_seat race)) waiting ∙ length-replicate c.args.workers (new_seat race) in
     let seats = ap length c.in_ok-seats.ensures.seats ∙ length-map _ (λ (w : Worker). w.seat) ∙ ap length whole in
-    let first_is : race.terms.first ≡ c.args.first.margin = ap (λ (t : Terms). t.first) c.in_ok-race.ensures.terms in
+    let first_is : race.terms.first ≡ c.args.first.now.margin = ap (λ (t : Terms). t.first) c.in_ok-race.ensures.terms in
     let key = ap (λ (r : SharedRace). r.terms.first) c.race.view_is in
-    let fits : c.args.first.margin ≤ highest = omega (arith, c.race.invariant.fits.1, key, first_is) in
-    is_raced bag c.args.nodes c.args.workers c.finish.result c.args.tails.now race c.args.first j _ joined first_is
+    let fits : c.args.first.now.margin ≤ highest = omega (arith, c.race.invariant.fits.1, key, first_is) in
+    is_raced bag c.args.nodes c.args.workers c.finish.result c.args.tails.now race c.args.first.now j _ joined first_is
     (ap (λ (t : Terms). t.pieces) c.in_ok-race.ensures.terms) fits
     (omega (arith, seats, c.run_team.ensures.len, ap length c.as_mut_slice.ensures.value, all)) c.finish.ensures.bound c.finish.ensures.seen
     (c.finish.ensures.taken joined.done)

@@ -36,7 +36,7 @@ fn part_of(
     requires { 1 ≤ workers }
     ensures { HasPart counted.now.bag task.now workers number result }
 {
-    let mut tallies = counted.tallies()?;
+    let mut tallies = counted.tallies_for_worker()?;
     gather(alloc, task, &Dealt { number, workers }, &mut tallies)
 }
 
@@ -95,8 +95,9 @@ fn joined(alloc: Global, parts: Vec<Result<Part, Memory>>) -> Result<Part, Memor
     }
 }
 
-/// What the workers find among the suffixes of all orders that elect another candidate.
-pub fn gather_all<R: AllocGlobal + Threads + Sync>(
+// What the workers find among the suffixes of all orders that elect another candidate, unless memory is short or rows of tallies take
+// long.
+fn gather_once<R: AllocGlobal + Threads + Sync>(
     rt: &R,
     task: &Task,
     counted: &Counted,
@@ -111,4 +112,26 @@ pub fn gather_all<R: AllocGlobal + Threads + Sync>(
     let mut parts = places(alloc, workers)?;
     run(rt, alloc, task, counted, parts.as_mut_slice(), workers);
     joined(alloc, parts)
+}
+
+/// What the workers find among the suffixes of all orders that elect another candidate. Where rows of tallies take long, they begin anew
+/// with sums over all sets, which they share.
+pub fn gather_all<R: AllocGlobal + Threads + Sync>(
+    rt: &R,
+    task: &Task,
+    counted: &Counted,
+    workers: u32,
+) -> Result<Part, Memory>
+    requires { (1 ≤ workers) × (workers ≤ MOST_WORKERS) }
+    ensures { (records : List (List ℕ)) → IsOf counted.now.bag records
+        → IsTask counted.now.bag.n records task.now
+        → IfOk result (IsPartOfSeveral counted.now.bag.n records task.now is_any) }
+{
+    if let Ok(part) = gather_once(rt, task, counted, workers) {
+        return Ok(part);
+    }
+    match counted.summed()? {
+        Some(summed) => gather_once(rt, task, &summed, workers),
+        None => Err(Memory),
+    }
 }

@@ -3,7 +3,7 @@ use Rattle.std.proofs.Math.Seq.{take-append_seam}
 use Rattle.irv_base.specs.declared.memory.Memory.{Memory}
 use Rattle.certifier.specs.declared.part.Part.{Part}
 use Rattle.certifier.specs.Parts.{AreParts}
-use Rattle.certifier.proofs.team.gather_all.Goals as goal
+use Rattle.certifier.proofs.team.gather_once.Goals as goal
 
 on_ok : {P Q : Part → Type 0} (r : Result Part Memory) → ((p : Part) → P p → Q p) → IfOk r P → IfOk r Q
 on_ok (Ok p) f h = f p h

@@ -5,7 +5,7 @@ ghost use Rattle.csv_rows.specs.Fields.{is_blank_record, trimmed_fields};
 ghost use Rattle.csv_rows.specs.Lines.{behind_line, fields_behind, fields_in, is_line_end, is_plain};
 
 use crate::trim::is_blank;
-use memchr::{memchr2_iter, memchr3_iter};
+use memchr::memchr2_iter;
 
 const COMMA: u8 = b',';
 
@@ -27,11 +27,22 @@ pub fn is_plain(text: &[u8]) -> bool
         .is_none()
 }
 
-// The place of the first comma or line end.
+fn ends_field(b: u8) -> bool
+    ensures { result ≡ is_byte3 0x2C 0x0D 0x0A b }
+{
+    b == COMMA || b == CARRIAGE_RETURN || b == LINE_FEED
+}
+
+// The place of the first comma or line end. A field is short: a walk is through it before a search in lanes has begun.
 fn first_field_end(text: &[u8]) -> Option<usize>
     ensures { IsFirstByte (is_byte3 0x2C 0x0D 0x0A) text.now result }
 {
-    memchr3_iter(COMMA, CARRIAGE_RETURN, LINE_FEED, text).next()
+    for i in 0..text.len() {
+        if ends_field(text[i]) {
+            return Some(i);
+        }
+    }
+    None
 }
 
 // The place of the first line end.

@@ -37,9 +37,11 @@ pub enum Checked {
 /// Why it isn't known whether an assertion file holds.
 #[derive(Clone, Copy, Debug)]
 pub enum CheckFault {
-    /// Of the candidates who didn't win this is the least for whom the budget doesn't suffice to tell whether the claims refute
-    /// all orders.
+    /// Of the candidates who didn't win this is the least for whom the budget of nodes doesn't suffice to tell whether the claims
+    /// refute all orders.
     Spent { last: Candidate },
+    /// The budget of sets doesn't suffice to tell whether the claims refute all orders.
+    SpentSets,
     /// Memory could not be had.
     Memory,
 }
@@ -52,6 +54,7 @@ impl fmt::Display for CheckFault {
                 "more suffixes than the budget has count for candidate {}",
                 last.0
             ),
+            CheckFault::SpentSets => write!(f, "more sets of candidates than the budget has count"),
             CheckFault::Memory => write!(f, "{Memory}"),
         }
     }
@@ -73,6 +76,7 @@ impl From<CoverFault> for CheckFault {
     fn from(of_cover: CoverFault) -> Self {
         match of_cover {
             CoverFault::Spent { last } => CheckFault::Spent { last },
+            CoverFault::SpentSets => CheckFault::SpentSets,
             CoverFault::Memory => CheckFault::Memory,
         }
     }

@@ -100,7 +100,7 @@ module _ (n winner : ℕ) (list : List Assertion) where
     none None e = refl
     none (Some order) e = absurd (stands_not_covers n winner budget list order e t)
 
-  never_fails : (budget : Budget) (fault : CoverFault) → IsEnough budget n winner list → covered_is n winner list budget ≡ Err fault → ⊥
+  pub never_fails : (budget : Budget) (fault : CoverFault) → IsEnough budget n winner list → covered_is n winner list budget ≡ Err fault → ⊥
   never_fails budget fault enough h =
       let same : Ok (verdict_on (standing_order n winner list)) ≡ Err fault = sym (enough-verdict budget enough) ∙ h in cc
 

@@ -1,5 +1,5 @@
 -- What a search finds, from what its parts answer.
-use Rattle.std.proofs.Common.{◌≡◌, ◌↔◌, inl, inr, ℕ, ◌<◌, ◌≤◌, true, List, length, All, Some, None, sym, ap, subst, arith, ltb-true, ◌∙◌}
+use Rattle.std.proofs.Common.{◌≡◌, ◌↔◌, inl, inr, ℕ, ◌<◌, ◌≤◌, true, List, length, All, Some, None, refl, sym, ap, subst, arith, ltb-true, ◌∙◌}
 use Rattle.std.proofs.lemmas.List.Sums.{count_by-le-length}
 use Rattle.budget.specs.declared.budget.Budget.{Budget}
 use Rattle.budget.specs.declared.budget.Budget.TheVariants.{Nodes, Sets}
@@ -319,17 +319,17 @@ module _ (ballots : BallotFile) (bag : Kept) (t : Tabulated) (counted : IsCounte
       told_by_sets = record { winner = t.winner; won = won_by ballots t tabulated_there; within = undecided_here.within }
 
     pub spent_by_sets : (order : List ℕ) (margin : ℕ) → ((records : List (List ℕ)) → IsOf bag records → AreSpent bag.n records t sets order margin) →
-        IsSpentBySetsIn (Sets sets) ballots order margin
+        IsSpentBySetsIn (Sets sets) ballots sets order margin
     spent_by_sets order margin h =
         let s = of_ballots (λ n records. AreSpent n records t sets order margin) h in
-        record {
+        (refl, record {
           winner = t.winner;
           won = won_by ballots t tabulated_there;
           above = s.above;
           start = s.start;
           hardness = s.hardness;
           some = s.some;
-        }
+        })
 
 -- ---- the ties of a tabulation
 

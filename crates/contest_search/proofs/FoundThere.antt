@@ -61,10 +61,10 @@ module _ (ballots : BallotFile) where
   spent_in_there (Nodes nodes) last order margin is = spent_there nodes last order margin is
   spent_in_there (Sets sets) last order margin is = is
 
-  by_sets_there : (budget : Budget) (order : List ℕ) (margin : ℕ) → IsSpentBySetsIn budget (searched ballots) order margin →
-      IsSpentBySetsIn budget ballots order margin
-  by_sets_there (Nodes nodes) order margin is = is
-  by_sets_there (Sets sets) order margin is = spent_by_sets_there sets order margin is
+  by_sets_there : (budget : Budget) (told : ℕ) (order : List ℕ) (margin : ℕ) → IsSpentBySetsIn budget (searched ballots) told order margin →
+      IsSpentBySetsIn budget ballots told order margin
+  by_sets_there (Nodes nodes) told order margin is = is
+  by_sets_there (Sets sets) told order margin is = (is.0, spent_by_sets_there sets order margin is.1)
 
   pub found_there : (budget : Budget) (found : Found) → FoundIn budget (searched ballots) found → FoundIn budget ballots found
   unfolding certificate_there
@@ -73,7 +73,7 @@ module _ (ballots : BallotFile) where
   found_there budget (Tie round tied votes) (is, told) =
       (record { counted = is.counted; first = is.first; undecided = is.undecided }, told_there budget told)
   found_there budget (Spent last order margin) is = spent_in_there budget last order margin is
-  found_there budget (SpentSets order margin) is = by_sets_there budget order margin is
+  found_there budget (SpentSets sets order margin) is = by_sets_there budget sets order margin is
 
   -- of the contest of the file, and as that which is told apart
   pub found_of : (budget : Budget) (found is : Found) (contest : BallotFile) → found ≡ is → contest ≡ searched ballots → FoundIn budget contest found →

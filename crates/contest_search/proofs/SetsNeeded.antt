@@ -44,7 +44,7 @@ spent_by_sets_exactly sets ballots (Tie round tied votes) winner won (is, told) 
     let bound = bound-same ballots winner told.winner won told.won in
     let within = told.within (omega (arith, some, bound)) in omega (arith, above, within, same))
 spent_by_sets_exactly sets ballots (Spent last order margin) winner won found = absurd found
-spent_by_sets_exactly sets ballots (SpentSets order margin) winner won found =
-    let same = sets-same ballots winner found.winner won found.won in
-    let bound = bound-same ballots winner found.winner won found.won in
-    (λ _. (omega (arith, found.some, found.hardness, bound), omega (arith, found.above, same)), λ _. tt)
+spent_by_sets_exactly sets ballots (SpentSets told order margin) winner won (its, is) =
+    let same = sets-same ballots winner is.winner won is.won in
+    let bound = bound-same ballots winner is.winner won is.won in
+    (λ _. (omega (arith, is.some, is.hardness, bound), omega (arith, is.above, same)), λ _. tt)

@@ -99,6 +99,7 @@ abbrev pub IsSpentIn : Budget → BallotFile → ℕ → List ℕ → ℕ → Ty
 IsSpentIn (Nodes nodes) ballots last order margin = IsSpent nodes ballots last order margin
 IsSpentIn (Sets sets) ballots last order margin = ⊥
 
-abbrev pub IsSpentBySetsIn : Budget → BallotFile → List ℕ → ℕ → Type 0
-IsSpentBySetsIn (Nodes nodes) ballots order margin = ⊥
-IsSpentBySetsIn (Sets sets) ballots order margin = IsSpentBySets sets ballots order margin
+abbrev pub IsSpentBySetsIn : Budget → BallotFile → ℕ → List ℕ → ℕ → Type 0
+IsSpentBySetsIn (Nodes nodes) ballots told order margin = ⊥
+IsSpentBySetsIn (Sets sets) ballots told order margin =
+    (told ≡ sets) × IsSpentBySets sets ballots order margin

@@ -26,14 +26,15 @@ FoundIn budget ballots (CertificateFound file) = IsFoundIn budget ballots file
 FoundIn budget ballots (Tie round tied votes) =
     IsTie ballots round tied votes × IsTold budget ballots
 FoundIn budget ballots (Spent last order margin) = IsSpentIn budget ballots last order margin
-FoundIn budget ballots (SpentSets order margin) = IsSpentBySetsIn budget ballots order margin
+FoundIn budget ballots (SpentSets sets order margin) =
+    IsSpentBySetsIn budget ballots sets order margin
 
 -- the budget is spent
 abbrev pub IsSpentFound : Found → Type 0
 IsSpentFound (CertificateFound file) = ⊥
 IsSpentFound (Tie round tied votes) = ⊥
 IsSpentFound (Spent last order margin) = ⊤
-IsSpentFound (SpentSets order margin) = ⊤
+IsSpentFound (SpentSets sets order margin) = ⊤
 
 -- ---- on the way
 

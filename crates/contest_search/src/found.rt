@@ -39,8 +39,13 @@ pub enum Found {
         order: Order,
         margin: u32,
     },
-    /// More sets of candidates than the budget has are needed. Beside it the order that a search starts with, and its hardness.
-    SpentSets { order: Order, margin: u32 },
+    /// More sets of candidates are needed than the budget has, which are so many. Beside it the order that a search starts with, and its
+    /// hardness.
+    SpentSets {
+        sets: u32,
+        order: Order,
+        margin: u32,
+    },
 }
 
 /// What a search of the contest finds, by so many workers, within a budget: of nodes for each piece of the race and for each candidate
@@ -106,7 +111,11 @@ fn sets_of(
             Ok(Found::Certificate(file))
         }
         Ok(SetsEnd::Undecided) => Ok(tie_of(contest, tabulated)),
-        Err(SetsFault::Spent { order, margin }) => Ok(Found::SpentSets { order, margin }),
+        Err(SetsFault::Spent { order, margin }) => Ok(Found::SpentSets {
+            sets,
+            order,
+            margin,
+        }),
         Err(SetsFault::Memory) => Err(Memory),
     }
 }

@@ -20,7 +20,7 @@ module _ (budget : Budget) (ballots : BallotFile) (file : Content) (about : is_a
 
   pub want-fault : (fault : CheckFault) → IsWant fault → IsFault budget ballots file fault
   want-fault (Spent last) h = absurd h
-  want-fault SpentSets h = absurd h
+  want-fault (SpentSets sets) h = absurd h
   want-fault Memory h = h
 
   -- where there is a winner
@@ -36,7 +36,7 @@ module _ (budget : Budget) (ballots : BallotFile) (file : Content) (about : is_a
     fault-one : (fault : CheckFault) → IsErrOf (first_found (findings budget ballots.rankings file winner) (Ok Accepted)) fault →
         IsFault budget ballots file fault
     fault-one (Spent last) h = found_is (Err (Spent last)) h
-    fault-one SpentSets h = found_is (Err SpentSets) h
+    fault-one (SpentSets sets) h = found_is (Err (SpentSets sets)) h
     fault-one Memory h = h
 
     pub fault-answer : (result : Answer) → IfErr result (IsErrOf (first_found (findings budget ballots.rankings file winner) (Ok Accepted))) →

@@ -66,7 +66,7 @@ module _ (n winner : ℕ) (list : List Assertion) where
   unmapped None e = refl
   unmapped (Some last) e = cc
 
-  within : (sets : ℕ) (b : Bool) → nat_lt sets (standing_sets n winner list) ≡ b → (if b then Some SpentSets else None) ≡ None →
+  within : (sets : ℕ) (b : Bool) → nat_lt sets (standing_sets n winner list) ≡ b → (if b then Some (SpentSets sets) else None) ≡ None →
       standing_sets n winner list ≤ sets
   within sets true e h = cc
   within sets false e h = ltb-false sets (standing_sets n winner list) e
@@ -77,7 +77,7 @@ module _ (n winner : ℕ) (list : List Assertion) where
 
   enough-none : (budget : Budget) → IsEnough budget n winner list → spent_by budget n winner list ≡ None
   enough-none (Nodes nodes) enough = ap (option_map Spent) (nodes-none nodes enough)
-  enough-none (Sets sets) enough = ap (λ b. if b then Some SpentSets else None) (le-ltb sets (standing_sets n winner list) enough)
+  enough-none (Sets sets) enough = ap (λ b. if b then Some (SpentSets sets) else None) (le-ltb sets (standing_sets n winner list) enough)
 
   pub never_over : (budget : Budget) → winner < n → 1 < n → IsEnoughFor n budget → IsEnough budget n winner list
   never_over (Nodes nodes) below two le = nodes-enough nodes le
@@ -109,5 +109,5 @@ pub never_spent : (n winner nodes : ℕ) (list : List Assertion) (last : ℕ) �
 never_spent n winner nodes list last le h = never_fails n winner list (Nodes nodes) (Spent last) (nodes-enough n winner list nodes le) h
 
 pub sets_never_spent : (n winner sets : ℕ) (list : List Assertion) → winner < n → 1 < n → 2 ^ n - 3 ≤ sets →
-    covered_is n winner list (Sets sets) ≡ Err SpentSets → ⊥
-sets_never_spent n winner sets list below two le h = never_fails n winner list (Sets sets) SpentSets (sets-enough n winner list sets below two le) h
+    covered_is n winner list (Sets sets) ≡ Err (SpentSets sets) → ⊥
+sets_never_spent n winner sets list below two le h = never_fails n winner list (Sets sets) (SpentSets sets) (sets-enough n winner list sets below two le) h

@@ -238,7 +238,7 @@ module _ (budget : Budget) (ballots : BallotFile) (file : Content) where
       by_cover (Ok verdict) e found =
           ap Ok ((covered_iff_covers (candidate_count file) file.winner budget (assertions_of file) verdict e).1 (held-covers ballots file h))
       by_cover (Err (CoverSpent last)) e found = cc
-      by_cover (Err CoverSpentSets) e found = cc
+      by_cover (Err (CoverSpentSets sets)) e found = cc
       by_cover (Err CoverMemory) e found = cc
 
       by_winner : (winner : ℕ) → IsWinner (length ballots.candidates) ballots.rankings winner →

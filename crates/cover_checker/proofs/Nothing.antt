@@ -97,14 +97,14 @@ pub covered-none : (result : Result Verdict CoverFault) → unless_covered resul
 covered-none (Ok Covered) h = refl
 covered-none (Ok (OrderStands order)) h = cc
 covered-none (Err (CoverSpent last)) h = cc
-covered-none (Err CoverSpentSets) h = cc
+covered-none (Err (CoverSpentSets sets)) h = cc
 covered-none (Err CoverMemory) h = cc
 
 pub covered-never : (result : Result Verdict CoverFault) → NeverAccepts (unless_covered result)
 covered-never (Ok Covered) h = cc
 covered-never (Ok (OrderStands order)) h = cc
 covered-never (Err (CoverSpent last)) h = cc
-covered-never (Err CoverSpentSets) h = cc
+covered-never (Err (CoverSpentSets sets)) h = cc
 covered-never (Err CoverMemory) h = cc
 
 -- ---- the margin and the order of the file

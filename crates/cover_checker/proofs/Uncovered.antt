@@ -27,7 +27,7 @@ module _ (budget : Budget) (file : Content) (n winner : ℕ) (list : List Assert
   pub spent-found : (fault : CoverFault) → (failed fault ≢ failed Memory → Err fault ≡ covered_is n winner list budget) →
       IsFindingOf (uncovered budget file) (as_check_fault fault)
   spent-found (Spent last) e = ap unless_covered (sym (e (λ same. cc) ∙ covered-same))
-  spent-found SpentSets e = ap unless_covered (sym (e (λ same. cc) ∙ covered-same))
+  spent-found (SpentSets sets) e = ap unless_covered (sym (e (λ same. cc) ∙ covered-same))
   spent-found Memory e = tt
 
   pub verdict-found : (verdict : Verdict) (found : Option Answer) → (done verdict ≢ failed Memory → Ok verdict ≡ covered_is n winner list budget) →

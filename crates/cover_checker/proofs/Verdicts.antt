@@ -104,16 +104,16 @@ error-spent last None standing e = cc
 
 -- ---- what the walk from set to set answers, as the verdict
 
-pub told : Result (Option (List ℕ)) WalkFault → Result Verdict CoverFault
-told (Ok standing) = Ok (verdict_on standing)
-told (Err WalkSpent) = Err SpentSets
-told (Err WalkMemory) = Err Memory
+abbrev pub told : ℕ → Result (Option (List ℕ)) WalkFault → Result Verdict CoverFault
+told sets (Ok standing) = Ok (verdict_on standing)
+told sets (Err WalkSpent) = Err (SpentSets sets)
+told sets (Err WalkMemory) = Err Memory
 
-pub told-is : (n winner sets : ℕ) (list : List Assertion) → told (first_by_walk n winner sets (passes list)) ≡ covered_is n winner list (Sets sets)
+pub told-is : (n winner sets : ℕ) (list : List Assertion) → told sets (first_by_walk n winner sets (passes list)) ≡ covered_is n winner list (Sets sets)
 told-is n winner sets list =
-    ap (λ o. told (if nat_lt sets (standing_sets n winner list) then Err WalkSpent else Ok o)) (sym (standing_by_sets n winner list))
+    ap (λ o. told sets (if nat_lt sets (standing_sets n winner list) then Err WalkSpent else Ok o)) (sym (standing_by_sets n winner list))
     ∙ go (nat_lt sets (standing_sets n winner list)) (standing_order n winner list)
   where
-    go : (b : Bool) (o : Option (List ℕ)) → told (if b then Err WalkSpent else Ok o) ≡ or_spent (if b then Some SpentSets else None) (verdict_on o)
+    go : (b : Bool) (o : Option (List ℕ)) → told sets (if b then Err WalkSpent else Ok o) ≡ or_spent (if b then Some (SpentSets sets) else None) (verdict_on o)
     go true o = refl
     go false o = refl

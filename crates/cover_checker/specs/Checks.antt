@@ -47,5 +47,5 @@ IsAnswer budget ballots file answer =
 -- what a fault says; of want of memory nothing is said
 abbrev pub IsFault : Budget → BallotFile → Content → CheckFault → Type 0
 IsFault budget ballots file (Spent last) = IsAnswer budget ballots file (Err (Spent last))
-IsFault budget ballots file SpentSets = IsAnswer budget ballots file (Err SpentSets)
+IsFault budget ballots file (SpentSets sets) = IsAnswer budget ballots file (Err (SpentSets sets))
 IsFault budget ballots file Memory = ⊤

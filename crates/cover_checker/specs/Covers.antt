@@ -43,7 +43,7 @@ standing_sets n winner list = length (counted n winner (passes list))
 abbrev pub spent_by : Budget → ℕ → ℕ → List Assertion → Option CoverFault
 spent_by (Nodes nodes) n winner list = option_map Spent (first_over n winner list nodes)
 spent_by (Sets sets) n winner list =
-    if nat_lt sets (standing_sets n winner list) then Some SpentSets else None
+    if nat_lt sets (standing_sets n winner list) then Some (SpentSets sets) else None
 
 abbrev pub verdict_on : Option (List ℕ) → Verdict
 verdict_on None = Covered

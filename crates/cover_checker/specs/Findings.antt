@@ -66,7 +66,7 @@ abbrev pub unless_covered : Result Verdict CoverFault → Option Answer
 unless_covered (Ok Covered) = None
 unless_covered (Ok (OrderStands order)) = Some (Ok (Stands order))
 unless_covered (Err (CoverSpent last)) = Some (Err (Spent last))
-unless_covered (Err CoverSpentSets) = Some (Err SpentSets)
+unless_covered (Err (CoverSpentSets sets)) = Some (Err (SpentSets sets))
 unless_covered (Err CoverMemory) = Some (Err Memory)
 
 -- the order that no claim refutes, or a budget that doesn't suffice to tell
@@ -127,23 +127,23 @@ other_draws file = option_and_then (other_draws_in file) file.plan
 -- the fault is the answer's
 abbrev pub IsErrOf : Answer → CheckFault → Type 0
 IsErrOf answer (Spent last) = answer ≡ Err (Spent last)
-IsErrOf answer SpentSets = answer ≡ Err SpentSets
+IsErrOf answer (SpentSets sets) = answer ≡ Err (SpentSets sets)
 IsErrOf answer Memory = ⊤
 
 -- the fault is what is found
 abbrev pub IsFindingOf : Option Answer → CheckFault → Type 0
 IsFindingOf found (Spent last) = found ≡ Some (Err (Spent last))
-IsFindingOf found SpentSets = found ≡ Some (Err SpentSets)
+IsFindingOf found (SpentSets sets) = found ≡ Some (Err (SpentSets sets))
 IsFindingOf found Memory = ⊤
 
 -- the fault is want of memory
 abbrev pub IsWant : CheckFault → Type 0
 IsWant (Spent last) = ⊥
-IsWant SpentSets = ⊥
+IsWant (SpentSets sets) = ⊥
 IsWant Memory = ⊤
 
 -- what a fault of `covered` is to `check`
 abbrev pub as_check_fault : CoverFault → CheckFault
 as_check_fault (CoverSpent last) = Spent last
-as_check_fault CoverSpentSets = SpentSets
+as_check_fault (CoverSpentSets sets) = SpentSets sets
 as_check_fault CoverMemory = Memory

@@ -60,7 +60,7 @@ CoveredIsNeverSpent =
 abbrev pub CoveredBySetsIsNeverSpent : Type 0
 CoveredBySetsIsNeverSpent =
     (n winner sets : ℕ) (list : List Assertion) → winner < n → 1 < n → 2 ^ n - 3 ≤ sets →
-    covered_is n winner list (Sets sets) ≡ Err CoverSpentSets → ⊥
+    covered_is n winner list (Sets sets) ≡ Err (CoverSpentSets sets) → ⊥
 
 -- ==== files
 

@@ -30,8 +30,8 @@ pub enum Verdict {
 pub enum CoverFault {
     /// The least alternative winner for whom more suffixes count than the budget has.
     Spent { last: Candidate },
-    /// More sets of candidates count than the budget has.
-    SpentSets,
+    /// More sets of candidates count than the budget has, which are so many.
+    SpentSets { sets: u32 },
     /// Memory could not be had.
     Memory,
 }
@@ -44,7 +44,9 @@ impl fmt::Display for CoverFault {
                 "more suffixes than the budget has count for candidate {}",
                 last.0
             ),
-            CoverFault::SpentSets => write!(f, "more sets of candidates than the budget has count"),
+            CoverFault::SpentSets { sets } => {
+                write!(f, "more sets of candidates than {sets} count")
+            }
             CoverFault::Memory => write!(f, "{Memory}"),
         }
     }
@@ -88,7 +90,7 @@ fn by_sets(
     match walk_within(alloc, &mut Passing { n, list }, n, winner, sets) {
         Ok(WalkEnd::Found(order)) => Ok(Verdict::Stands(order)),
         Ok(WalkEnd::Ended(_)) => Ok(Verdict::Covered),
-        Err(WalkFault::Spent) => Err(CoverFault::SpentSets),
+        Err(WalkFault::Spent) => Err(CoverFault::SpentSets { sets }),
         Err(WalkFault::Memory) => Err(CoverFault::Memory),
     }
 }

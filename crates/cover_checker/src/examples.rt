@@ -23,7 +23,7 @@ pub fn three_candidates()
         ≡ Ok Verdict.Covered }
     ensures short { covered_is 3 1
         (Assertion.Neb 1 2 ∷ Assertion.Nen 1 0 3 ∷ Assertion.Nen 2 0 5 ∷ []) (Budget.Sets 0)
-        ≡ Err CoverFault.SpentSets }
+        ≡ Err (CoverFault.SpentSets 0) }
 {}
 
 /// Without its NEB the order 1,0,2 stands. The suffixes 2 and 0,2 count for its winner, and with the suffix 0 their sets are three.
@@ -35,7 +35,7 @@ pub fn without_neb()
     ensures within { covered_is 3 1 (Assertion.Nen 1 0 3 ∷ Assertion.Nen 2 0 5 ∷ []) (Budget.Sets 3)
         ≡ Ok (Verdict.Stands (1 ∷ 0 ∷ 2 ∷ [])) }
     ensures short { covered_is 3 1 (Assertion.Nen 1 0 3 ∷ Assertion.Nen 2 0 5 ∷ []) (Budget.Sets 2)
-        ≡ Err CoverFault.SpentSets }
+        ≡ Err (CoverFault.SpentSets 2) }
 {}
 
 /// Where nothing is asserted, the order whose backward reading is least stands: 2,1,0.

@@ -27,7 +27,7 @@ from_trial : (number : ℕ) (claim : Claim) (later left : List Claim) (result : 
 from_trial number claim later left (Ok Covered) e = inl (cc, refl)
 from_trial number claim later left (Ok (Stands order)) e = inr (cc, (order, refl))
 from_trial number claim later left (Err (CoverSpent last)) e = cc
-from_trial number claim later left (Err CoverSpentSets) e = cc
+from_trial number claim later left (Err (CoverSpentSets sets)) e = cc
 from_trial number claim later left (Err CoverMemory) e = cc
 
 module _ (budget : Budget) (file : Content) where

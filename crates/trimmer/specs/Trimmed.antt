@@ -16,7 +16,7 @@ abbrev pub can_go : ℕ → Result Verdict CoverFault → Result Bool TrimFault
 can_go number (Ok Covered) = Ok true
 can_go number (Ok (Stands order)) = Ok false
 can_go number (Err (CoverSpent last)) = Err (Spent number last)
-can_go number (Err CoverSpentSets) = Err (SpentSets number)
+can_go number (Err (CoverSpentSets sets)) = Err (SpentSets number sets)
 can_go number (Err CoverMemory) = Err Memory
 
 abbrev pub unless_it_goes : Claim → List Claim → Result Bool TrimFault →

@@ -15,7 +15,7 @@ pub fn three_candidates()
     ensures spent { trimmed (Budget.Nodes 1) files.three_candidates ≡ Err (TrimFault.Spent 2 0) }
     ensures by_sets { trimmed (Budget.Sets 3) files.three_candidates
         ≡ Ok (record files.three_candidates { claims = take 2 files.three_candidates.claims }) }
-    ensures short { trimmed (Budget.Sets 2) files.three_candidates ≡ Err (TrimFault.SpentSets 1) }
+    ensures short { trimmed (Budget.Sets 2) files.three_candidates ≡ Err (TrimFault.SpentSets 1 2) }
 {}
 
 /// One claim of two candidates is needed.

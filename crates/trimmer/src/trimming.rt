@@ -119,6 +119,7 @@ fn can_go_by_sets(
         Ok(WalkEnd::Found(_)) => Ok(false),
         Err(WalkFault::Spent) => Err(TrimFault::SpentSets {
             claim: place as u64 + 1,
+            sets,
         }),
         Err(WalkFault::Memory) => Err(TrimFault::Memory),
     }

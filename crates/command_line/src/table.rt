@@ -196,11 +196,7 @@ const SEARCH_TOGETHER: [Together; 2] = [
 ];
 
 // Of a check, and of a trim.
-const CHECK_OPTIONS: [OptionName; 3] = [
-    OptionName::Contest,
-    OptionName::Nodes,
-    OptionName::Sets,
-];
+const CHECK_OPTIONS: [OptionName; 3] = [OptionName::Contest, OptionName::Nodes, OptionName::Sets];
 
 const OPEN_OPTIONS: [OptionName; 6] = [
     OptionName::Seed,
@@ -211,11 +207,7 @@ const OPEN_OPTIONS: [OptionName; 6] = [
     OptionName::Sets,
 ];
 
-const AUDIT_OPTIONS: [OptionName; 3] = [
-    OptionName::Draws,
-    OptionName::Nodes,
-    OptionName::Sets,
-];
+const AUDIT_OPTIONS: [OptionName; 3] = [OptionName::Draws, OptionName::Nodes, OptionName::Sets];
 
 const POLL_OPTIONS: [OptionName; 5] = [
     OptionName::Seed,

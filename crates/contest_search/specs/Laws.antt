@@ -28,7 +28,7 @@ NodesAreFew =
 -- No search needs more sets than there are, less three.
 abbrev pub SetsAreFew : Type 0
 SetsAreFew =
-    (ballots : BallotFile) (winner : ℕ) → IsWon ballots winner → 1 < candidate_count ballots →
+    (ballots : BallotFile) (winner : ℕ) → IsWon ballots winner →
     sets_of ballots winner ≤ 2 ^ candidate_count ballots - 3
 
 -- A search by sets is spent exactly where more sets are needed than the budget has, and the order that it starts with isn't of hardness 0.

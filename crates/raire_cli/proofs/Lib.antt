@@ -13,6 +13,7 @@ mod PollsLimit
 mod Enough
 mod Limited
 mod SignedOff
+mod EitherBudget
 mod EachCommand
 mod Workers
 mod Complete

@@ -70,7 +70,7 @@ use Rattle.raire_cli.proofs.Said.{held_whole, value_of, told_ok, unless_ok}
 
 -- ---- a check
 
-spent_answer : (file : FileContent) (answer : Answer) (text : List ℕ) → verdict_on file answer ≡ Some (Answered Spent text) →
+pub spent_answer : (file : FileContent) (answer : Answer) (text : List ℕ) → verdict_on file answer ≡ Some (Answered Spent text) →
     (fault : CheckFault) × (answer ≡ Err fault)
 spent_answer file (Ok OtherContest) text is = absurd (cc is)
 spent_answer file (Ok (OtherWinner winner)) text is = absurd (cc is)

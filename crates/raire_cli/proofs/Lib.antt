@@ -22,6 +22,7 @@ mod PluralOpened
 mod PluralAudited
 mod PluralsLimit
 mod Undecided
+mod SetsSpent
 mod Rounds
 mod Clauses
 mod Nodes

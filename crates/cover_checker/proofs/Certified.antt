@@ -1,10 +1,10 @@
 -- The canonical certificate of ballots is accepted.
-use Rattle.std.proofs.Common.{◌≡◌, ◌≢◌, ℕ, ◌<◌, ◌≤◌, true, false, not, ◌&&◌, ◌==◌, nat_lt, List, [], ◌∷◌, map, count_by, Option, Some, None, Ok, Contains, refl, sym, ap, subst, arith, ◌∙◌, inl, inr, ltb-true, lt-ltb, le-ltb, eqb-true}
+use Rattle.std.proofs.Common.{◌≡◌, ◌≢◌, ℕ, ◌<◌, ◌≤◌, true, false, not, ◌&&◌, ◌==◌, nat_lt, List, [], ◌∷◌, length, map, count_by, Option, Some, None, Ok, Contains, refl, sym, ap, subst, arith, ◌∙◌, inl, inr, lt-ltb, le-ltb, eqb-true}
 use Rattle.std.specs.List.{list_any}
-use Rattle.std.proofs.lemmas.Bool.{cases_Bool, cases_lt, not-true, eqb-false}
+use Rattle.std.proofs.lemmas.Bool.{cases_Bool, cases_lt}
 use Rattle.budget.specs.declared.budget.Budget.{Budget}
 use Rattle.budget.specs.declared.budget.Budget.TheVariants.{Nodes, Sets}
-use Rattle.irv_base.proofs.Members.{Member, member-map, from_map, contains-from_member, member-from_contains, from_list_all, from_find, from_filter, from_candidates}
+use Rattle.irv_base.proofs.Members.{Member, member-map, from_map, contains-from_member, member-from_contains, from_list_all, from_find}
 use Rattle.assertions.specs.declared.assertion.Assertion.{Assertion}
 use Rattle.assertions.specs.declared.assertion.Claim.{Claim}
 use Rattle.assertions.specs.Assertions.{is_true, true_margin}
@@ -83,7 +83,7 @@ module _ (n winner : ℕ) (records : List (List ℕ)) (positive : 0 < best_margi
       ∙ ap length (certificate_stands n winner records positive)
 
   enough-below : (budget : Budget) → IsEnoughBelow budget n winner records best → IsEnough budget n winner listed
-  enough-below (Nodes nodes) few c below ne = subst (λ k. k ≤ nodes) (sym (count-below c below ne)) (few c below ne)
+  enough-below (Nodes nodes) few = λ c below ne. subst (λ k. k ≤ nodes) (sym (count-below c below ne)) (few c below ne)
   enough-below (Sets sets) few = subst (λ k. k ≤ sets) (sym sets-below) few
 
   pub certificate-covered : (budget : Budget) → IsEnoughBelow budget n winner records best → covered_is n winner listed budget ≡ Ok Covered

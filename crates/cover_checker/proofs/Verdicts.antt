@@ -15,12 +15,15 @@ use Rattle.assertions.proofs.Elections.{cover_is_sound}
 use Rattle.assertions.proofs.Endings.{alternative_orders_are}
 use Rattle.assertions.proofs.Firsts.{first_alternative}
 use Rattle.suffix_walk.specs.Search as walk
-use Rattle.set_walk.specs.Answers.{first_within as first_by_walk}
+use Rattle.set_walk.specs.Answers.{first_within as first_by_walk, IsWalk}
 use Rattle.set_walk.specs.Walks.{passes}
 use Rattle.set_walk.proofs.Orders.{standing_by_sets}
+use Rattle.set_walk.specs.declared.walk.WalkEnd.{WalkEnd}
+use Rattle.set_walk.specs.declared.walk.WalkEnd.TheVariants.{Found, Ended}
 use Rattle.set_walk.specs.declared.walk.WalkFault.{WalkFault}
 use Rattle.set_walk.specs.declared.walk.WalkFault.TheVariants.{Spent as WalkSpent, Memory as WalkMemory}
 use Rattle.cover_checker.specs.Covers.{stands, covered_is, spent_by, or_spent, verdict_on, standing_order, standing_sets}
+use Rattle.cover_checker.specs.Ends.{verdict_at}
 use Rattle.cover_checker.specs.declared.cover.Verdict.{Verdict}
 use Rattle.cover_checker.specs.declared.cover.Verdict.TheVariants.{Covered, Stands}
 use Rattle.cover_checker.specs.declared.cover.CoverFault.{CoverFault}
@@ -117,3 +120,9 @@ told-is n winner sets list =
     go : (b : Bool) (o : Option (List ℕ)) → told sets (if b then Err WalkSpent else Ok o) ≡ or_spent (if b then Some (SpentSets sets) else None) (verdict_on o)
     go true o = refl
     go false o = refl
+
+-- where the walk comes to its end
+pub ended-is : (n winner sets : ℕ) (list : List Assertion) (end : WalkEnd) → IsWalk n winner sets (passes list) (Ok end) →
+    Ok (verdict_at end) ≡ covered_is n winner list (Sets sets)
+ended-is n winner sets list (Found order) walk = sym (ap (told sets) walk) ∙ told-is n winner sets list
+ended-is n winner sets list (Ended seen) walk = sym (ap (told sets) walk.0) ∙ told-is n winner sets list

@@ -2,6 +2,7 @@
 ghost use Rattle.std.specs.Prelude.{◌≡◌, ◌≢◌, ◌≤◌, Err};
 ghost use Rattle.irv_base.specs.declared.limits.TheConstants.{ROOM};
 ghost use Rattle.cover_checker.specs.Covers.{covered_is};
+ghost use Rattle.cover_checker.specs.Ends.{verdict_at};
 ghost use Rattle.cover_checker.specs.declared.cover.CoverFault.TheVariants.{Memory as WantOfMemory};
 
 use crate::index::Index;
@@ -66,12 +67,22 @@ impl From<Memory> for CoverFault {
 fn by_nodes(list: Index<'_>, n: u32, winner: Candidate, nodes: u32) -> Result<Verdict, CoverFault>
     requires some { 1 ≤ n }
     requires room { n ≤ ROOM }
-    ensures { result ≡ covered_is n winner list (Budget.Nodes nodes) }
+    ensures { result ≡ covered_is n winner list.entry (Budget.Nodes nodes) }
 {
     match first_within(&Unrefuted { n, list }, n, winner, nodes) {
         Ok(None) => Ok(Verdict::Covered),
         Ok(Some(order)) => Ok(Verdict::Stands(order)),
         Err(last) => Err(CoverFault::Spent { last }),
+    }
+}
+
+// The verdict where a walk from set to set ends so.
+fn verdict_of(end: &WalkEnd) -> Verdict
+    ensures { result ≡ verdict_at end.now }
+{
+    match end {
+        WalkEnd::Found(order) => Verdict::Stands(*order),
+        WalkEnd::Ended(_) => Verdict::Covered,
     }
 }
 
@@ -85,11 +96,11 @@ fn by_sets(
 ) -> Result<Verdict, CoverFault>
     requires some { 1 ≤ n }
     requires room { n ≤ ROOM }
-    ensures { result ≢ Err CoverFault.Memory → result ≡ covered_is n winner list (Budget.Sets sets) }
+    ensures { result ≢ Err CoverFault.Memory → result ≡ covered_is n winner list.entry (Budget.Sets sets) }
 {
-    match walk_within(alloc, &mut Passing { n, list }, n, winner, sets) {
-        Ok(WalkEnd::Found(order)) => Ok(Verdict::Stands(order)),
-        Ok(WalkEnd::Ended(_)) => Ok(Verdict::Covered),
+    let mut passing = Passing { n, list };
+    match walk_within(alloc, &mut passing, n, winner, sets) {
+        Ok(end) => Ok(verdict_of(&end)),
         Err(WalkFault::Spent) => Err(CoverFault::SpentSets { sets }),
         Err(WalkFault::Memory) => Err(CoverFault::Memory),
     }

@@ -1,4 +1,4 @@
-use Rattle.std.proofs.Common.{not, sym, ap, ap₂, ◌∙◌}
+use Rattle.std.proofs.Common.{not, sym, ap, ◌∙◌}
 use Rattle.cover_checker.proofs.Passes.{passes-is}
 use Rattle.cover_checker.proofs.passing.PassingGoes.goes.Goals as goal
 

@@ -204,9 +204,11 @@ pub more_spent : (files : List File) (command : Command) (sets : ℕ) → budget
 more_spent files (Search task) sets is (ballots, (are, cards), more) =
     let (text, spent) = told_spent sets ballots more in
     let finds : Finds task.budget task.floor task.plan ballots (Answered Spent text) =
-    inr (inr (inl (text, subst (λ budget. HasSpent budget ballots text) (sym is) spent, refl))) in
-    (text, comes_of files task.ballots task.contest (Searches task) ballots are (Answered Spent text)
-    (searched_with task ballots (Answered Spent text) cards finds))
+    inr (inr (inl (text, subst (λ budget. HasSpent budget ballots text) (sym is) spent, refl))) in (
+      text,
+      comes_of files task.ballots task.contest (Searches task) ballots are (Answered Spent text)
+          (searched_with task ballots (Answered Spent text) cards finds),
+    )
 more_spent files (Trial task) sets is more =
     let (text, spent) = told_spent sets (contest_of task) more in
     (text, inr (inr (text, subst (λ budget. HasSpent budget (contest_of task) text) (sym is) spent, refl)))

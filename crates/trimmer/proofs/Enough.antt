@@ -1,5 +1,5 @@
 -- With a budget that is enough no trial is spent.
-use Rattle.std.proofs.Common.{◌≡◌, ℕ, ◌+◌, List, [], ◌∷◌, ◌++◌, length, map, Result, Ok, Err, refl, sym, ap, arith, ◌∙◌}
+use Rattle.std.proofs.Common.{◌≡◌, ℕ, ◌+◌, List, [], ◌∷◌, ◌++◌, length, map, Result, Ok, Err, refl, arith}
 use Rattle.budget.specs.declared.budget.Budget.{Budget}
 use Rattle.budget.specs.declared.budget.Budget.TheVariants.{Nodes, Sets}
 use Rattle.assertions.specs.declared.assertion.Claim.{Claim}
@@ -8,7 +8,6 @@ use Rattle.cover_checker.specs.Covers.{IsEnough}
 use Rattle.cover_checker.specs.declared.cover.Verdict.{Verdict}
 use Rattle.cover_checker.specs.declared.cover.Verdict.TheVariants.{Covered, Stands}
 use Rattle.cover_checker.specs.declared.cover.CoverFault.{CoverFault}
-use Rattle.cover_checker.specs.declared.cover.CoverFault.TheVariants.{Spent as CoverSpent, SpentSets as CoverSpentSets, Memory as CoverMemory}
 use Rattle.cover_checker.proofs.Enough.{never_fails, nodes-enough, sets-enough}
 use Rattle.trimmer.specs.Laws.{TrimIsNeverSpent, TrimBySetsIsNeverSpent}
 use Rattle.trimmer.specs.Trimmed.{can_go, unless_it_goes, with_claims, covered_by, tried, left_of, plan_left, trimmed}

@@ -8,14 +8,14 @@ use crate::TrimFault;
 use budget::Budget;
 
 /// NEN(2,0,{0,2}) can go, since NEB(1,2) refutes all that it does. The other two are needed: with the NEB alone 2,1,0 stands,
-/// and with the NEN alone 1,0,2. To see that, two suffixes count for a candidate, and three sets in all.
+/// and with the NEN alone 1,0,2. To see that, two suffixes count for a candidate, and two sets in all.
 pub fn three_candidates()
     ensures trimmed { trimmed (Budget.Nodes 2) files.three_candidates
         ≡ Ok (record files.three_candidates { claims = take 2 files.three_candidates.claims }) }
     ensures spent { trimmed (Budget.Nodes 1) files.three_candidates ≡ Err (TrimFault.Spent 2 0) }
-    ensures by_sets { trimmed (Budget.Sets 3) files.three_candidates
+    ensures by_sets { trimmed (Budget.Sets 2) files.three_candidates
         ≡ Ok (record files.three_candidates { claims = take 2 files.three_candidates.claims }) }
-    ensures short { trimmed (Budget.Sets 2) files.three_candidates ≡ Err (TrimFault.SpentSets 1 2) }
+    ensures short { trimmed (Budget.Sets 1) files.three_candidates ≡ Err (TrimFault.SpentSets 2 1) }
 {}
 
 /// One claim of two candidates is needed.

@@ -28,7 +28,10 @@ impl fmt::Display for TrimFault {
                 claim, last.0
             ),
             TrimFault::SpentSets { claim, sets } => {
-                write!(f, "without claim {claim} more sets of candidates than {sets} count")
+                write!(
+                    f,
+                    "without claim {claim} more sets of candidates than {sets} count"
+                )
             }
             TrimFault::Memory => write!(f, "{Memory}"),
         }

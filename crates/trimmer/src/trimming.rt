@@ -108,6 +108,9 @@ fn can_go_by_sets(
     ensures { result ≢ Err TrimFault.Memory → result ≡ can_go (place + 1)
         (covered_by (Budget.Sets sets) f.now (take place f.now.claims ++ (others.now).kept)) }
 {
+    let many = f.claims().len();
+    prove!(place < many);
+    let claim = place as u64 + 1;
     let n = f.candidates().len() as u32;
     let mut all = Without {
         n,
@@ -117,10 +120,7 @@ fn can_go_by_sets(
     match walk_within(alloc, &mut all, n, f.winner(), sets) {
         Ok(WalkEnd::Ended(_)) => Ok(true),
         Ok(WalkEnd::Found(_)) => Ok(false),
-        Err(WalkFault::Spent) => Err(TrimFault::SpentSets {
-            claim: place as u64 + 1,
-            sets,
-        }),
+        Err(WalkFault::Spent) => Err(TrimFault::SpentSets { claim, sets }),
         Err(WalkFault::Memory) => Err(TrimFault::Memory),
     }
 }
@@ -151,11 +151,7 @@ fn can_go(
 }
 
 // How many suffixes count with all claims of the file.
-fn first_counts_by_nodes(
-    f: &AssertionFile,
-    all: &Remaining<'_>,
-    nodes: u32,
-) -> [u32; ROOM as usize]
+fn first_counts_by_nodes(f: &AssertionFile, all: &Remaining<'_>, nodes: u32) -> [u32; ROOM as usize]
     requires covered { covered_is (candidate_count f.now) f.now.winner (assertions_of f.now) (Budget.Nodes nodes)
         ≡ Ok Verdict.Covered }
     requires all { all.now ≡ record { untried = f.now.claims; kept = [] } }

@@ -1,6 +1,7 @@
 -- The smallest margin of an accepted file is the best, so no other set needs fewer clean draws.
 use Rattle.std.proofs.Common.{ℕ, ◌≤◌, List, get_or, All, Contains, refl, arith}
 use Rattle.std.proofs.lemmas.List.Elements.{All-contains}
+use Rattle.budget.specs.declared.budget.Budget.{Budget}
 use Rattle.assertions.specs.declared.assertion.Assertion.{Assertion}
 use Rattle.assertions.specs.declared.assertion.Claim.{Claim}
 use Rattle.assertions.specs.Assertions.{true_margin}
@@ -14,19 +15,19 @@ use Rattle.cover_checker.proofs.Held.{accepted_iff_holds}
 use Rattle.km_risk.proofs.CleanDraws.{same_draws_law, larger_margin_law}
 use Rattle.audit_laws.specs.CleanDraws.{IsRival, AreEnough, FewestCleanDraws, NeedsNoMore}
 
-module _ (nodes cards gamma : ℕ) (ballots : BallotFile) (file : Content) (others : List Assertion) (rival : IsRival nodes cards gamma ballots file others) where
+module _ (budget : Budget) (cards gamma : ℕ) (ballots : BallotFile) (file : Content) (others : List Assertion) (rival : IsRival budget cards gamma ballots file others) where
   sound : IsSound file
   sound = rival.file_sound
 
   held : Holds ballots file
-  held = (accepted_iff_holds nodes ballots file Accepted sound rival.accepted).0 refl
+  held = (accepted_iff_holds budget ballots file Accepted sound rival.accepted).0 refl
 
   -- one of the others has no larger margin than any claim
   pub weakest : (a : Assertion) × Contains others a × All (λ claim. true_margin ballots.rankings a ≤ claim.margin) file.claims
   weakest =
       let (a, among, most) = none_beats_best (candidate_count file) file.winner ballots.rankings others sound.winner (omega (arith, sound.fewest))
       rival.others_prove.proper rival.others_prove.covering in
-      let best = accepted_margin_is_best nodes ballots file sound rival.accepted in
+      let best = accepted_margin_is_best budget ballots file sound rival.accepted in
       (a, among, λ j d below. let least = held.smallest j d below in omega (arith, most, best, least))
 
   pub margin-within : All (λ claim. (1 ≤ claim.margin) × (claim.margin ≤ cards)) file.claims
@@ -35,21 +36,21 @@ module _ (nodes cards gamma : ℕ) (ballots : BallotFile) (file : Content) (othe
       (margin.some, omega (arith, margin.most, held.records, rival.enough_cards))
 
 pub fewest_clean_draws : FewestCleanDraws
-fewest_clean_draws nodes cards gamma limit k ballots file others rival enough j d below =
-    let (a, among, less) = weakest nodes cards gamma ballots file others rival in
+fewest_clean_draws budget cards gamma limit k ballots file others rival enough j d below =
+    let (a, among, less) = weakest budget cards gamma ballots file others rival in
     let claim : Claim = get_or file.claims j d in
-    let within = margin-within nodes cards gamma ballots file others rival j d below in
+    let within = margin-within budget cards gamma ballots file others rival j d below in
     let mine = All-contains (λ b. AreEnough cards gamma limit k (true_margin ballots.rankings b)) others a enough among in
     let lower = same_draws_law cards (true_margin ballots.rankings a) claim.margin gamma k (omega (arith, within)) (less j d below) within.1 rival.positive in
     omega (arith, mine, lower)
 
 pub needs_no_more : NeedsNoMore
-needs_no_more nodes cards gamma limit ballots file others rival =
-    let (a, among, less) = weakest nodes cards gamma ballots file others rival in (
+needs_no_more budget cards gamma limit ballots file others rival =
+    let (a, among, less) = weakest budget cards gamma ballots file others rival in (
       a,
       among,
       λ j d below.
-          let within = margin-within nodes cards gamma ballots file others rival j d below in
+          let within = margin-within budget cards gamma ballots file others rival j d below in
           larger_margin_law cards (true_margin ballots.rankings a) (get_or file.claims j d).margin gamma limit (omega (arith, within))
           (less j d below) within.1 rival.positive,
     )

@@ -54,13 +54,13 @@ held_risk_limit limit gamma n batches ballots file actual sequences fit terms wr
     (held_is_auditable batches ballots file fit) terms (rw (← cards) at wrong) off)
 
 pub risk_limit : RiskLimit
-risk_limit nodes limit gamma n batches ballots file actual sequences are =
+risk_limit budget limit gamma n batches ballots file actual sequences are =
     held_risk_limit limit gamma n batches ballots file actual sequences (record {
       manifest_sound = are.manifest_sound;
       ballots_sound = are.ballots_sound;
       file_sound = are.file_sound;
       linked = are.linked;
-      holds = (accepted_iff_holds nodes ballots file Accepted are.file_sound are.accepted).0 refl;
+      holds = (accepted_iff_holds budget ballots file Accepted are.file_sound are.accepted).0 refl;
     })
 
 pub other_winner_is_wrong : OtherWinnerIsWrong

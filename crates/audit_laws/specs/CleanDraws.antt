@@ -1,6 +1,7 @@
 -- The fewest clean draws: draws of cards that are all seen as recorded.
 use Rattle.std.specs.Prelude.{ℕ, ◌*◌, ◌≤◌, List, length, All, Contains, IfSome, IsSomeAnd, Ok, IsTrue}
 use Rattle.std.specs.List.{list_all}
+use Rattle.budget.specs.declared.budget.Budget.{Budget}
 use Rattle.assertions.specs.declared.assertion.Assertion.{Assertion}
 use Rattle.assertions.specs.Assertions.{is_proper, is_true, true_margin}
 use Rattle.assertions.specs.Refutation.{covers}
@@ -21,10 +22,10 @@ pub record ProveWinner (n winner : ℕ) (records : List (List ℕ))
   pub covering : IsTrue (covers n winner assertions)
 
 -- ballots of so many cards at most, a file that the check accepts, gamma above 0, and another set that proves its winner
-pub record IsRival (nodes cards gamma : ℕ) (ballots : BallotFile) (file : Content)
+pub record IsRival (budget : Budget) (cards gamma : ℕ) (ballots : BallotFile) (file : Content)
     (others : List Assertion) : Type 0 where
   pub file_sound : IsSound file
-  pub accepted : IsAnswer nodes ballots file (Ok Accepted)
+  pub accepted : IsAnswer budget ballots file (Ok Accepted)
   pub enough_cards : length ballots.rankings ≤ cards
   pub positive : 1 ≤ gamma
   pub others_prove : ProveWinner (candidate_count file) file.winner ballots.rankings others
@@ -36,9 +37,9 @@ AreEnough cards gamma limit k margin = printed_risk cards margin gamma (clean k)
 -- clean draws that are enough for each assertion of the other set are enough for each of the file
 abbrev pub FewestCleanDraws : Type 0
 FewestCleanDraws =
-    (nodes cards gamma limit k : ℕ) (ballots : BallotFile) (file : Content)
+    (budget : Budget) (cards gamma limit k : ℕ) (ballots : BallotFile) (file : Content)
     (others : List Assertion) →
-    IsRival nodes cards gamma ballots file others →
+    IsRival budget cards gamma ballots file others →
     All (λ a. AreEnough cards gamma limit k (true_margin ballots.rankings a)) others →
     All (λ claim. AreEnough cards gamma limit k claim.margin) file.claims
 
@@ -46,9 +47,9 @@ FewestCleanDraws =
 -- set needs at least as many as any of the file
 abbrev pub NeedsNoMore : Type 0
 NeedsNoMore =
-    (nodes cards gamma limit : ℕ) (ballots : BallotFile) (file : Content)
+    (budget : Budget) (cards gamma limit : ℕ) (ballots : BallotFile) (file : Content)
     (others : List Assertion) →
-    IsRival nodes cards gamma ballots file others →
+    IsRival budget cards gamma ballots file others →
     (a : Assertion) × Contains others a
     × All
     (λ claim.

@@ -14,6 +14,7 @@
 --
 -- It is a count, and speaks of no chance: that one sequence is drawn as easily as another is up to the seed.
 use Rattle.std.specs.Prelude.{◌≢◌, ◌≡◌, ℕ, ◌*◌, ◌^◌, ◌≤◌, List, length, None, Ok, IsTrue}
+use Rattle.budget.specs.declared.budget.Budget.{Budget}
 use Rattle.irv_base.specs.Orders.{is_order, Elects}
 use Rattle.irv_base.specs.Tabulation.{is_possible}
 use Rattle.ballot_reader.specs.Ballots.{BallotFile, IsSound as AreSound}
@@ -29,7 +30,7 @@ use Rattle.session_state.specs.RiskOfValues.{AreTerms, AreSignedOff}
 -- ---- what is given
 
 -- three files, of which the calls of the suite answered that they are fit
-pub record ArePublished (nodes : ℕ) (batches : Batches) (ballots : BallotFile)
+pub record ArePublished (budget : Budget) (batches : Batches) (ballots : BallotFile)
     (file : Content) : Type 0 where
   -- what the readers keep of a manifest, of ballots and of an assertion file
   pub manifest_sound : AreBatches batches.ids batches.counts
@@ -38,7 +39,7 @@ pub record ArePublished (nodes : ℕ) (batches : Batches) (ballots : BallotFile)
   -- each ballot has a card
   pub linked : first_without_card batches ballots ≡ None
   -- the check of the assertion file says yes
-  pub accepted : IsAnswer nodes ballots file (Ok Accepted)
+  pub accepted : IsAnswer budget ballots file (Ok Accepted)
 
 -- the actual rankings of the cards, whatever they are: some way of breaking their ties elects another candidate
 pub record MayElectAnother (n winner cards : ℕ) (actual : List (List ℕ)) : Type 0 where
@@ -55,9 +56,9 @@ pub record MayElectAnother (n winner cards : ℕ) (actual : List (List ℕ)) : T
 -- of all cards ^ n sequences, those are at most limit millionths on which a session of the file's claims may be signed off
 abbrev pub RiskLimit : Type 0
 RiskLimit =
-    (nodes limit gamma n : ℕ) (batches : Batches) (ballots : BallotFile) (file : Content)
+    (budget : Budget) (limit gamma n : ℕ) (batches : Batches) (ballots : BallotFile) (file : Content)
     (actual sequences : List (List ℕ)) →
-    ArePublished nodes batches ballots file →
+    ArePublished budget batches ballots file →
     AreTerms limit gamma →
     MayElectAnother (candidate_count file) file.winner (length (cards_of batches)) actual →
     AreSignedOff limit gamma (audited file) (linked_of batches ballots) actual n sequences →

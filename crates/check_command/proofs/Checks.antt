@@ -1,10 +1,9 @@
 -- A check comes to one end, and what the checker names is among the candidates.
-use Rattle.std.proofs.Common.{◌≡◌, ℕ, ◌+◌, ◌<◌, Bool, true, false, not, ◌==◌, if◌then◌else◌, List, [], ◌∷◌, length, Option, None, Some, IfSome, Ok, Err, IsTrue, refl, sym, ap, subst, ◌∙◌}
+use Rattle.std.proofs.Common.{◌≡◌, ℕ, ◌+◌, ◌<◌, Bool, true, false, ◌==◌, if◌then◌else◌, List, [], ◌∷◌, length, Option, None, Some, IfSome, Ok, Err, IsTrue, refl, sym, ap, subst, ◌∙◌}
 use Rattle.std.specs.Prelude.{⊤, option_and_then}
 use Rattle.std.specs.Bool.{MatchBool}
-use Rattle.irv_base.specs.Candidates.{candidates, all_but}
 use Rattle.irv_base.specs.Orders.{is_order}
-use Rattle.irv_base.proofs.Members.{Member, here, contains-from_member, from_filter, from_find, from_candidates, member-append_right}
+use Rattle.irv_base.proofs.Members.{Member, here, contains-from_member, from_find, member-append_right}
 use Rattle.irv_base.proofs.Orders.{order_facts}
 use Rattle.assertions.specs.declared.assertion.Assertion.{Assertion}
 use Rattle.assertions.specs.declared.assertion.Claim.{Claim}
@@ -13,20 +12,24 @@ use Rattle.assertions.specs.Hardness.{refuter}
 use Rattle.assertions.specs.Suffixes.{alternative_orders}
 use Rattle.assertions.proofs.Endings.{alternative_orders_are}
 use Rattle.assertions.proofs.Refuters.{refuter-first}
+use Rattle.budget.specs.declared.budget.Budget.{Budget}
 use Rattle.ballot_reader.specs.Ballots.{BallotFile}
 use Rattle.ballot_reader.specs.Grammar.{ballots_of}
 use Rattle.assertion_file.specs.Content.{Content, Plan}
 use Rattle.assertion_file.specs.Reading.{assertion_file_of}
-use Rattle.cover_checker.specs.Covers.{stands, standing_order, first_over, verdict_on as cover_verdict, or_spent, covered_is}
+use Rattle.cover_checker.specs.Covers.{stands, standing_order, spent_by, verdict_on as cover_verdict, or_spent, covered_is}
 use Rattle.cover_checker.specs.Outcomes.{IsWinner}
 use Rattle.cover_checker.specs.Findings.{Answer, is_about, has_other_margin, other_margin_from, unless_covered, refuted_by, elects, smallest_margin, are_same_draws, other_draws_from, other_draws}
 use Rattle.cover_checker.specs.Draws.{clean_draws_of}
 use Rattle.cover_checker.specs.Checks.{findings, first_found, checked_is, Judges, IsAnswer}
+use Rattle.cover_checker.proofs.Named.{spent-below}
 use Rattle.cover_checker.proofs.OneAnswer.{answer_is_one}
 use Rattle.cover_checker.proofs.Same.{from_about}
 use Rattle.cover_checker.specs.declared.checked.Checked.{Checked}
 use Rattle.cover_checker.specs.declared.checked.Checked.TheVariants.{OtherContest, OtherWinner, OtherMargin, Stands, NotLeast, NotAlternative, Harder, OtherDraws, Accepted}
-use Rattle.cover_checker.specs.declared.checked.CheckFault.TheVariants.{Spent, Memory}
+use Rattle.cover_checker.specs.declared.checked.CheckFault.TheVariants.{Spent, SpentSets, Memory}
+use Rattle.cover_checker.specs.declared.cover.CoverFault.{CoverFault}
+use Rattle.cover_checker.specs.declared.cover.CoverFault.TheVariants.{Spent as CoverSpent, SpentSets as CoverSpentSets, Memory as CoverMemory}
 use Rattle.cli_base.specs.Outcome.{Verdict, Answered, outcome}
 use Rattle.cli_base.specs.Script.{Agree, AreOfKind, IsOfKind, Same}
 use Rattle.cli_base.specs.declared.outcome.AnswerKind.TheVariants.{Done, Spent as SpentKind, Differs}
@@ -46,6 +49,7 @@ use Rattle.check_command.specs.Named.{IsAmong}
 abbrev Names : ℕ → Answer → Type 0
 Names n (Ok found) = IsAmong n found
 Names n (Err (Spent last)) = last < n
+Names n (Err (SpentSets sets)) = ⊤
 Names n (Err Memory) = ⊤
 
 abbrev Each : (Answer → Type 0) → List (Option Answer) → Type 0
@@ -69,19 +73,18 @@ names-margin n records at (claim ∷ claims) = by (has_other_margin records clai
   by true more = tt
   by false more = more
 
-names-cover : (n winner nodes : ℕ) (list : List Assertion) → IfSome (unless_covered (covered_is n winner list nodes)) (Names n)
-names-cover n winner nodes list = by (first_over n winner list nodes) (standing_order n winner list) over-below standing-order where
-  over-below : (last : ℕ) → first_over n winner list nodes ≡ Some last → last < n
-  over-below last is = from_candidates (from_filter (λ c. not (c == winner)) (candidates n) (from_find _ last (all_but n winner) is).0).0
-
+names-cover : (n winner : ℕ) (budget : Budget) (list : List Assertion) → IfSome (unless_covered (covered_is n winner list budget)) (Names n)
+names-cover n winner budget list = by (spent_by budget n winner list) (standing_order n winner list) (spent-below n winner list budget) standing-order where
   standing-order : (order : List ℕ) → standing_order n winner list ≡ Some order → IsTrue (is_order n order)
   standing-order order is =
       ((alternative_orders_are n winner order).0 (contains-from_member (from_find (stands list) order (alternative_orders n winner) is).0)).0
 
-  by : (over : Option ℕ) (standing : Option (List ℕ)) → ((last : ℕ) → over ≡ Some last → last < n) →
+  by : (spent : Option CoverFault) (standing : Option (List ℕ)) → ((last : ℕ) → spent ≡ Some (CoverSpent last) → last < n) →
       ((order : List ℕ) → standing ≡ Some order → IsTrue (is_order n order))
-      → IfSome (unless_covered (or_spent over (cover_verdict standing))) (Names n)
-  by (Some last) standing below order = below last refl
+      → IfSome (unless_covered (or_spent spent (cover_verdict standing))) (Names n)
+  by (Some (CoverSpent last)) standing below order = below last refl
+  by (Some (CoverSpentSets sets)) standing below order = tt
+  by (Some CoverMemory) standing below order = tt
   by None None below order = tt
   by None (Some found) below order = order found refl
 
@@ -117,19 +120,19 @@ winner-below n records winner won =
     let (before, e) = won.elects in
     (order_facts n won.order won.permutation).below winner (subst (Member winner) (sym e) (member-append_right before here))
 
-names-judged : (nodes : ℕ) (ballots : BallotFile) (file : Content) → is_about ballots file ≡ true → (winner : ℕ) →
+names-judged : (budget : Budget) (ballots : BallotFile) (file : Content) → is_about ballots file ≡ true → (winner : ℕ) →
     IsWinner (length ballots.candidates) ballots.rankings winner
-    → Names (length file.candidates) (checked_is nodes ballots.rankings file winner)
-names-judged nodes ballots file about winner is =
+    → Names (length file.candidates) (checked_is budget ballots.rankings file winner)
+names-judged budget ballots file about winner is =
     let n = length file.candidates in
     let below : winner < n = subst (λ m. winner < m) (sym (ap length (from_about ballots file about).candidates))
     (winner-below (length ballots.candidates) ballots.rankings winner is) in
-    of_first (Names n) (findings nodes ballots.rankings file winner) (Ok Accepted) (
+    of_first (Names n) (findings budget ballots.rankings file winner) (Ok Accepted) (
       if_not (Names n) (file.winner == winner) (Ok (OtherWinner winner)) below,
       (
         names-margin n ballots.rankings 1 file.claims,
         (
-          names-cover n file.winner nodes _,
+          names-cover n file.winner budget _,
           (
             if_not (Names n) (smallest_margin file == file.margin) (Ok (NotLeast (smallest_margin file))) tt,
             (
@@ -141,33 +144,33 @@ names-judged nodes ballots file about winner is =
       ),
     ) tt
 
-pub names : (nodes : ℕ) (ballots : BallotFile) (file : Content) (answer : Answer) → IsAnswer nodes ballots file answer → Names (length file.candidates) answer
-names nodes ballots file answer is = by (is_about ballots file) refl is where
-  by : (b : Bool) → is_about ballots file ≡ b → MatchBool b (Judges nodes ballots file answer) (answer ≡ Ok OtherContest) →
+pub names : (budget : Budget) (ballots : BallotFile) (file : Content) (answer : Answer) → IsAnswer budget ballots file answer → Names (length file.candidates) answer
+names budget ballots file answer is = by (is_about ballots file) refl is where
+  by : (b : Bool) → is_about ballots file ≡ b → MatchBool b (Judges budget ballots file answer) (answer ≡ Ok OtherContest) →
       Names (length file.candidates) answer
-  by true about judges = subst (Names (length file.candidates)) judges.answer_is (names-judged nodes ballots file about judges.winner judges.tabulated)
+  by true about judges = subst (Names (length file.candidates)) judges.answer_is (names-judged budget ballots file about judges.winner judges.tabulated)
   by false about other = subst (Names (length file.candidates)) (sym other) tt
 
 -- ---- one end
 
-pub checks-one : (nodes : ℕ) (ballots : BallotFile) (file : Content) (v w : Verdict) → Checks nodes ballots file v → Checks nodes ballots file w → v ≡ w
-checks-one nodes ballots file v w (answer, is, told) (other, is', told') =
-    some_is (sym told ∙ ap (verdict_on file) (answer_is_one nodes ballots file answer other is is') ∙ told')
+pub checks-one : (budget : Budget) (ballots : BallotFile) (file : Content) (v w : Verdict) → Checks budget ballots file v → Checks budget ballots file w → v ≡ w
+checks-one budget ballots file v w (answer, is, told) (other, is', told') =
+    some_is (sym told ∙ ap (verdict_on file) (answer_is_one budget ballots file answer other is is') ∙ told')
 
 -- and a check of these ballots does
-pub ballots-agree : (assertions : List ℕ) (nodes : ℕ) (ballots : BallotFile) → Agree Same (after_ballots assertions nodes ballots)
-ballots-agree assertions nodes ballots = λ bytes. go_on-agrees (told (refused_assertions assertions) (assertion_file_of bytes)) _
-    (λ file v w p q. ap outcome (checks-one nodes ballots file v w p q))
+pub ballots-agree : (assertions : List ℕ) (budget : Budget) (ballots : BallotFile) → Agree Same (after_ballots assertions budget ballots)
+ballots-agree assertions budget ballots = λ bytes. go_on-agrees (told (refused_assertions assertions) (assertion_file_of bytes)) _
+    (λ file v w p q. ap outcome (checks-one budget ballots file v w p q))
 
 pub agrees : (task : CheckTask) → Agree Same (script task)
 agrees task = λ bytes. go_on-agrees (told (refused_ballots task.ballots) (ballots_of bytes task.contest)) _
-    (λ ballots. ballots-agree task.assertions task.nodes ballots)
+    (λ ballots. ballots-agree task.assertions task.budget ballots)
 
 -- a file that the checker accepts has no verdict but yes
 pub accepted_is_yes : AcceptedIsYes
-accepted_is_yes nodes ballots file verdict known = (only, λ is. (Ok Accepted, known, ap Some (sym is))) where
-  only : Checks nodes ballots file verdict → verdict ≡ Answered Done (yes_text file)
-  only (answer, is, told) = some_is (sym told ∙ ap (verdict_on file) (answer_is_one nodes ballots file answer (Ok Accepted) is known))
+accepted_is_yes budget ballots file verdict known = (only, λ is. (Ok Accepted, known, ap Some (sym is))) where
+  only : Checks budget ballots file verdict → verdict ≡ Answered Done (yes_text file)
+  only (answer, is, told) = some_is (sym told ∙ ap (verdict_on file) (answer_is_one budget ballots file answer (Ok Accepted) is known))
 
 -- ---- the kinds of its answers
 
@@ -185,15 +188,16 @@ found-kind file Accepted = among kinds Done refl
 pub answer-kind : (file : Content) (answer : Answer) (v : Verdict) → verdict_on file answer ≡ Some v → IsOfKind kinds v
 answer-kind file (Ok found) v told = subst (IsOfKind kinds) (some_is told) (found-kind file found)
 answer-kind file (Err (Spent last)) v told = subst (IsOfKind kinds) (some_is told) (among kinds SpentKind refl)
+answer-kind file (Err (SpentSets sets)) v told = subst (IsOfKind kinds) (some_is told) (among kinds SpentKind refl)
 answer-kind file (Err Memory) v told = absurd (cc told)
 
-pub checks-kind : (nodes : ℕ) (ballots : BallotFile) (file : Content) (v : Verdict) → Checks nodes ballots file v → IsOfKind kinds v
-checks-kind nodes ballots file v (answer, is, told) = answer-kind file answer v told
+pub checks-kind : (budget : Budget) (ballots : BallotFile) (file : Content) (v : Verdict) → Checks budget ballots file v → IsOfKind kinds v
+checks-kind budget ballots file v (answer, is, told) = answer-kind file answer v told
 
-pub ballots-kinds : (assertions : List ℕ) (nodes : ℕ) (ballots : BallotFile) → AreOfKind kinds (after_ballots assertions nodes ballots)
-ballots-kinds assertions nodes ballots = λ bytes. go_on-kinds kinds (told (refused_assertions assertions) (assertion_file_of bytes)) _
-    (told-only (refused_assertions assertions) (assertion_file_of bytes) (λ why. tt)) (λ file. checks-kind nodes ballots file)
+pub ballots-kinds : (assertions : List ℕ) (budget : Budget) (ballots : BallotFile) → AreOfKind kinds (after_ballots assertions budget ballots)
+ballots-kinds assertions budget ballots = λ bytes. go_on-kinds kinds (told (refused_assertions assertions) (assertion_file_of bytes)) _
+    (told-only (refused_assertions assertions) (assertion_file_of bytes) (λ why. tt)) (λ file. checks-kind budget ballots file)
 
 pub kinds_are : (task : CheckTask) → AreOfKind kinds (script task)
 kinds_are task = λ bytes. go_on-kinds kinds (told (refused_ballots task.ballots) (ballots_of bytes task.contest)) _
-    (told-only (refused_ballots task.ballots) (ballots_of bytes task.contest) (λ why. tt)) (λ ballots. ballots-kinds task.assertions task.nodes ballots)
+    (told-only (refused_ballots task.ballots) (ballots_of bytes task.contest) (λ why. tt)) (λ ballots. ballots-kinds task.assertions task.budget ballots)

@@ -1,6 +1,7 @@
 -- `check BALLOTS ASSERTIONS`: whether an assertion file holds of a ballot file's contest, or the first difference.
 use Rattle.std.specs.Prelude.{◌≡◌, ℕ, ℤ, List, [], ◌∷◌, ◌++◌, length, Option, None, Some, Ok, Err, codes}
 use Rattle.std.specs.Fmt.{decimal, signed_decimal}
+use Rattle.budget.specs.declared.budget.Budget.{Budget}
 use Rattle.ballot_reader.specs.Ballots.{BallotFile}
 use Rattle.ballot_reader.specs.Grammar.{ballots_of}
 use Rattle.assertion_file.specs.Content.{Content}
@@ -10,8 +11,8 @@ use Rattle.cover_checker.specs.Checks.{IsAnswer}
 use Rattle.cover_checker.specs.Findings.{Answer}
 use Rattle.cover_checker.specs.declared.checked.Checked.{Checked}
 use Rattle.cover_checker.specs.declared.checked.Checked.TheVariants.{OtherContest, OtherWinner, OtherMargin, Stands, NotLeast, NotAlternative, Harder, OtherDraws, Accepted}
-use Rattle.cover_checker.specs.declared.checked.CheckFault.TheVariants.{Spent as SpentAt, Memory}
-use Rattle.report.specs.Ends.{spent_at}
+use Rattle.cover_checker.specs.declared.checked.CheckFault.TheVariants.{Spent as SpentAt, SpentSets, Memory}
+use Rattle.report.specs.Ends.{spent_at, spent_sets}
 use Rattle.report.specs.Texts.{order_text, assertion_text}
 use Rattle.cli_base.specs.Outcome.{Verdict, Answered}
 use Rattle.cli_base.specs.declared.outcome.AnswerKind.{AnswerKind}
@@ -84,26 +85,27 @@ found_verdict file Accepted = Answered Done (yes_text file)
 abbrev pub verdict_on : Content → Answer → Option Verdict
 verdict_on file (Ok found) = Some (found_verdict file found)
 verdict_on file (Err (SpentAt last)) = Some (Answered Spent (spent_at (id_of file.candidates last)))
+verdict_on file (Err (SpentSets sets)) = Some (Answered Spent (spent_sets sets))
 verdict_on file (Err Memory) = None
 
 -- a check comes to the verdict on an answer that the checker may give
-abbrev pub Checks : ℕ → BallotFile → Content → Verdict → Type 0
-Checks nodes ballots file verdict =
-    (answer : Answer) × IsAnswer nodes ballots file answer × (verdict_on file answer ≡ Some verdict)
+abbrev pub Checks : Budget → BallotFile → Content → Verdict → Type 0
+Checks budget ballots file verdict =
+    (answer : Answer) × IsAnswer budget ballots file answer × (verdict_on file answer ≡ Some verdict)
 
 -- ---- the command
 
 -- a check of these ballots, by the assertion file of this name
-abbrev pub after_ballots : List ℕ → ℕ → BallotFile → Script
-after_ballots assertions nodes ballots = Read assertions (λ bytes.
+abbrev pub after_ballots : List ℕ → Budget → BallotFile → Script
+after_ballots assertions budget ballots = Read assertions (λ bytes.
     go_on (told (refused_assertions assertions) (assertion_file_of bytes)) (λ file.
-    Ends (Checks nodes ballots file)))
+    Ends (Checks budget ballots file)))
 
 -- the ballots are judged before the assertion file is read
 abbrev pub script : CheckTask → Script
 script task = Read task.ballots (λ bytes.
     go_on (told (refused_ballots task.ballots) (ballots_of bytes task.contest)) (λ ballots.
-    after_ballots task.assertions task.nodes ballots))
+    after_ballots task.assertions task.budget ballots))
 
 -- the kinds of its answers
 abbrev pub kinds : List AnswerKind

@@ -1,5 +1,6 @@
 -- What a check comes to of a file that the checker accepts.
-use Rattle.std.specs.Prelude.{◌≡◌, ◌↔◌, ℕ, Ok}
+use Rattle.std.specs.Prelude.{◌≡◌, ◌↔◌, Ok}
+use Rattle.budget.specs.declared.budget.Budget.{Budget}
 use Rattle.ballot_reader.specs.Ballots.{BallotFile}
 use Rattle.assertion_file.specs.Content.{Content}
 use Rattle.cover_checker.specs.Checks.{IsAnswer}
@@ -11,6 +12,6 @@ use Rattle.check_command.specs.Check.{Checks, yes_text}
 -- Of a file that the checker accepts a check comes to yes, and to nothing else.
 abbrev pub AcceptedIsYes : Type 0
 AcceptedIsYes =
-    (nodes : ℕ) (ballots : BallotFile) (file : Content) (verdict : Verdict) →
-    IsAnswer nodes ballots file (Ok Accepted) →
-    Checks nodes ballots file verdict ↔ (verdict ≡ Answered Done (yes_text file))
+    (budget : Budget) (ballots : BallotFile) (file : Content) (verdict : Verdict) →
+    IsAnswer budget ballots file (Ok Accepted) →
+    Checks budget ballots file verdict ↔ (verdict ≡ Answered Done (yes_text file))

@@ -9,7 +9,7 @@ ghost use Rattle.cli_base.specs.Outcome.{Answered};
 ghost use Rattle.cli_base.specs.Script.{ByDesk, MayOrMemory};
 ghost use Rattle.cli_base.specs.declared.outcome.AnswerKind.TheVariants.{Spent};
 ghost use Rattle.command.specs.Check.{IsWithinLimits};
-ghost use Rattle.report.specs.Ends.{spent_at};
+ghost use Rattle.report.specs.Ends.{spent_at, spent_sets};
 ghost use Rattle.report.specs.Texts.{order_text};
 ghost use Rattle.check_command.specs.Check.{Checks, script, after_ballots, differs, found_verdict, stands};
 ghost use Rattle.check_command.specs.Named.{IsAmong};
@@ -19,13 +19,14 @@ use crate::check_texts::{
 };
 use assertion_file::{AssertionFile, id_of};
 use ballot_reader::Ballots;
+use budget::Budget;
 use cli_base::{Answer, AnswerKind, Refusal};
 use command::{CheckTask, FileName};
 use cover_checker::{CheckFault, Checked, check as check_file};
 use desk::Desk;
 use input_files::{assertions_in, ballots_in, bytes_of};
 use irv_base::{Candidate, Order};
-use report::spent_at;
+use report::{spent_at, spent_sets};
 use set_tallies::Counted;
 use std::alloc::Global;
 use std::thread::Threads;
@@ -50,7 +51,7 @@ pub fn answer<R: AllocGlobal + Threads + Sync, D: Desk>(
     let alloc = rt.alloc();
     let bytes = bytes_of(alloc, desk, &task.ballots)?;
     let ballots = ballots_in(alloc, &task.ballots, &bytes, task.contest.as_ref())?;
-    after_ballots(rt, desk, &ballots, &task.assertions, task.nodes)
+    after_ballots(rt, desk, &ballots, &task.assertions, task.budget)
 }
 
 /// A check of ballots that are read: whether the assertion file of this name holds of them.
@@ -59,19 +60,19 @@ pub fn after_ballots<R: AllocGlobal + Threads + Sync, D: Desk>(
     desk: &mut D,
     ballots: &Ballots,
     assertions: &FileName,
-    nodes: u32,
+    budget: Budget,
 ) -> Result<Answer, Refusal>
     ensures held { D.held desk.new ≡ D.held desk.old }
     ensures later { D.faults desk.old ≤ D.faults desk.new }
     ensures due { MayOrMemory
         (ByDesk (D.held desk.old) (Rose (D.faults desk.old) (D.faults desk.new)))
-        (after_ballots assertions.now nodes ballots.now) (due result) }
+        (after_ballots assertions.now budget ballots.now) (due result) }
     ensures served { IsAccountedFor 1 (D.served desk.old) (D.served desk.new) (due result).status }
 {
     let alloc = rt.alloc();
     let bytes = bytes_of(alloc, desk, assertions)?;
     let file = assertions_in(alloc, assertions, &bytes)?;
-    check(rt, ballots, &file, nodes)
+    check(rt, ballots, &file, budget)
 }
 
 /// Whether the file holds of the ballots, or the first difference.
@@ -79,9 +80,9 @@ pub fn check<R: AllocGlobal + Threads + Sync>(
     rt: &R,
     ballots: &Ballots,
     file: &AssertionFile,
-    nodes: u32,
+    budget: Budget,
 ) -> Result<Answer, Refusal>
-    ensures { IsOneOrMemory (Checks nodes ballots.now file.now) (due result) }
+    ensures { IsOneOrMemory (Checks budget ballots.now file.now) (due result) }
 {
     let alloc = rt.alloc();
     let counted = Counted::of(
@@ -91,10 +92,11 @@ pub fn check<R: AllocGlobal + Threads + Sync>(
         WORKERS,
     )?;
     let mut tallies = counted.tallies()?;
-    match check_file(alloc, ballots, &mut tallies, file, nodes) {
+    match check_file(alloc, ballots, &mut tallies, file, budget) {
         Ok(found) => found_answer(alloc, file, found),
         Err(fault) => match fault {
             CheckFault::Spent { last } => spent_answer(alloc, file, last),
+            CheckFault::SpentSets { sets } => spent_sets_answer(alloc, sets),
             CheckFault::Memory => Err(Refusal::Memory),
         },
     }
@@ -165,13 +167,24 @@ pub fn standing_answer(
     difference(alloc, text.as_str())
 }
 
-/// The answer where the budget is spent at this candidate.
+/// The answer where the budget of nodes is spent at this candidate.
 pub fn spent_answer(alloc: Global, file: &AssertionFile, last: Candidate) -> Result<Answer, Refusal>
     requires { last < length (file.now).candidates }
     ensures { IsOneOrMemory (λ verdict.
         verdict ≡ Answered Spent (spent_at (id_of (file.now).candidates last))) (due result) }
 {
     let text = spent_at(alloc, id_of(file.candidates(), last))?;
+    Ok(Answer {
+        kind: AnswerKind::Spent,
+        text: text.into_bytes(),
+    })
+}
+
+/// The answer where a budget of so many sets is spent.
+pub fn spent_sets_answer(alloc: Global, sets: u32) -> Result<Answer, Refusal>
+    ensures { IsOneOrMemory (λ verdict. verdict ≡ Answered Spent (spent_sets sets)) (due result) }
+{
+    let text = spent_sets(alloc, sets)?;
     Ok(Answer {
         kind: AnswerKind::Spent,
         text: text.into_bytes(),

@@ -1,7 +1,7 @@
 -- The limits of what a round of an audit is asked for.
 use Rattle.irv_base.specs.declared.limits.TheConstants.{MOST_DRAWS}
+use Rattle.budget.specs.Budgets.{IsWithin}
 use Rattle.command.specs.Limits.{IsNamed, IsUpTo}
-use Rattle.command.specs.declared.limits.TheConstants.{MOST_NODES}
 use Rattle.command.specs.declared.audit.AuditTask.{AuditTask}
 
 pub record IsWithinLimits (task : AuditTask) : Type 0 where
@@ -11,4 +11,4 @@ pub record IsWithinLimits (task : AuditTask) : Type 0 where
   pub assertions : IsNamed task.assertions
   pub seen : IsNamed task.seen
   pub draws : IsUpTo MOST_DRAWS task.draws
-  pub nodes : IsUpTo MOST_NODES task.nodes
+  pub budget : IsWithin task.budget

@@ -1,12 +1,10 @@
 -- The laws of tasks.
 use Rattle.std.specs.Prelude.{◌≡◌}
-use Rattle.command.specs.declared.limits.TheConstants.{MOST_NODES, MOST_FLOOR, MOST_TRIAL_NUMBER, DEFAULT_WORKERS, DEFAULT_NODES, DEFAULT_FLOOR, DEFAULT_LIMIT, DEFAULT_GAMMA, DEFAULT_CANDIDATES, DEFAULT_BALLOTS}
+use Rattle.command.specs.declared.limits.TheConstants.{MOST_FLOOR, MOST_TRIAL_NUMBER, DEFAULT_WORKERS, DEFAULT_FLOOR, DEFAULT_LIMIT, DEFAULT_GAMMA, DEFAULT_CANDIDATES, DEFAULT_BALLOTS}
 
 -- the limits and the defaults
 pub record Limits : Type 0 where
   pub default_workers : DEFAULT_WORKERS ≡ 4
-  pub nodes : MOST_NODES ≡ 200000
-  pub default_nodes : DEFAULT_NODES ≡ 100000
   pub floor : MOST_FLOOR ≡ 1000000
   pub default_floor : DEFAULT_FLOOR ≡ 1
   pub default_limit : DEFAULT_LIMIT ≡ 50000

@@ -2,8 +2,8 @@
 use Rattle.std.specs.Prelude.{◌≡◌, true}
 use Rattle.irv_base.specs.declared.limits.TheConstants.{GREATEST_GAMMA, GREATEST_LIMIT, MOST_DRAWS}
 use Rattle.sampler.specs.Seeds.{is_seed}
+use Rattle.budget.specs.declared.limits.TheConstants.{MOST_NODES}
 use Rattle.command.specs.Limits.{IsNamed, IsUpTo}
-use Rattle.command.specs.declared.limits.TheConstants.{MOST_NODES}
 use Rattle.command.specs.declared.poll.PollTask.{PollTask}
 
 pub record IsWithinLimits (task : PollTask) : Type 0 where

@@ -1,6 +1,6 @@
 -- The limits of what a tabulation is asked for.
+use Rattle.budget.specs.declared.limits.TheConstants.{MOST_NODES}
 use Rattle.command.specs.Limits.{IsNamed, IsUpTo}
-use Rattle.command.specs.declared.limits.TheConstants.{MOST_NODES}
 use Rattle.command.specs.declared.tabulate.TabulateTask.{TabulateTask}
 
 pub record IsWithinLimits (task : TabulateTask) : Type 0 where

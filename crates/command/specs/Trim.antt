@@ -1,9 +1,9 @@
 -- The limits of what a trim is asked for.
-use Rattle.command.specs.Limits.{IsNamed, IsUpTo}
-use Rattle.command.specs.declared.limits.TheConstants.{MOST_NODES}
+use Rattle.budget.specs.Budgets.{IsWithin}
+use Rattle.command.specs.Limits.{IsNamed}
 use Rattle.command.specs.declared.trim.TrimTask.{TrimTask}
 
 pub record IsWithinLimits (task : TrimTask) : Type 0 where
   pub ballots : IsNamed task.ballots
   pub assertions : IsNamed task.assertions
-  pub nodes : IsUpTo MOST_NODES task.nodes
+  pub budget : IsWithin task.budget

@@ -1,6 +1,7 @@
 // What a round of an audit is asked for.
 
 use crate::file_name::FileName;
+use budget::Budget;
 
 /// The session with a round more.
 #[derive(Drop)]
@@ -17,6 +18,6 @@ pub struct AuditTask {
     pub seen: FileName,
     /// How many draws there are then, counted from the first of the audit.
     pub draws: u32,
-    /// The most suffixes that may count for one candidate in the check of the assertions.
-    pub nodes: u32,
+    /// How far the check of the assertions may go.
+    pub budget: Budget,
 }

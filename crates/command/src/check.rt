@@ -1,6 +1,7 @@
 // What a check is asked for.
 
 use crate::file_name::FileName;
+use budget::Budget;
 use irv_base::Name;
 
 /// Whether an assertion file holds of the ballots of a contest.
@@ -12,6 +13,6 @@ pub struct CheckTask {
     pub assertions: FileName,
     /// The contest, which may be left out where the file has only one.
     pub contest: Option<Name>,
-    /// The most suffixes that may count for one candidate.
-    pub nodes: u32,
+    /// How far the check may go.
+    pub budget: Budget,
 }

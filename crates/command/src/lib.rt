@@ -25,7 +25,7 @@ pub use check::CheckTask;
 pub use file_name::FileName;
 pub use limits::{
     DEFAULT_BALLOTS, DEFAULT_CANDIDATES, DEFAULT_FLOOR, DEFAULT_GAMMA, DEFAULT_LIMIT,
-    DEFAULT_NODES, DEFAULT_WORKERS, MOST_FLOOR, MOST_NODES, MOST_TRIAL_NUMBER,
+    DEFAULT_WORKERS, MOST_FLOOR, MOST_TRIAL_NUMBER,
 };
 pub use open::OpenTask;
 pub use open_plurality::OpenPluralityTask;

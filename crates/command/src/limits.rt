@@ -9,12 +9,6 @@ pub const DEFAULT_CANDIDATES: u32 = 6;
 /// The ballots of a trial where a line doesn't say.
 pub const DEFAULT_BALLOTS: u32 = 10_000;
 
-/// The greatest number of suffixes that a line may allow a race for one piece, and a certificate or a check for one candidate.
-pub const MOST_NODES: u32 = 200_000;
-
-/// The number of suffixes that is allowed where a line doesn't say.
-pub const DEFAULT_NODES: u32 = 100_000;
-
 /// The workers of a search or a trial where a line doesn't say.
 pub const DEFAULT_WORKERS: u32 = 4;
 

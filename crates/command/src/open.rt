@@ -1,6 +1,7 @@
 // What a session is opened with.
 
 use crate::file_name::FileName;
+use budget::Budget;
 use irv_base::Name;
 use sampler::Seed;
 
@@ -21,6 +22,6 @@ pub struct OpenTask {
     pub limit: u32,
     /// The gamma, in thousandths.
     pub gamma: u32,
-    /// The most suffixes that may count for one candidate in the check of the assertions.
-    pub nodes: u32,
+    /// How far the check of the assertions may go.
+    pub budget: Budget,
 }

@@ -2,6 +2,7 @@
 
 use crate::file_name::FileName;
 use crate::plan_terms::PlanTerms;
+use budget::Budget;
 use irv_base::Name;
 
 /// The assertions that confirm the winner of a contest, or why there are none.
@@ -13,8 +14,8 @@ pub struct SearchTask {
     pub contest: Option<Name>,
     /// How many threads search.
     pub workers: u32,
-    /// The most suffixes that a race may expand for one piece, or a certificate count for one candidate.
-    pub nodes: u32,
+    /// How far the search may go.
+    pub budget: Budget,
     /// The least margin of a search, in votes.
     pub floor: u32,
     /// What the draws of a clean audit are planned for, if the assertion file is to carry them.

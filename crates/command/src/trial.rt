@@ -1,5 +1,7 @@
 // What a trial is asked for.
 
+use budget::Budget;
+
 /// What a search comes to of a contest whose records a number draws.
 #[derive(Clone, Copy)]
 pub struct TrialTask {
@@ -11,6 +13,6 @@ pub struct TrialTask {
     pub ballots: u32,
     /// How many threads search.
     pub workers: u32,
-    /// The most suffixes that a race may expand for one piece, or a certificate count for one candidate.
-    pub nodes: u32,
+    /// How far its search may go.
+    pub budget: Budget,
 }

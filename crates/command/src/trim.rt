@@ -1,6 +1,7 @@
 // What a trim is asked for.
 
 use crate::file_name::FileName;
+use budget::Budget;
 use irv_base::Name;
 
 /// An assertion file that holds of the ballots of a contest, without the claims that can go.
@@ -12,6 +13,6 @@ pub struct TrimTask {
     pub assertions: FileName,
     /// The contest, which may be left out where the file has only one.
     pub contest: Option<Name>,
-    /// The most suffixes that may count for one candidate.
-    pub nodes: u32,
+    /// How far the check may go, and each trial without a claim.
+    pub budget: Budget,
 }

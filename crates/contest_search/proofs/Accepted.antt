@@ -1,5 +1,7 @@
 -- What a search finds, the checker accepts, with the draws of a clean audit or without.
 use Rattle.std.proofs.Common.{◌≡◌, ℕ, true, List, length, Option, Some, None, Ok, IfSome, refl, sym, ap, subst, arith, ◌∙◌}
+use Rattle.budget.specs.declared.budget.Budget.{Budget}
+use Rattle.budget.specs.declared.budget.Budget.TheVariants.{Nodes, Sets}
 use Rattle.irv_base.specs.Orders.{is_order}
 use Rattle.assertions.specs.Certificate.{certificate_claims}
 use Rattle.assertions.specs.Suffixes.{IsAlternative}
@@ -15,6 +17,7 @@ use Rattle.assertion_file.specs.Reading.{assertion_file_of}
 use Rattle.assertion_file.specs.Text.{assertion_file_text}
 use Rattle.assertion_file.proofs.Printed.{printed_reads_back}
 use Rattle.cover_checker.specs.Checks.{IsAnswer}
+use Rattle.cover_checker.specs.Covers.{IsEnoughBelow}
 use Rattle.cover_checker.specs.Draws.{IsPlanOf}
 use Rattle.cover_checker.specs.Holds.{IsCertificateOf}
 use Rattle.cover_checker.specs.declared.checked.Checked.TheVariants.{Accepted}
@@ -32,9 +35,9 @@ use Rattle.contest_search.proofs.Plans.{plan_sound}
 use Rattle.contest_search.proofs.ReadBallots.{IsFit, ballots_fit}
 
 -- it is the certificate of these ballots, reads back from its text, and is accepted
-abbrev pub IsTaken : ℕ → BallotFile → Content → Type 0
-IsTaken nodes ballots file =
-    IsCertificateOf ballots file × (assertion_file_of (assertion_file_text file) ≡ Ok file) × IsAnswer nodes ballots file (Ok Accepted)
+abbrev pub IsTaken : Budget → BallotFile → Content → Type 0
+IsTaken budget ballots file =
+    IsCertificateOf ballots file × (assertion_file_of (assertion_file_text file) ≡ Ok file) × IsAnswer budget ballots file (Ok Accepted)
 
 module _ (ballots : BallotFile) (fit : IsFit ballots) (winner : ℕ) (won : IsWon ballots winner) (decided : IsElected ballots winner) (order : List ℕ)
     (least : order_of ballots winner ≡ Some order) (plan : Option Plan) where
@@ -87,38 +90,40 @@ module _ (ballots : BallotFile) (fit : IsFit ballots) (winner : ℕ) (won : IsWo
     draws = clean;
   }
 
-  accepted : IfSome plan (IsSoundPlan (length ballots.rankings) (length claims)) → IfSome plan (IsPlanOf claims) → (nodes : ℕ) →
-      IsInBudget ballots winner nodes → IsAnswer nodes ballots file (Ok Accepted)
-  accepted planned clean nodes budget =
-      certificate_is_accepted nodes ballots file (sound planned) (says clean)
-      (λ c below other. let within = budget c (record { candidate = below; other = other }) in omega (arith, within))
+  enough : (budget : Budget) → IsInBudget ballots winner budget → IsEnoughBelow budget (candidate_count ballots) winner ballots.rankings (margin_of ballots winner)
+  enough (Nodes nodes) within c below other = let few = within c (record { candidate = below; other = other }) in omega (arith, few)
+  enough (Sets sets) within = omega (arith, within)
+
+  accepted : IfSome plan (IsSoundPlan (length ballots.rankings) (length claims)) → IfSome plan (IsPlanOf claims) → (budget : Budget) →
+      IsInBudget ballots winner budget → IsAnswer budget ballots file (Ok Accepted)
+  accepted planned clean budget within = certificate_is_accepted budget ballots file (sound planned) (says clean) (enough budget within)
 
   reads : IfSome plan (IsSoundPlan (length ballots.rankings) (length claims)) → assertion_file_of (assertion_file_text file) ≡ Ok file
   reads planned = printed_reads_back file (sound planned) (record { contest = fit.contest; candidates = fit.candidates })
 
-  taken : IfSome plan (IsSoundPlan (length ballots.rankings) (length claims)) → IfSome plan (IsPlanOf claims) → (nodes : ℕ) →
-      IsInBudget ballots winner nodes → IsTaken nodes ballots file
-  taken planned clean nodes budget = (says clean, reads planned, accepted planned clean nodes budget)
+  taken : IfSome plan (IsSoundPlan (length ballots.rankings) (length claims)) → IfSome plan (IsPlanOf claims) → (budget : Budget) →
+      IsInBudget ballots winner budget → IsTaken budget ballots file
+  taken planned clean budget within = (says clean, reads planned, accepted planned clean budget within)
 
 -- whatever clean draws it carries, it is the certificate, reads back and is accepted
-pub accepted_with : (nodes : ℕ) (bytes : List ℕ) (asked : Option Id) (ballots : BallotFile) (file : Content) (plan : Option Plan) →
-    ballots_of bytes asked ≡ Ok ballots → IsFoundIn nodes ballots file → IfSome plan (IsSoundPlan file.records (length file.claims)) →
-    IfSome plan (IsPlanOf file.claims) → IsTaken nodes ballots (record file { plan = plan })
-accepted_with nodes bytes asked ballots file plan read found sound clean =
+pub accepted_with : (budget : Budget) (bytes : List ℕ) (asked : Option Id) (ballots : BallotFile) (file : Content) (plan : Option Plan) →
+    ballots_of bytes asked ≡ Ok ballots → IsFoundIn budget ballots file → IfSome plan (IsSoundPlan file.records (length file.claims)) →
+    IfSome plan (IsPlanOf file.claims) → IsTaken budget ballots (record file { plan = plan })
+accepted_with budget bytes asked ballots file plan read found sound clean =
     let fit = ballots_fit bytes asked ballots read in
     let c = found.is in
-    subst (λ (f : Content). IsTaken nodes ballots (record f { plan = plan })) (sym c.is)
+    subst (λ (f : Content). IsTaken budget ballots (record f { plan = plan })) (sym c.is)
     (taken ballots fit c.winner c.won c.decided c.order c.least plan
     (subst (λ (f : Content). IfSome plan (IsSoundPlan f.records (length f.claims))) c.is sound)
-    (subst (λ (f : Content). IfSome plan (IsPlanOf f.claims)) c.is clean) nodes found.budget)
+    (subst (λ (f : Content). IfSome plan (IsPlanOf f.claims)) c.is clean) budget found.within)
 
 pub found_is_accepted : FoundIsAccepted
-found_is_accepted nodes bytes asked ballots file read found =
+found_is_accepted budget bytes asked ballots file read found =
     let none : None ≡ file.plan = sym (ap (λ (f : Content). f.plan) found.is.is) in
     let same : record file { plan = None } ≡ file = λ i. record file { plan = none i } in
-    subst (IsTaken nodes ballots) same (accepted_with nodes bytes asked ballots file None read found tt tt)
+    subst (IsTaken budget ballots) same (accepted_with budget bytes asked ballots file None read found tt tt)
 
 pub planned_is_accepted : PlannedIsAccepted
-planned_is_accepted cards gamma limit nodes bytes asked ballots file can read found =
-    accepted_with nodes bytes asked ballots file (Some (plan_over cards gamma limit file.claims)) read found
+planned_is_accepted cards gamma limit budget bytes asked ballots file can read found =
+    accepted_with budget bytes asked ballots file (Some (plan_over cards gamma limit file.claims)) read found
     (plan_sound cards gamma limit file.records file.claims can) refl

@@ -1,6 +1,8 @@
 -- What a search finds, from what its parts answer.
-use Rattle.std.proofs.Common.{◌≡◌, ◌↔◌, inl, inr, ℕ, ◌<◌, ◌≤◌, true, List, length, All, Some, None, sym, ap, subst, arith, ltb-true, ◌∙◌}
+use Rattle.std.proofs.Common.{◌≡◌, ◌↔◌, inl, inr, ℕ, ◌<◌, ◌≤◌, true, List, length, All, Some, None, refl, sym, ap, subst, arith, ltb-true, ◌∙◌}
 use Rattle.std.proofs.lemmas.List.Sums.{count_by-le-length}
+use Rattle.budget.specs.declared.budget.Budget.{Budget}
+use Rattle.budget.specs.declared.budget.Budget.TheVariants.{Nodes, Sets}
 use Rattle.irv_base.specs.Orders.{is_order, Elects}
 use Rattle.irv_base.specs.Tabulation.{IsDecided, HasNoTie}
 use Rattle.irv_base.proofs.Decided.{no_tie_is_decided}
@@ -30,7 +32,8 @@ use Rattle.bound_search.specs.declared.ends.RaceEnd.{RaceEnd}
 use Rattle.cover_checker.proofs.Held.{all-from_members}
 use Rattle.certifier.specs.Certified.{IsWithin, IsOver, IsCertified, IsSpent as IsOverBudget}
 use Rattle.certifier.specs.declared.certificate.Certificate.{Certificate}
-use Rattle.contest_search.specs.Budget.{order_count_of, certificate_nodes, IsSpent}
+use Rattle.set_search.specs.Answers.{IsCertified as AreCertified, IsUndecided as AreUndecided, IsSpent as AreSpent}
+use Rattle.contest_search.specs.Budget.{order_count_of, certificate_nodes, IsInBudget, IsTold, IsSpent, IsSpentBySetsIn}
 use Rattle.contest_search.specs.Certificate.{low_of, margin_of, order_of, certificate_of}
 use Rattle.contest_search.specs.Contest.{candidate_count, IsElected, IsTie, IsUndecided, IsWon}
 use Rattle.contest_search.specs.Found.{IsFoundIn, IsCounted, IsBestOf, IsPrintable, content_of}
@@ -147,67 +150,90 @@ best-margin n winner records below two positive =
     let le = margin-le records a in
     record { some = positive; most = omega (arith, le, e) }
 
-pub printable : (ballots : BallotFile) (t : Tabulated) (end : RaceEnd) (nodes : ℕ) (x : Certificate) → 1 < candidate_count ballots →
-    IsTabulation (candidate_count ballots) ballots.rankings t → 1 ≤ end.margin →
-    IsBest (candidate_count ballots) ballots.rankings t.winner end → IsCertified (candidate_count ballots) ballots.rankings t.winner end.margin nodes x →
-    IsPrintable ballots t.winner x
-printable ballots t end nodes x two is some best c =
-    let n = candidate_count ballots in
-    let records = ballots.rankings in
-    let won = won_by ballots t is in
-    let below = winner-below ballots t.winner won in
-    let positive : 1 ≤ margin_of ballots t.winner = let same = best.best in omega (arith, some, same) in
-    let margin : IsMargin (length records) (margin_of ballots t.winner) = best-margin n t.winner records below two positive in
-    let same : margin_of ballots t.winner ≡ x.margin = sym (c.margin ∙ best.best) in
-    let (order, least, among, hard) = order_is n t.winner (low n records) below two in
-    let printed : Some order ≡ Some x.order = sym least ∙ subst (λ m. certificate_order n t.winner (low n records) m ≡ Some x.order) best.best c.order in
-    let found : order ≡ x.order = cc in
-    let alternative : IsAlternative n t.winner order = (alternative_orders_are n t.winner order).0 among in
-    record {
-      some_records = let some = margin.some in let most = margin.most in omega (arith, some, most);
-      candidate = below;
-      margin = subst (IsMargin (length records)) same margin;
-      order = subst (λ o. is_order n o ≡ true) found alternative.0;
-      claims =
-          subst (All (IsSoundClaim n (length records))) (sym c.claims)
-          (all-from_members (IsSoundClaim n (length records)) (certificate_claims n records t.winner) (claim-sound n t.winner records));
-    }
+-- what the certificate is made of, whichever way it was found
+pub record IsWhole (ballots : BallotFile) (winner : ℕ) (x : Certificate) : Type 0 where
+  pub some : 1 ≤ margin_of ballots winner
+  pub margin : x.margin ≡ margin_of ballots winner
+  pub order : order_of ballots winner ≡ Some x.order
+  pub claims : x.claims.items ≡ certificate_claims (candidate_count ballots) ballots.rankings winner
 
-pub certified : (ballots : BallotFile) (t : Tabulated) (end : RaceEnd) (nodes : ℕ) (x : Certificate) (file : Content) → 1 < candidate_count ballots →
-    IsTabulation (candidate_count ballots) ballots.rankings t → 1 ≤ end.margin →
-    IsBest (candidate_count ballots) ballots.rankings t.winner end → IsCertified (candidate_count ballots) ballots.rankings t.winner end.margin nodes x →
-    file ≡ content_of ballots t.winner x → IsFoundIn nodes ballots file
-certified ballots t end nodes x file two is some best c shown =
-    let n = candidate_count ballots in
-    let least : order_of ballots t.winner ≡ Some x.order = subst (λ m. certificate_order n t.winner (low_of ballots) m ≡ Some x.order) best.best c.order in
-    record {
-      is = record {
-        winner = t.winner;
-        won = won_by ballots t is;
-        decided = positive-decided n t.winner ballots.rankings (winner-below ballots t.winner (won_by ballots t is)) two
-            (let same = best.best in omega (arith, some, same));
+module _ (ballots : BallotFile) (t : Tabulated) (x : Certificate) (two : 1 < candidate_count ballots)
+    (is : IsTabulation (candidate_count ballots) ballots.rankings t) (c : IsWhole ballots t.winner x) where
+  pub printable : IsPrintable ballots t.winner x
+  printable =
+      let n = candidate_count ballots in
+      let records = ballots.rankings in
+      let below = winner-below ballots t.winner (won_by ballots t is) in
+      let margin : IsMargin (length records) (margin_of ballots t.winner) = best-margin n t.winner records below two c.some in
+      let (order, least, among, hard) = order_is n t.winner (low n records) below two in
+      let printed : Some order ≡ Some x.order = sym least ∙ c.order in
+      let found : order ≡ x.order = cc in
+      let alternative : IsAlternative n t.winner order = (alternative_orders_are n t.winner order).0 among in
+      record {
+        some_records = let some = margin.some in let most = margin.most in omega (arith, some, most);
+        candidate = below;
+        margin = subst (IsMargin (length records)) (sym c.margin) margin;
+        order = subst (λ o. is_order n o ≡ true) found alternative.0;
+        claims =
+            subst (All (IsSoundClaim n (length records))) (sym c.claims)
+            (all-from_members (IsSoundClaim n (length records)) (certificate_claims n records t.winner) (claim-sound n t.winner records));
+      }
+
+  pub certified : (budget : Budget) (file : Content) → IsInBudget ballots t.winner budget → file ≡ content_of ballots t.winner x → IsFoundIn budget ballots file
+  certified budget file within shown =
+      let n = candidate_count ballots in
+      record {
+        is = record {
+          winner = t.winner;
+          won = won_by ballots t is;
+          decided = positive-decided n t.winner ballots.rankings (winner-below ballots t.winner (won_by ballots t is)) two c.some;
+          order = x.order;
+          least = c.order;
+          is = shown ∙ content_same ballots t.winner x c.margin c.claims;
+        };
+        within = within;
+      }
+    where
+      content_same : (ballots : BallotFile) (winner : ℕ) (x : Certificate) → x.margin ≡ margin_of ballots winner →
+          x.claims.items ≡ certificate_claims (candidate_count ballots) ballots.rankings winner →
+          content_of ballots winner x ≡ certificate_of ballots winner x.order
+      content_same ballots winner x margin claims = λ i. record {
+        contest = ballots.contest;
+        candidates = ballots.candidates;
+        records = length ballots.rankings;
+        winner = winner;
+        margin = margin i;
         order = x.order;
-        least = least;
-        is = shown ∙ content_same ballots t.winner x (c.margin ∙ best.best) c.claims;
-      };
-      budget =
-          λ k other. within-budget ballots t.winner nodes x.order k least
-          (subst (λ m. IsWithin n (low_of ballots) m x.order nodes k) best.best (c.within k other.candidate other.other));
-    }
-  where
-    content_same : (ballots : BallotFile) (winner : ℕ) (x : Certificate) → x.margin ≡ margin_of ballots winner →
-        x.claims.items ≡ certificate_claims (candidate_count ballots) ballots.rankings winner →
-        content_of ballots winner x ≡ certificate_of ballots winner x.order
-    content_same ballots winner x margin claims = λ i. record {
-      contest = ballots.contest;
-      candidates = ballots.candidates;
-      records = length ballots.rankings;
-      winner = winner;
-      margin = margin i;
-      order = x.order;
-      claims = claims i;
-      plan = None;
-    }
+        claims = claims i;
+        plan = None;
+      }
+
+-- by nodes: what is certified at the best margin
+whole-nodes : (ballots : BallotFile) (winner : ℕ) (end : RaceEnd) (nodes : ℕ) (x : Certificate) → 1 ≤ end.margin → end.margin ≡ margin_of ballots winner →
+    IsCertified (candidate_count ballots) ballots.rankings winner end.margin nodes x → IsWhole ballots winner x
+whole-nodes ballots winner end nodes x some best c = record {
+  some = omega (arith, some, best);
+  margin = c.margin ∙ best;
+  order = subst (λ m. certificate_order (candidate_count ballots) winner (low_of ballots) m ≡ Some x.order) best c.order;
+  claims = c.claims;
+}
+
+nodes-within : (ballots : BallotFile) (winner : ℕ) (end : RaceEnd) (nodes : ℕ) (x : Certificate) → end.margin ≡ margin_of ballots winner →
+    IsCertified (candidate_count ballots) ballots.rankings winner end.margin nodes x → order_of ballots winner ≡ Some x.order →
+    IsInBudget ballots winner (Nodes nodes)
+nodes-within ballots winner end nodes x best c least = λ k other.
+    within-budget ballots winner nodes x.order k least
+    (subst (λ m. IsWithin (candidate_count ballots) (low_of ballots) m x.order nodes k) best (c.within k other.candidate other.other))
+
+-- by sets
+whole-sets : (ballots : BallotFile) (winner sets : ℕ) (x : Certificate) → AreCertified (candidate_count ballots) ballots.rankings winner sets x →
+    IsWhole ballots winner x
+whole-sets ballots winner sets x c = record {
+  some = omega (arith, c.some, c.margin);
+  margin = c.margin;
+  order = c.order;
+  claims = c.claims;
+}
 
 -- ---- from what the parts answer for whatever records the bag is of
 
@@ -248,19 +274,62 @@ module _ (ballots : BallotFile) (bag : Kept) (t : Tabulated) (counted : IsCounte
       certificate-spent ballots t end nodes last counted.two (tabulation_of ballots bag t counted) some (best_of ballots bag t end counted best)
       (of_ballots (λ n records. IsOverBudget n records t.winner end.margin nodes last) spent)
 
-  pub is_printable : (end : RaceEnd) (nodes : ℕ) (x : Certificate) → 1 ≤ end.margin → IsBestOf bag t end →
-      ((records : List (List ℕ)) → IsOf bag records → IsCertified bag.n records t.winner end.margin nodes x) →
-      IsPrintable ballots t.winner x
-  is_printable end nodes x some best certified =
-      printable ballots t end nodes x counted.two (tabulation_of ballots bag t counted) some (best_of ballots bag t end counted best)
-      (of_ballots (λ n records. IsCertified n records t.winner end.margin nodes x) certified)
+  module _ (end : RaceEnd) (nodes : ℕ) (x : Certificate) (some : 1 ≤ end.margin) (best : IsBestOf bag t end)
+      (certified_there : (records : List (List ℕ)) → IsOf bag records → IsCertified bag.n records t.winner end.margin nodes x) where
+    abbrev here : IsCertified (candidate_count ballots) ballots.rankings t.winner end.margin nodes x
+    here = of_ballots (λ n records. IsCertified n records t.winner end.margin nodes x) certified_there
 
-  pub is_found : (end : RaceEnd) (nodes : ℕ) (x : Certificate) (file : Content) → 1 ≤ end.margin → IsBestOf bag t end →
-      ((records : List (List ℕ)) → IsOf bag records → IsCertified bag.n records t.winner end.margin nodes x) →
-      file ≡ content_of ballots t.winner x → IsFoundIn nodes ballots file
-  is_found end nodes x file some best certificate shown =
-      certified ballots t end nodes x file counted.two (tabulation_of ballots bag t counted) some (best_of ballots bag t end counted best)
-      (of_ballots (λ n records. IsCertified n records t.winner end.margin nodes x) certificate) shown
+    abbrev its_best : end.margin ≡ margin_of ballots t.winner
+    its_best = (best_of ballots bag t end counted best).best
+
+    abbrev whole : IsWhole ballots t.winner x
+    whole = whole-nodes ballots t.winner end nodes x some its_best here
+
+    pub is_printable : IsPrintable ballots t.winner x
+    is_printable = printable ballots t x counted.two tabulated_there whole
+
+    pub is_found : (file : Content) → file ≡ content_of ballots t.winner x → IsFoundIn (Nodes nodes) ballots file
+    is_found file shown =
+        certified ballots t x counted.two tabulated_there whole (Nodes nodes) file (nodes-within ballots t.winner end nodes x its_best here whole.order) shown
+
+  -- by sets
+  module _ (sets : ℕ) where
+    abbrev certified_here : (x : Certificate) → ((records : List (List ℕ)) → IsOf bag records → AreCertified bag.n records t.winner sets x) →
+        AreCertified (candidate_count ballots) ballots.rankings t.winner sets x
+    certified_here x h = of_ballots (λ n records. AreCertified n records t.winner sets x) h
+
+    pub is_printable_by_sets : (x : Certificate) → ((records : List (List ℕ)) → IsOf bag records → AreCertified bag.n records t.winner sets x) →
+        IsPrintable ballots t.winner x
+    is_printable_by_sets x h = printable ballots t x counted.two tabulated_there (whole-sets ballots t.winner sets x (certified_here x h))
+
+    pub is_found_by_sets : (x : Certificate) (file : Content) →
+        ((records : List (List ℕ)) → IsOf bag records → AreCertified bag.n records t.winner sets x) →
+        file ≡ content_of ballots t.winner x → IsFoundIn (Sets sets) ballots file
+    is_found_by_sets x file h shown =
+        certified ballots t x counted.two tabulated_there (whole-sets ballots t.winner sets x (certified_here x h)) (Sets sets) file (certified_here x h).within shown
+
+    module _ (undecided : (records : List (List ℕ)) → IsOf bag records → AreUndecided bag.n records t sets) where
+      abbrev undecided_here : AreUndecided (candidate_count ballots) ballots.rankings t sets
+      undecided_here = of_ballots (λ n records. AreUndecided n records t sets) undecided
+
+      pub undecided_by_sets : IsUndecided ballots
+      undecided_by_sets d = let some = decided_there.0 d in omega (arith, some, undecided_here.none)
+
+      pub told_by_sets : IsTold (Sets sets) ballots
+      told_by_sets = record { winner = t.winner; won = won_by ballots t tabulated_there; within = undecided_here.within }
+
+    pub spent_by_sets : (order : List ℕ) (margin : ℕ) → ((records : List (List ℕ)) → IsOf bag records → AreSpent bag.n records t sets order margin) →
+        IsSpentBySetsIn (Sets sets) ballots sets order margin
+    spent_by_sets order margin h =
+        let s = of_ballots (λ n records. AreSpent n records t sets order margin) h in
+        (refl, record {
+          winner = t.winner;
+          won = won_by ballots t tabulated_there;
+          above = s.above;
+          start = s.start;
+          hardness = s.hardness;
+          some = s.some;
+        })
 
 -- ---- the ties of a tabulation
 

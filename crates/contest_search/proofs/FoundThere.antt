@@ -1,13 +1,15 @@
 -- What is found in what a search has to know of a ballot file, is found in the file.
 use Rattle.std.proofs.Common.{◌≡◌, ◌⊎◌, inl, inr, ℕ, List, subst}
+use Rattle.budget.specs.declared.budget.Budget.{Budget}
+use Rattle.budget.specs.declared.budget.Budget.TheVariants.{Nodes, Sets}
 use Rattle.ballot_reader.specs.Ballots.{BallotFile}
 use Rattle.assertion_file.specs.Content.{Content}
-use Rattle.contest_search.specs.Budget.{IsRaceSpent, IsCertificateSpent, IsSpent}
+use Rattle.contest_search.specs.Budget.{IsInBudget, IsTold, IsRaceSpent, IsCertificateSpent, IsSpent, IsSpentBySets, IsSpentIn, IsSpentBySetsIn}
 use Rattle.contest_search.specs.Certificate.{IsCertificateOfDecided}
 use Rattle.contest_search.specs.Contest.{searched, IsOther}
 use Rattle.contest_search.specs.Found.{FoundIn}
 use Rattle.contest_search.specs.declared.found.Found.{Found}
-use Rattle.contest_search.specs.declared.found.Found.TheVariants.{Certificate, Tie, Spent}
+use Rattle.contest_search.specs.declared.found.Found.TheVariants.{Certificate, Tie, Spent, SpentSets}
 
 module _ (ballots : BallotFile) where
   pub other_searched : (winner c : ℕ) → IsOther ballots winner c → IsOther (searched ballots) winner c
@@ -35,15 +37,46 @@ module _ (ballots : BallotFile) where
     some = is.some;
   }
 
-  pub found_there : (nodes : ℕ) (found : Found) → FoundIn nodes (searched ballots) found → FoundIn nodes ballots found
+  spent_by_sets_there : (sets : ℕ) (order : List ℕ) (margin : ℕ) → IsSpentBySets sets (searched ballots) order margin → IsSpentBySets sets ballots order margin
+  spent_by_sets_there sets order margin is = record {
+    winner = is.winner;
+    won = is.won;
+    above = is.above;
+    start = is.start;
+    hardness = is.hardness;
+    some = is.some;
+  }
+
+  -- by the budget
+  within_there : (budget : Budget) (winner : ℕ) → IsInBudget (searched ballots) winner budget → IsInBudget ballots winner budget
+  within_there (Nodes nodes) winner within = λ c other. within c (other_searched winner c other)
+  within_there (Sets sets) winner within = within
+
+  told_there : (budget : Budget) → IsTold budget (searched ballots) → IsTold budget ballots
+  told_there (Nodes nodes) told = tt
+  told_there (Sets sets) told = record { winner = told.winner; won = told.won; within = told.within }
+
+  spent_in_there : (budget : Budget) (last : ℕ) (order : List ℕ) (margin : ℕ) → IsSpentIn budget (searched ballots) last order margin →
+      IsSpentIn budget ballots last order margin
+  spent_in_there (Nodes nodes) last order margin is = spent_there nodes last order margin is
+  spent_in_there (Sets sets) last order margin is = is
+
+  by_sets_there : (budget : Budget) (told : ℕ) (order : List ℕ) (margin : ℕ) → IsSpentBySetsIn budget (searched ballots) told order margin →
+      IsSpentBySetsIn budget ballots told order margin
+  by_sets_there (Nodes nodes) told order margin is = is
+  by_sets_there (Sets sets) told order margin is = (is.0, spent_by_sets_there sets order margin is.1)
+
+  pub found_there : (budget : Budget) (found : Found) → FoundIn budget (searched ballots) found → FoundIn budget ballots found
   unfolding certificate_there
-  found_there nodes (Certificate file) found =
-      record { is = certificate_there file found.is; budget = λ c other. found.budget c (other_searched found.is.winner c other) }
-  found_there nodes (Tie round tied votes) is = record { counted = is.counted; first = is.first; undecided = is.undecided }
-  found_there nodes (Spent last order margin) is = spent_there nodes last order margin is
+  found_there budget (Certificate file) found =
+      record { is = certificate_there file found.is; within = within_there budget found.is.winner found.within }
+  found_there budget (Tie round tied votes) (is, told) =
+      (record { counted = is.counted; first = is.first; undecided = is.undecided }, told_there budget told)
+  found_there budget (Spent last order margin) is = spent_in_there budget last order margin is
+  found_there budget (SpentSets sets order margin) is = by_sets_there budget sets order margin is
 
   -- of the contest of the file, and as that which is told apart
-  pub found_of : (nodes : ℕ) (found is : Found) (contest : BallotFile) → found ≡ is → contest ≡ searched ballots → FoundIn nodes contest found →
-      FoundIn nodes ballots is
-  found_of nodes found is contest same of there =
-      found_there nodes is (subst (λ contest. FoundIn nodes contest is) of (subst (FoundIn nodes contest) same there))
+  pub found_of : (budget : Budget) (found is : Found) (contest : BallotFile) → found ≡ is → contest ≡ searched ballots → FoundIn budget contest found →
+      FoundIn budget ballots is
+  found_of budget found is contest same of there =
+      found_there budget is (subst (λ contest. FoundIn budget contest is) of (subst (FoundIn budget contest) same there))

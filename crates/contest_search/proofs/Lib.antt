@@ -4,5 +4,6 @@ pub mod Certificates
 pub mod Findings
 pub mod FoundThere
 pub mod Nodes
+pub mod SetsNeeded
 pub mod Plans
 pub mod Accepted

@@ -1,9 +1,12 @@
--- How many nodes a search needs, and where its budget is spent.
-use Rattle.std.specs.Prelude.{◌≡◌, ◌⊎◌, ◌≤◌, ◌<◌, ℕ, max, List, Option, None, Some}
+-- How many nodes or sets a search needs, and where its budget is spent.
+use Rattle.std.specs.Prelude.{◌≡◌, ◌⊎◌, ◌≤◌, ◌<◌, ℕ, max, List, Option, None, Some, ⊤}
+use Rattle.budget.specs.declared.budget.Budget.{Budget}
+use Rattle.budget.specs.declared.budget.Budget.TheVariants.{Nodes, Sets}
 use Rattle.assertions.specs.Certificate.{cover_count, order_count}
-use Rattle.assertions.specs.Hardness.{first_bound}
+use Rattle.assertions.specs.Hardness.{first_bound, start_order}
 use Rattle.assertions.specs.Suffixes.{IsAlternative}
 use Rattle.bound_search.specs.Race.{work_for}
+use Rattle.set_search.specs.Sets.{sets_for}
 use Rattle.ballot_reader.specs.Ballots.{BallotFile}
 use Rattle.contest_search.specs.Contest.{candidate_count, IsWon, IsOther}
 use Rattle.contest_search.specs.Certificate.{low_of, margin_of, order_of}
@@ -28,9 +31,29 @@ nodes_for ballots tabulated winner c =
     max (work_for (candidate_count ballots) ballots.rankings tabulated c)
     (certificate_nodes ballots winner c)
 
-abbrev pub IsInBudget : BallotFile → ℕ → ℕ → Type 0
-IsInBudget ballots winner nodes =
+-- ---- the sets that are needed
+
+-- for the certificate's claims or for its order, for all orders together
+abbrev pub sets_of : BallotFile → ℕ → ℕ
+sets_of ballots winner = sets_for (candidate_count ballots) ballots.rankings winner
+
+-- ---- a budget that suffices
+
+abbrev pub IsInBudget : BallotFile → ℕ → Budget → Type 0
+IsInBudget ballots winner (Nodes nodes) =
     (c : ℕ) → IsOther ballots winner c → certificate_nodes ballots winner c ≤ nodes
+IsInBudget ballots winner (Sets sets) = sets_of ballots winner ≤ sets
+
+-- by sets a contest that isn't decided is told so where the budget suffices, or where the order that a search starts with has hardness 0
+pub record IsToldBySets (sets : ℕ) (ballots : BallotFile) : Type 0 where
+  pub winner : ℕ
+  pub won : IsWon ballots winner
+  pub within : 1 ≤ first_bound (candidate_count ballots) ballots.rankings won.order →
+      sets_of ballots winner ≤ sets
+
+abbrev pub IsTold : Budget → BallotFile → Type 0
+IsTold (Nodes nodes) ballots = ⊤
+IsTold (Sets sets) ballots = IsToldBySets sets ballots
 
 -- ---- a budget that is spent
 
@@ -60,3 +83,23 @@ pub record IsSpent (nodes : ℕ) (ballots : BallotFile) (last : ℕ) (order : Li
   pub hardness : margin ≡ low_of ballots order
   pub within : margin ≤ first_bound (candidate_count ballots) ballots.rankings won.order
   pub some : 1 ≤ margin
+
+-- more sets are needed than there are; beside it the order that a search starts with, and its hardness, which isn't 0
+pub record IsSpentBySets (sets : ℕ) (ballots : BallotFile) (order : List ℕ) (margin : ℕ)
+    : Type 0 where
+  pub winner : ℕ
+  pub won : IsWon ballots winner
+  pub above : sets < sets_of ballots winner
+  pub start : order ≡ start_order won.order
+  pub hardness : margin ≡ first_bound (candidate_count ballots) ballots.rankings won.order
+  pub some : 1 ≤ margin
+
+-- nodes are told as nodes, and sets as sets
+abbrev pub IsSpentIn : Budget → BallotFile → ℕ → List ℕ → ℕ → Type 0
+IsSpentIn (Nodes nodes) ballots last order margin = IsSpent nodes ballots last order margin
+IsSpentIn (Sets sets) ballots last order margin = ⊥
+
+abbrev pub IsSpentBySetsIn : Budget → BallotFile → ℕ → List ℕ → ℕ → Type 0
+IsSpentBySetsIn (Nodes nodes) ballots told order margin = ⊥
+IsSpentBySetsIn (Sets sets) ballots told order margin =
+    (told ≡ sets) × IsSpentBySets sets ballots order margin

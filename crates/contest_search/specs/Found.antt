@@ -1,5 +1,6 @@
 -- What a search of a contest finds.
-use Rattle.std.specs.Prelude.{◌≡◌, ◌≤◌, ◌<◌, ℕ, List, length, None, All, IsTrue}
+use Rattle.std.specs.Prelude.{◌≡◌, ◌≤◌, ◌<◌, ℕ, List, length, None, All, IsTrue, ⊤}
+use Rattle.budget.specs.declared.budget.Budget.{Budget}
 use Rattle.irv_base.specs.Orders.{is_order}
 use Rattle.set_tallies.specs.Bags.{Kept, IsOf}
 use Rattle.irv_tabulator.specs.Results.{IsTabulation}
@@ -8,22 +9,32 @@ use Rattle.bound_search.specs.Race.{IsBest}
 use Rattle.bound_search.specs.declared.ends.RaceEnd.{RaceEnd}
 use Rattle.certifier.specs.declared.certificate.Certificate.{Certificate}
 use Rattle.ballot_reader.specs.Ballots.{BallotFile}
-use Rattle.contest_search.specs.Budget.{IsInBudget, IsSpent}
+use Rattle.contest_search.specs.Budget.{IsInBudget, IsTold, IsSpentIn, IsSpentBySetsIn}
 use Rattle.contest_search.specs.Certificate.{IsCertificateOfDecided}
 use Rattle.contest_search.specs.Contest.{candidate_count, IsTie}
 use Rattle.contest_search.specs.declared.found.Found.{Found}
-use Rattle.contest_search.specs.declared.found.Found.TheVariants.{Certificate as CertificateFound, Tie, Spent}
+use Rattle.contest_search.specs.declared.found.Found.TheVariants.{Certificate as CertificateFound, Tie, Spent, SpentSets}
 use Rattle.assertion_file.specs.Content.{Content, IsMargin, IsSoundClaim}
 
 -- the certificate, within the budget
-pub record IsFoundIn (nodes : ℕ) (ballots : BallotFile) (file : Content) : Type 0 where
+pub record IsFoundIn (budget : Budget) (ballots : BallotFile) (file : Content) : Type 0 where
   pub is : IsCertificateOfDecided ballots file
-  pub budget : IsInBudget ballots is.winner nodes
+  pub within : IsInBudget ballots is.winner budget
 
-abbrev pub FoundIn : ℕ → BallotFile → Found → Type 0
-FoundIn nodes ballots (CertificateFound file) = IsFoundIn nodes ballots file
-FoundIn nodes ballots (Tie round tied votes) = IsTie ballots round tied votes
-FoundIn nodes ballots (Spent last order margin) = IsSpent nodes ballots last order margin
+abbrev pub FoundIn : Budget → BallotFile → Found → Type 0
+FoundIn budget ballots (CertificateFound file) = IsFoundIn budget ballots file
+FoundIn budget ballots (Tie round tied votes) =
+    IsTie ballots round tied votes × IsTold budget ballots
+FoundIn budget ballots (Spent last order margin) = IsSpentIn budget ballots last order margin
+FoundIn budget ballots (SpentSets sets order margin) =
+    IsSpentBySetsIn budget ballots sets order margin
+
+-- the budget is spent
+abbrev pub IsSpentFound : Found → Type 0
+IsSpentFound (CertificateFound file) = ⊥
+IsSpentFound (Tie round tied votes) = ⊥
+IsSpentFound (Spent last order margin) = ⊤
+IsSpentFound (SpentSets sets order margin) = ⊤
 
 -- ---- on the way
 

@@ -3,16 +3,20 @@ ghost use Rattle.std.specs.Prelude.{◌≡◌, ◌≤◌, ℕ, IfOk};
 ghost use Rattle.irv_tabulator.specs.Results.{IsTabulation};
 ghost use Rattle.contest_search.specs.Contest.{candidate_count, IsUndecided};
 ghost use Rattle.irv_base.specs.declared.limits.TheConstants.{MOST_WORKERS};
+ghost use Rattle.budget.specs.declared.budget.Budget.{Budget as Told};
+ghost use Rattle.contest_search.specs.Budget.{IsTold};
 ghost use Rattle.contest_search.specs.Found.{FoundIn, IsCounted, IsBestOf, IsPrintable, content_of};
 
 use crate::searchable::Searchable;
 use assertion_file::{AssertionFile, Parts};
 use assertions::Claim;
 use bound_search::{RaceEnd, RaceFault, race};
+use budget::Budget;
 use certifier::{CertFault, Certificate, certify};
 use desk::Gate;
 use irv_base::{CandSet, Candidate, Memory, Order};
 use irv_tabulator::{FirstTie, TabFault, Tabulated, tabulate};
+use set_search::{SetsEnd, SetsFault, certify_by_sets};
 use set_tallies::Counted;
 use std::alloc::Global;
 use std::thread::Threads;
@@ -35,19 +39,26 @@ pub enum Found {
         order: Order,
         margin: u32,
     },
+    /// More sets of candidates are needed than the budget has, which are so many. Beside it the order that a search starts with, and its
+    /// hardness.
+    SpentSets {
+        sets: u32,
+        order: Order,
+        margin: u32,
+    },
 }
 
-/// What a search of the contest finds, by so many workers, with so many nodes for each piece of the race and for each candidate who
-/// didn't win.
+/// What a search of the contest finds, by so many workers, within a budget: of nodes for each piece of the race and for each candidate
+/// who didn't win, or of sets for all orders together.
 pub fn find<R: AllocGlobal + Threads + Sync, G: Gate + Sync>(
     rt: &R,
     contest: &Searchable<'_>,
     workers: u32,
-    nodes: u32,
+    budget: Budget,
     gate: &G,
 ) -> Result<Found, Memory>
     requires { (1 ≤ workers) × (workers ≤ MOST_WORKERS) }
-    ensures { IfOk result (FoundIn nodes contest.now) }
+    ensures { IfOk result (FoundIn budget contest.now) }
 {
     let alloc = rt.alloc();
     let counted = Counted::of(
@@ -58,12 +69,58 @@ pub fn find<R: AllocGlobal + Threads + Sync, G: Gate + Sync>(
     )?;
     let mut tallies = counted.tallies()?;
     match tabulate(alloc, &mut tallies) {
-        Ok(tabulated) => race_of(rt, contest, &counted, &tabulated, workers, nodes, gate),
+        Ok(tabulated) => search_of(rt, contest, &counted, &tabulated, workers, budget, gate),
         Err(TabFault::Memory) => Err(Memory),
     }
 }
 
-// What a search of a contest that was tabulated finds.
+// What a search of a contest that was tabulated finds, by the budget.
+fn search_of<R: AllocGlobal + Threads + Sync, G: Gate + Sync>(
+    rt: &R,
+    contest: &Searchable<'_>,
+    counted: &Counted,
+    tabulated: &Tabulated,
+    workers: u32,
+    budget: Budget,
+    gate: &G,
+) -> Result<Found, Memory>
+    requires workers { (1 ≤ workers) × (workers ≤ MOST_WORKERS) }
+    requires counted { IsCounted contest.now counted.now.bag tabulated.now }
+    ensures { IfOk result (FoundIn budget contest.now) }
+{
+    match budget {
+        Budget::Nodes(nodes) => race_of(rt, contest, counted, tabulated, workers, nodes, gate),
+        Budget::Sets(sets) => sets_of(rt.alloc(), contest, counted, tabulated, sets),
+    }
+}
+
+// What it finds by sets.
+fn sets_of(
+    alloc: Global,
+    contest: &Searchable<'_>,
+    counted: &Counted,
+    tabulated: &Tabulated,
+    sets: u32,
+) -> Result<Found, Memory>
+    requires counted { IsCounted contest.now counted.now.bag tabulated.now }
+    ensures { IfOk result (FoundIn (Budget.Sets sets) contest.now) }
+{
+    match certify_by_sets(alloc, counted, tabulated, sets) {
+        Ok(SetsEnd::Certificate(certificate)) => {
+            let file = file_of(alloc, contest, tabulated.winner, certificate)?;
+            Ok(Found::Certificate(file))
+        }
+        Ok(SetsEnd::Undecided) => Ok(tie_of(contest, tabulated)),
+        Err(SetsFault::Spent { order, margin }) => Ok(Found::SpentSets {
+            sets,
+            order,
+            margin,
+        }),
+        Err(SetsFault::Memory) => Err(Memory),
+    }
+}
+
+// What it finds by the race, and by walks through suffixes.
 fn race_of<R: AllocGlobal + Threads + Sync, G: Gate + Sync>(
     rt: &R,
     contest: &Searchable<'_>,
@@ -75,7 +132,7 @@ fn race_of<R: AllocGlobal + Threads + Sync, G: Gate + Sync>(
 ) -> Result<Found, Memory>
     requires workers { (1 ≤ workers) × (workers ≤ MOST_WORKERS) }
     requires counted { IsCounted contest.now counted.now.bag tabulated.now }
-    ensures { IfOk result (FoundIn nodes contest.now) }
+    ensures { IfOk result (FoundIn (Budget.Nodes nodes) contest.now) }
 {
     match race(rt, counted, tabulated, workers, nodes, gate) {
         Ok(end) => {
@@ -101,7 +158,7 @@ fn tie_of(contest: &Searchable<'_>, tabulated: &Tabulated) -> Found
     requires tabulation { IsTabulation (candidate_count contest.now) (contest.now).rankings
         tabulated.now }
     requires undecided { IsUndecided contest.now }
-    ensures { (nodes : ℕ) → FoundIn nodes contest.now result }
+    ensures { (budget : Told) → IsTold budget contest.now → FoundIn budget contest.now result }
 {
     match tabulated.tie() {
         Some(FirstTie { round, tied, tally }) => Found::Tie {
@@ -127,7 +184,7 @@ fn certificate_of<R: AllocGlobal + Threads + Sync>(
     requires counted { IsCounted contest.now counted.now.bag tabulated.now }
     requires best { IsBestOf counted.now.bag tabulated.now end }
     requires some { 1 ≤ end.margin }
-    ensures { IfOk result (FoundIn nodes contest.now) }
+    ensures { IfOk result (FoundIn (Budget.Nodes nodes) contest.now) }
 {
     let RaceEnd { margin, order, .. } = end;
     match certify(rt, counted, tabulated, margin, workers, nodes) {

@@ -1,9 +1,20 @@
 //! The laws of a search: each holds of every value that it names, and has no code.
-ghost use Rattle.contest_search.specs.Laws.{FoundIsAccepted, NodesAreFew, PlannedIsAccepted};
+ghost use Rattle.contest_search.specs.Laws.{FoundIsAccepted, NodesAreFew, PlannedIsAccepted, SetsAreFew, SpentBySetsExactly};
 
 /// No search needs more nodes for a candidate than twice the factorial of the number of the other candidates.
 pub fn nodes_are_few()
     ensures { NodesAreFew }
+{}
+
+/// No search needs more sets than there are, less three.
+pub fn sets_are_few()
+    ensures { SetsAreFew }
+{}
+
+/// A search by sets is spent exactly where more of them are needed than the budget has, and the order that it starts with isn't of
+/// hardness 0.
+pub fn spent_by_sets_exactly()
+    ensures { SpentBySetsExactly }
 {}
 
 /// What a search finds is the canonical certificate, reads back from its text, and is accepted by the checker.

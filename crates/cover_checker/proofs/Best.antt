@@ -11,6 +11,7 @@ use Rattle.assertions.proofs.Alternatives.{best-le, best_is}
 use Rattle.assertions.proofs.Endings.{from_alternative, alternative-member}
 use Rattle.assertions.proofs.Lows.{low-refuter}
 use Rattle.assertions.proofs.Sums.{true_margin_is}
+use Rattle.budget.specs.declared.budget.Budget.{Budget}
 use Rattle.ballot_reader.specs.Ballots.{BallotFile}
 use Rattle.assertion_file.specs.Content.{Content, IsSound, IsSoundClaim, candidate_count}
 use Rattle.cover_checker.specs.Checks.{IsAnswer}
@@ -58,6 +59,6 @@ module _ (ballots : BallotFile) (file : Content) (sound : IsSound file) (h : Hol
   held_is_best : file.margin ≡ best
   held_is_best = omega (arith, best-reached, margin-reached)
 
-pub accepted_margin_is_best : (nodes : ℕ) (ballots : BallotFile) (file : Content) → IsSound file → IsAnswer nodes ballots file (Ok Accepted) →
+pub accepted_margin_is_best : (budget : Budget) (ballots : BallotFile) (file : Content) → IsSound file → IsAnswer budget ballots file (Ok Accepted) →
     file.margin ≡ best_margin (candidate_count file) file.winner (low (candidate_count file) ballots.rankings)
-accepted_margin_is_best nodes ballots file sound answer = held_is_best ballots file sound ((accepted_iff_holds nodes ballots file Accepted sound answer).0 refl)
+accepted_margin_is_best budget ballots file sound answer = held_is_best ballots file sound ((accepted_iff_holds budget ballots file Accepted sound answer).0 refl)

@@ -1,9 +1,10 @@
 -- The canonical certificate of ballots is accepted.
-use Rattle.std.proofs.Common.{◌≡◌, ◌≢◌, ℕ, ◌<◌, ◌≤◌, true, false, not, ◌&&◌, ◌==◌, nat_lt, List, [], ◌∷◌, map, count_by, Option, Some, None, Ok, Contains, refl, sym, ap, subst, arith, ◌∙◌, inl, inr, ltb-true, lt-ltb, le-ltb, eqb-true}
+use Rattle.std.proofs.Common.{◌≡◌, ◌≢◌, ℕ, ◌<◌, ◌≤◌, true, false, not, ◌&&◌, ◌==◌, nat_lt, List, [], ◌∷◌, length, map, count_by, Option, Some, None, Ok, Contains, refl, sym, ap, subst, arith, ◌∙◌, inl, inr, lt-ltb, le-ltb, eqb-true}
 use Rattle.std.specs.List.{list_any}
-use Rattle.std.proofs.lemmas.Bool.{cases_Bool, cases_lt, not-true, eqb-false}
-use Rattle.irv_base.specs.Candidates.{candidates, all_but}
-use Rattle.irv_base.proofs.Members.{Member, member-map, from_map, contains-from_member, member-from_contains, from_list_all, from_find, from_filter, from_candidates}
+use Rattle.std.proofs.lemmas.Bool.{cases_Bool, cases_lt}
+use Rattle.budget.specs.declared.budget.Budget.{Budget}
+use Rattle.budget.specs.declared.budget.Budget.TheVariants.{Nodes, Sets}
+use Rattle.irv_base.proofs.Members.{Member, member-map, from_map, contains-from_member, member-from_contains, from_list_all, from_find}
 use Rattle.assertions.specs.declared.assertion.Assertion.{Assertion}
 use Rattle.assertions.specs.declared.assertion.Claim.{Claim}
 use Rattle.assertions.specs.Assertions.{is_true, true_margin}
@@ -19,9 +20,14 @@ use Rattle.assertions.proofs.Shortest.{certificate_refutes}
 use Rattle.assertions.proofs.Sums.{true_margin_is}
 use Rattle.suffix_walk.specs.Search.{is_passed}
 use Rattle.suffix_walk.proofs.Counts.{count-same}
+use Rattle.set_walk.specs.Steps.{step}
+use Rattle.set_walk.specs.Walks.{standing, passes}
+use Rattle.set_walk.proofs.Counted.{counted_stand}
+use Rattle.set_walk.proofs.Orders.{standing_by_sets}
+use Rattle.set_walk.proofs.Standing.{certificate_stands}
 use Rattle.ballot_reader.specs.Ballots.{BallotFile}
 use Rattle.assertion_file.specs.Content.{Content, IsSound, candidate_count}
-use Rattle.cover_checker.specs.Covers.{stands, covered_is, first_over, or_spent, verdict_on, standing_order, standing_count}
+use Rattle.cover_checker.specs.Covers.{stands, covered_is, standing_order, standing_count, standing_sets, IsEnough, IsEnoughBelow}
 use Rattle.cover_checker.specs.Findings.{assertions_of}
 use Rattle.cover_checker.specs.Checks.{IsAnswer}
 use Rattle.cover_checker.specs.Holds.{Holds, IsCertificateOf}
@@ -30,13 +36,14 @@ use Rattle.cover_checker.specs.declared.checked.Checked.TheVariants.{Accepted}
 use Rattle.cover_checker.proofs.Held.{assertion_in, all-from_members, refuting_claim, held-accepted}
 use Rattle.cover_checker.proofs.Nothing.{HasItsMargin}
 use Rattle.cover_checker.proofs.Verdicts.{stands_not_covers}
+use Rattle.cover_checker.proofs.Enough.{covers-covered}
 
 assertions-claims : (records : List (List ℕ)) (list : List Assertion) → map assertion_in (map (claim_of records) list) ≡ list
 assertions-claims records [] = refl
 assertions-claims records (a ∷ list) = ap (λ rest. a ∷ rest) (assertions-claims records list)
 
 -- ---- `covered` on the certificate
-module _ (n winner nodes : ℕ) (records : List (List ℕ)) (positive : 0 < best_margin n winner (low n records)) where
+module _ (n winner : ℕ) (records : List (List ℕ)) (positive : 0 < best_margin n winner (low n records)) where
   abbrev best : ℕ
   best = best_margin n winner (low n records)
 
@@ -47,7 +54,7 @@ module _ (n winner nodes : ℕ) (records : List (List ℕ)) (positive : 0 < best
   no_order = go (standing_order n winner listed) refl where
     go : (o : Option (List ℕ)) → standing_order n winner listed ≡ o → o ≡ None
     go None e = refl
-    go (Some order) e = absurd (stands_not_covers n winner nodes listed order e (certificate_covers n winner records positive))
+    go (Some order) e = absurd (stands_not_covers n winner (Nodes 0) listed order e (certificate_covers n winner records positive))
 
   -- what counts is what is below the best margin
   stands-below : (c : ℕ) (suffix : List ℕ) → c < n → c ≢ winner → Member suffix (parts_ending n c) →
@@ -69,22 +76,18 @@ module _ (n winner nodes : ℕ) (records : List (List ℕ)) (positive : 0 < best
       ∙ count-same (λ suffix. stands listed suffix && true) (λ suffix. nat_lt (low n records suffix) best) (parts_ending n c)
       (λ suffix m. stands-below c suffix below ne m)
 
-  module _ (within : (c : ℕ) → c < n → c ≢ winner → cover_count n (low n records) best c ≤ nodes) where
-    none_over : first_over n winner listed nodes ≡ None
-    none_over = go (first_over n winner listed nodes) refl where
-      go : (o : Option ℕ) → first_over n winner listed nodes ≡ o → o ≡ None
-      go None e = refl
-      go (Some c) e =
-          let (m, over) = from_find (λ c. nat_lt nodes (standing_count n winner listed c)) c (all_but n winner) e in
-          let (k, other) = from_filter (λ c. not (c == winner)) (candidates n) m in
-          let below : c < n = from_candidates k in
-          let ne : c ≢ winner = eqb-false c winner (not-true (c == winner) other) in
-          absurd (omega (arith, ltb-true nodes (standing_count n winner listed c) over, count-below c below ne, within c below ne))
+  -- the sets that count are those that stand below it
+  sets-below : standing_sets n winner listed ≡ length (standing n winner (λ set c. nat_lt (step n records set c) best))
+  sets-below =
+      ap length ((counted_stand n winner (passes listed)).1 (sym (standing_by_sets n winner listed) ∙ no_order))
+      ∙ ap length (certificate_stands n winner records positive)
 
-    pub certificate-covered : covered_is n winner listed nodes ≡ Ok Covered
-    certificate-covered =
-        ap (λ o. or_spent o (verdict_on (standing_order n winner listed))) none_over
-        ∙ ap (λ o. or_spent None (verdict_on o)) no_order
+  enough-below : (budget : Budget) → IsEnoughBelow budget n winner records best → IsEnough budget n winner listed
+  enough-below (Nodes nodes) few = λ c below ne. subst (λ k. k ≤ nodes) (sym (count-below c below ne)) (few c below ne)
+  enough-below (Sets sets) few = subst (λ k. k ≤ sets) (sym sets-below) few
+
+  pub certificate-covered : (budget : Budget) → IsEnoughBelow budget n winner records best → covered_is n winner listed budget ≡ Ok Covered
+  certificate-covered budget few = covers-covered n winner listed budget (certificate_covers n winner records positive) (enough-below budget few)
 
 -- ---- the certificate as a file
 module _ (ballots : BallotFile) (file : Content) (sound : IsSound file) (is : IsCertificateOf ballots file) where
@@ -153,13 +156,11 @@ module _ (ballots : BallotFile) (file : Content) (sound : IsSound file) (is : Is
       found = from_find (λ order. low (candidate_count file) ballots.rankings order == file.margin) file.order
           (alternative_orders (candidate_count file) file.winner) is.order
 
-pub certificate_is_accepted : (nodes : ℕ) (ballots : BallotFile) (file : Content) → IsSound file → IsCertificateOf ballots file →
-    ((c : ℕ) → c < candidate_count file → c ≢ file.winner → cover_count (candidate_count file) (low (candidate_count file) ballots.rankings) file.margin
-    c ≤ nodes) →
-    IsAnswer nodes ballots file (Ok Accepted)
-certificate_is_accepted nodes ballots file sound is within =
+pub certificate_is_accepted : (budget : Budget) (ballots : BallotFile) (file : Content) → IsSound file → IsCertificateOf ballots file →
+    IsEnoughBelow budget (candidate_count file) file.winner ballots.rankings file.margin → IsAnswer budget ballots file (Ok Accepted)
+certificate_is_accepted budget ballots file sound is within =
     let n = candidate_count file in
-    let covered = certificate-covered n file.winner nodes ballots.rankings (some_best ballots file sound is)
-    (λ c below ne. subst (λ best. cover_count n (low n ballots.rankings) best c ≤ nodes) is.margin (within c below ne)) in
-    held-accepted nodes ballots file (own-holds ballots file sound is)
-    (ap (λ list. covered_is n file.winner list nodes) (own_assertions ballots file sound is) ∙ covered)
+    let covered = certificate-covered n file.winner ballots.rankings (some_best ballots file sound is) budget
+    (subst (IsEnoughBelow budget n file.winner ballots.rankings) is.margin within) in
+    held-accepted budget ballots file (own-holds ballots file sound is)
+    (ap (λ list. covered_is n file.winner list budget) (own_assertions ballots file sound is) ∙ covered)

@@ -9,6 +9,7 @@ use Rattle.assertions.specs.declared.assertion.Claim.{Claim}
 use Rattle.assertions.specs.Assertions.{is_proper, is_true, margin}
 use Rattle.assertions.proofs.Decided.{proof-decided}
 use Rattle.assertions.proofs.Sums.{true_margin_is}
+use Rattle.budget.specs.declared.budget.Budget.{Budget}
 use Rattle.ballot_reader.specs.Ballots.{BallotFile}
 use Rattle.assertion_file.specs.Content.{Content, IsSound, IsSoundClaim, candidate_count}
 use Rattle.cover_checker.specs.Checks.{IsAnswer}
@@ -47,6 +48,6 @@ module _ (ballots : BallotFile) (file : Content) (sound : IsSound file) (h : Hol
         cover = held-covers ballots file h;
       })
 
-pub accepted_is_decided : (nodes : ℕ) (ballots : BallotFile) (file : Content) → IsSound file → IsAnswer nodes ballots file (Ok Accepted) →
+pub accepted_is_decided : (budget : Budget) (ballots : BallotFile) (file : Content) → IsSound file → IsAnswer budget ballots file (Ok Accepted) →
     AllElect (candidate_count file) ballots.rankings file.winner
-accepted_is_decided nodes ballots file sound answer = held_is_decided ballots file sound (accepted-held nodes ballots file sound answer)
+accepted_is_decided budget ballots file sound answer = held_is_decided ballots file sound (accepted-held budget ballots file sound answer)

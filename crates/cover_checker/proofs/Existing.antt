@@ -1,5 +1,5 @@
--- Every file has an answer, and one that no budget spoils where there are nodes enough.
-use Rattle.std.proofs.Common.{◌≡◌, ℕ, ◌+◌, ◌-◌, ◌*◌, ◌<◌, ◌≤◌, Bool, true, false, if◌then◌else◌, nat_lt, ◌==◌, List, [], ◌∷◌, length, Option, Some, None, Ok, Err, MatchBool, inl, inr, refl, sym, ap, subst, arith, ◌∙◌}
+-- Every file has an answer, and one that no budget spoils where there are budget enough.
+use Rattle.std.proofs.Common.{◌≡◌, ℕ, ◌+◌, ◌<◌, Bool, true, false, if◌then◌else◌, nat_lt, ◌==◌, List, [], ◌∷◌, length, Option, Some, None, Ok, Err, MatchBool, inl, inr, refl, sym, ap, subst, arith, ◌∙◌}
 use Rattle.std.specs.Prelude.{option_and_then}
 use Rattle.std.proofs.lemmas.Bool.{cases_Bool}
 use Rattle.irv_base.specs.Orders.{is_order}
@@ -10,7 +10,7 @@ use Rattle.assertions.specs.declared.assertion.Assertion.{Assertion}
 use Rattle.assertions.specs.declared.assertion.Claim.{Claim}
 use Rattle.assertions.specs.Assertions.{margin}
 use Rattle.assertions.specs.Hardness.{low, refuter}
-use Rattle.assertions.specs.Suffixes.{factorial}
+use Rattle.budget.specs.declared.budget.Budget.{Budget}
 use Rattle.ballot_reader.specs.Ballots.{BallotFile}
 use Rattle.assertion_file.specs.Content.{Content, Plan, IsSound, candidate_count}
 use Rattle.cover_checker.specs.Covers.{IsEnough, verdict_on, standing_order}
@@ -22,24 +22,23 @@ use Rattle.cover_checker.specs.declared.cover.Verdict.TheVariants.{Covered, Stan
 use Rattle.cover_checker.specs.declared.checked.Checked.{Checked}
 use Rattle.cover_checker.specs.declared.checked.Checked.TheVariants.{OtherContest, OtherWinner, OtherMargin, NotLeast, NotAlternative, OtherDraws, Accepted}
 use Rattle.cover_checker.specs.declared.checked.CheckFault.{CheckFault}
-use Rattle.cover_checker.specs.declared.checked.CheckFault.TheVariants.{Spent as SpentAt}
 use Rattle.cover_checker.proofs.Answered.{from_answer, judged}
 use Rattle.cover_checker.proofs.Same.{from_about}
-use Rattle.cover_checker.proofs.Enough.{enough-verdict, never_over}
+use Rattle.cover_checker.proofs.Enough.{enough-verdict}
 
 -- ---- there is an answer
-module _ (nodes : ℕ) (ballots : BallotFile) (file : Content) where
+module _ (budget : Budget) (ballots : BallotFile) (file : Content) where
   abbrev HasAnswer : Type 0
-  HasAnswer = (answer : Answer) × IsAnswer nodes ballots file answer
+  HasAnswer = (answer : Answer) × IsAnswer budget ballots file answer
 
   by_order : is_about ballots file ≡ true → (order : List ℕ) → 0 < length ballots.candidates → is_order (length ballots.candidates) order ≡ true →
       is_tabulated ballots.rankings order ≡ true → HasAnswer
   by_order about [] some whole tab = absurd (omega (arith, some, (order_facts (length ballots.candidates) [] whole).long))
   by_order about (x ∷ xs) some whole tab =
       let (before, winner, e) = last_split x xs in
-      let answer = checked_is nodes ballots.rankings file winner in (
+      let answer = checked_is budget ballots.rankings file winner in (
         answer,
-        judged nodes ballots file about answer (record {
+        judged budget ballots file about answer (record {
           winner = winner;
           tabulated = record { order = x ∷ xs; permutation = whole; tabulated = tab; elects = (before, e) };
           answer_is = refl;
@@ -52,7 +51,7 @@ module _ (nodes : ℕ) (ballots : BallotFile) (file : Content) where
   by_contest : is_about ballots file ≡ false → HasAnswer
   by_contest f =
       let same : elsewhere ≡ elsewhere = refl in
-      (elsewhere, subst (λ b. MatchBool b (Judges nodes ballots file elsewhere) (elsewhere ≡ elsewhere)) (sym f) same)
+      (elsewhere, subst (λ b. MatchBool b (Judges budget ballots file elsewhere) (elsewhere ≡ elsewhere)) (sym f) same)
 
   pub answer_exists : IsSound file → HasAnswer
   answer_exists sound =
@@ -65,7 +64,7 @@ module _ (nodes : ℕ) (ballots : BallotFile) (file : Content) where
       ]
 
 -- ---- no other finding is a fault
-abbrev NeverFails : Option Answer → Type 0
+abbrev pub NeverFails : Option Answer → Type 0
 NeverFails found = (fault : CheckFault) → found ≡ Some (Err fault) → ⊥
 
 from_failed : (found : Option Answer) (more : List (Option Answer)) (fault : CheckFault) → NeverFails found →
@@ -85,7 +84,7 @@ when-never false checked fault h = cc
 found-at : List (List ℕ) → ℕ → Claim → Option Answer
 found-at records at claim = Some (Ok (OtherMargin at (margin records claim.assertion)))
 
-margins-never : (records : List (List ℕ)) (at : ℕ) (claims : List Claim) → NeverFails (other_margin_from records at claims)
+pub margins-never : (records : List (List ℕ)) (at : ℕ) (claims : List Claim) → NeverFails (other_margin_from records at claims)
 unfolding found-at
 margins-never records at [] fault h = cc
 margins-never records at (claim ∷ claims) fault h = go (has_other_margin records claim) (margins-never records (at + 1) claims fault) h where
@@ -119,46 +118,47 @@ draws-never file = by file.plan where
   by None fault h = cc
   by (Some plan) fault h = draws-from-never plan 1 file.claims plan.draws fault h
 
-uncovered-never : (nodes : ℕ) (file : Content) → IsEnough nodes (candidate_count file) file.winner (assertions_of file) → NeverFails (uncovered nodes file)
-uncovered-never nodes file enough fault h =
+uncovered-never : (budget : Budget) (file : Content) → IsEnough budget (candidate_count file) file.winner (assertions_of file) →
+    NeverFails (uncovered budget file)
+uncovered-never budget file enough fault h =
     go (verdict_on (standing_order (candidate_count file) file.winner (assertions_of file)))
-    (ap unless_covered (sym (enough-verdict (candidate_count file) file.winner nodes (assertions_of file) enough)) ∙ h)
+    (ap unless_covered (sym (enough-verdict (candidate_count file) file.winner (assertions_of file) budget enough)) ∙ h)
   where
     go : (v : Verdict) → unless_covered (Ok v) ≡ Some (Err fault) → ⊥
     go Covered k = cc
     go (Stands order) k = cc
 
--- ---- a budget of that many is never spent
-module _ (nodes : ℕ) (ballots : BallotFile) (file : Content) (last : ℕ) (le : 2 * factorial (candidate_count file - 1) ≤ nodes) where
-  by_winner : (winner : ℕ) → checked_is nodes ballots.rankings file winner ≡ Err (SpentAt last) → ⊥
+-- ---- a budget that is enough is never spent
+module _ (budget : Budget) (ballots : BallotFile) (file : Content) (fault : CheckFault)
+    (enough : IsEnough budget (candidate_count file) file.winner (assertions_of file)) where
+  by_winner : (winner : ℕ) → checked_is budget ballots.rankings file winner ≡ Err fault → ⊥
   by_winner winner h =
       let records = ballots.rankings in
       let rest-harder : List (Option Answer) = other_draws file ∷ [] in
       let rest-elected : List (Option Answer) = harder records file ∷ other_draws file ∷ [] in
       let rest-smallest : List (Option Answer) = elected file ∷ harder records file ∷ other_draws file ∷ [] in
       let rest-cover : List (Option Answer) = other_smallest file ∷ elected file ∷ harder records file ∷ other_draws file ∷ [] in
-      let rest-margin : List (Option Answer) = uncovered nodes file ∷ other_smallest file ∷ elected file ∷ harder records file ∷ other_draws file ∷ [] in
-      let rest-winner : List (Option Answer) = other_margin records file ∷ uncovered nodes file ∷ other_smallest file ∷ elected file ∷ harder records file ∷
+      let rest-margin : List (Option Answer) = uncovered budget file ∷ other_smallest file ∷ elected file ∷ harder records file ∷ other_draws file ∷ [] in
+      let rest-winner : List (Option Answer) = other_margin records file ∷ uncovered budget file ∷ other_smallest file ∷ elected file ∷ harder records file ∷
       other_draws file ∷ [] in
-      let a = from_failed (other_winner winner file) rest-winner (SpentAt last) (unless-never (file.winner == winner) (OtherWinner winner)) h in
-      let b = from_failed (other_margin records file) rest-margin (SpentAt last) (margins-never records 1 file.claims) a in
-      let enough = never_over (candidate_count file) file.winner nodes (assertions_of file) le in
-      let c = from_failed (uncovered nodes file) rest-cover (SpentAt last) (uncovered-never nodes file enough) b in
-      let d = from_failed (other_smallest file) rest-smallest (SpentAt last)
+      let a = from_failed (other_winner winner file) rest-winner fault (unless-never (file.winner == winner) (OtherWinner winner)) h in
+      let b = from_failed (other_margin records file) rest-margin fault (margins-never records 1 file.claims) a in
+      let c = from_failed (uncovered budget file) rest-cover fault (uncovered-never budget file enough) b in
+      let d = from_failed (other_smallest file) rest-smallest fault
       (unless-never (smallest_margin file == file.margin) (NotLeast (smallest_margin file))) c in
-      let e = from_failed (elected file) rest-elected (SpentAt last) (when-never (elects file.order file.winner) NotAlternative) d in
-      let f = from_failed (harder records file) rest-harder (SpentAt last) (harder-never records file) e in
-      let g : Ok Accepted ≡ Err (SpentAt last) = from_failed (other_draws file) [] (SpentAt last) (draws-never file) f in
+      let e = from_failed (elected file) rest-elected fault (when-never (elects file.order file.winner) NotAlternative) d in
+      let f = from_failed (harder records file) rest-harder fault (harder-never records file) e in
+      let g : Ok Accepted ≡ Err fault = from_failed (other_draws file) [] fault (draws-never file) f in
       cc
 
   abbrev failed : Answer
-  failed = Err (SpentAt last)
+  failed = Err fault
 
-  pub answer_never_spent : IsAnswer nodes ballots file (Err (SpentAt last)) → ⊥
-  answer_never_spent h =
+  pub answer_never_fault : IsAnswer budget ballots file (Err fault) → ⊥
+  answer_never_fault h =
       elim (cases_Bool (is_about ballots file)) [
         | inr f ↦
-            let other : failed ≡ Ok OtherContest = subst (λ b. MatchBool b (Judges nodes ballots file failed) (failed ≡ Ok OtherContest)) f h in
+            let other : failed ≡ Ok OtherContest = subst (λ b. MatchBool b (Judges budget ballots file failed) (failed ≡ Ok OtherContest)) f h in
             cc
-        | inl t ↦ let j = from_answer nodes ballots file t (Err (SpentAt last)) h in by_winner j.winner j.answer_is
+        | inl t ↦ let j = from_answer budget ballots file t (Err fault) h in by_winner j.winner j.answer_is
       ]

@@ -16,6 +16,7 @@ use Rattle.assertions.specs.Suffixes.{IsAlternative, alternative_orders}
 use Rattle.assertions.proofs.Alternatives.{some_alternative}
 use Rattle.assertions.proofs.Elections.{from_covers}
 use Rattle.assertions.proofs.Endings.{from_alternative, alternative-member}
+use Rattle.budget.specs.declared.budget.Budget.{Budget}
 use Rattle.ballot_reader.specs.Ballots.{BallotFile}
 use Rattle.assertion_file.specs.Content.{Content, IsSound, candidate_count}
 use Rattle.cover_checker.specs.Covers.{covered_is}
@@ -26,7 +27,7 @@ use Rattle.cover_checker.specs.Holds.{Holds}
 use Rattle.cover_checker.specs.declared.cover.Verdict.{Verdict}
 use Rattle.cover_checker.specs.declared.cover.Verdict.TheVariants.{Covered}
 use Rattle.cover_checker.specs.declared.cover.CoverFault.{CoverFault}
-use Rattle.cover_checker.specs.declared.cover.CoverFault.TheVariants.{Spent as CoverSpent, Memory as CoverMemory}
+use Rattle.cover_checker.specs.declared.cover.CoverFault.TheVariants.{Spent as CoverSpent, SpentSets as CoverSpentSets, Memory as CoverMemory}
 use Rattle.cover_checker.specs.declared.checked.Checked.{Checked}
 use Rattle.cover_checker.specs.declared.checked.Checked.TheVariants.{OtherContest, Accepted}
 use Rattle.cover_checker.proofs.Nothing.{NeverAccepts, HasItsMargin, winner-none, none-winner, winner-never, margins-none, none-margins, margins-never, covered-none, covered-never, smallest-none, none-smallest, smallest-never, elects-last, elected-none, none-elected, elected-never, harder-none, none-harder, harder-never, draws-none, none-draws, draws-never}
@@ -53,28 +54,28 @@ passed : (found : Option Answer) (more : List (Option Answer)) → found ≡ Non
 passed found more e = ap (λ found. first_found (found ∷ more) (Ok Accepted)) e
 
 -- ---- the facts of a file that holds, for its records
-record Facts (nodes : ℕ) (records : List (List ℕ)) (file : Content) (winner : ℕ) : Type 0 where
+record Facts (budget : Budget) (records : List (List ℕ)) (file : Content) (winner : ℕ) : Type 0 where
   same : file.winner ≡ winner
   margins : All (HasItsMargin records) file.claims
-  covered : covered_is (candidate_count file) file.winner (assertions_of file) nodes ≡ Ok Covered
+  covered : covered_is (candidate_count file) file.winner (assertions_of file) budget ≡ Ok Covered
   smallest : smallest_margin file ≡ file.margin
   other : elects file.order file.winner ≡ false
   hardest : low (candidate_count file) records file.order ≤ file.margin
   draws : other_draws file ≡ None
 
-module _ (nodes : ℕ) (records : List (List ℕ)) (file : Content) (winner : ℕ) where
-  facts-accepted : first_found (findings nodes records file winner) (Ok Accepted) ≡ Ok Accepted → Facts nodes records file winner
+module _ (budget : Budget) (records : List (List ℕ)) (file : Content) (winner : ℕ) where
+  facts-accepted : first_found (findings budget records file winner) (Ok Accepted) ≡ Ok Accepted → Facts budget records file winner
   facts-accepted h =
       let rest-harder : List (Option Answer) = other_draws file ∷ [] in
       let rest-elected : List (Option Answer) = harder records file ∷ other_draws file ∷ [] in
       let rest-smallest : List (Option Answer) = elected file ∷ harder records file ∷ other_draws file ∷ [] in
       let rest-cover : List (Option Answer) = other_smallest file ∷ elected file ∷ harder records file ∷ other_draws file ∷ [] in
-      let rest-margin : List (Option Answer) = uncovered nodes file ∷ other_smallest file ∷ elected file ∷ harder records file ∷ other_draws file ∷ [] in
-      let rest-winner : List (Option Answer) = other_margin records file ∷ uncovered nodes file ∷ other_smallest file ∷ elected file ∷ harder records file ∷
+      let rest-margin : List (Option Answer) = uncovered budget file ∷ other_smallest file ∷ elected file ∷ harder records file ∷ other_draws file ∷ [] in
+      let rest-winner : List (Option Answer) = other_margin records file ∷ uncovered budget file ∷ other_smallest file ∷ elected file ∷ harder records file ∷
       other_draws file ∷ [] in
       let a = from_accepted (other_winner winner file) rest-winner (winner-never winner file) h in
       let b = from_accepted (other_margin records file) rest-margin (margins-never records 1 file.claims) a.1 in
-      let c = from_accepted (uncovered nodes file) rest-cover (covered-never (covered_is (candidate_count file) file.winner (assertions_of file) nodes)) b.1 in
+      let c = from_accepted (uncovered budget file) rest-cover (covered-never (covered_is (candidate_count file) file.winner (assertions_of file) budget)) b.1 in
       let d = from_accepted (other_smallest file) rest-smallest (smallest-never file) c.1 in
       let e = from_accepted (elected file) rest-elected (elected-never file) d.1 in
       let f = from_accepted (harder records file) rest-harder (harder-never records file) e.1 in
@@ -82,7 +83,7 @@ module _ (nodes : ℕ) (records : List (List ℕ)) (file : Content) (winner : �
       record {
         same = winner-none winner file a.0;
         margins = margins-none records 1 file.claims b.0;
-        covered = covered-none (covered_is (candidate_count file) file.winner (assertions_of file) nodes) c.0;
+        covered = covered-none (covered_is (candidate_count file) file.winner (assertions_of file) budget) c.0;
         smallest = smallest-none file d.0;
         other = elected-none file e.0;
         hardest = harder-none records file f.0;
@@ -91,18 +92,18 @@ module _ (nodes : ℕ) (records : List (List ℕ)) (file : Content) (winner : �
 
   -- what is found after the margins are right
   to_cover : file.winner ≡ winner → All (HasItsMargin records) file.claims →
-      first_found (findings nodes records file winner) (Ok Accepted)
-      ≡ first_found (uncovered nodes file ∷ other_smallest file ∷ elected file ∷ harder records file ∷ other_draws file ∷ []) (Ok Accepted)
+      first_found (findings budget records file winner) (Ok Accepted)
+      ≡ first_found (uncovered budget file ∷ other_smallest file ∷ elected file ∷ harder records file ∷ other_draws file ∷ []) (Ok Accepted)
   to_cover same margins =
-      passed (other_winner winner file) (other_margin records file ∷ uncovered nodes file ∷ other_smallest file ∷ elected file ∷ harder records file ∷ other_draws file ∷ [])
+      passed (other_winner winner file) (other_margin records file ∷ uncovered budget file ∷ other_smallest file ∷ elected file ∷ harder records file ∷ other_draws file ∷ [])
       (none-winner winner file same)
-      ∙ passed (other_margin records file) (uncovered nodes file ∷ other_smallest file ∷ elected file ∷ harder records file ∷ other_draws file ∷ [])
+      ∙ passed (other_margin records file) (uncovered budget file ∷ other_smallest file ∷ elected file ∷ harder records file ∷ other_draws file ∷ [])
       (none-margins records 1 file.claims margins)
 
-  accepted-facts : Facts nodes records file winner → first_found (findings nodes records file winner) (Ok Accepted) ≡ Ok Accepted
+  accepted-facts : Facts budget records file winner → first_found (findings budget records file winner) (Ok Accepted) ≡ Ok Accepted
   accepted-facts h =
       to_cover h.same h.margins
-      ∙ passed (uncovered nodes file) (other_smallest file ∷ elected file ∷ harder records file ∷ other_draws file ∷ []) (ap unless_covered h.covered)
+      ∙ passed (uncovered budget file) (other_smallest file ∷ elected file ∷ harder records file ∷ other_draws file ∷ []) (ap unless_covered h.covered)
       ∙ passed (other_smallest file) (elected file ∷ harder records file ∷ other_draws file ∷ []) (none-smallest file h.smallest)
       ∙ passed (elected file) (harder records file ∷ other_draws file ∷ []) (none-elected file h.other)
       ∙ passed (harder records file) (other_draws file ∷ []) (none-harder records file h.hardest)
@@ -150,9 +151,9 @@ module _ (ballots : BallotFile) (file : Content) where
       at_least (least, k, e) = subst (λ m. file.margin ≤ m) e
           (All-contains (λ claim. file.margin ≤ claim.margin) file.claims least h.smallest (contains-from_member k))
 
-  held-facts : (nodes : ℕ) → Holds ballots file → covered_is (candidate_count file) file.winner (assertions_of file) nodes ≡ Ok Covered →
-      Facts nodes ballots.rankings file file.winner
-  held-facts nodes h covered = record {
+  held-facts : (budget : Budget) → Holds ballots file → covered_is (candidate_count file) file.winner (assertions_of file) budget ≡ Ok Covered →
+      Facts budget ballots.rankings file file.winner
+  held-facts budget h covered = record {
     same = refl;
     margins = h.margins;
     covered = covered;
@@ -162,12 +163,12 @@ module _ (ballots : BallotFile) (file : Content) where
     draws = none-draws file h.draws;
   }
 
-  facts-held : (nodes winner : ℕ) → IsSound file → About ballots file → IsWinner (candidate_count file) ballots.rankings winner →
-      Facts nodes ballots.rankings file winner → Holds ballots file
-  facts-held nodes winner sound about won f =
+  facts-held : (budget : Budget) (winner : ℕ) → IsSound file → About ballots file → IsWinner (candidate_count file) ballots.rankings winner →
+      Facts budget ballots.rankings file winner → Holds ballots file
+  facts-held budget winner sound about won f =
       let two : 1 < candidate_count file = omega (arith, sound.fewest) in
       let cover : covers (candidate_count file) file.winner (assertions_of file) ≡ true =
-      (covered_iff_covers (candidate_count file) file.winner nodes (assertions_of file) Covered f.covered).0 refl in
+      (covered_iff_covers (candidate_count file) file.winner budget (assertions_of file) Covered f.covered).0 refl in
       record {
         contest = about.contest;
         candidates = about.candidates;
@@ -197,62 +198,63 @@ module _ (ballots : BallotFile) (file : Content) where
           (smallest, contains-from_member q, s ∙ f.smallest)
 
 -- ---- the answer
-module _ (nodes : ℕ) (ballots : BallotFile) (file : Content) where
-  pub accepted-held : IsSound file → IsAnswer nodes ballots file (Ok Accepted) → Holds ballots file
+module _ (budget : Budget) (ballots : BallotFile) (file : Content) where
+  pub accepted-held : IsSound file → IsAnswer budget ballots file (Ok Accepted) → Holds ballots file
   accepted-held sound h = go (cases_Bool (is_about ballots file)) where
     by_winner : About ballots file → (winner : ℕ) → IsWinner (length ballots.candidates) ballots.rankings winner →
-        checked_is nodes ballots.rankings file winner ≡ Ok Accepted → Holds ballots file
+        checked_is budget ballots.rankings file winner ≡ Ok Accepted → Holds ballots file
     by_winner about winner won e =
-        facts-held ballots file nodes winner sound about (subst (λ n. IsWinner n ballots.rankings winner) (sym (ap length about.candidates)) won)
-        (facts-accepted nodes ballots.rankings file winner e)
+        facts-held ballots file budget winner sound about (subst (λ n. IsWinner n ballots.rankings winner) (sym (ap length about.candidates)) won)
+        (facts-accepted budget ballots.rankings file winner e)
 
-    other : (answer : Answer) → is_about ballots file ≡ false → IsAnswer nodes ballots file answer → answer ≡ Ok OtherContest
-    other answer f k = subst (λ b. MatchBool b (Judges nodes ballots file answer) (answer ≡ Ok OtherContest)) f k
+    other : (answer : Answer) → is_about ballots file ≡ false → IsAnswer budget ballots file answer → answer ≡ Ok OtherContest
+    other answer f k = subst (λ b. MatchBool b (Judges budget ballots file answer) (answer ≡ Ok OtherContest)) f k
 
     go : (is_about ballots file ≡ true) ⊎ (is_about ballots file ≡ false) → Holds ballots file
-    go (inl t) = let j = from_answer nodes ballots file t (Ok Accepted) h in by_winner (from_about ballots file t) j.winner j.tabulated j.answer_is
+    go (inl t) = let j = from_answer budget ballots file t (Ok Accepted) h in by_winner (from_about ballots file t) j.winner j.tabulated j.answer_is
     go (inr f) = let e = other (Ok Accepted) f h in cc
 
-  pub held-accepted : Holds ballots file → covered_is (candidate_count file) file.winner (assertions_of file) nodes ≡ Ok Covered →
-      IsAnswer nodes ballots file (Ok Accepted)
+  pub held-accepted : Holds ballots file → covered_is (candidate_count file) file.winner (assertions_of file) budget ≡ Ok Covered →
+      IsAnswer budget ballots file (Ok Accepted)
   held-accepted h covered =
       let about : About ballots file = record { contest = h.contest; candidates = h.candidates; records = h.records } in
-      judged nodes ballots file (about-from ballots file about) (Ok Accepted) (record {
+      judged budget ballots file (about-from ballots file about) (Ok Accepted) (record {
         winner = file.winner;
         tabulated = subst (λ n. IsWinner n ballots.rankings file.winner) (ap length h.candidates) h.winner;
-        answer_is = accepted-facts nodes ballots.rankings file file.winner (held-facts ballots file nodes h covered);
+        answer_is = accepted-facts budget ballots.rankings file file.winner (held-facts ballots file budget h covered);
       })
 
   -- where there is an answer, no budget was spent
-  pub held-covered : (checked : Checked) → Holds ballots file → IsAnswer nodes ballots file (Ok checked) →
-      covered_is (candidate_count file) file.winner (assertions_of file) nodes ≡ Ok Covered
+  pub held-covered : (checked : Checked) → Holds ballots file → IsAnswer budget ballots file (Ok checked) →
+      covered_is (candidate_count file) file.winner (assertions_of file) budget ≡ Ok Covered
   held-covered checked h answer =
       let about : About ballots file = record { contest = h.contest; candidates = h.candidates; records = h.records } in
-      let j = from_answer nodes ballots file (about-from ballots file about) (Ok checked) answer in
+      let j = from_answer budget ballots file (about-from ballots file about) (Ok checked) answer in
       by_winner j.winner j.tabulated j.answer_is
     where
-      by_cover : (result : Result Verdict CoverFault) → covered_is (candidate_count file) file.winner (assertions_of file) nodes ≡ result →
+      by_cover : (result : Result Verdict CoverFault) → covered_is (candidate_count file) file.winner (assertions_of file) budget ≡ result →
           first_found (unless_covered result ∷ other_smallest file ∷ elected file ∷ harder ballots.rankings file ∷ other_draws file ∷ []) (Ok Accepted) ≡ Ok checked →
           result ≡ Ok Covered
       by_cover (Ok verdict) e found =
-          ap Ok ((covered_iff_covers (candidate_count file) file.winner nodes (assertions_of file) verdict e).1 (held-covers ballots file h))
+          ap Ok ((covered_iff_covers (candidate_count file) file.winner budget (assertions_of file) verdict e).1 (held-covers ballots file h))
       by_cover (Err (CoverSpent last)) e found = cc
+      by_cover (Err (CoverSpentSets sets)) e found = cc
       by_cover (Err CoverMemory) e found = cc
 
       by_winner : (winner : ℕ) → IsWinner (length ballots.candidates) ballots.rankings winner →
-          checked_is nodes ballots.rankings file winner ≡ Ok checked →
-          covered_is (candidate_count file) file.winner (assertions_of file) nodes ≡ Ok Covered
+          checked_is budget ballots.rankings file winner ≡ Ok checked →
+          covered_is (candidate_count file) file.winner (assertions_of file) budget ≡ Ok Covered
       by_winner winner won e =
           let own : IsWinner (length ballots.candidates) ballots.rankings file.winner =
           subst (λ n. IsWinner n ballots.rankings file.winner) (ap length h.candidates) h.winner in
           let same : file.winner ≡ winner = one_winner (length ballots.candidates) ballots.rankings file.winner winner own won in
-          by_cover (covered_is (candidate_count file) file.winner (assertions_of file) nodes) refl
-          (sym (to_cover nodes ballots.rankings file winner same h.margins) ∙ e)
+          by_cover (covered_is (candidate_count file) file.winner (assertions_of file) budget) refl
+          (sym (to_cover budget ballots.rankings file winner same h.margins) ∙ e)
 
-  pub accepted_iff_holds : (checked : Checked) → IsSound file → IsAnswer nodes ballots file (Ok checked) → ((checked ≡ Accepted) ↔ Holds ballots file)
+  pub accepted_iff_holds : (checked : Checked) → IsSound file → IsAnswer budget ballots file (Ok checked) → ((checked ≡ Accepted) ↔ Holds ballots file)
   accepted_iff_holds checked sound answer = (
-    λ e. accepted-held sound (subst (λ c. IsAnswer nodes ballots file (Ok c)) e answer),
-    λ h. ok-same refl refl (answer_is_one nodes ballots file (Ok checked) (Ok Accepted) answer (held-accepted h (held-covered checked h answer))),
+    λ e. accepted-held sound (subst (λ c. IsAnswer budget ballots file (Ok c)) e answer),
+    λ h. ok-same refl refl (answer_is_one budget ballots file (Ok checked) (Ok Accepted) answer (held-accepted h (held-covered checked h answer))),
   ) where
     ok-same : {a b : Answer} {c d : Checked} → a ≡ Ok c → b ≡ Ok d → a ≡ b → c ≡ d
     ok-same e k h = cc

@@ -42,7 +42,7 @@ new_is (Nen w l rest) c t d h =
           ∙ h ∙ sym (ap (λ b. b && (set_of (c ∷ t) == rest)) (ne_eqb w c (λ e. ne (sym e))))
     ]
 
-any-same : (p q : Assertion → Bool) (list : List Assertion) → ((a : Assertion) → Member a list → p a ≡ q a) → list_any p list ≡ list_any q list
+pub any-same : (p q : Assertion → Bool) (list : List Assertion) → ((a : Assertion) → Member a list → p a ≡ q a) → list_any p list ≡ list_any q list
 any-same p q [] h = refl
 any-same p q (a ∷ list) h = ap (λ b. b || list_any p list) (h a here) ∙ ap (λ b. q a || b) (any-same p q list (λ x m. h x (there m)))
 

@@ -17,7 +17,7 @@ use Rattle.cover_checker.specs.Draws.{clean_draws_of, IsPlanOf, HasCleanDraws}
 use Rattle.cover_checker.specs.declared.cover.Verdict.{Verdict}
 use Rattle.cover_checker.specs.declared.cover.Verdict.TheVariants.{Covered, Stands as OrderStands}
 use Rattle.cover_checker.specs.declared.cover.CoverFault.{CoverFault}
-use Rattle.cover_checker.specs.declared.cover.CoverFault.TheVariants.{Spent as CoverSpent, Memory as CoverMemory}
+use Rattle.cover_checker.specs.declared.cover.CoverFault.TheVariants.{Spent as CoverSpent, SpentSets as CoverSpentSets, Memory as CoverMemory}
 use Rattle.cover_checker.specs.declared.checked.Checked.TheVariants.{Accepted, OtherWinner, OtherMargin, NotLeast, NotAlternative, OtherDraws}
 
 -- ---- what is found by a test
@@ -97,12 +97,14 @@ pub covered-none : (result : Result Verdict CoverFault) → unless_covered resul
 covered-none (Ok Covered) h = refl
 covered-none (Ok (OrderStands order)) h = cc
 covered-none (Err (CoverSpent last)) h = cc
+covered-none (Err (CoverSpentSets sets)) h = cc
 covered-none (Err CoverMemory) h = cc
 
 pub covered-never : (result : Result Verdict CoverFault) → NeverAccepts (unless_covered result)
 covered-never (Ok Covered) h = cc
 covered-never (Ok (OrderStands order)) h = cc
 covered-never (Err (CoverSpent last)) h = cc
+covered-never (Err (CoverSpentSets sets)) h = cc
 covered-never (Err CoverMemory) h = cc
 
 -- ---- the margin and the order of the file

@@ -1,7 +1,9 @@
 -- What an answer of `covered` says.
-use Rattle.std.proofs.Common.{◌≡◌, ◌↔◌, ◌⊎◌, inl, inr, ℕ, ◌<◌, true, List, Option, Some, None, Ok, Err, refl, sym, ap, ◌∙◌}
+use Rattle.std.proofs.Common.{◌≡◌, ◌↔◌, ◌⊎◌, inl, inr, ℕ, ◌<◌, Bool, true, false, nat_lt, if◌then◌else◌, List, Option, Some, None, option_map, Result, Ok, Err, refl, sym, ap, ◌∙◌}
 use Rattle.std.specs.List.{list_any, list_all}
 use Rattle.std.proofs.lemmas.Bool.{not-true, not_from_false, cases_Bool, both_ways}
+use Rattle.budget.specs.declared.budget.Budget.{Budget}
+use Rattle.budget.specs.declared.budget.Budget.TheVariants.{Sets}
 use Rattle.irv_base.specs.Orders.{is_order, Elects}
 use Rattle.irv_base.specs.Tabulation.{is_possible}
 use Rattle.irv_base.proofs.Members.{from_find, find-member, from_list_all, list_all-each, contains-from_member, member-from_contains}
@@ -12,19 +14,27 @@ use Rattle.assertions.specs.Refutation.{refutes, covers}
 use Rattle.assertions.proofs.Elections.{cover_is_sound}
 use Rattle.assertions.proofs.Endings.{alternative_orders_are}
 use Rattle.assertions.proofs.Firsts.{first_alternative}
-use Rattle.suffix_walk.specs.Search.{first_kept, kept_count, first_within}
 use Rattle.suffix_walk.specs.Search as walk
-use Rattle.cover_checker.specs.Covers.{stands, covered_is, first_over, or_spent, verdict_on, standing_order}
+use Rattle.set_walk.specs.Answers.{first_within as first_by_walk, IsWalk}
+use Rattle.set_walk.specs.Walks.{passes}
+use Rattle.set_walk.proofs.Orders.{standing_by_sets}
+use Rattle.set_walk.specs.declared.walk.WalkEnd.{WalkEnd}
+use Rattle.set_walk.specs.declared.walk.WalkEnd.TheVariants.{Found, Ended}
+use Rattle.set_walk.specs.declared.walk.WalkFault.{WalkFault}
+use Rattle.set_walk.specs.declared.walk.WalkFault.TheVariants.{Spent as WalkSpent, Memory as WalkMemory}
+use Rattle.cover_checker.specs.Covers.{stands, covered_is, spent_by, or_spent, verdict_on, standing_order, standing_sets}
+use Rattle.cover_checker.specs.Ends.{verdict_at}
 use Rattle.cover_checker.specs.declared.cover.Verdict.{Verdict}
 use Rattle.cover_checker.specs.declared.cover.Verdict.TheVariants.{Covered, Stands}
-use Rattle.cover_checker.specs.declared.cover.CoverFault.TheVariants.{Spent}
+use Rattle.cover_checker.specs.declared.cover.CoverFault.{CoverFault}
+use Rattle.cover_checker.specs.declared.cover.CoverFault.TheVariants.{Spent, SpentSets, Memory}
 
-module _ (n winner nodes : ℕ) (list : List Assertion) where
+module _ (n winner : ℕ) (budget : Budget) (list : List Assertion) where
   -- an answer is the verdict on that order
-  verdict_is : (verdict : Verdict) → covered_is n winner list nodes ≡ Ok verdict → verdict_on (standing_order n winner list) ≡ verdict
-  verdict_is verdict h = go (first_over n winner list nodes) h where
-    go : (o : Option ℕ) → or_spent o (verdict_on (standing_order n winner list)) ≡ Ok verdict → verdict_on (standing_order n winner list) ≡ verdict
-    go (Some last) e = cc
+  verdict_is : (verdict : Verdict) → covered_is n winner list budget ≡ Ok verdict → verdict_on (standing_order n winner list) ≡ verdict
+  verdict_is verdict h = go (spent_by budget n winner list) h where
+    go : (o : Option CoverFault) → or_spent o (verdict_on (standing_order n winner list)) ≡ Ok verdict → verdict_on (standing_order n winner list) ≡ verdict
+    go (Some fault) e = cc
     go None e = cc
 
   none_stands : standing_order n winner list ≡ None → covers n winner list ≡ true
@@ -42,7 +52,7 @@ module _ (n winner nodes : ℕ) (list : List Assertion) where
       both_ways (list_any (λ a. refutes a order) list) (not-true (list_any (λ a. refutes a order) list) s)
       (from_list_all (λ order. list_any (λ a. refutes a order) list) m t)
 
-  pub covered_iff_covers : (verdict : Verdict) → covered_is n winner list nodes ≡ Ok verdict → ((verdict ≡ Covered) ↔ (covers n winner list ≡ true))
+  pub covered_iff_covers : (verdict : Verdict) → covered_is n winner list budget ≡ Ok verdict → ((verdict ≡ Covered) ↔ (covers n winner list ≡ true))
   covered_iff_covers verdict h = go (standing_order n winner list) refl (verdict_is verdict h) where
     go : (o : Option (List ℕ)) → standing_order n winner list ≡ o → verdict_on o ≡ verdict → ((verdict ≡ Covered) ↔ (covers n winner list ≡ true))
     go None e k = (λ v. none_stands e, λ t. sym k)
@@ -59,7 +69,7 @@ module _ (n winner nodes : ℕ) (list : List Assertion) where
             (member-from_contains order (alternative_orders n winner) ((alternative_orders_are n winner order).1 q)) r,
       )
 
-  pub stands_is_least : (found : List ℕ) → covered_is n winner list nodes ≡ Ok (Stands found) →
+  pub stands_is_least : (found : List ℕ) → covered_is n winner list budget ≡ Ok (Stands found) →
       IsAlternative n winner found × (stands list found ≡ true)
       × ((order : List ℕ) → IsAlternative n winner order → stands list order ≡ true → (found ≡ order) ⊎ (comes_before found order ≡ true))
   stands_is_least found h = go (standing_order n winner list) refl (verdict_is (Stands found) h) where
@@ -69,27 +79,50 @@ module _ (n winner nodes : ℕ) (list : List Assertion) where
     go None e k = cc
     go (Some order) e k = let same : order ≡ found = cc in standing_is found (e ∙ ap Some same)
 
-pub covered_is_sound : (n winner nodes : ℕ) (list : List Assertion) → winner < n → list_all (is_proper n) list ≡ true →
-    covered_is n winner list nodes ≡ Ok Covered →
+pub covered_is_sound : (n winner : ℕ) (budget : Budget) (list : List Assertion) → winner < n → list_all (is_proper n) list ≡ true →
+    covered_is n winner list budget ≡ Ok Covered →
     (records : List (List ℕ)) → list_all (is_true records) list ≡ true →
     (order : List ℕ) → is_order n order ≡ true → is_possible records order ≡ true → Elects order winner
-covered_is_sound n winner nodes list below proper h records true' order o possible =
-    cover_is_sound n winner list below proper ((covered_iff_covers n winner nodes list Covered h).0 refl) records true' order o possible
+covered_is_sound n winner budget list below proper h records true' order o possible =
+    cover_is_sound n winner list below proper ((covered_iff_covers n winner budget list Covered h).0 refl) records true' order o possible
 
--- ---- what the walk answers, as the verdict
+-- ---- what the walk through suffixes answers, as the verdict
 
-pub none-covered : (over : Option ℕ) (standing : Option (List ℕ)) → Ok None ≡ walk.or_spent over standing → Ok Covered ≡ or_spent over (verdict_on standing)
+pub none-covered : (over : Option ℕ) (standing : Option (List ℕ)) → Ok None ≡ walk.or_spent over standing →
+    Ok Covered ≡ or_spent (option_map Spent over) (verdict_on standing)
 none-covered (Some last) standing e = cc
 none-covered None None e = refl
 none-covered None (Some order) e = cc
 
 pub some-stands : (found : List ℕ) (over : Option ℕ) (standing : Option (List ℕ)) → Ok (Some found) ≡ walk.or_spent over standing →
-    Ok (Stands found) ≡ or_spent over (verdict_on standing)
+    Ok (Stands found) ≡ or_spent (option_map Spent over) (verdict_on standing)
 some-stands found (Some last) standing e = cc
 some-stands found None None e = cc
 some-stands found None (Some order) e = let same : found ≡ order = cc in ap (λ o. Ok (Stands o)) same
 
 pub error-spent : (last : ℕ) (over : Option ℕ) (standing : Option (List ℕ)) → Err last ≡ walk.or_spent over standing →
-    Err (Spent last) ≡ or_spent over (verdict_on standing)
+    Err (Spent last) ≡ or_spent (option_map Spent over) (verdict_on standing)
 error-spent last (Some other) standing e = let same : last ≡ other = cc in ap (λ c. Err (Spent c)) same
 error-spent last None standing e = cc
+
+-- ---- what the walk from set to set answers, as the verdict
+
+abbrev pub told : ℕ → Result (Option (List ℕ)) WalkFault → Result Verdict CoverFault
+told sets (Ok standing) = Ok (verdict_on standing)
+told sets (Err WalkSpent) = Err (SpentSets sets)
+told sets (Err WalkMemory) = Err Memory
+
+pub told-is : (n winner sets : ℕ) (list : List Assertion) → told sets (first_by_walk n winner sets (passes list)) ≡ covered_is n winner list (Sets sets)
+told-is n winner sets list =
+    ap (λ o. told sets (if nat_lt sets (standing_sets n winner list) then Err WalkSpent else Ok o)) (sym (standing_by_sets n winner list))
+    ∙ go (nat_lt sets (standing_sets n winner list)) (standing_order n winner list)
+  where
+    go : (b : Bool) (o : Option (List ℕ)) → told sets (if b then Err WalkSpent else Ok o) ≡ or_spent (if b then Some (SpentSets sets) else None) (verdict_on o)
+    go true o = refl
+    go false o = refl
+
+-- where the walk comes to its end
+pub ended-is : (n winner sets : ℕ) (list : List Assertion) (end : WalkEnd) → IsWalk n winner sets (passes list) (Ok end) →
+    Ok (verdict_at end) ≡ covered_is n winner list (Sets sets)
+ended-is n winner sets list (Found order) walk = sym (ap (told sets) walk) ∙ told-is n winner sets list
+ended-is n winner sets list (Ended seen) walk = sym (ap (told sets) walk.0) ∙ told-is n winner sets list

@@ -1,13 +1,19 @@
 -- What the answer of `covered` is.
-use Rattle.std.specs.Prelude.{◌≢◌, ◌<◌, ◌≤◌, ℕ, ◌&&◌, nat_lt, List, find, count_by, Option, Some, None, Result, Ok, Err, Bool, not}
+use Rattle.std.specs.Prelude.{◌≢◌, ◌<◌, ◌≤◌, ℕ, ◌-◌, ◌*◌, ◌^◌, ◌&&◌, nat_lt, if◌then◌else◌, List, length, find, count_by, Option, Some, None, option_map, Result, Ok, Err, Bool, not}
+use Rattle.budget.specs.declared.budget.Budget.{Budget}
+use Rattle.budget.specs.declared.budget.Budget.TheVariants.{Nodes, Sets}
 use Rattle.irv_base.specs.Candidates.{all_but}
 use Rattle.assertions.specs.declared.assertion.Assertion.{Assertion}
-use Rattle.assertions.specs.Suffixes.{alternative_orders, parts_ending}
+use Rattle.assertions.specs.Certificate.{cover_count}
+use Rattle.assertions.specs.Hardness.{low}
+use Rattle.assertions.specs.Suffixes.{alternative_orders, parts_ending, factorial}
 use Rattle.suffix_walk.specs.Search.{is_passed}
+use Rattle.set_walk.specs.Steps.{step}
+use Rattle.set_walk.specs.Walks.{counted, standing, passes}
 use Rattle.cover_checker.specs.declared.cover.Verdict.{Verdict}
 use Rattle.cover_checker.specs.declared.cover.Verdict.TheVariants.{Covered, Stands}
 use Rattle.cover_checker.specs.declared.cover.CoverFault.{CoverFault}
-use Rattle.cover_checker.specs.declared.cover.CoverFault.TheVariants.{Spent}
+use Rattle.cover_checker.specs.declared.cover.CoverFault.TheVariants.{Spent, SpentSets}
 use Rattle.std.specs.List.{list_any}
 use Rattle.assertions.specs.Refutation.{refutes}
 
@@ -29,18 +35,42 @@ abbrev pub first_over : ℕ → ℕ → List Assertion → ℕ → Option ℕ
 first_over n winner list nodes =
     find (λ c. nat_lt nodes (standing_count n winner list c)) (all_but n winner)
 
+-- how many sets count: those of suffixes that count for an alternative winner
+abbrev pub standing_sets : ℕ → ℕ → List Assertion → ℕ
+standing_sets n winner list = length (counted n winner (passes list))
+
+-- the fault of a budget that is spent
+abbrev pub spent_by : Budget → ℕ → ℕ → List Assertion → Option CoverFault
+spent_by (Nodes nodes) n winner list = option_map Spent (first_over n winner list nodes)
+spent_by (Sets sets) n winner list =
+    if nat_lt sets (standing_sets n winner list) then Some (SpentSets sets) else None
+
 abbrev pub verdict_on : Option (List ℕ) → Verdict
 verdict_on None = Covered
 verdict_on (Some order) = Stands order
 
-abbrev pub or_spent : Option ℕ → Verdict → Result Verdict CoverFault
-or_spent (Some last) verdict = Err (Spent last)
+abbrev pub or_spent : Option CoverFault → Verdict → Result Verdict CoverFault
+or_spent (Some fault) verdict = Err fault
 or_spent None verdict = Ok verdict
 
-abbrev pub covered_is : ℕ → ℕ → List Assertion → ℕ → Result Verdict CoverFault
-covered_is n winner list nodes =
-    or_spent (first_over n winner list nodes) (verdict_on (standing_order n winner list))
+abbrev pub covered_is : ℕ → ℕ → List Assertion → Budget → Result Verdict CoverFault
+covered_is n winner list budget =
+    or_spent (spent_by budget n winner list) (verdict_on (standing_order n winner list))
 
--- no candidate is over the nodes
-abbrev pub IsEnough : ℕ → ℕ → ℕ → List Assertion → Type 0
-IsEnough nodes n winner list = (c : ℕ) → c < n → c ≢ winner → standing_count n winner list c ≤ nodes
+-- no candidate is over the nodes, or no more sets count than there are
+abbrev pub IsEnough : Budget → ℕ → ℕ → List Assertion → Type 0
+IsEnough (Nodes nodes) n winner list =
+    (c : ℕ) → c < n → c ≢ winner → standing_count n winner list c ≤ nodes
+IsEnough (Sets sets) n winner list = standing_sets n winner list ≤ sets
+
+-- so much is enough for n candidates, whatever the assertions
+abbrev pub IsEnoughFor : ℕ → Budget → Type 0
+IsEnoughFor n (Nodes nodes) = 2 * factorial (n - 1) ≤ nodes
+IsEnoughFor n (Sets sets) = 2 ^ n - 3 ≤ sets
+
+-- so much is enough to find the claims of the certificate: for each candidate the suffixes, or in all the sets, that stand below its margin
+abbrev pub IsEnoughBelow : Budget → ℕ → ℕ → List (List ℕ) → ℕ → Type 0
+IsEnoughBelow (Nodes nodes) n winner records margin =
+    (c : ℕ) → c < n → c ≢ winner → cover_count n (low n records) margin c ≤ nodes
+IsEnoughBelow (Sets sets) n winner records margin =
+    length (standing n winner (λ set c. nat_lt (step n records set c) margin)) ≤ sets

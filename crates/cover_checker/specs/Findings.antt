@@ -3,6 +3,7 @@ use Rattle.std.specs.Prelude.{ℕ, ◌+◌, ◌-◌, Bool, not, ◌&&◌, ◌==�
 use Rattle.std.specs.Cmp.Lexicographic.{pointwise}
 use Rattle.std.specs.Option.{option_eq}
 use Rattle.std.specs.Ordering.{int_eq}
+use Rattle.budget.specs.declared.budget.Budget.{Budget}
 use Rattle.irv_base.specs.Names.{Id, is_same}
 use Rattle.irv_base.specs.Tabulation.{least}
 use Rattle.assertions.specs.declared.assertion.Assertion.{Assertion}
@@ -16,11 +17,11 @@ use Rattle.cover_checker.specs.Draws.{clean_draws_of}
 use Rattle.cover_checker.specs.declared.cover.Verdict.{Verdict}
 use Rattle.cover_checker.specs.declared.cover.Verdict.TheVariants.{Covered, Stands as OrderStands}
 use Rattle.cover_checker.specs.declared.cover.CoverFault.{CoverFault}
-use Rattle.cover_checker.specs.declared.cover.CoverFault.TheVariants.{Spent as CoverSpent, Memory as CoverMemory}
+use Rattle.cover_checker.specs.declared.cover.CoverFault.TheVariants.{Spent as CoverSpent, SpentSets as CoverSpentSets, Memory as CoverMemory}
 use Rattle.cover_checker.specs.declared.checked.Checked.{Checked}
 use Rattle.cover_checker.specs.declared.checked.Checked.TheVariants.{OtherWinner, OtherMargin, Stands, NotLeast, NotAlternative, Harder, OtherDraws}
 use Rattle.cover_checker.specs.declared.checked.CheckFault.{CheckFault}
-use Rattle.cover_checker.specs.declared.checked.CheckFault.TheVariants.{Spent, Memory}
+use Rattle.cover_checker.specs.declared.checked.CheckFault.TheVariants.{Spent, SpentSets, Memory}
 
 abbrev pub Answer : Type 0
 Answer = Result Checked CheckFault
@@ -65,12 +66,13 @@ abbrev pub unless_covered : Result Verdict CoverFault → Option Answer
 unless_covered (Ok Covered) = None
 unless_covered (Ok (OrderStands order)) = Some (Ok (Stands order))
 unless_covered (Err (CoverSpent last)) = Some (Err (Spent last))
+unless_covered (Err (CoverSpentSets sets)) = Some (Err (SpentSets sets))
 unless_covered (Err CoverMemory) = Some (Err Memory)
 
 -- the order that no claim refutes, or a budget that doesn't suffice to tell
-abbrev pub uncovered : ℕ → Content → Option Answer
-uncovered nodes file =
-    unless_covered (covered_is (candidate_count file) file.winner (assertions_of file) nodes)
+abbrev pub uncovered : Budget → Content → Option Answer
+uncovered budget file =
+    unless_covered (covered_is (candidate_count file) file.winner (assertions_of file) budget)
 
 -- ---- the margin and the order of the file
 
@@ -125,19 +127,23 @@ other_draws file = option_and_then (other_draws_in file) file.plan
 -- the fault is the answer's
 abbrev pub IsErrOf : Answer → CheckFault → Type 0
 IsErrOf answer (Spent last) = answer ≡ Err (Spent last)
+IsErrOf answer (SpentSets sets) = answer ≡ Err (SpentSets sets)
 IsErrOf answer Memory = ⊤
 
 -- the fault is what is found
 abbrev pub IsFindingOf : Option Answer → CheckFault → Type 0
 IsFindingOf found (Spent last) = found ≡ Some (Err (Spent last))
+IsFindingOf found (SpentSets sets) = found ≡ Some (Err (SpentSets sets))
 IsFindingOf found Memory = ⊤
 
 -- the fault is want of memory
 abbrev pub IsWant : CheckFault → Type 0
 IsWant (Spent last) = ⊥
+IsWant (SpentSets sets) = ⊥
 IsWant Memory = ⊤
 
 -- what a fault of `covered` is to `check`
 abbrev pub as_check_fault : CoverFault → CheckFault
 as_check_fault (CoverSpent last) = Spent last
+as_check_fault (CoverSpentSets sets) = SpentSets sets
 as_check_fault CoverMemory = Memory

@@ -2,6 +2,7 @@ pub mod Shorter
 pub mod Indexed
 pub mod Counts
 pub mod Covers
+pub mod Ends
 pub mod Outcomes
 pub mod Draws
 pub mod Findings

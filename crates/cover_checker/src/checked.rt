@@ -37,9 +37,11 @@ pub enum Checked {
 /// Why it isn't known whether an assertion file holds.
 #[derive(Clone, Copy, Debug)]
 pub enum CheckFault {
-    /// Of the candidates who didn't win this is the least for whom the budget doesn't suffice to tell whether the claims refute
-    /// all orders.
+    /// Of the candidates who didn't win this is the least for whom the budget of nodes doesn't suffice to tell whether the claims
+    /// refute all orders.
     Spent { last: Candidate },
+    /// A budget of so many sets doesn't suffice to tell whether the claims refute all orders.
+    SpentSets { sets: u32 },
     /// Memory could not be had.
     Memory,
 }
@@ -52,6 +54,9 @@ impl fmt::Display for CheckFault {
                 "more suffixes than the budget has count for candidate {}",
                 last.0
             ),
+            CheckFault::SpentSets { sets } => {
+                write!(f, "more sets of candidates than {sets} count")
+            }
             CheckFault::Memory => write!(f, "{Memory}"),
         }
     }
@@ -73,6 +78,7 @@ impl From<CoverFault> for CheckFault {
     fn from(of_cover: CoverFault) -> Self {
         match of_cover {
             CoverFault::Spent { last } => CheckFault::Spent { last },
+            CoverFault::SpentSets { sets } => CheckFault::SpentSets { sets },
             CoverFault::Memory => CheckFault::Memory,
         }
     }

@@ -12,6 +12,7 @@ use crate::findings::{
 };
 use assertion_file::AssertionFile;
 use ballot_reader::Ballots;
+use budget::Budget;
 use irv_base::Candidate;
 use irv_tabulator::{TabFault, tabulate};
 use set_tallies::Tallies;
@@ -36,15 +37,15 @@ fn judge(
     tallies: &mut Tallies<'_>,
     winner: Candidate,
     file: &AssertionFile,
-    nodes: u32,
+    budget: Budget,
 ) -> Result<Checked, CheckFault>
     requires { candidate_count file.now ≡ tallies.old.bag.n }
     ensures checked { (records : List (List ℕ)) → IsOf tallies.old.bag records
-        → IfOk result (λ checked. first_found (findings nodes records file.now winner)
+        → IfOk result (λ checked. first_found (findings budget records file.now winner)
         (Ok Checked.Accepted) ≡ Ok checked) }
     ensures fault { (records : List (List ℕ)) → IsOf tallies.old.bag records
         → IfErr result (IsErrOf
-        (first_found (findings nodes records file.now winner) (Ok Checked.Accepted))) }
+        (first_found (findings budget records file.now winner) (Ok Checked.Accepted))) }
     ensures same { tallies.new ≡ tallies.old }
 {
     if let Some(found) = other_winner(winner, file) {
@@ -53,7 +54,7 @@ fn judge(
     if let Some(found) = other_margin(file.claims(), tallies)? {
         return Ok(found);
     }
-    if let Some(found) = uncovered(alloc, file, nodes)? {
+    if let Some(found) = uncovered(alloc, file, budget)? {
         return Ok(found);
     }
     if let Some(found) = other_smallest(file) {
@@ -81,17 +82,17 @@ pub fn check(
     ballots: &Ballots,
     tallies: &mut Tallies<'_>,
     file: &AssertionFile,
-    nodes: u32,
+    budget: Budget,
 ) -> Result<Checked, CheckFault>
     requires candidates { tallies.old.bag.n ≡ length (ballots.now).candidates }
     requires records { IsOf tallies.old.bag (ballots.now).rankings }
-    ensures checked { IfOk result (λ checked. IsAnswer nodes ballots.now file.now (Ok checked)) }
-    ensures fault { IfErr result (IsFault nodes ballots.now file.now) }
+    ensures checked { IfOk result (λ checked. IsAnswer budget ballots.now file.now (Ok checked)) }
+    ensures fault { IfErr result (IsFault budget ballots.now file.now) }
     ensures same { tallies.new ≡ tallies.old }
 {
     if !is_about(ballots, file) {
         return Ok(Checked::OtherContest);
     }
     let winner = winner_of(alloc, tallies)?;
-    judge(alloc, tallies, winner, file, nodes)
+    judge(alloc, tallies, winner, file, budget)
 }

@@ -2,12 +2,16 @@
 ghost use Rattle.std.specs.Prelude.{◌≡◌, ◌≢◌, ◌≤◌, Err};
 ghost use Rattle.irv_base.specs.declared.limits.TheConstants.{ROOM};
 ghost use Rattle.cover_checker.specs.Covers.{covered_is};
+ghost use Rattle.cover_checker.specs.Ends.{verdict_at};
 ghost use Rattle.cover_checker.specs.declared.cover.CoverFault.TheVariants.{Memory as WantOfMemory};
 
 use crate::index::Index;
+use crate::passing::Passing;
 use crate::unrefuted::Unrefuted;
 use assertions::Assertion;
+use budget::Budget;
 use irv_base::{Candidate, Memory, Order};
+use set_walk::{WalkEnd, WalkFault, walk_within};
 use std::alloc::Global;
 use std::error::Error;
 use std::fmt;
@@ -27,6 +31,8 @@ pub enum Verdict {
 pub enum CoverFault {
     /// The least alternative winner for whom more suffixes count than the budget has.
     Spent { last: Candidate },
+    /// More sets of candidates count than the budget has, which are so many.
+    SpentSets { sets: u32 },
     /// Memory could not be had.
     Memory,
 }
@@ -39,6 +45,9 @@ impl fmt::Display for CoverFault {
                 "more suffixes than the budget has count for candidate {}",
                 last.0
             ),
+            CoverFault::SpentSets { sets } => {
+                write!(f, "more sets of candidates than {sets} count")
+            }
             CoverFault::Memory => write!(f, "{Memory}"),
         }
     }
@@ -54,30 +63,73 @@ impl From<Memory> for CoverFault {
     }
 }
 
+// Whether they do, by a walk through the suffixes that none of them refutes.
+fn by_nodes(list: Index<'_>, n: u32, winner: Candidate, nodes: u32) -> Result<Verdict, CoverFault>
+    requires some { 1 ≤ n }
+    requires room { n ≤ ROOM }
+    ensures { result ≡ covered_is n winner list.entry (Budget.Nodes nodes) }
+{
+    match first_within(&Unrefuted { n, list }, n, winner, nodes) {
+        Ok(None) => Ok(Verdict::Covered),
+        Ok(Some(order)) => Ok(Verdict::Stands(order)),
+        Err(last) => Err(CoverFault::Spent { last }),
+    }
+}
+
+// The verdict where a walk from set to set ends so.
+fn verdict_of(end: &WalkEnd) -> Verdict
+    ensures { result ≡ verdict_at end.now }
+{
+    match end {
+        WalkEnd::Found(order) => Verdict::Stands(*order),
+        WalkEnd::Ended(_) => Verdict::Covered,
+    }
+}
+
+// Whether they do, by a walk into each set of such a suffix once.
+fn by_sets(
+    alloc: Global,
+    list: Index<'_>,
+    n: u32,
+    winner: Candidate,
+    sets: u32,
+) -> Result<Verdict, CoverFault>
+    requires some { 1 ≤ n }
+    requires room { n ≤ ROOM }
+    ensures { result ≢ Err CoverFault.Memory → result ≡ covered_is n winner list.entry (Budget.Sets sets) }
+{
+    let mut passing = Passing { n, list };
+    match walk_within(alloc, &mut passing, n, winner, sets) {
+        Ok(end) => Ok(verdict_of(&end)),
+        Err(WalkFault::Spent) => Err(CoverFault::SpentSets { sets }),
+        Err(WalkFault::Memory) => Err(CoverFault::Memory),
+    }
+}
+
 /// Whether the assertions of the list refute each order of `n` candidates that elects another one than `winner`.
 ///
 /// If they don't, the answer is the order that stands: the one that no assertion refutes and that is least when
 /// read backwards. A suffix counts for an alternative winner where it ends in that candidate, isn't a whole order,
-/// is refuted by no assertion, and comes before the order that stands, if there is one, both read backwards. Where
-/// more than `nodes` suffixes count for some alternative winner the answer is `Spent` with the least of these.
+/// is refuted by no assertion, and comes before the order that stands, if there is one, both read backwards; a set counts
+/// where such a suffix has it. Where more suffixes count for some alternative winner than the budget has nodes, the answer is
+/// `Spent` with the least of these; where more sets count than it has, `SpentSets`.
 ///
-/// The other error is want of memory. The list is gone through once; the time for each suffix that counts, and each of
+/// The other error is want of memory. The list is gone through once; the time for each suffix or set that counts, and each of
 /// its children, doesn't grow with it.
 pub fn covered(
     alloc: Global,
     n: u32,
     winner: Candidate,
     list: &[Assertion],
-    nodes: u32,
+    budget: Budget,
 ) -> Result<Verdict, CoverFault>
     requires some { 1 ≤ n }
     requires room { n ≤ ROOM }
-    ensures { result ≢ Err CoverFault.Memory → result ≡ covered_is n winner list.now nodes }
+    ensures { result ≢ Err CoverFault.Memory → result ≡ covered_is n winner list.now budget }
 {
     let list = Index::of(alloc, list)?;
-    match first_within(&Unrefuted { n, list }, n, winner, nodes) {
-        Ok(None) => Ok(Verdict::Covered),
-        Ok(Some(order)) => Ok(Verdict::Stands(order)),
-        Err(last) => Err(CoverFault::Spent { last }),
+    match budget {
+        Budget::Nodes(nodes) => by_nodes(list, n, winner, nodes),
+        Budget::Sets(sets) => by_sets(alloc, list, n, winner, sets),
     }
 }

@@ -8,40 +8,53 @@ ghost use Rattle.cover_checker.specs.Checks.{checked_is};
 
 use crate::{Checked, CoverFault, Verdict};
 use assertions::Assertion;
+use budget::Budget;
 
-/// NEB(1,2), NEN(1,0,{0,1}) and NEN(2,0,{0,2}) prove the winner 1. Only the suffix 0 counts.
+/// NEB(1,2), NEN(1,0,{0,1}) and NEN(2,0,{0,2}) prove the winner 1. Only the suffix 0 counts, and its set.
 pub fn three_candidates()
     ensures covered { covered_is 3 1
-        (Assertion.Neb 1 2 ∷ Assertion.Nen 1 0 3 ∷ Assertion.Nen 2 0 5 ∷ []) 1
+        (Assertion.Neb 1 2 ∷ Assertion.Nen 1 0 3 ∷ Assertion.Nen 2 0 5 ∷ []) (Budget.Nodes 1)
         ≡ Ok Verdict.Covered }
     ensures spent { covered_is 3 1
-        (Assertion.Neb 1 2 ∷ Assertion.Nen 1 0 3 ∷ Assertion.Nen 2 0 5 ∷ []) 0
+        (Assertion.Neb 1 2 ∷ Assertion.Nen 1 0 3 ∷ Assertion.Nen 2 0 5 ∷ []) (Budget.Nodes 0)
         ≡ Err (CoverFault.Spent 0) }
+    ensures within { covered_is 3 1
+        (Assertion.Neb 1 2 ∷ Assertion.Nen 1 0 3 ∷ Assertion.Nen 2 0 5 ∷ []) (Budget.Sets 1)
+        ≡ Ok Verdict.Covered }
+    ensures short { covered_is 3 1
+        (Assertion.Neb 1 2 ∷ Assertion.Nen 1 0 3 ∷ Assertion.Nen 2 0 5 ∷ []) (Budget.Sets 0)
+        ≡ Err (CoverFault.SpentSets 0) }
 {}
 
-/// Without its NEB the order 1,0,2 stands. The suffixes 2 and 0,2 count for its winner.
+/// Without its NEB the order 1,0,2 stands. The suffixes 2 and 0,2 count for its winner, and with the suffix 0 their sets are three.
 pub fn without_neb()
-    ensures stands { covered_is 3 1 (Assertion.Nen 1 0 3 ∷ Assertion.Nen 2 0 5 ∷ []) 2
+    ensures stands { covered_is 3 1 (Assertion.Nen 1 0 3 ∷ Assertion.Nen 2 0 5 ∷ []) (Budget.Nodes 2)
         ≡ Ok (Verdict.Stands (1 ∷ 0 ∷ 2 ∷ [])) }
-    ensures spent { covered_is 3 1 (Assertion.Nen 1 0 3 ∷ Assertion.Nen 2 0 5 ∷ []) 1
+    ensures spent { covered_is 3 1 (Assertion.Nen 1 0 3 ∷ Assertion.Nen 2 0 5 ∷ []) (Budget.Nodes 1)
         ≡ Err (CoverFault.Spent 2) }
+    ensures within { covered_is 3 1 (Assertion.Nen 1 0 3 ∷ Assertion.Nen 2 0 5 ∷ []) (Budget.Sets 3)
+        ≡ Ok (Verdict.Stands (1 ∷ 0 ∷ 2 ∷ [])) }
+    ensures short { covered_is 3 1 (Assertion.Nen 1 0 3 ∷ Assertion.Nen 2 0 5 ∷ []) (Budget.Sets 2)
+        ≡ Err (CoverFault.SpentSets 2) }
 {}
 
 /// Where nothing is asserted, the order whose backward reading is least stands: 2,1,0.
 pub fn nothing_asserted()
-    ensures stands { covered_is 3 1 [] 2 ≡ Ok (Verdict.Stands (2 ∷ 1 ∷ 0 ∷ [])) }
-    ensures spent { covered_is 3 1 [] 1 ≡ Err (CoverFault.Spent 0) }
+    ensures stands { covered_is 3 1 [] (Budget.Nodes 2) ≡ Ok (Verdict.Stands (2 ∷ 1 ∷ 0 ∷ [])) }
+    ensures spent { covered_is 3 1 [] (Budget.Nodes 1) ≡ Err (CoverFault.Spent 0) }
 {}
 
-/// The certificate of three candidates is accepted within one node. Without its NEB the order 1,0,2 stands. The order 2,1,0 is
+/// The certificate of three candidates is accepted within one node, or one set. Without its NEB the order 1,0,2 stands. The order 2,1,0 is
 /// refuted by more than the file's margin.
 pub fn certificate()
-    ensures accepted { checked_is 1 contests.three_candidates files.three_candidates 1
+    ensures accepted { checked_is (Budget.Nodes 1) contests.three_candidates files.three_candidates 1
         ≡ Ok Checked.Accepted }
-    ensures without_neb { checked_is 2 contests.three_candidates
+    ensures by_sets { checked_is (Budget.Sets 1) contests.three_candidates files.three_candidates 1
+        ≡ Ok Checked.Accepted }
+    ensures without_neb { checked_is (Budget.Nodes 2) contests.three_candidates
         (record files.three_candidates { claims = drop 1 files.three_candidates.claims }) 1
         ≡ Ok (Checked.Stands (1 ∷ 0 ∷ 2 ∷ [])) }
-    ensures other_order { checked_is 1 contests.three_candidates
+    ensures other_order { checked_is (Budget.Nodes 1) contests.three_candidates
         (record files.three_candidates { order = 2 ∷ 1 ∷ 0 ∷ [] }) 1
         ≡ Ok (Checked.Harder (Assertion.Nen 1 0 3) 2) }
 {}
@@ -49,10 +62,10 @@ pub fn certificate()
 /// Five cards, whose ballots are all for the first of two candidates, take five clean draws: a file that plans four, or a full count,
 /// is told so.
 pub fn planned()
-    ensures accepted { checked_is 1 own.five_ballots (own.planning (Some 5)) 0
+    ensures accepted { checked_is (Budget.Nodes 1) own.five_ballots (own.planning (Some 5)) 0
         ≡ Ok Checked.Accepted }
-    ensures too_few { checked_is 1 own.five_ballots (own.planning (Some 4)) 0
+    ensures too_few { checked_is (Budget.Nodes 1) own.five_ballots (own.planning (Some 4)) 0
         ≡ Ok (Checked.OtherDraws 1 (Some 5)) }
-    ensures full_count { checked_is 1 own.five_ballots (own.planning None) 0
+    ensures full_count { checked_is (Budget.Nodes 1) own.five_ballots (own.planning None) 0
         ≡ Ok (Checked.OtherDraws 1 (Some 5)) }
 {}

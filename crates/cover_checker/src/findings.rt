@@ -14,6 +14,7 @@ use crate::cover::{Verdict, covered};
 use assertion_file::{AssertionFile, PlanFacts};
 use assertions::{Assertion, Claim, margin};
 use ballot_reader::Ballots;
+use budget::Budget;
 use irv_base::{Candidate, Memory, Order};
 use km_risk::clean_draws;
 use set_tallies::Tallies;
@@ -79,14 +80,14 @@ fn standing(verdict: Verdict) -> Option<Checked>
 pub fn uncovered(
     alloc: Global,
     file: &AssertionFile,
-    nodes: u32,
+    budget: Budget,
 ) -> Result<Option<Checked>, CheckFault>
-    ensures found { IfOk result (λ found. option_map Ok found ≡ uncovered nodes file.now) }
-    ensures fault { IfErr result (IsFindingOf (uncovered nodes file.now)) }
+    ensures found { IfOk result (λ found. option_map Ok found ≡ uncovered budget file.now) }
+    ensures fault { IfErr result (IsFindingOf (uncovered budget file.now)) }
 {
     let list = assertions_of(alloc, file.claims())?;
     let n = file.candidates().len() as u32;
-    let verdict = covered(alloc, n, file.winner(), &list, nodes)?;
+    let verdict = covered(alloc, n, file.winner(), &list, budget)?;
     Ok(standing(verdict))
 }
 

@@ -1,6 +1,6 @@
 //! What an answer of `covered` says, and one of `check`. Each law holds of every value that it names, and has no code.
-ghost use Rattle.cover_checker.specs.Laws.{CoveredIsSound, CoveredIffCovers, StandsIsLeast, CoveredIsNeverSpent};
-ghost use Rattle.cover_checker.specs.Laws.{AnswerIsOne, AnswerExists, AnswerIsNeverSpent, AcceptedIffHolds};
+ghost use Rattle.cover_checker.specs.Laws.{CoveredIsSound, CoveredIffCovers, StandsIsLeast, CoveredIsNeverSpent, CoveredBySetsIsNeverSpent};
+ghost use Rattle.cover_checker.specs.Laws.{AnswerIsOne, AnswerExists, AnswerIsNeverSpent, AnswerIsNeverFault, AcceptedIffHolds};
 ghost use Rattle.cover_checker.specs.Laws.{AcceptedExactly, AcceptedIsCovered, AcceptedIsDecided, AcceptedMarginIsBest, CertificateIsAccepted};
 
 /// `Covered` alone proves the winner: for every list of records of which all assertions of the list are true, every
@@ -19,9 +19,14 @@ pub fn stands_is_least()
     ensures { StandsIsLeast }
 {}
 
-/// A budget of `2 * (n - 1)!` is never spent, whatever the list.
+/// A budget of `2 * (n - 1)!` nodes is never spent, whatever the list.
 pub fn covered_is_never_spent()
     ensures { CoveredIsNeverSpent }
+{}
+
+/// Nor is one of `2^n - 3` sets.
+pub fn covered_by_sets_is_never_spent()
+    ensures { CoveredBySetsIsNeverSpent }
 {}
 
 /// A file that could be read has an answer.
@@ -29,9 +34,14 @@ pub fn answer_exists()
     ensures { AnswerExists }
 {}
 
-/// With a budget of `2 * (n - 1)!` the answer isn't that it is spent.
+/// With a budget of `2 * (n - 1)!` nodes the answer isn't that it is spent.
 pub fn answer_is_never_spent()
     ensures { AnswerIsNeverSpent }
+{}
+
+/// With so many nodes, or with `2^n - 3` sets, a file that could be read has no fault but want of memory.
+pub fn answer_is_never_fault()
+    ensures { AnswerIsNeverFault }
 {}
 
 /// A file has one answer.
@@ -44,7 +54,8 @@ pub fn accepted_iff_holds()
     ensures { AcceptedIffHolds }
 {}
 
-/// A file is accepted exactly where it holds of the ballots, and for no candidate more suffixes count than there are nodes.
+/// A file is accepted exactly where it holds of the ballots, and no more suffixes count for a candidate than there are nodes, or no
+/// more sets in all than there are.
 pub fn accepted_exactly()
     ensures { AcceptedExactly }
 {}
@@ -64,7 +75,7 @@ pub fn accepted_margin_is_best()
     ensures { AcceptedMarginIsBest }
 {}
 
-/// The canonical certificate of the ballots is accepted, within the nodes that it took to find its claims.
+/// The canonical certificate of the ballots is accepted, within the nodes, or the sets, that it took to find its claims.
 pub fn certificate_is_accepted()
     ensures { CertificateIsAccepted }
 {}

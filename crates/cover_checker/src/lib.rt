@@ -12,6 +12,7 @@ pub mod examples;
 mod findings;
 mod index;
 pub mod laws;
+mod passing;
 mod unrefuted;
 
 pub use checked::{CheckFault, Checked};

@@ -1,6 +1,7 @@
 -- What a poll that goes on has found of the assertions.
 use Rattle.std.proofs.Common.{◌≡◌, ℕ, true, None, refl, subst}
 use Rattle.std.proofs.lemmas.List.Elements.{All-contains}
+use Rattle.budget.specs.declared.budget.Budget.TheVariants.{Nodes}
 use Rattle.irv_base.proofs.Members.{contains-from_member, from_map, list_all-each}
 use Rattle.assertions.specs.Assertions.{is_proper}
 use Rattle.assertion_file.specs.Content.{Content, IsSound, IsSoundClaim, candidate_count}
@@ -19,5 +20,5 @@ covering nodes file whole none = record {
       let (claim, among, same) = from_map (λ claim. claim.assertion) a file.claims m in
       let one = All-contains (IsSoundClaim (candidate_count file) file.records) file.claims claim whole.claims (contains-from_member among) in
       subst (λ b. is_proper (candidate_count file) b ≡ true) same one.proper);
-  covering = (covered_iff_covers (candidate_count file) file.winner nodes (assertions_of file) Covered (covered file nodes none)).0 refl;
+  covering = (covered_iff_covers (candidate_count file) file.winner (Nodes nodes) (assertions_of file) Covered (covered file nodes none)).0 refl;
 }

@@ -11,6 +11,7 @@ ghost use Rattle.poll_command.specs.Said.{IsOfFile, unless_stands};
 
 use assertion_file::AssertionFile;
 use assertions::{Assertion, Claim};
+use budget::Budget;
 use check_command::check::{spent_answer, standing_answer};
 use cli_base::{Answer, Refusal};
 use cover_checker::{CoverFault, Verdict, covered};
@@ -26,11 +27,11 @@ fn assertions_of(alloc: Global, claims: &[Claim]) -> Result<Vec<Assertion>, Memo
 // What the checker says of the assertions.
 fn said(alloc: Global, file: &AssertionFile, nodes: u32) -> Result<Verdict, CoverFault>
     ensures { result ≢ Err WantOfMemory → result
-        ≡ covered_is (candidate_count file.now) file.now.winner (assertions_of file.now) nodes }
+        ≡ covered_is (candidate_count file.now) file.now.winner (assertions_of file.now) (Budget.Nodes nodes) }
 {
     let list = assertions_of(alloc, file.claims())?;
     let n = file.candidates().len() as u32;
-    covered(alloc, n, file.winner(), &list, nodes)
+    covered(alloc, n, file.winner(), &list, Budget::Nodes(nodes))
 }
 
 // How the call ends where an order stands, if one does.
@@ -71,6 +72,7 @@ pub(crate) fn unless_covered(
         Ok(verdict) => unless_stands(alloc, file, &verdict),
         Err(fault) => match fault {
             CoverFault::Spent { last } => Ok(Some(spent_answer(alloc, file, last)?)),
+            CoverFault::SpentSets { .. } => unreachable!(),
             CoverFault::Memory => Err(Refusal::Memory),
         },
     }

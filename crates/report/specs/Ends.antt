@@ -27,6 +27,19 @@ spent_lines last order margin =
     codes "spent\ncandidate " ++ last ++ codes "\norder " ++ order ++ codes "\nmargin "
     ++ decimal margin ++ codes "\n"
 
+-- a budget of so many sets
+abbrev pub spent_sets : ℕ → List ℕ
+spent_sets sets = codes "spent\nsets " ++ decimal sets ++ codes "\n"
+
+abbrev pub spent_sets_lines : ℕ → List ℕ → ℕ → List ℕ
+spent_sets_lines sets order margin =
+    codes "spent\nsets " ++ decimal sets ++ codes "\norder " ++ order ++ codes "\nmargin "
+    ++ decimal margin ++ codes "\n"
+
+-- of so many sets, with the order that a search starts with, and its hardness
+abbrev pub spent_sets_text : List Id → ℕ → List ℕ → ℕ → List ℕ
+spent_sets_text ids sets order margin = spent_sets_lines sets (order_text ids order) margin
+
 -- at this candidate, with the order that was best so far, and its hardness
 abbrev pub spent_text : List Id → ℕ → List ℕ → ℕ → List ℕ
 spent_text ids last order margin = spent_lines (id_of ids last) (order_text ids order) margin

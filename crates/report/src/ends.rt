@@ -2,7 +2,7 @@
 ghost use Rattle.std.specs.Prelude.{◌≡◌, ◌<◌, ◌≤◌, length, IfOk, IsTrue, string_bytes};
 ghost use Rattle.irv_base.specs.Orders.{is_order};
 ghost use Rattle.irv_base.specs.declared.limits.TheConstants.{ROOM};
-ghost use Rattle.report.specs.Ends.{spent_at, spent_lines, spent_text, tie_lines, tie_text};
+ghost use Rattle.report.specs.Ends.{spent_at, spent_lines, spent_sets, spent_sets_lines, spent_sets_text, spent_text, tie_lines, tie_text};
 
 use crate::text::{order_text, set_text};
 use assertion_file::id_of;
@@ -61,4 +61,39 @@ fn spent_lines(alloc: Global, last: &str, order: &str, margin: u32) -> Result<St
     ensures { IfOk result (λ text. string_bytes text ≡ spent_lines last.now order.now margin) }
 {
     format!(in alloc; "spent\ncandidate {last}\norder {order}\nmargin {margin}\n")
+}
+
+/// The lines of a budget of so many sets that is spent. Each ends with a line feed.
+pub fn spent_sets(alloc: Global, sets: u32) -> Result<String, AllocError>
+    ensures { IfOk result (λ text. string_bytes text ≡ spent_sets sets) }
+{
+    format!(in alloc; "spent\nsets {sets}\n")
+}
+
+/// The lines of a search for which so many sets don't suffice: the order that it starts with, and the hardness of that, in votes. Every
+/// line ends with a line feed.
+pub fn spent_sets_text(
+    alloc: Global,
+    names: &[Name],
+    sets: u32,
+    order: &Order,
+    margin: u32,
+) -> Result<String, Memory>
+    requires { IsTrue (is_order (length names.now) order.now) }
+    ensures { IfOk result (λ text.
+        string_bytes text ≡ spent_sets_text names.now sets order.now margin) }
+{
+    let order = order_text(alloc, names, order)?;
+    Ok(spent_sets_lines(alloc, sets, order.as_str(), margin)?)
+}
+
+fn spent_sets_lines(
+    alloc: Global,
+    sets: u32,
+    order: &str,
+    margin: u32,
+) -> Result<String, AllocError>
+    ensures { IfOk result (λ text. string_bytes text ≡ spent_sets_lines sets order.now margin) }
+{
+    format!(in alloc; "spent\nsets {sets}\norder {order}\nmargin {margin}\n")
 }

@@ -2,7 +2,7 @@
 ghost use Rattle.std.specs.Prelude.{◌≡◌, ◌∷◌, ◌++◌, [], codes};
 ghost use Rattle.assertions.specs.declared.assertion.Assertion.TheVariants.{Neb, Nen};
 ghost use Rattle.km_risk.specs.declared.limits.TheConstants.{ONE};
-ghost use Rattle.report.specs.Ends.{spent_text, tie_text};
+ghost use Rattle.report.specs.Ends.{spent_sets, spent_sets_text, spent_text, tie_text};
 ghost use Rattle.report.specs.Examples as examples;
 ghost use Rattle.report.specs.Risks.{counts_text, risk_text};
 ghost use Rattle.report.specs.Texts.{assertion_text, order_text, set_text};
@@ -35,12 +35,15 @@ pub fn three_names()
     ensures nen { assertion_text examples.three_names (Nen 2 0 5) ≡ codes "NEN 3 1 {1,3}" }
 {}
 
-/// A tie of the first two candidates in round 1, and a budget that is spent at the third.
+/// A tie of the first two candidates in round 1, a budget that is spent at the third, and one of two sets.
 pub fn ends()
     ensures tie { tie_text examples.three_names 1 3 4 ≡
         codes "tie\nround 1\ntied 1,2\ntally 4\n" }
     ensures spent { spent_text examples.three_names 2 (0 ∷ 1 ∷ 2 ∷ []) 3 ≡
         codes "spent\ncandidate 3\norder 1,2,3\nmargin 3\n" }
+    ensures by_sets { spent_sets_text examples.three_names 2 (2 ∷ 1 ∷ 0 ∷ []) 2 ≡
+        codes "spent\nsets 2\norder 3,2,1\nmargin 2\n" }
+    ensures sets { spent_sets 2 ≡ codes "spent\nsets 2\n" }
 {}
 
 /// The greatest risk, and small ones.

@@ -8,7 +8,7 @@ mod risks;
 mod tabulations;
 mod text;
 
-pub use ends::{spent_at, spent_text, tie_text};
+pub use ends::{spent_at, spent_sets, spent_sets_text, spent_text, tie_text};
 pub use risks::{add_counts, add_risk, counts_text, state_text};
 pub use tabulations::tabulation;
 pub use text::{assertion_text, order_text, set_text};

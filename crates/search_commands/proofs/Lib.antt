@@ -1,4 +1,5 @@
 pub mod Ties
+pub mod Spent
 mod Going
 pub mod Searches
 pub mod Tabulations

@@ -6,7 +6,7 @@ use Rattle.cli_base.specs.declared.outcome.AnswerKind.TheVariants.{Done, Tie, Sp
 use Rattle.cli_base.proofs.Ended.{one-same, of_answers, one-kind}
 use Rattle.command.specs.declared.trial.TrialTask.{TrialTask}
 use Rattle.contest_search.proofs.Certificates.{certificate-one}
-use Rattle.search_commands.specs.Ends.{HasTie, HasSpent}
+use Rattle.search_commands.specs.Ends.{HasTieIn, HasSpent}
 use Rattle.search_commands.specs.Trial.{contest_of, trial_text, HasLines, Tries, kinds, script}
 use Rattle.search_commands.proofs.Ties.{tie-one, never_both}
 
@@ -16,10 +16,10 @@ lines-one task text other a b =
 
 tried-one : (task : TrialTask) (v w : Verdict) → Tries task v → Tries task w → SameButBudget (outcome v) (outcome w)
 tried-one task v w (inl a) (inl b) = inl (ap outcome (one-same (HasLines task) Done (lines-one task) v w a b))
-tried-one task v w (inl (text, a, i)) (inr (inl (other, b, j))) = absurd (never_both (contest_of task) a.found.is.winner other a.found.is.decided b)
+tried-one task v w (inl (text, a, i)) (inr (inl (other, b, j))) = absurd (never_both (contest_of task) a.found.is.winner other a.found.is.decided b.0)
 tried-one task v w (inl (text, a, i)) (inr (inr (other, b, j))) = of_answers Done Spent text other v w i j (inr (inl refl, inr (inr (inl refl)), inr refl))
-tried-one task v w (inr (inl (text, a, i))) (inl (other, b, j)) = absurd (never_both (contest_of task) b.found.is.winner text b.found.is.decided a)
-tried-one task v w (inr (inl a)) (inr (inl b)) = inl (ap outcome (one-same (HasTie (contest_of task)) Tie (tie-one (contest_of task)) v w a b))
+tried-one task v w (inr (inl (text, a, i))) (inl (other, b, j)) = absurd (never_both (contest_of task) b.found.is.winner text b.found.is.decided a.0)
+tried-one task v w (inr (inl a)) (inr (inl b)) = inl (ap outcome (one-same (HasTieIn task.budget (contest_of task)) Tie (λ t o x y. tie-one (contest_of task) t o x.0 y.0) v w a b))
 tried-one task v w (inr (inl (text, a, i))) (inr (inr (other, b, j))) =
     of_answers Tie Spent text other v w i j (inr (inr (inl refl), inr (inr (inl refl)), inr refl))
 tried-one task v w (inr (inr (text, a, i))) (inl (other, b, j)) = of_answers Spent Done text other v w i j (inr (inr (inr (inl refl)), inl refl, inl refl))
@@ -33,8 +33,8 @@ agrees task = tried-one task
 
 tried-kind : (task : TrialTask) (v : Verdict) → Tries task v → IsOfKind kinds v
 tried-kind task v (inl a) = one-kind kinds (HasLines task) Done refl v a
-tried-kind task v (inr (inl a)) = one-kind kinds (HasTie (contest_of task)) Tie refl v a
-tried-kind task v (inr (inr a)) = one-kind kinds (HasSpent task.nodes (contest_of task)) Spent refl v a
+tried-kind task v (inr (inl a)) = one-kind kinds (HasTieIn task.budget (contest_of task)) Tie refl v a
+tried-kind task v (inr (inr a)) = one-kind kinds (HasSpent task.budget (contest_of task)) Spent refl v a
 
 pub kinds_are : (task : TrialTask) → AreOfKind kinds (script task)
 kinds_are task = tried-kind task

@@ -1,14 +1,17 @@
 -- How a search and a tabulation end, and that a trial is a search.
-use Rattle.std.specs.Prelude.{◌⊎◌, ◌↔◌, ℕ, ◌≤◌, ◌<◌, ◌-◌, ◌*◌, List, Option, None}
-use Rattle.assertions.specs.Suffixes.{factorial}
+use Rattle.std.specs.Prelude.{◌⊎◌, ◌↔◌, ℕ, ◌≤◌, ◌<◌, List, Option, None}
+use Rattle.budget.specs.declared.budget.Budget.{Budget}
+use Rattle.budget.specs.declared.budget.Budget.TheVariants.{Nodes, Sets}
+use Rattle.assertions.specs.Hardness.{first_bound}
 use Rattle.irv_base.specs.declared.limits.TheConstants.{FEWEST_CANDIDATES}
 use Rattle.ballot_reader.specs.Ballots.{BallotFile}
+use Rattle.cover_checker.specs.Covers.{IsEnoughFor}
 use Rattle.cli_base.specs.Outcome.{Verdict, Answered, One}
 use Rattle.cli_base.specs.declared.outcome.AnswerKind.{AnswerKind}
 use Rattle.cli_base.specs.declared.outcome.AnswerKind.TheVariants.{Done, Tie, Spent}
 use Rattle.command.specs.declared.plan_terms.PlanTerms.{PlanTerms}
 use Rattle.command.specs.declared.trial.TrialTask.{TrialTask}
-use Rattle.contest_search.specs.Budget.{certificate_nodes, IsInBudget}
+use Rattle.contest_search.specs.Budget.{certificate_nodes, sets_of, IsInBudget}
 use Rattle.contest_search.specs.Contest.{candidate_count, IsElected, IsOther, IsUndecided, IsWon}
 use Rattle.search_commands.specs.Ends.{HasTie, HasSpent}
 use Rattle.search_commands.specs.Search.{Finds}
@@ -23,28 +26,28 @@ UndecidedHasTie =
     (ballots : BallotFile) → FEWEST_CANDIDATES ≤ candidate_count ballots → IsUndecided ballots →
     (text : List ℕ) × HasTie ballots text
 
--- Whatever its nodes and its floor, a search has an end.
+-- Whatever its budget and its floor, a search has an end.
 abbrev pub EndExists : Type 0
 EndExists =
-    (nodes least : ℕ) (plan : Option PlanTerms) (ballots : BallotFile) →
+    (budget : Budget) (least : ℕ) (plan : Option PlanTerms) (ballots : BallotFile) →
     FEWEST_CANDIDATES ≤ candidate_count ballots →
-    (verdict : Verdict) × Finds nodes least plan ballots verdict
+    (verdict : Verdict) × Finds budget least plan ballots verdict
 
--- Where the nodes suffice for the certificate, it has one at which it isn't spent.
+-- Where the budget suffices for the certificate, it has one at which it isn't spent.
 abbrev pub UnspentEndExists : Type 0
 UnspentEndExists =
-    (nodes least : ℕ) (plan : Option PlanTerms) (ballots : BallotFile) (winner : ℕ) →
+    (budget : Budget) (least : ℕ) (plan : Option PlanTerms) (ballots : BallotFile) (winner : ℕ) →
     FEWEST_CANDIDATES ≤ candidate_count ballots → IsWon ballots winner →
-    IsInBudget ballots winner nodes →
-    (verdict : Verdict) × Finds nodes least plan ballots verdict
-    × (One (HasSpent nodes ballots) Spent verdict → ⊥)
+    IsInBudget ballots winner budget →
+    (verdict : Verdict) × Finds budget least plan ballots verdict
+    × (One (HasSpent budget ballots) Spent verdict → ⊥)
 
 -- A search that isn't spent ends with a tie exactly where its contest isn't decided.
 abbrev pub TieIffUndecided : Type 0
 TieIffUndecided =
-    (nodes least : ℕ) (plan : Option PlanTerms) (ballots : BallotFile) (verdict : Verdict) →
-    Finds nodes least plan ballots verdict →
-    (One (HasSpent nodes ballots) Spent verdict → ⊥) →
+    (budget : Budget) (least : ℕ) (plan : Option PlanTerms) (ballots : BallotFile) (verdict : Verdict) →
+    Finds budget least plan ballots verdict →
+    (One (HasSpent budget ballots) Spent verdict → ⊥) →
     (One (HasTie ballots) Tie verdict ↔ IsUndecided ballots)
 
 -- A tabulation has an end at which it isn't spent, whatever its nodes.
@@ -61,7 +64,7 @@ NoWinnerIffUndecided =
     (One (HasStopped nodes ballots) Spent verdict → ⊥) →
     (One (HasTie ballots) Tie verdict ↔ IsUndecided ballots)
 
--- ---- nodes
+-- ---- what it takes
 
 -- Where the certificate of a decided contest needs more nodes for a candidate, a search is spent.
 abbrev pub SpentWhereAbove : Type 0
@@ -69,8 +72,17 @@ SpentWhereAbove =
     (nodes least : ℕ) (plan : Option PlanTerms) (ballots : BallotFile) (winner c : ℕ)
     (verdict : Verdict) →
     IsWon ballots winner → IsElected ballots winner → IsOther ballots winner c →
-    nodes < certificate_nodes ballots winner c → Finds nodes least plan ballots verdict →
-    One (HasSpent nodes ballots) Spent verdict
+    nodes < certificate_nodes ballots winner c → Finds (Nodes nodes) least plan ballots verdict →
+    One (HasSpent (Nodes nodes) ballots) Spent verdict
+
+-- By sets it is spent exactly where it needs more of them, and the order that it starts with isn't of hardness 0.
+abbrev pub SpentBySetsExactly : Type 0
+SpentBySetsExactly =
+    (sets least : ℕ) (plan : Option PlanTerms) (ballots : BallotFile) (winner : ℕ)
+    (won : IsWon ballots winner) (verdict : Verdict) → Finds (Sets sets) least plan ballots verdict →
+    (One (HasSpent (Sets sets) ballots) Spent verdict
+    ↔ ((1 ≤ first_bound (candidate_count ballots) ballots.rankings won.order)
+    × (sets < sets_of ballots winner)))
 
 -- ---- a trial
 
@@ -82,11 +94,11 @@ IsAmongKinds verdicts kind = (text : List ℕ) × verdicts (Answered kind text)
 abbrev pub TrialIsASearch : Type 0
 TrialIsASearch =
     (task : TrialTask) (kind : AnswerKind) → FEWEST_CANDIDATES ≤ task.candidates →
-    IsAmongKinds (Tries task) kind ↔ IsAmongKinds (Finds task.nodes 1 None (contest_of task)) kind
+    IsAmongKinds (Tries task) kind ↔ IsAmongKinds (Finds task.budget 1 None (contest_of task)) kind
 
--- With twice the factorial of the number of the other candidates as nodes it has its lines, or a tie.
+-- With twice the factorial of the number of the other candidates as nodes, or with all sets but three, it has its lines, or a tie.
 abbrev pub TrialIsComplete : Type 0
 TrialIsComplete =
-    (task : TrialTask) (verdict : Verdict) → 2 * factorial (task.candidates - 1) ≤ task.nodes →
+    (task : TrialTask) (verdict : Verdict) → IsEnoughFor task.candidates task.budget →
     Tries task verdict →
     One (HasLines task) Done verdict ⊎ One (HasTie (contest_of task)) Tie verdict

@@ -1,6 +1,7 @@
 -- `search FILE`: the assertions that together confirm the winner of a ballot file's contest, or why there are none.
 use Rattle.std.specs.Prelude.{◌≡◌, ◌⊎◌, ◌≤◌, ◌<◌, ℕ, Bool, true, nat_le, List, [], ◌∷◌, ◌++◌, length, Option, None, Some, option_map, MatchBool, codes}
 use Rattle.std.specs.Fmt.{decimal}
+use Rattle.budget.specs.declared.budget.Budget.{Budget}
 use Rattle.ballot_reader.specs.Ballots.{BallotFile}
 use Rattle.ballot_reader.specs.Grammar.{ballots_of}
 use Rattle.assertions.specs.declared.assertion.Claim.{Claim}
@@ -18,7 +19,7 @@ use Rattle.input_files.specs.Refusals.{refused_ballots}
 use Rattle.contest_search.specs.Budget.{IsInBudget}
 use Rattle.contest_search.specs.Certificate.{IsCertificateOfDecided}
 use Rattle.contest_search.specs.Planned.{plan_over}
-use Rattle.search_commands.specs.Ends.{HasTie, HasSpent}
+use Rattle.search_commands.specs.Ends.{HasTieIn, HasSpent}
 
 -- ---- the text of a full count
 
@@ -50,30 +51,30 @@ has_cards (Some terms) ballots = nat_le (length ballots.rankings) terms.cards
 abbrev pub more_ballots : List ℕ → Verdict
 more_ballots name = Refused name (broken_at (codes "B11") 0)
 
--- ---- how a search ends, with so many nodes, where a margin below `least` calls for a full count
+-- ---- how a search ends, with such a budget, where a margin below `least` calls for a full count
 
 -- with the certificate where its margin reaches that, as it is printed with such a plan
-pub record HasCertificate (nodes least : ℕ) (plan : Option PlanTerms) (ballots : BallotFile)
+pub record HasCertificate (budget : Budget) (least : ℕ) (plan : Option PlanTerms) (ballots : BallotFile)
     (text : List ℕ) : Type 0 where
   pub file : Content
   pub is : IsCertificateOfDecided ballots file
-  pub budget : IsInBudget ballots is.winner nodes
+  pub within : IsInBudget ballots is.winner budget
   pub floor : least ≤ file.margin
   pub shown : text ≡ assertion_file_text (printed plan file)
 
 -- and with the certificate's order alone where it doesn't
-pub record HasFullCount (nodes least : ℕ) (ballots : BallotFile) (text : List ℕ) : Type 0 where
+pub record HasFullCount (budget : Budget) (least : ℕ) (ballots : BallotFile) (text : List ℕ) : Type 0 where
   pub file : Content
   pub is : IsCertificateOfDecided ballots file
-  pub budget : IsInBudget ballots is.winner nodes
+  pub within : IsInBudget ballots is.winner budget
   pub floor : file.margin < least
   pub shown : text ≡ full_count_text file least
 
-abbrev pub Finds : ℕ → ℕ → Option PlanTerms → BallotFile → Verdict → Type 0
-Finds nodes least plan ballots verdict =
-    One (HasCertificate nodes least plan ballots) Done verdict ⊎ One (HasTie ballots) Tie verdict
-    ⊎ One (HasSpent nodes ballots) Spent verdict
-    ⊎ One (HasFullCount nodes least ballots) FullCount verdict
+abbrev pub Finds : Budget → ℕ → Option PlanTerms → BallotFile → Verdict → Type 0
+Finds budget least plan ballots verdict =
+    One (HasCertificate budget least plan ballots) Done verdict ⊎ One (HasTieIn budget ballots) Tie verdict
+    ⊎ One (HasSpent budget ballots) Spent verdict
+    ⊎ One (HasFullCount budget least ballots) FullCount verdict
 
 -- ---- the command
 
@@ -81,7 +82,7 @@ Finds nodes least plan ballots verdict =
 abbrev pub Searches : SearchTask → BallotFile → Verdict → Type 0
 Searches task ballots verdict =
     MatchBool (has_cards task.plan ballots)
-    (Finds task.nodes task.floor task.plan ballots verdict) (verdict ≡ more_ballots task.ballots)
+    (Finds task.budget task.floor task.plan ballots verdict) (verdict ≡ more_ballots task.ballots)
 
 abbrev pub script : SearchTask → Script
 script task = Read task.ballots (λ bytes.

@@ -15,7 +15,7 @@ use Rattle.cli_base.specs.Script.{Script, Ends}
 use Rattle.command.specs.declared.trial.TrialTask.{TrialTask}
 use Rattle.contest_search.specs.Contest.{contest_with}
 use Rattle.contest_search.specs.Found.{IsFoundIn}
-use Rattle.search_commands.specs.Ends.{HasTie, HasSpent}
+use Rattle.search_commands.specs.Ends.{HasTieIn, HasSpent}
 
 -- ---- its contest
 
@@ -52,13 +52,13 @@ trial_text number file =
 
 pub record HasLines (task : TrialTask) (text : List ℕ) : Type 0 where
   pub file : Content
-  pub found : IsFoundIn task.nodes (contest_of task) file
+  pub found : IsFoundIn task.budget (contest_of task) file
   pub shown : text ≡ trial_text task.number file
 
 abbrev pub Tries : TrialTask → Verdict → Type 0
 Tries task verdict =
-    One (HasLines task) Done verdict ⊎ One (HasTie (contest_of task)) Tie verdict
-    ⊎ One (HasSpent task.nodes (contest_of task)) Spent verdict
+    One (HasLines task) Done verdict ⊎ One (HasTieIn task.budget (contest_of task)) Tie verdict
+    ⊎ One (HasSpent task.budget (contest_of task)) Spent verdict
 
 -- ---- the command, which reads no file
 

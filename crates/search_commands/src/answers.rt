@@ -5,11 +5,11 @@ ghost use Rattle.irv_base.specs.declared.limits.TheConstants.{ROOM};
 ghost use Rattle.cli_base.specs.Due.{due, IsOneOrMemory};
 ghost use Rattle.cli_base.specs.Outcome.{Answered};
 ghost use Rattle.cli_base.specs.declared.outcome.AnswerKind.TheVariants.{Spent, Tie};
-ghost use Rattle.report.specs.Ends.{spent_text, tie_text};
+ghost use Rattle.report.specs.Ends.{spent_sets_text, spent_text, tie_text};
 
 use cli_base::{Answer, AnswerKind, Refusal};
 use irv_base::{CandSet, Candidate, Name, Order};
-use report::{spent_text, tie_text};
+use report::{spent_sets_text, spent_text, tie_text};
 use std::alloc::Global;
 
 /// The answer of a contest that isn't decided, which tells the round of its first tie, those who share the least tally, and that tally.
@@ -31,7 +31,7 @@ pub(crate) fn first_tie(
     })
 }
 
-/// The answer where the budget is spent at this candidate, which tells the order that was best so far, and its hardness.
+/// The answer where the budget of nodes is spent at this candidate, which tells the order that was best so far, and its hardness.
 pub(crate) fn spent(
     alloc: Global,
     names: &[Name],
@@ -45,6 +45,26 @@ pub(crate) fn spent(
         verdict ≡ Answered Spent (spent_text names.now last order.now margin)) (due result) }
 {
     let text = spent_text(alloc, names, last, order, margin)?;
+    Ok(Answer {
+        kind: AnswerKind::Spent,
+        text: text.into_bytes(),
+    })
+}
+
+/// The answer where more sets are needed than the budget has, which are so many: it tells the order that a search starts with, and its
+/// hardness.
+pub(crate) fn spent_sets(
+    alloc: Global,
+    names: &[Name],
+    sets: u32,
+    order: &Order,
+    margin: u32,
+) -> Result<Answer, Refusal>
+    requires { IsTrue (is_order (length names.now) order.now) }
+    ensures { IsOneOrMemory (λ verdict.
+        verdict ≡ Answered Spent (spent_sets_text names.now sets order.now margin)) (due result) }
+{
+    let text = spent_sets_text(alloc, names, sets, order, margin)?;
     Ok(Answer {
         kind: AnswerKind::Spent,
         text: text.into_bytes(),

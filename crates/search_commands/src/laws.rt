@@ -1,18 +1,18 @@
 //! The laws of the commands: each holds of every value that it names, and has no code.
 ghost use Rattle.search_commands.specs.Laws.{UndecidedHasTie, EndExists, UnspentEndExists, TieIffUndecided, TabulationExists, NoWinnerIffUndecided};
-ghost use Rattle.search_commands.specs.Laws.{SpentWhereAbove, TrialIsASearch, TrialIsComplete};
+ghost use Rattle.search_commands.specs.Laws.{SpentWhereAbove, SpentBySetsExactly, TrialIsASearch, TrialIsComplete};
 
 /// A contest that isn't decided has a first tie to tell.
 pub fn undecided_has_tie()
     ensures { UndecidedHasTie }
 {}
 
-/// Whatever its nodes and its floor, a search has an end.
+/// Whatever its budget and its floor, a search has an end.
 pub fn end_exists()
     ensures { EndExists }
 {}
 
-/// Where the nodes suffice for the certificate, it has one at which it isn't spent.
+/// Where the budget suffices for the certificate, it has one at which it isn't spent.
 pub fn unspent_end_exists()
     ensures { UnspentEndExists }
 {}
@@ -37,12 +37,17 @@ pub fn spent_where_above()
     ensures { SpentWhereAbove }
 {}
 
+/// By sets it is spent exactly where it needs more of them, and the order that it starts with isn't of hardness 0.
+pub fn spent_by_sets_exactly()
+    ensures { SpentBySetsExactly }
+{}
+
 /// A trial is a search of its contest at floor 1.
 pub fn trial_is_a_search()
     ensures { TrialIsASearch }
 {}
 
-/// A trial with enough nodes isn't spent.
+/// A trial with enough nodes or sets isn't spent.
 pub fn trial_is_complete()
     ensures { TrialIsComplete }
 {}

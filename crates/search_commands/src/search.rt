@@ -9,7 +9,7 @@ ghost use Rattle.command.specs.Search.{IsWithinLimits};
 ghost use Rattle.contest_search.specs.Found.{IsFoundIn};
 ghost use Rattle.search_commands.specs.Search.{Finds, Searches, has_cards, printed, script};
 
-use crate::answers::{first_tie, spent};
+use crate::answers::{first_tie, spent, spent_sets};
 use crate::search_texts::full_count;
 use assertion_file::{AssertionFile, print_file};
 use ballot_reader::Ballots;
@@ -78,12 +78,12 @@ fn search<R: AllocGlobal + Threads + Sync, G: Gate + Sync>(
 ) -> Result<Answer, Refusal>
     requires limits { IsWithinLimits task.now }
     requires cards { IsTrue (has_cards task.now.plan ballots.now) }
-    ensures { IsOneOrMemory (Finds task.now.nodes task.now.floor task.now.plan ballots.now)
+    ensures { IsOneOrMemory (Finds task.now.budget task.now.floor task.now.plan ballots.now)
         (due result) }
 {
     let alloc = rt.alloc();
     let names = ballots.candidates();
-    let found = find(rt, &Searchable::of(ballots), task.workers, task.nodes, gate)?;
+    let found = find(rt, &Searchable::of(ballots), task.workers, task.budget, gate)?;
     match found {
         Found::Certificate(file) => certificate(alloc, ballots, file, task),
         Found::Tie { round, tied, votes } => first_tie(alloc, names, round, tied, votes),
@@ -92,6 +92,11 @@ fn search<R: AllocGlobal + Threads + Sync, G: Gate + Sync>(
             order,
             margin,
         } => spent(alloc, names, last, &order, margin),
+        Found::SpentSets {
+            sets,
+            order,
+            margin,
+        } => spent_sets(alloc, names, sets, &order, margin),
     }
 }
 
@@ -104,8 +109,8 @@ fn certificate(
 ) -> Result<Answer, Refusal>
     requires limits { IsWithinLimits task.now }
     requires cards { IsTrue (has_cards task.now.plan ballots.now) }
-    requires found { IsFoundIn task.now.nodes ballots.now file }
-    ensures { IsOneOrMemory (Finds task.now.nodes task.now.floor task.now.plan ballots.now)
+    requires found { IsFoundIn task.now.budget ballots.now file }
+    ensures { IsOneOrMemory (Finds task.now.budget task.now.floor task.now.plan ballots.now)
         (due result) }
 {
     if file.margin() < task.floor {

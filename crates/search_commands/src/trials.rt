@@ -5,7 +5,7 @@ ghost use Rattle.cli_base.specs.Due.{due, IsOneOrMemory};
 ghost use Rattle.contest_search.specs.Found.{FoundIn};
 ghost use Rattle.search_commands.specs.Trial.{contest_of, trial_candidates, Tries};
 
-use crate::answers::{first_tie, spent};
+use crate::answers::{first_tie, spent, spent_sets};
 use crate::trial_texts::{contest_id, lines, trial_candidates};
 use cli_base::{Answer, AnswerKind, Refusal};
 use command::TrialTask;
@@ -30,7 +30,7 @@ pub fn answer<R: AllocGlobal + Threads + Sync, G: Gate + Sync>(
     let names = trial_candidates(alloc, task.candidates)?;
     let records = trial_records(alloc, task.number, task.candidates, task.ballots)?;
     let contest = Searchable::new(&id, &names, &records);
-    let found = find(rt, &contest, task.workers, task.nodes, gate)?;
+    let found = find(rt, &contest, task.workers, task.budget, gate)?;
     found_answer(alloc, &names, task, found)
 }
 
@@ -43,7 +43,7 @@ fn found_answer(
 ) -> Result<Answer, Refusal>
     requires limits { IsWithinLimits task.now }
     requires names { names.now ≡ trial_candidates task.now.candidates }
-    requires found { FoundIn task.now.nodes (contest_of task.now) found }
+    requires found { FoundIn task.now.budget (contest_of task.now) found }
     ensures { IsOneOrMemory (Tries task.now) (due result) }
 {
     match found {
@@ -57,5 +57,10 @@ fn found_answer(
             order,
             margin,
         } => spent(alloc, names, last, &order, margin),
+        Found::SpentSets {
+            sets,
+            order,
+            margin,
+        } => spent_sets(alloc, names, sets, &order, margin),
     }
 }

@@ -11,6 +11,7 @@ use Rattle.irv_base.proofs.Members.{Member, member_cases, member_nil, from_flat_
 use Rattle.irv_base.proofs.Orders.{order_facts}
 use Rattle.assertions.specs.Suffixes.{orders_ending}
 use Rattle.assertions.proofs.Endings.{orders_ending-member}
+use Rattle.budget.specs.declared.budget.Budget.{Budget}
 use Rattle.ballot_reader.specs.Ballots.{BallotFile}
 use Rattle.assertion_file.specs.Content.{Content}
 use Rattle.cover_checker.specs.Outcomes.{IsWinner}
@@ -73,8 +74,8 @@ all_none [] never h = refl
 all_none (None ∷ more) never h = all_none more never.1 h
 all_none (Some answer ∷ more) never h = absurd (never.0 (ap Some h))
 
-never_accept : (nodes : ℕ) (records : List (List ℕ)) (file : Content) (winner : ℕ) → AllNever (findings nodes records file winner)
-never_accept nodes records file winner = (
+never_accept : (budget : Budget) (records : List (List ℕ)) (file : Content) (winner : ℕ) → AllNever (findings budget records file winner)
+never_accept budget records file winner = (
   winner-never winner file,
   (
     margins-never records 1 file.claims,
@@ -82,9 +83,9 @@ never_accept nodes records file winner = (
   ),
 )
 
-same_winner : (nodes : ℕ) (records : List (List ℕ)) (file : Content) (winner : ℕ) → list_all is_none (findings nodes records file winner) ≡ true →
+same_winner : (budget : Budget) (records : List (List ℕ)) (file : Content) (winner : ℕ) → list_all is_none (findings budget records file winner) ≡ true →
     file.winner ≡ winner
-same_winner nodes records file winner h =
+same_winner budget records file winner h =
     winner-none winner file (none_is (other_winner winner file) (and_parts (is_none (other_winner winner file)) _ h).0) where
       none_is : (found : Option Answer) → is_none found ≡ true → found ≡ None
       none_is None h = refl
@@ -98,33 +99,33 @@ yes = Ok Accepted
 yes-isnt-other : yes ≡ Ok OtherContest → ⊥
 yes-isnt-other e = cc e
 
-module _ (nodes : ℕ) (ballots : BallotFile) (file : Content) where
-  accepts : is_accepted nodes ballots file ≡ true → IsAnswer nodes ballots file (Ok Accepted)
+module _ (budget : Budget) (ballots : BallotFile) (file : Content) where
+  accepts : is_accepted budget ballots file ≡ true → IsAnswer budget ballots file (Ok Accepted)
   accepts h =
       let (head, none) = and_parts (is_about ballots file && is_won ballots file.winner) _ h in
       let (about, won) = and_parts (is_about ballots file) (is_won ballots file.winner) head in
-      judged nodes ballots file about (Ok Accepted) (record {
+      judged budget ballots file about (Ok Accepted) (record {
         winner = file.winner;
         tabulated = from_won ballots file.winner won;
-        answer_is = nothing_found (findings nodes ballots.rankings file file.winner) none;
+        answer_is = nothing_found (findings budget ballots.rankings file file.winner) none;
       })
 
   by_winner : is_about ballots file ≡ true → (winner : ℕ) → IsWinner (length ballots.candidates) ballots.rankings winner →
-      checked_is nodes ballots.rankings file winner ≡ Ok Accepted → is_accepted nodes ballots file ≡ true
+      checked_is budget ballots.rankings file winner ≡ Ok Accepted → is_accepted budget ballots file ≡ true
   by_winner about winner won e =
-      let none = all_none (findings nodes ballots.rankings file winner) (never_accept nodes ballots.rankings file winner) e in
-      let same : file.winner ≡ winner = same_winner nodes ballots.rankings file winner none in
+      let none = all_none (findings budget ballots.rankings file winner) (never_accept budget ballots.rankings file winner) e in
+      let same : file.winner ≡ winner = same_winner budget ballots.rankings file winner none in
       let own : is_won ballots file.winner ≡ true = subst (λ w. is_won ballots w ≡ true) (sym same) (won_from ballots winner won) in
-      let none' : list_all is_none (findings nodes ballots.rankings file file.winner)
-      ≡ true = subst (λ w. list_all is_none (findings nodes ballots.rankings file w) ≡ true) (sym same) none in
+      let none' : list_all is_none (findings budget ballots.rankings file file.winner)
+      ≡ true = subst (λ w. list_all is_none (findings budget ballots.rankings file w) ≡ true) (sym same) none in
       and_from (is_about ballots file && is_won ballots file.winner) _ (and_from (is_about ballots file) (is_won ballots file.winner) about own) none'
 
-  accepted : IsAnswer nodes ballots file (Ok Accepted) → is_accepted nodes ballots file ≡ true
+  accepted : IsAnswer budget ballots file (Ok Accepted) → is_accepted budget ballots file ≡ true
   accepted h = elim (cases_Bool (is_about ballots file)) [
-    | inl t ↦ let j = from_answer nodes ballots file t (Ok Accepted) h in by_winner t j.winner j.tabulated j.answer_is
+    | inl t ↦ let j = from_answer budget ballots file t (Ok Accepted) h in by_winner t j.winner j.tabulated j.answer_is
     | inr f ↦
-        absurd (yes-isnt-other (subst (λ b. MatchBool b (Judges nodes ballots file yes) (yes ≡ Ok OtherContest)) f h))
+        absurd (yes-isnt-other (subst (λ b. MatchBool b (Judges budget ballots file yes) (yes ≡ Ok OtherContest)) f h))
   ]
 
-  pub decided : (is_accepted nodes ballots file ≡ true) ↔ IsAnswer nodes ballots file (Ok Accepted)
+  pub decided : (is_accepted budget ballots file ≡ true) ↔ IsAnswer budget ballots file (Ok Accepted)
   decided = (accepts, accepted)

@@ -1,5 +1,6 @@
 -- An audit comes to one end.
 use Rattle.std.proofs.Common.{Bool, true, false, List, length, ℕ, refl, ap}
+use Rattle.budget.specs.declared.budget.Budget.{Budget}
 use Rattle.ballot_reader.specs.Ballots.{BallotFile}
 use Rattle.manifest.specs.Cards.{Batches, cards_of}
 use Rattle.manifest.specs.Linked.{linked_of}
@@ -38,11 +39,11 @@ module _ (task : AuditTask) where
 
 -- ---- where a check has to accept
 
-accepted-agrees : (nodes : ℕ) (ballots : BallotFile) (file : FileContent) (next : Script) → Agree Same next → Agree Same (if_accepted nodes ballots file next)
-accepted-agrees nodes ballots file next agree = by (is_accepted nodes ballots file) where
-  by : (b : Bool) → Agree Same (on_if b next (Ends (Checks nodes ballots file)))
+accepted-agrees : (budget : Budget) (ballots : BallotFile) (file : FileContent) (next : Script) → Agree Same next → Agree Same (if_accepted budget ballots file next)
+accepted-agrees budget ballots file next agree = by (is_accepted budget ballots file) where
+  by : (b : Bool) → Agree Same (on_if b next (Ends (Checks budget ballots file)))
   by true = agree
-  by false = λ v w p q. ap outcome (checks-one nodes ballots file v w p q)
+  by false = λ v w p q. ap outcome (checks-one budget ballots file v w p q)
 
 wider : (v : Verdict) → IsOfKind check.kinds v → IsOfKind kinds v
 wider (Verdict.Answered Done text) of = among kinds Done refl
@@ -53,12 +54,12 @@ wider (Verdict.Answered Tie text) of = absurd (not_among check.kinds Tie refl of
 wider (Verdict.Answered FullCount text) of = absurd (not_among check.kinds FullCount refl of)
 wider (Refused name text) of = tt
 
-accepted-kinds : (nodes : ℕ) (ballots : BallotFile) (file : FileContent) (next : Script) → AreOfKind kinds next →
-    AreOfKind kinds (if_accepted nodes ballots file next)
-accepted-kinds nodes ballots file next of = by (is_accepted nodes ballots file) where
-  by : (b : Bool) → AreOfKind kinds (on_if b next (Ends (Checks nodes ballots file)))
+accepted-kinds : (budget : Budget) (ballots : BallotFile) (file : FileContent) (next : Script) → AreOfKind kinds next →
+    AreOfKind kinds (if_accepted budget ballots file next)
+accepted-kinds budget ballots file next of = by (is_accepted budget ballots file) where
+  by : (b : Bool) → AreOfKind kinds (on_if b next (Ends (Checks budget ballots file)))
   by true = of
-  by false = λ v is. wider v (checks-kind nodes ballots file v is)
+  by false = λ v is. wider v (checks-kind budget ballots file v is)
 
 -- ---- the chain
 
@@ -67,7 +68,7 @@ agrees task = λ s. go_on-agrees (session_to_go_on task.session task.draws s) _ 
     λ b. go_on-agrees (same_ballots task.ballots session b) _ (λ ballots.
     λ m. go_on-agrees (same_manifest task.ballots task.manifest session ballots m) _ (λ batches.
     λ a. go_on-agrees (same_assertions task session a) _ (λ file.
-    accepted-agrees task.nodes ballots file (after_check task session ballots batches file) (
+    accepted-agrees task.budget ballots file (after_check task session ballots batches file) (
     go_on-agrees (same_facts task session batches file) _ (λ same.
     with_seen-agrees task.session task.seen task.draws same (values_of file) batches (linked_of batches ballots) file.candidates))))))
 
@@ -76,7 +77,7 @@ kinds_are task = λ s. go_on-kinds kinds (session_to_go_on task.session task.dra
     λ b. go_on-kinds kinds (same_ballots task.ballots session b) _ (ballots-only task.ballots session b) (λ ballots.
     λ m. go_on-kinds kinds (same_manifest task.ballots task.manifest session ballots m) _ (manifest-only task.ballots task.manifest session ballots m) (λ batches.
     λ a. go_on-kinds kinds (same_assertions task session a) _ (assertions-only task session a) (λ file.
-    accepted-kinds task.nodes ballots file (after_check task session ballots batches file) (
+    accepted-kinds task.budget ballots file (after_check task session ballots batches file) (
     go_on-kinds kinds (same_facts task session batches file) _ (same_facts-only task session batches file) (λ same.
     with_seen-kinds task.session task.seen task.draws kinds (among kinds Done refl) (among kinds Unconfirmed refl) same (values_of file) batches
     (linked_of batches ballots) file.candidates))))))

@@ -1,12 +1,13 @@
 -- What a check answers tells whether it accepts.
 use Rattle.std.proofs.Common.{◌≡◌, ◌≢◌, inl, inr, ℕ, true, false, List, Some, Ok, Err, refl, sym, ap, subst, ◌∙◌}
 use Rattle.std.proofs.lemmas.Bool.{cases_Bool}
+use Rattle.budget.specs.declared.budget.Budget.{Budget}
 use Rattle.ballot_reader.specs.Ballots.{BallotFile}
 use Rattle.assertion_file.specs.Content.{Content}
 use Rattle.cover_checker.specs.Checks.{IsAnswer}
 use Rattle.cover_checker.specs.Findings.{Answer}
 use Rattle.cover_checker.specs.declared.checked.Checked.TheVariants.{OtherContest, OtherWinner, OtherMargin, Stands, NotLeast, NotAlternative, Harder, OtherDraws, Accepted}
-use Rattle.cover_checker.specs.declared.checked.CheckFault.TheVariants.{Spent as SpentAt, Memory}
+use Rattle.cover_checker.specs.declared.checked.CheckFault.TheVariants.{Spent as SpentAt, SpentSets, Memory}
 use Rattle.cover_checker.proofs.OneAnswer.{answer_is_one}
 use Rattle.cli_base.specs.Outcome.{Outcome, Verdict, Answered, outcome, status_of, out_of_memory}
 use Rattle.cli_base.specs.Due.{due, due_refusal, IsOneOrMemory}
@@ -35,6 +36,7 @@ kind_on (Ok NotAlternative) = Differs
 kind_on (Ok (Harder assertion margin)) = Differs
 kind_on (Ok (OtherDraws index found)) = Differs
 kind_on (Err (SpentAt last)) = Spent
+kind_on (Err (SpentSets sets)) = Spent
 kind_on (Err Memory) = Spent
 
 told_kind : (file : Content) (answer : Answer) (v : Verdict) → verdict_on file answer ≡ Some v → (text : List ℕ) × (v ≡ Answered (kind_on answer) text)
@@ -48,6 +50,7 @@ told_kind file (Ok NotAlternative) v told = (_, sym (some_is told))
 told_kind file (Ok (Harder assertion margin)) v told = (_, sym (some_is told))
 told_kind file (Ok (OtherDraws index found)) v told = (_, sym (some_is told))
 told_kind file (Err (SpentAt last)) v told = (_, sym (some_is told))
+told_kind file (Err (SpentSets sets)) v told = (_, sym (some_is told))
 told_kind file (Err Memory) v told = absurd (cc told)
 
 done_is : (answer : Answer) → kind_on answer ≡ Done → answer ≡ Ok Accepted
@@ -61,24 +64,25 @@ done_is (Ok NotAlternative) is = absurd (cc is)
 done_is (Ok (Harder assertion margin)) is = absurd (cc is)
 done_is (Ok (OtherDraws index found)) is = absurd (cc is)
 done_is (Err (SpentAt last)) is = absurd (cc is)
+done_is (Err (SpentSets sets)) is = absurd (cc is)
 done_is (Err Memory) is = absurd (cc is)
 
-module _ (nodes : ℕ) (ballots : BallotFile) (file : Content) where
+module _ (budget : Budget) (ballots : BallotFile) (file : Content) where
   -- the kind of what was said is that of the checker's answer
   reply_kind : (reply : Reply) (answer : Answer) (v : Verdict) → verdict_on file answer ≡ Some v → due (Ok reply) ≡ outcome v → reply.kind ≡ kind_on answer
   reply_kind reply answer v told is =
       let (text, e) = told_kind file answer v told in
       same_kind reply.kind (kind_on answer) (ap status_in is ∙ ap (λ v. status_in (outcome v)) e)
 
-  pub yes : (reply : Reply) → IsOneOrMemory (Checks nodes ballots file) (due (Ok reply)) → reply.kind ≡ Done → is_accepted nodes ballots file ≡ true
+  pub yes : (reply : Reply) → IsOneOrMemory (Checks budget ballots file) (due (Ok reply)) → reply.kind ≡ Done → is_accepted budget ballots file ≡ true
   yes reply (inl (v, (answer, is, told), ends)) done =
-      (decided nodes ballots file).1 (subst (IsAnswer nodes ballots file) (done_is answer (sym (reply_kind reply answer v told ends) ∙ done)) is)
+      (decided budget ballots file).1 (subst (IsAnswer budget ballots file) (done_is answer (sym (reply_kind reply answer v told ends) ∙ done)) is)
   yes reply (inr memory) done = absurd (of_no_kind 9 refl reply.kind (ap status_in memory))
 
-  pub no : (reply : Reply) → IsOneOrMemory (Checks nodes ballots file) (due (Ok reply)) → reply.kind ≢ Done → is_accepted nodes ballots file ≡ false
-  no reply (inl (v, (answer, is, told), ends)) other = elim (cases_Bool (is_accepted nodes ballots file)) [
+  pub no : (reply : Reply) → IsOneOrMemory (Checks budget ballots file) (due (Ok reply)) → reply.kind ≢ Done → is_accepted budget ballots file ≡ false
+  no reply (inl (v, (answer, is, told), ends)) other = elim (cases_Bool (is_accepted budget ballots file)) [
     | inl t ↦
-        let same : answer ≡ Ok Accepted = answer_is_one nodes ballots file answer (Ok Accepted) is ((decided nodes ballots file).0 t) in
+        let same : answer ≡ Ok Accepted = answer_is_one budget ballots file answer (Ok Accepted) is ((decided budget ballots file).0 t) in
         absurd (other (reply_kind reply answer v told ends ∙ ap kind_on same))
     | inr f ↦ f
   ]
@@ -93,17 +97,17 @@ module _ (nodes : ℕ) (ballots : BallotFile) (file : Content) where
   never_refused (Line TooLong text) kind is = absurd (of_no_kind 11 refl kind (sym is))
   never_refused (Line Missing text) kind is = absurd (of_no_kind 12 refl kind (sym is))
 
-  pub memory_alone : (refusal : Refusal) → IsOneOrMemory (Checks nodes ballots file) (due_refusal refusal) → due_refusal refusal ≡ out_of_memory
+  pub memory_alone : (refusal : Refusal) → IsOneOrMemory (Checks budget ballots file) (due_refusal refusal) → due_refusal refusal ≡ out_of_memory
   memory_alone refusal (inl (v, (answer, is, told), ends)) =
       let (text, e) = told_kind file answer v told in
       never_refused refusal (kind_on answer) (ap status_in ends ∙ ap (λ v. status_in (outcome v)) e)
   memory_alone refusal (inr memory) = memory
 
   -- a script goes on where a check accepts the file, and ends with what a check says where it doesn't
-  pub accepted_on : (readings : Readings) (next : Script) (due : Outcome) → is_accepted nodes ballots file ≡ true → MayOrMemory readings next due →
-      MayOrMemory readings (if_accepted nodes ballots file next) due
-  accepted_on readings next due yes may = subst (λ b. MayOrMemory readings (on_if b next (Ends (Checks nodes ballots file))) due) (sym yes) may
+  pub accepted_on : (readings : Readings) (next : Script) (due : Outcome) → is_accepted budget ballots file ≡ true → MayOrMemory readings next due →
+      MayOrMemory readings (if_accepted budget ballots file next) due
+  accepted_on readings next due yes may = subst (λ b. MayOrMemory readings (on_if b next (Ends (Checks budget ballots file))) due) (sym yes) may
 
-  pub checked_on : (readings : Readings) (next : Script) (due : Outcome) → is_accepted nodes ballots file ≡ false →
-      IsOneOrMemory (Checks nodes ballots file) due → MayOrMemory readings (if_accepted nodes ballots file next) due
-  checked_on readings next due no one = subst (λ b. MayOrMemory readings (on_if b next (Ends (Checks nodes ballots file))) due) (sym no) one
+  pub checked_on : (readings : Readings) (next : Script) (due : Outcome) → is_accepted budget ballots file ≡ false →
+      IsOneOrMemory (Checks budget ballots file) due → MayOrMemory readings (if_accepted budget ballots file next) due
+  checked_on readings next due no one = subst (λ b. MayOrMemory readings (on_if b next (Ends (Checks budget ballots file))) due) (sym no) one

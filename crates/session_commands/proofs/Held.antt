@@ -7,6 +7,7 @@ use Rattle.irv_base.specs.Names.{Id, is_same, is_among, all_differ}
 use Rattle.irv_base.specs.Tabulation.{least}
 use Rattle.irv_base.proofs.Distinct.{Distinct, none, more, distinct-le}
 use Rattle.irv_base.proofs.Members.{Member, member-map, from_list_any, list_any-member}
+use Rattle.budget.specs.declared.budget.Budget.{Budget}
 use Rattle.ballot_reader.specs.Ballots.{BallotFile}
 use Rattle.manifest.specs.Cards.{Batches, cards_of, card_id}
 use Rattle.manifest.specs.Linked.{has_card, first_without_card}
@@ -58,13 +59,13 @@ pub record Held (ballots : BallotFile) (file : Content) : Type 0 where
   pub records : file.records ≡ length ballots.rankings
   pub smallest : smallest_margin file ≡ file.margin
 
-pub held : (nodes : ℕ) (ballots : BallotFile) (file : Content) → is_accepted nodes ballots file ≡ true → Held ballots file
-held nodes ballots file h =
+pub held : (budget : Budget) (ballots : BallotFile) (file : Content) → is_accepted budget ballots file ≡ true → Held ballots file
+held budget ballots file h =
     let (head, nothing) = and_parts (is_about ballots file && is_won ballots file.winner) _ h in
     let (about, won) = and_parts (is_about ballots file) (is_won ballots file.winner) head in
     let a = (and_parts (is_none (other_winner file.winner file)) _ nothing).1 in
     let b = (and_parts (is_none (other_margin ballots.rankings file)) _ a).1 in
-    let c = (and_parts (is_none (uncovered nodes file)) _ b).1 in
+    let c = (and_parts (is_none (uncovered budget file)) _ b).1 in
     let d = (and_parts (is_none (other_smallest file)) _ c).0 in
     record { records = (from_about ballots file about).records; smallest = smallest-none file (none_is (other_smallest file) d) }
   where

@@ -22,17 +22,17 @@ use Rattle.session_commands.specs.Open.{kinds, Opens, opened, script}
 
 module _ (task : OpenTask) (ballots : BallotFile) (batches : Batches) (file : FileContent) (digests : Digests) where
   opens-one : (v w : Verdict) → Opens task ballots batches file digests v → Opens task ballots batches file digests w → v ≡ w
-  opens-one v w = by (is_accepted task.nodes ballots file) where
-    by : (b : Bool) → MatchBool b (v ≡ opened task batches file digests) (Checks task.nodes ballots file v)
-        → MatchBool b (w ≡ opened task batches file digests) (Checks task.nodes ballots file w) → v ≡ w
+  opens-one v w = by (is_accepted task.budget ballots file) where
+    by : (b : Bool) → MatchBool b (v ≡ opened task batches file digests) (Checks task.budget ballots file v)
+        → MatchBool b (w ≡ opened task batches file digests) (Checks task.budget ballots file w) → v ≡ w
     by true p q = p ∙ sym q
-    by false p q = checks-one task.nodes ballots file v w p q
+    by false p q = checks-one task.budget ballots file v w p q
 
   opens-kind : (v : Verdict) → Opens task ballots batches file digests v → IsOfKind kinds v
-  opens-kind v = by (is_accepted task.nodes ballots file) where
-    by : (b : Bool) → MatchBool b (v ≡ opened task batches file digests) (Checks task.nodes ballots file v) → IsOfKind kinds v
+  opens-kind v = by (is_accepted task.budget ballots file) where
+    by : (b : Bool) → MatchBool b (v ≡ opened task batches file digests) (Checks task.budget ballots file v) → IsOfKind kinds v
     by true is = answer-kind kinds Done _ v refl is
-    by false is = checks-kind task.nodes ballots file v is
+    by false is = checks-kind task.budget ballots file v is
 
 pub agrees : (task : OpenTask) → Agree Same (script task)
 agrees task = λ b. go_on-agrees (told (refused_ballots task.ballots) (ballots_of b task.contest)) _ (λ ballots.

@@ -4,6 +4,7 @@ use Rattle.std.specs.List.{list_all, list_any}
 use Rattle.irv_base.specs.Orders.{is_order}
 use Rattle.irv_base.specs.Tabulation.{is_tabulated}
 use Rattle.assertions.specs.Suffixes.{orders_ending}
+use Rattle.budget.specs.declared.budget.Budget.{Budget}
 use Rattle.ballot_reader.specs.Ballots.{BallotFile}
 use Rattle.assertion_file.specs.Content.{Content}
 use Rattle.cover_checker.specs.Findings.{is_about}
@@ -19,16 +20,16 @@ is_won ballots winner =
     (orders_ending n (n - 1) (winner ∷ []))
 
 -- the file is about the contest, names its winner, and nothing is found in it
-abbrev pub is_accepted : ℕ → BallotFile → Content → Bool
-is_accepted nodes ballots file =
+abbrev pub is_accepted : Budget → BallotFile → Content → Bool
+is_accepted budget ballots file =
     is_about ballots file && is_won ballots file.winner
-    && list_all is_none (findings nodes ballots.rankings file file.winner)
+    && list_all is_none (findings budget ballots.rankings file file.winner)
 
 abbrev pub on_if : Bool → Script → Script → Script
 on_if true next other = next
 on_if false next other = other
 
 -- a script goes on where a check accepts the file, and ends as the check does where it doesn't
-abbrev pub if_accepted : ℕ → BallotFile → Content → Script → Script
-if_accepted nodes ballots file next =
-    on_if (is_accepted nodes ballots file) next (Ends (Checks nodes ballots file))
+abbrev pub if_accepted : Budget → BallotFile → Content → Script → Script
+if_accepted budget ballots file next =
+    on_if (is_accepted budget ballots file) next (Ends (Checks budget ballots file))

@@ -46,7 +46,7 @@ module _ (task : AuditTask) where
 
   abbrev pub after_assertions : Content → BallotFile → Batches → FileContent → Script
   after_assertions session ballots batches file =
-      if_accepted task.nodes ballots file (after_check session ballots batches file)
+      if_accepted task.budget ballots file (after_check session ballots batches file)
 
   abbrev pub after_manifest : Content → BallotFile → Batches → Script
   after_manifest session ballots batches = Read task.assertions (λ bytes.

@@ -1,5 +1,6 @@
 -- The laws of the commands on sessions.
-use Rattle.std.specs.Prelude.{◌↔◌, ℕ, Ok, IsTrue}
+use Rattle.std.specs.Prelude.{◌↔◌, Ok, IsTrue}
+use Rattle.budget.specs.declared.budget.Budget.{Budget}
 use Rattle.ballot_reader.specs.Ballots.{BallotFile}
 use Rattle.assertion_file.specs.Content.{Content}
 use Rattle.cover_checker.specs.Checks.{IsAnswer}
@@ -9,5 +10,5 @@ use Rattle.session_commands.specs.Accepted.{is_accepted}
 -- the test of acceptance is that of the checker
 abbrev pub AcceptanceIsDecided : Type 0
 AcceptanceIsDecided =
-    (nodes : ℕ) (ballots : BallotFile) (file : Content) →
-    (IsTrue (is_accepted nodes ballots file) ↔ IsAnswer nodes ballots file (Ok Accepted))
+    (budget : Budget) (ballots : BallotFile) (file : Content) →
+    (IsTrue (is_accepted budget ballots file) ↔ IsAnswer budget ballots file (Ok Accepted))

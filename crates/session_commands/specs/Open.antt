@@ -40,8 +40,8 @@ opened task batches file digests =
 -- the session is opened where a check accepts the file; else the call ends as the check does
 abbrev pub Opens : OpenTask → BallotFile → Batches → FileContent → Digests → Verdict → Type 0
 Opens task ballots batches file digests verdict =
-    MatchBool (is_accepted task.nodes ballots file) (verdict ≡ opened task batches file digests)
-    (Checks task.nodes ballots file verdict)
+    MatchBool (is_accepted task.budget ballots file) (verdict ≡ opened task batches file digests)
+    (Checks task.budget ballots file verdict)
 
 -- once the ballots have their cards, the assertions are read
 abbrev pub after_manifest : OpenTask → BallotFile → Batches → Earlier → Script

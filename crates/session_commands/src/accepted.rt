@@ -7,6 +7,7 @@ ghost use Rattle.session_commands.specs.Accepted.{is_accepted};
 
 use assertion_file::AssertionFile;
 use ballot_reader::Ballots;
+use budget::Budget;
 use check_command::check::check;
 use cli_base::{Answer, AnswerKind, Refusal};
 use std::thread::Threads;
@@ -16,17 +17,17 @@ pub(crate) fn unless_accepted<R: AllocGlobal + Threads + Sync>(
     rt: &R,
     ballots: &Ballots,
     file: &AssertionFile,
-    nodes: u32,
+    budget: Budget,
 ) -> Result<Option<Answer>, Refusal>
     ensures accepted { IfOk result (λ found.
-        is_accepted nodes ballots.now file.now ≡ is_none found) }
+        is_accepted budget ballots.now file.now ≡ is_none found) }
     ensures other { IfOk result (λ found. IfSome found (λ answer.
-        IsOneOrMemory (Checks nodes ballots.now file.now) (due (Ok answer)))) }
+        IsOneOrMemory (Checks budget ballots.now file.now) (due (Ok answer)))) }
     ensures not_done { IfOk result (λ found. IfSome found (λ answer.
         (due (Ok answer)).status ≢ 0)) }
     ensures memory { IfErr result (λ refusal. due_refusal refusal ≡ out_of_memory) }
 {
-    let answer = check(rt, ballots, file, nodes)?;
+    let answer = check(rt, ballots, file, budget)?;
     match answer.kind {
         AnswerKind::Done => Ok(None),
         _ => Ok(Some(answer)),

@@ -26,7 +26,7 @@ use session_state::Session;
 use std::alloc::Global;
 use std::thread::Threads;
 
-/// The session with one round more, up to so many draws in all, where a check of the assertions within so many nodes accepts them.
+/// The session with one round more, up to so many draws in all, where a check of the assertions within a budget accepts them.
 pub fn answer<R: AllocGlobal + Threads + Sync, D: Desk>(
     rt: &R,
     desk: &mut D,
@@ -117,7 +117,7 @@ fn after_manifest<R: AllocGlobal + Threads + Sync, D: Desk>(
     let alloc = rt.alloc();
     let bytes = bytes_of(alloc, desk, &task.assertions)?;
     let file = same_assertions(alloc, task, &session, &bytes)?;
-    if let Some(answer) = unless_accepted(rt, ballots, &file, task.nodes)? {
+    if let Some(answer) = unless_accepted(rt, ballots, &file, task.budget)? {
         return Ok(answer);
     }
     same_facts(alloc, task, &session, cards.manifest.cards(), &file)?;

@@ -131,7 +131,7 @@ fn open<R: AllocGlobal + Threads + Sync>(
         (due result) }
 {
     let alloc = rt.alloc();
-    if let Some(answer) = unless_accepted(rt, ballots, file, task.nodes)? {
+    if let Some(answer) = unless_accepted(rt, ballots, file, task.budget)? {
         return Ok(answer);
     }
     // Asked for what their contracts tell of the ballots, of the file's margin and of its claims: a session may begin with them.

@@ -1,26 +1,24 @@
 -- A trim comes to one end, and to that of a check where the file isn't accepted.
-use Rattle.std.proofs.Common.{◌≡◌, ◌≢◌, inl, inr, ℕ, ◌+◌, ◌<◌, not, ◌==◌, List, [], ◌∷◌, ◌++◌, length, map, Option, None, Some, Result, Ok, Err, refl, sym, ap, subst, arith, ◌∙◌}
-use Rattle.irv_base.specs.Candidates.{candidates, all_but}
-use Rattle.irv_base.proofs.Members.{from_filter, from_find, from_candidates}
-use Rattle.assertions.specs.declared.assertion.Assertion.{Assertion}
+use Rattle.std.proofs.Common.{◌≡◌, ◌≢◌, inl, inr, ℕ, ◌+◌, ◌<◌, List, [], ◌∷◌, ◌++◌, length, map, Option, None, Some, Result, Ok, Err, refl, sym, ap, subst, arith, ◌∙◌}
 use Rattle.assertions.specs.declared.assertion.Claim.{Claim}
+use Rattle.budget.specs.declared.budget.Budget.{Budget}
 use Rattle.ballot_reader.specs.Ballots.{BallotFile}
 use Rattle.ballot_reader.specs.Grammar.{ballots_of}
 use Rattle.assertion_file.specs.Content.{Content, candidate_count}
 use Rattle.assertion_file.specs.Reading.{assertion_file_of}
 use Rattle.cover_checker.specs.Checks.{IsAnswer}
-use Rattle.cover_checker.specs.Covers.{covered_is, first_over, standing_order, or_spent, verdict_on as cover_verdict}
 use Rattle.cover_checker.specs.Findings.{Answer}
 use Rattle.cover_checker.specs.declared.checked.Checked.TheVariants.{OtherContest, OtherWinner, OtherMargin, Stands, NotLeast, NotAlternative, Harder, OtherDraws, Accepted}
-use Rattle.cover_checker.specs.declared.checked.CheckFault.TheVariants.{Spent as CheckSpent, Memory as CheckMemory}
+use Rattle.cover_checker.specs.declared.checked.CheckFault.TheVariants.{Spent as CheckSpent, SpentSets as CheckSpentSets, Memory as CheckMemory}
 use Rattle.cover_checker.specs.declared.cover.Verdict.{Verdict as CoverVerdict}
 use Rattle.cover_checker.specs.declared.cover.Verdict.TheVariants.{Covered, Stands as OrderStands}
 use Rattle.cover_checker.specs.declared.cover.CoverFault.{CoverFault}
-use Rattle.cover_checker.specs.declared.cover.CoverFault.TheVariants.{Spent as CoverSpent, Memory as CoverMemory}
+use Rattle.cover_checker.specs.declared.cover.CoverFault.TheVariants.{Spent as CoverSpent, SpentSets as CoverSpentSets, Memory as CoverMemory}
+use Rattle.cover_checker.proofs.Named.{fault-below}
 use Rattle.cover_checker.proofs.OneAnswer.{answer_is_one}
 use Rattle.trimmer.specs.Trimmed.{can_go, unless_it_goes, covered_by, tried, left_of, plan_left, with_claims, trimmed}
 use Rattle.trimmer.specs.declared.fault.TrimFault.{TrimFault}
-use Rattle.trimmer.specs.declared.fault.TrimFault.TheVariants.{Spent as TrimSpent, Memory as TrimMemory}
+use Rattle.trimmer.specs.declared.fault.TrimFault.TheVariants.{Spent as TrimSpent, SpentSets as TrimSpentSets, Memory as TrimMemory}
 use Rattle.cli_base.specs.Outcome.{Outcome, Verdict, Answered, outcome, out_of_memory, status_of}
 use Rattle.cli_base.specs.Due.{IsOneOrMemory}
 use Rattle.cli_base.specs.Script.{Agree, AreOfKind, IsOfKind, Same}
@@ -39,45 +37,47 @@ use Rattle.trim_command.specs.Trim.{Trims, trim_verdict, verdict_on, after_ballo
 
 -- ---- one end
 
-pub trims-one : (nodes : ℕ) (ballots : BallotFile) (file : Content) (v w : Verdict) → Trims nodes ballots file v → Trims nodes ballots file w → v ≡ w
-trims-one nodes ballots file v w (answer, is, told) (other, is', told') =
-    some_is (sym told ∙ ap (verdict_on nodes file) (answer_is_one nodes ballots file answer other is is') ∙ told')
+pub trims-one : (budget : Budget) (ballots : BallotFile) (file : Content) (v w : Verdict) → Trims budget ballots file v → Trims budget ballots file w → v ≡ w
+trims-one budget ballots file v w (answer, is, told) (other, is', told') =
+    some_is (sym told ∙ ap (verdict_on budget file) (answer_is_one budget ballots file answer other is is') ∙ told')
 
-ballots-agree : (assertions : List ℕ) (nodes : ℕ) (ballots : BallotFile) → Agree Same (after_ballots assertions nodes ballots)
-ballots-agree assertions nodes ballots = λ bytes. go_on-agrees (told (refused_assertions assertions) (assertion_file_of bytes)) _
-    (λ file v w p q. ap outcome (trims-one nodes ballots file v w p q))
+ballots-agree : (assertions : List ℕ) (budget : Budget) (ballots : BallotFile) → Agree Same (after_ballots assertions budget ballots)
+ballots-agree assertions budget ballots = λ bytes. go_on-agrees (told (refused_assertions assertions) (assertion_file_of bytes)) _
+    (λ file v w p q. ap outcome (trims-one budget ballots file v w p q))
 
 pub agrees : (task : TrimTask) → Agree Same (script task)
 agrees task = λ bytes. go_on-agrees (told (refused_ballots task.ballots) (ballots_of bytes task.contest)) _
-    (λ ballots. ballots-agree task.assertions task.nodes ballots)
+    (λ ballots. ballots-agree task.assertions task.budget ballots)
 
 -- ---- the kinds of its answers
 
 trim-kind : (file : Content) (r : Result Content TrimFault) (v : Verdict) → trim_verdict file r ≡ Some v → IsOfKind kinds v
 trim-kind file (Ok left) v told = subst (IsOfKind kinds) (some_is told) (among kinds Done refl)
 trim-kind file (Err (TrimSpent claim last)) v told = subst (IsOfKind kinds) (some_is told) (among kinds Spent refl)
+trim-kind file (Err (TrimSpentSets claim sets)) v told = subst (IsOfKind kinds) (some_is told) (among kinds Spent refl)
 trim-kind file (Err TrimMemory) v told = absurd (cc told)
 
-trims-kind : (nodes : ℕ) (ballots : BallotFile) (file : Content) (v : Verdict) → Trims nodes ballots file v → IsOfKind kinds v
-trims-kind nodes ballots file v (Ok Accepted, is, told) = trim-kind file (trimmed nodes file) v told
-trims-kind nodes ballots file v (Ok OtherContest, is, told) = answer-kind file (Ok OtherContest) v told
-trims-kind nodes ballots file v (Ok (OtherWinner c), is, told) = answer-kind file (Ok (OtherWinner c)) v told
-trims-kind nodes ballots file v (Ok (OtherMargin at found), is, told) = answer-kind file (Ok (OtherMargin at found)) v told
-trims-kind nodes ballots file v (Ok (Stands order), is, told) = answer-kind file (Ok (Stands order)) v told
-trims-kind nodes ballots file v (Ok (NotLeast found), is, told) = answer-kind file (Ok (NotLeast found)) v told
-trims-kind nodes ballots file v (Ok NotAlternative, is, told) = answer-kind file (Ok NotAlternative) v told
-trims-kind nodes ballots file v (Ok (Harder a margin), is, told) = answer-kind file (Ok (Harder a margin)) v told
-trims-kind nodes ballots file v (Ok (OtherDraws at found), is, told) = answer-kind file (Ok (OtherDraws at found)) v told
-trims-kind nodes ballots file v (Err (CheckSpent last), is, told) = answer-kind file (Err (CheckSpent last)) v told
-trims-kind nodes ballots file v (Err CheckMemory, is, told) = answer-kind file (Err CheckMemory) v told
+trims-kind : (budget : Budget) (ballots : BallotFile) (file : Content) (v : Verdict) → Trims budget ballots file v → IsOfKind kinds v
+trims-kind budget ballots file v (Ok Accepted, is, told) = trim-kind file (trimmed budget file) v told
+trims-kind budget ballots file v (Ok OtherContest, is, told) = answer-kind file (Ok OtherContest) v told
+trims-kind budget ballots file v (Ok (OtherWinner c), is, told) = answer-kind file (Ok (OtherWinner c)) v told
+trims-kind budget ballots file v (Ok (OtherMargin at found), is, told) = answer-kind file (Ok (OtherMargin at found)) v told
+trims-kind budget ballots file v (Ok (Stands order), is, told) = answer-kind file (Ok (Stands order)) v told
+trims-kind budget ballots file v (Ok (NotLeast found), is, told) = answer-kind file (Ok (NotLeast found)) v told
+trims-kind budget ballots file v (Ok NotAlternative, is, told) = answer-kind file (Ok NotAlternative) v told
+trims-kind budget ballots file v (Ok (Harder a margin), is, told) = answer-kind file (Ok (Harder a margin)) v told
+trims-kind budget ballots file v (Ok (OtherDraws at found), is, told) = answer-kind file (Ok (OtherDraws at found)) v told
+trims-kind budget ballots file v (Err (CheckSpent last), is, told) = answer-kind file (Err (CheckSpent last)) v told
+trims-kind budget ballots file v (Err (CheckSpentSets sets), is, told) = answer-kind file (Err (CheckSpentSets sets)) v told
+trims-kind budget ballots file v (Err CheckMemory, is, told) = answer-kind file (Err CheckMemory) v told
 
-ballots-kinds : (assertions : List ℕ) (nodes : ℕ) (ballots : BallotFile) → AreOfKind kinds (after_ballots assertions nodes ballots)
-ballots-kinds assertions nodes ballots = λ bytes. go_on-kinds kinds (told (refused_assertions assertions) (assertion_file_of bytes)) _
-    (told-only (refused_assertions assertions) (assertion_file_of bytes) (λ why. tt)) (λ file. trims-kind nodes ballots file)
+ballots-kinds : (assertions : List ℕ) (budget : Budget) (ballots : BallotFile) → AreOfKind kinds (after_ballots assertions budget ballots)
+ballots-kinds assertions budget ballots = λ bytes. go_on-kinds kinds (told (refused_assertions assertions) (assertion_file_of bytes)) _
+    (told-only (refused_assertions assertions) (assertion_file_of bytes) (λ why. tt)) (λ file. trims-kind budget ballots file)
 
 pub kinds_are : (task : TrimTask) → AreOfKind kinds (script task)
 kinds_are task = λ bytes. go_on-kinds kinds (told (refused_ballots task.ballots) (ballots_of bytes task.contest)) _
-    (told-only (refused_ballots task.ballots) (ballots_of bytes task.contest) (λ why. tt)) (λ ballots. ballots-kinds task.assertions task.nodes ballots)
+    (told-only (refused_ballots task.ballots) (ballots_of bytes task.contest) (λ why. tt)) (λ ballots. ballots-kinds task.assertions task.budget ballots)
 
 -- ---- what a check came to
 
@@ -86,13 +86,13 @@ abbrev status : Verdict → ℕ
 status verdict = (outcome verdict).status
 
 -- it is yes exactly where the checker accepts the file
-pub done-accepted : (nodes : ℕ) (ballots : BallotFile) (file : Content) (verdict : Verdict) → Checks nodes ballots file verdict → status verdict ≡ 0 →
-    IsAnswer nodes ballots file (Ok Accepted)
-done-accepted nodes ballots file verdict (answer, is, told) zero' = go answer is told where
+pub done-accepted : (budget : Budget) (ballots : BallotFile) (file : Content) (verdict : Verdict) → Checks budget ballots file verdict → status verdict ≡ 0 →
+    IsAnswer budget ballots file (Ok Accepted)
+done-accepted budget ballots file verdict (answer, is, told) zero' = go answer is told where
   other : (v : Verdict) → Some v ≡ Some verdict → status v ≡ 0
   other v e = ap status (some_is e) ∙ zero'
 
-  go : (answer : Answer) → IsAnswer nodes ballots file answer → check_verdict file answer ≡ Some verdict → IsAnswer nodes ballots file (Ok Accepted)
+  go : (answer : Answer) → IsAnswer budget ballots file answer → check_verdict file answer ≡ Some verdict → IsAnswer budget ballots file (Ok Accepted)
   go (Ok Accepted) is told = is
   go (Ok OtherContest) is told = absurd (cc (other _ told))
   go (Ok (OtherWinner c)) is told = absurd (cc (other _ told))
@@ -103,12 +103,13 @@ done-accepted nodes ballots file verdict (answer, is, told) zero' = go answer is
   go (Ok (Harder a margin)) is told = absurd (cc (other _ told))
   go (Ok (OtherDraws at found)) is told = absurd (cc (other _ told))
   go (Err (CheckSpent last)) is told = absurd (cc (other _ told))
+  go (Err (CheckSpentSets sets)) is told = absurd (cc (other _ told))
   go (Err CheckMemory) is told = absurd (cc told)
 
-pub other-checked : (nodes : ℕ) (ballots : BallotFile) (file : Content) (verdict : Verdict) → Checks nodes ballots file verdict → status verdict ≢ 0 →
-    Trims nodes ballots file verdict
-other-checked nodes ballots file verdict (answer, is, told) ne = (answer, is, go answer told) where
-  go : (answer : Answer) → check_verdict file answer ≡ Some verdict → verdict_on nodes file answer ≡ Some verdict
+pub other-checked : (budget : Budget) (ballots : BallotFile) (file : Content) (verdict : Verdict) → Checks budget ballots file verdict → status verdict ≢ 0 →
+    Trims budget ballots file verdict
+other-checked budget ballots file verdict (answer, is, told) ne = (answer, is, go answer told) where
+  go : (answer : Answer) → check_verdict file answer ≡ Some verdict → verdict_on budget file answer ≡ Some verdict
   go (Ok Accepted) told = absurd (ne (ap status (sym (some_is told))))
   go (Ok OtherContest) told = told
   go (Ok (OtherWinner c)) told = told
@@ -119,65 +120,58 @@ other-checked nodes ballots file verdict (answer, is, told) ne = (answer, is, go
   go (Ok (Harder a margin)) told = told
   go (Ok (OtherDraws at found)) told = told
   go (Err (CheckSpent last)) told = told
+  go (Err (CheckSpentSets sets)) told = told
   go (Err CheckMemory) told = told
 
 -- ---- a spent trial names a candidate
 
-over-below : (n winner nodes : ℕ) (list : List Assertion) (last : ℕ) → covered_is n winner list nodes ≡ Err (CoverSpent last) → last < n
-over-below n winner nodes list last h = go (first_over n winner list nodes) refl h where
-  go : (over : Option ℕ) → first_over n winner list nodes ≡ over → or_spent over (cover_verdict (standing_order n winner list)) ≡ Err (CoverSpent last) →
-      last < n
-  go (Some c) e h =
-      let same : c ≡ last = cc in
-      subst (λ c. c < n) same (from_candidates (from_filter (λ c. not (c == winner)) (candidates n) (from_find _ c (all_but n winner) e).0).0)
-  go None e h = cc
-
-module _ (nodes : ℕ) (file : Content) where
+module _ (budget : Budget) (file : Content) where
   trial-below : (number claim last : ℕ) (own : Claim) (later : List Claim) (r : Result CoverVerdict CoverFault) →
       ((c : ℕ) → r ≡ Err (CoverSpent c) → c < candidate_count file) → unless_it_goes own later (can_go number r) ≡ Err (TrimSpent claim last) →
       last < candidate_count file
   trial-below number claim last own later (Ok Covered) below e = cc
   trial-below number claim last own later (Ok (OrderStands order)) below e = cc
   trial-below number claim last own later (Err (CoverSpent c)) below e = let same : c ≡ last = cc in subst (λ c. c < candidate_count file) same (below c refl)
+  trial-below number claim last own later (Err (CoverSpentSets sets)) below e = cc
   trial-below number claim last own later (Err CoverMemory) below e = cc
 
-  left-below : (earlier later : List Claim) (claim last : ℕ) → left_of nodes file earlier later ≡ Err (TrimSpent claim last) → last < candidate_count file
+  left-below : (earlier later : List Claim) (claim last : ℕ) → left_of budget file earlier later ≡ Err (TrimSpent claim last) → last < candidate_count file
   left-below earlier [] claim last e = cc
-  left-below earlier (own ∷ later) claim last e = go (left_of nodes file (earlier ++ own ∷ []) later) e (left-below (earlier ++ own ∷ []) later claim last) where
-    go : (r : Result (List Claim) TrimFault) → tried nodes file earlier own r ≡ Err (TrimSpent claim last) →
+  left-below earlier (own ∷ later) claim last e = go (left_of budget file (earlier ++ own ∷ []) later) e (left-below (earlier ++ own ∷ []) later claim last) where
+    go : (r : Result (List Claim) TrimFault) → tried budget file earlier own r ≡ Err (TrimSpent claim last) →
         (r ≡ Err (TrimSpent claim last) → last < candidate_count file) → last < candidate_count file
     go (Ok left) e ih =
-        trial-below (length earlier + 1) claim last own left (covered_by nodes file (earlier ++ left))
-        (λ c h. over-below (candidate_count file) file.winner nodes (map (λ (claim : Claim). claim.assertion) (earlier ++ left)) c h) e
+        trial-below (length earlier + 1) claim last own left (covered_by budget file (earlier ++ left))
+        (fault-below (candidate_count file) file.winner (map (λ (claim : Claim). claim.assertion) (earlier ++ left)) budget) e
     go (Err fault) e ih = ih e
 
-  pub spent-below : (claim last : ℕ) → trimmed nodes file ≡ Err (TrimSpent claim last) → last < candidate_count file
-  spent-below claim last e = go (left_of nodes file [] file.claims) refl e where
-    go : (r : Result (List Claim) TrimFault) → left_of nodes file [] file.claims ≡ r → with_claims file (plan_left nodes file) r ≡ Err (TrimSpent claim last) →
+  pub spent-below : (claim last : ℕ) → trimmed budget file ≡ Err (TrimSpent claim last) → last < candidate_count file
+  spent-below claim last e = go (left_of budget file [] file.claims) refl e where
+    go : (r : Result (List Claim) TrimFault) → left_of budget file [] file.claims ≡ r → with_claims file (plan_left budget file) r ≡ Err (TrimSpent claim last) →
         last < candidate_count file
     go (Ok left) f e = cc
     go (Err fault) f e = let same : fault ≡ TrimSpent claim last = cc in left-below [] file.claims claim last (f ∙ ap Err same)
 
 -- ---- what comes of a check
 
-pub done-answer : (nodes : ℕ) (ballots : BallotFile) (file : Content) (due : Outcome) → IsOneOrMemory (Checks nodes ballots file) due → due.status ≡ 0 →
-    IsAnswer nodes ballots file (Ok Accepted)
-done-answer nodes ballots file due (inl (verdict, checks, e)) zero' =
-    done-accepted nodes ballots file verdict checks (sym (ap (λ (o : Outcome). o.status) e) ∙ zero')
-done-answer nodes ballots file due (inr memory) zero' =
+pub done-answer : (budget : Budget) (ballots : BallotFile) (file : Content) (due : Outcome) → IsOneOrMemory (Checks budget ballots file) due → due.status ≡ 0 →
+    IsAnswer budget ballots file (Ok Accepted)
+done-answer budget ballots file due (inl (verdict, checks, e)) zero' =
+    done-accepted budget ballots file verdict checks (sym (ap (λ (o : Outcome). o.status) e) ∙ zero')
+done-answer budget ballots file due (inr memory) zero' =
     let nine : due.status ≡ 9 = ap (λ (o : Outcome). o.status) memory in
     absurd (omega (arith, nine, zero'))
 
-pub other-due : (nodes : ℕ) (ballots : BallotFile) (file : Content) (due : Outcome) → IsOneOrMemory (Checks nodes ballots file) due → due.status ≢ 0 →
-    IsOneOrMemory (Trims nodes ballots file) due
-other-due nodes ballots file due (inl (verdict, checks, e)) ne =
-    inl (verdict, other-checked nodes ballots file verdict checks (λ zero'. ne (ap (λ (o : Outcome). o.status) e ∙ zero')), e)
-other-due nodes ballots file due (inr memory) ne = inr memory
+pub other-due : (budget : Budget) (ballots : BallotFile) (file : Content) (due : Outcome) → IsOneOrMemory (Checks budget ballots file) due → due.status ≢ 0 →
+    IsOneOrMemory (Trims budget ballots file) due
+other-due budget ballots file due (inl (verdict, checks, e)) ne =
+    inl (verdict, other-checked budget ballots file verdict checks (λ zero'. ne (ap (λ (o : Outcome). o.status) e ∙ zero')), e)
+other-due budget ballots file due (inr memory) ne = inr memory
 
-pub accepted-due : (nodes : ℕ) (ballots : BallotFile) (file : Content) (due : Outcome) → IsAnswer nodes ballots file (Ok Accepted) →
-    IsOneOrMemory (λ verdict. trim_verdict file (trimmed nodes file) ≡ Some verdict) due → IsOneOrMemory (Trims nodes ballots file) due
-accepted-due nodes ballots file due is (inl (verdict, told, e)) = inl (verdict, (Ok Accepted, is, told), e)
-accepted-due nodes ballots file due is (inr memory) = inr memory
+pub accepted-due : (budget : Budget) (ballots : BallotFile) (file : Content) (due : Outcome) → IsAnswer budget ballots file (Ok Accepted) →
+    IsOneOrMemory (λ verdict. trim_verdict file (trimmed budget file) ≡ Some verdict) due → IsOneOrMemory (Trims budget ballots file) due
+accepted-due budget ballots file due is (inl (verdict, told, e)) = inl (verdict, (Ok Accepted, is, told), e)
+accepted-due budget ballots file due is (inr memory) = inr memory
 
 -- what is told of a file that was read
 pub told-ok : {A Why : Type 0} (words : Why → Verdict) (read : Result A Why) (value : A) → told words read ≡ Ok value → read ≡ Ok value

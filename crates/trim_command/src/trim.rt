@@ -14,7 +14,8 @@ ghost use Rattle.trim_command.specs.Trim.{Trims, after_ballots, script, trim_ver
 
 use assertion_file::{AssertionFile, print_file};
 use ballot_reader::Ballots;
-use check_command::check::{check, spent_answer};
+use budget::Budget;
+use check_command::check::{check, spent_answer, spent_sets_answer};
 use cli_base::{Answer, AnswerKind, Refusal};
 use command::{FileName, TrimTask};
 use desk::Desk;
@@ -40,7 +41,7 @@ pub fn answer<R: AllocGlobal + Threads + Sync, D: Desk>(
     let alloc = rt.alloc();
     let bytes = bytes_of(alloc, desk, &task.ballots)?;
     let ballots = ballots_in(alloc, &task.ballots, &bytes, task.contest.as_ref())?;
-    after_ballots(rt, desk, &ballots, &task.assertions, task.nodes)
+    after_ballots(rt, desk, &ballots, &task.assertions, task.budget)
 }
 
 // The same of ballots that are read.
@@ -49,19 +50,19 @@ fn after_ballots<R: AllocGlobal + Threads + Sync, D: Desk>(
     desk: &mut D,
     ballots: &Ballots,
     assertions: &FileName,
-    nodes: u32,
+    budget: Budget,
 ) -> Result<Answer, Refusal>
     ensures held { D.held desk.new ≡ D.held desk.old }
     ensures later { D.faults desk.old ≤ D.faults desk.new }
     ensures due { MayOrMemory
         (ByDesk (D.held desk.old) (Rose (D.faults desk.old) (D.faults desk.new)))
-        (after_ballots assertions.now nodes ballots.now) (due result) }
+        (after_ballots assertions.now budget ballots.now) (due result) }
     ensures served { IsAccountedFor 1 (D.served desk.old) (D.served desk.new) (due result).status }
 {
     let alloc = rt.alloc();
     let bytes = bytes_of(alloc, desk, assertions)?;
     let file = assertions_in(alloc, assertions, &bytes)?;
-    of_file(rt, ballots, &file, nodes)
+    of_file(rt, ballots, &file, budget)
 }
 
 // The same of a file that is read.
@@ -69,33 +70,34 @@ fn of_file<R: AllocGlobal + Threads + Sync>(
     rt: &R,
     ballots: &Ballots,
     file: &AssertionFile,
-    nodes: u32,
+    budget: Budget,
 ) -> Result<Answer, Refusal>
     requires { IsSound file.now }
-    ensures { IsOneOrMemory (Trims nodes ballots.now file.now) (due result) }
+    ensures { IsOneOrMemory (Trims budget ballots.now file.now) (due result) }
 {
-    let checked = check(rt, ballots, file, nodes)?;
+    let checked = check(rt, ballots, file, budget)?;
     if checked.kind == AnswerKind::Done {
-        accepted(rt.alloc(), file, nodes)
+        accepted(rt.alloc(), file, budget)
     } else {
         Ok(checked)
     }
 }
 
 // The answer to a file that the checker accepts.
-fn accepted(alloc: Global, file: &AssertionFile, nodes: u32) -> Result<Answer, Refusal>
-    requires { covered_is (candidate_count file.now) file.now.winner (assertions_of file.now) nodes
+fn accepted(alloc: Global, file: &AssertionFile, budget: Budget) -> Result<Answer, Refusal>
+    requires { covered_is (candidate_count file.now) file.now.winner (assertions_of file.now) budget
         ≡ Ok Covered }
     ensures { IsOneOrMemory (λ verdict.
-        trim_verdict file.now (trimmed nodes file.now) ≡ Some verdict) (due result) }
+        trim_verdict file.now (trimmed budget file.now) ≡ Some verdict) (due result) }
 {
-    match trim(alloc, file, nodes) {
+    match trim(alloc, file, budget) {
         Ok(left) => Ok(Answer {
             kind: AnswerKind::Done,
             text: print_file(alloc, &left)?,
         }),
         Err(fault) => match fault {
             TrimFault::Spent { claim: _, last } => spent_answer(alloc, file, last),
+            TrimFault::SpentSets { claim: _, sets } => spent_sets_answer(alloc, sets),
             TrimFault::Memory => Err(Refusal::Memory),
         },
     }

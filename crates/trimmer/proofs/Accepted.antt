@@ -3,6 +3,7 @@ use Rattle.std.proofs.Common.{◌≡◌, ℕ, ◌≤◌, List, [], map, Option, 
 use Rattle.std.specs.Prelude.{option_map, IfSome}
 use Rattle.std.proofs.lemmas.List.Elements.{All-contains}
 use Rattle.irv_base.proofs.Members.{contains-from_member, member-from_contains}
+use Rattle.budget.specs.declared.budget.Budget.{Budget}
 use Rattle.assertions.specs.declared.assertion.Claim.{Claim}
 use Rattle.assertions.specs.Refutation.{refutes, covers}
 use Rattle.assertions.specs.Suffixes.{IsAlternative}
@@ -71,28 +72,28 @@ module _ (ballots : BallotFile) (file : Content) (claims : List Claim) (sound : 
   }
 
 -- the clean draws of all claims are so of those that are left
-clean-left : (nodes : ℕ) (file : Content) (left : List Claim) → left_of nodes file [] file.claims ≡ Ok left → HasCleanDraws file →
-    IfSome (plan_left nodes file) (IsPlanOf left)
-clean-left nodes file left e has = by file.plan has where
+clean-left : (budget : Budget) (file : Content) (left : List Claim) → left_of budget file [] file.claims ≡ Ok left → HasCleanDraws file →
+    IfSome (plan_left budget file) (IsPlanOf left)
+clean-left budget file left e has = by file.plan has where
   by : (plan : Option Plan) → IfSome plan (IsPlanOf file.claims) →
-      IfSome (option_map (λ plan. with_draws (draws_left nodes file [] file.claims plan.draws) plan) plan) (IsPlanOf left)
+      IfSome (option_map (λ plan. with_draws (draws_left budget file [] file.claims plan.draws) plan) plan) (IsPlanOf left)
   by None has = tt
   by (Some plan) has =
-      ap (draws_left nodes file [] file.claims) has
-      ∙ draws-map nodes file (clean_draws_of plan) [] file.claims left e
+      ap (draws_left budget file [] file.claims) has
+      ∙ draws-map budget file (clean_draws_of plan) [] file.claims left e
 
-pub trimmed_is_accepted : (nodes : ℕ) (ballots : BallotFile) (file left : Content) → IsSound file → IsAnswer nodes ballots file (Ok Accepted) →
-    trimmed nodes file ≡ Ok left → IsAnswer nodes ballots left (Ok Accepted)
-trimmed_is_accepted nodes ballots file left sound h e =
-    let t = from_trimmed nodes file left e in
-    let covered : covered_by nodes file left.claims ≡ Ok Covered =
-    left-covered nodes file [] file.claims left.claims t.claims (accepted-covered nodes ballots file sound h) in
+pub trimmed_is_accepted : (budget : Budget) (ballots : BallotFile) (file left : Content) → IsSound file → IsAnswer budget ballots file (Ok Accepted) →
+    trimmed budget file ≡ Ok left → IsAnswer budget ballots left (Ok Accepted)
+trimmed_is_accepted budget ballots file left sound h e =
+    let t = from_trimmed budget file left e in
+    let covered : covered_by budget file left.claims ≡ Ok Covered =
+    left-covered budget file [] file.claims left.claims t.claims (accepted-covered budget ballots file sound h) in
     let covering : covers (candidate_count file) file.winner (map assertion_in left.claims) ≡ true =
-    (covered_iff_covers (candidate_count file) file.winner nodes (map assertion_in left.claims) Covered covered).0 refl in
-    let part : IsPartOf left.claims file.claims = left-part nodes file [] file.claims left.claims t.claims in
-    let held = accepted-held nodes ballots file sound h in
+    (covered_iff_covers (candidate_count file) file.winner budget (map assertion_in left.claims) Covered covered).0 refl in
+    let part : IsPartOf left.claims file.claims = left-part budget file [] file.claims left.claims t.claims in
+    let held = accepted-held budget ballots file sound h in
     let planned : IfSome left.plan (IsPlanOf left.claims) = subst (λ plan. IfSome plan (IsPlanOf left.claims)) (sym t.plan)
-    (clean-left nodes file left.claims t.claims held.draws) in
+    (clean-left budget file left.claims t.claims held.draws) in
     let holds = part-holds ballots file left.claims sound held part covering left.plan planned in
-    subst (λ content. IsAnswer nodes ballots content (Ok Accepted)) (sym t.same)
-    (held-accepted nodes ballots (record file { claims = left.claims; plan = left.plan }) holds covered)
+    subst (λ content. IsAnswer budget ballots content (Ok Accepted)) (sym t.same)
+    (held-accepted budget ballots (record file { claims = left.claims; plan = left.plan }) holds covered)

@@ -3,6 +3,7 @@ use Rattle.std.proofs.Common.{◌≡◌, ◌≢◌, inl, inr, ℕ, true, false, 
 use Rattle.std.specs.List.{list_any}
 use Rattle.std.proofs.lemmas.Bool.{both_ways, false_from_ne_true, not-true, not_from_false}
 use Rattle.irv_base.proofs.Members.{Member, there, from_map, member-map, member_at, member_cases, member-append_cases, member-append_left, member-append_right, from_list_any, list_any-member}
+use Rattle.budget.specs.declared.budget.Budget.{Budget}
 use Rattle.assertions.specs.declared.assertion.Claim.{Claim}
 use Rattle.assertions.specs.Refutation.{refutes, covers}
 use Rattle.assertions.specs.Suffixes.{IsAlternative}
@@ -36,7 +37,7 @@ stands-uncovered n winner claims order alternative h = false_from_ne_true (cover
     both_ways (list_any (λ a. refutes a order) (map assertion_in claims)) (not-true (list_any (λ a. refutes a order) (map assertion_in claims)) h)
     (list_any-member (λ a. refutes a order) {x = a} k r))
 
-module _ (nodes : ℕ) (file : Content) where
+module _ (budget : Budget) (file : Content) where
   -- an alternative order that none of the claims refutes
   abbrev pub Standing : List Claim → Type 0
   Standing claims =
@@ -53,12 +54,12 @@ module _ (nodes : ℕ) (file : Content) where
   ]
 
   -- each claim that is left was kept since an order stands without it; it does so all the more with fewer claims
-  pub left-needed : (earlier later left : List Claim) → left_of nodes file earlier later ≡ Ok left → (before : List Claim) (claim : Claim) (behind : List Claim) →
+  pub left-needed : (earlier later left : List Claim) → left_of budget file earlier later ≡ Ok left → (before : List Claim) (claim : Claim) (behind : List Claim) →
       left ≡ before ++ claim ∷ behind → Standing (earlier ++ (before ++ behind))
   left-needed earlier [] left e [] claim behind split = let same : [] ≡ left = cc in cc
   left-needed earlier [] left e (other ∷ before) claim behind split = let same : [] ≡ left = cc in cc
   left-needed earlier (first ∷ later) left e before claim behind split =
-      let (rest, f, g) = fate nodes file earlier first later left e in
+      let (rest, f, g) = fate budget file earlier first later left e in
       elim g [
         | inl goes ↦
             standing-fewer ((earlier ++ first ∷ []) ++ (before ++ behind)) (earlier ++ (before ++ behind)) (without-one earlier first (before ++ behind))
@@ -68,11 +69,11 @@ module _ (nodes : ℕ) (file : Content) where
     where
       at_first : (rest : List Claim) → ((before : List Claim) (claim : Claim) (behind : List Claim) → rest ≡ before ++ claim ∷ behind →
           Standing ((earlier ++ first ∷ []) ++ (before ++ behind))) → (before : List Claim) (order : List ℕ) →
-          covered_by nodes file (earlier ++ rest) ≡ Ok (Stands order) →
+          covered_by budget file (earlier ++ rest) ≡ Ok (Stands order) →
           first ∷ rest ≡ before ++ claim ∷ behind → Standing (earlier ++ (before ++ behind))
       at_first rest f [] order h e =
           let same : rest ≡ behind = cc in
-          let least = stands_is_least (candidate_count file) file.winner nodes (map assertion_in (earlier ++ rest)) order h in
+          let least = stands_is_least (candidate_count file) file.winner budget (map assertion_in (earlier ++ rest)) order h in
           (order, least.0, subst (λ rest. stands (map assertion_in (earlier ++ rest)) order ≡ true) same least.1)
       at_first rest f (other ∷ before) order h e =
           let same : rest ≡ before ++ claim ∷ behind = cc in
@@ -86,15 +87,15 @@ module _ (nodes : ℕ) (file : Content) where
       covers (candidate_count file) file.winner (map assertion_in (before ++ behind)) ≡ false
 
   pub needed-stay : (claims : List Claim) → AreNeeded claims → (earlier later left : List Claim) → claims ≡ earlier ++ later →
-      left_of nodes file earlier later ≡ Ok left → left ≡ later
+      left_of budget file earlier later ≡ Ok left → left ≡ later
   needed-stay claims needed earlier [] left split e = cc
   needed-stay claims needed earlier (claim ∷ later) left split e =
-      let (rest, f, g) = fate nodes file earlier claim later left e in
+      let (rest, f, g) = fate budget file earlier claim later left e in
       let same : rest ≡ later = needed-stay claims needed (earlier ++ claim ∷ []) later rest (split ∙ sym (append_assoc earlier (claim ∷ []) later)) f in
       elim g [
         | inl goes ↦ absurd (both_ways (covers (candidate_count file) file.winner (map assertion_in (earlier ++ later))) (needed earlier claim later split)
-            ((covered_iff_covers (candidate_count file) file.winner nodes (map assertion_in (earlier ++ later)) Covered
-            (ap (λ rest. covered_by nodes file (earlier ++ rest)) (sym same) ∙ goes.1)).0 refl))
+            ((covered_iff_covers (candidate_count file) file.winner budget (map assertion_in (earlier ++ later)) Covered
+            (ap (λ rest. covered_by budget file (earlier ++ rest)) (sym same) ∙ goes.1)).0 refl))
         | inr stays ↦ stays.0 ∙ ap (λ rest. claim ∷ rest) same
       ]
 
@@ -128,28 +129,28 @@ part_lacks (kept {x = first} {part} {whole} p) ne =
 part_lacks (dropped {x = first} {part} {whole} p) ne = ([], first, whole, refl, part-member p)
 
 -- ---- the laws
-pub trimmed_is_irredundant : (nodes : ℕ) (file left : Content) → trimmed nodes file ≡ Ok left → (before : List Claim) (claim : Claim) (behind : List Claim) →
-    left.claims ≡ before ++ claim ∷ behind → Standing nodes file (before ++ behind)
-trimmed_is_irredundant nodes file left e before claim behind split =
-    left-needed nodes file [] file.claims left.claims (from_trimmed nodes file left e).claims before claim behind split
+pub trimmed_is_irredundant : (budget : Budget) (file left : Content) → trimmed budget file ≡ Ok left → (before : List Claim) (claim : Claim) (behind : List Claim) →
+    left.claims ≡ before ++ claim ∷ behind → Standing budget file (before ++ behind)
+trimmed_is_irredundant budget file left e before claim behind split =
+    left-needed budget file [] file.claims left.claims (from_trimmed budget file left e).claims before claim behind split
 
-pub no_part_covers : (nodes : ℕ) (file left : Content) → trimmed nodes file ≡ Ok left → (part : List Claim) → IsPartOf part left.claims → part ≢ left.claims →
+pub no_part_covers : (budget : Budget) (file left : Content) → trimmed budget file ≡ Ok left → (part : List Claim) → IsPartOf part left.claims → part ≢ left.claims →
     covers (candidate_count file) file.winner (map assertion_in part) ≡ false
-no_part_covers nodes file left e part p ne =
+no_part_covers budget file left e part p ne =
     let (before, claim, behind, split, within) = part_lacks p ne in
     let (order, alternative, h) =
-    standing-fewer nodes file (before ++ behind) part within (trimmed_is_irredundant nodes file left e before claim behind split) in
+    standing-fewer budget file (before ++ behind) part within (trimmed_is_irredundant budget file left e before claim behind split) in
     stands-uncovered (candidate_count file) file.winner part order alternative h
 
-pub trimmed_stays : (nodes : ℕ) (file left again : Content) → trimmed nodes file ≡ Ok left → trimmed nodes left ≡ Ok again → again ≡ left
-trimmed_stays nodes file left again e f =
-    let t = from_trimmed nodes file left e in
-    let u = from_trimmed nodes left again f in
-    let needed : AreNeeded nodes left left.claims = (λ before claim behind split.
-    let (order, alternative, h) = trimmed_is_irredundant nodes file left e before claim behind split in
+pub trimmed_stays : (budget : Budget) (file left again : Content) → trimmed budget file ≡ Ok left → trimmed budget left ≡ Ok again → again ≡ left
+trimmed_stays budget file left again e f =
+    let t = from_trimmed budget file left e in
+    let u = from_trimmed budget left again f in
+    let needed : AreNeeded budget left left.claims = (λ before claim behind split.
+    let (order, alternative, h) = trimmed_is_irredundant budget file left e before claim behind split in
     subst (λ (content : Content). covers (candidate_count content) content.winner (map assertion_in (before ++ behind)) ≡ false) (sym t.same)
     (stands-uncovered (candidate_count file) file.winner (before ++ behind) order alternative h)) in
-    let claims : again.claims ≡ left.claims = needed-stay nodes left left.claims needed [] left.claims again.claims refl u.claims in
-    let whole : left_of nodes left [] left.claims ≡ Ok left.claims = u.claims ∙ ap Ok claims in
-    let plan : again.plan ≡ left.plan = u.plan ∙ plan-stays nodes file left t.claims t.plan whole in
+    let claims : again.claims ≡ left.claims = needed-stay budget left left.claims needed [] left.claims again.claims refl u.claims in
+    let whole : left_of budget left [] left.claims ≡ Ok left.claims = u.claims ∙ ap Ok claims in
+    let plan : again.plan ≡ left.plan = u.plan ∙ plan-stays budget file left t.claims t.plan whole in
     u.same ∙ (λ i. record left { claims = claims i; plan = plan i })

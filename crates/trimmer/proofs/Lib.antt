@@ -9,6 +9,7 @@ pub mod Sims
 pub mod Parted
 pub mod Nexts
 pub mod Trials
+pub mod SetTrials
 pub mod Kept
 pub mod Accepted
 pub mod Enough

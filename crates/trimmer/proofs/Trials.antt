@@ -1,6 +1,7 @@
 -- What a scan of the alternative winners says of the others.
-use Rattle.std.proofs.Common.{◌≡◌, ◌≢◌, ◌⊎◌, inl, inr, ℕ, zero, suc, ◌+◌, ◌<◌, ◌≤◌, Bool, true, false, not, ◌&&◌, ◌==◌, List, [], ◌∷◌, length, nat_lt, get_or, replicate, Option, Some, None, Result, Ok, Err, refl, sym, ap, ap₂, arith, ne_eqb, ◌∙◌}
+use Rattle.std.proofs.Common.{◌≡◌, ◌≢◌, ◌⊎◌, inl, inr, ℕ, zero, suc, ◌+◌, ◌<◌, ◌≤◌, Bool, true, false, not, ◌&&◌, ◌==◌, List, [], ◌∷◌, length, nat_lt, get_or, replicate, Option, Some, None, option_map, Result, Ok, Err, refl, sym, ap, ap₂, arith, ne_eqb, ◌∙◌}
 use Rattle.std.proofs.lemmas.Bool.{cases_eq, cases_lt, not_from_false}
+use Rattle.budget.specs.declared.budget.Budget.TheVariants.{Nodes}
 use Rattle.irv_base.specs.Candidates.{candidates, all_but}
 use Rattle.irv_base.proofs.Members.{Member, member_cases, member_nil, member-filter, candidate-member}
 use Rattle.assertions.specs.declared.assertion.Assertion.{Assertion}
@@ -14,6 +15,7 @@ use Rattle.suffix_walk.specs.declared.walk.Stop.TheVariants.{Found, Spent}
 use Rattle.suffix_walk.proofs.Scans.{chosen, scan, scan_from, scan-first_within, scan-start, scan-winner, scan-other, scan-end, scan-stops}
 use Rattle.cover_checker.specs.Covers.{stands, covered_is, or_spent, verdict_on}
 use Rattle.cover_checker.specs.declared.cover.Verdict.TheVariants.{Covered, Stands as OrderStands}
+use Rattle.cover_checker.specs.declared.cover.CoverFault.TheVariants.{Spent as CoverSpent}
 use Rattle.cover_checker.proofs.Verdicts.{none-covered, some-stands}
 use Rattle.trimmer.specs.Counts.{AreCounts, AreWithin, Scanned}
 use Rattle.trimmer.specs.Opened.{opens}
@@ -39,12 +41,12 @@ module _ (nodes n winner : ℕ) (list : List Assertion) (some : 0 < n) where
     go (Err (Found s)) e h m ih = cc
     go (Err Spent) e h m ih = cc
 
-  none-found : (over : Option ℕ) (standing : Option (List ℕ)) → or_spent over (verdict_on standing) ≡ Ok Covered → walk.or_spent over standing ≡ Ok None
+  none-found : (over : Option ℕ) (standing : Option (List ℕ)) → or_spent (option_map CoverSpent over) (verdict_on standing) ≡ Ok Covered → walk.or_spent over standing ≡ Ok None
   none-found (Some last) standing e = cc
   none-found None None e = refl
   none-found None (Some order) e = cc
 
-  pub covered-ends : covered_is n winner list nodes ≡ Ok Covered → (c : ℕ) → c < n → c ≢ winner → Ends c
+  pub covered-ends : covered_is n winner list (Nodes nodes) ≡ Ok Covered → (c : ℕ) → c < n → c ≢ winner → Ends c
   covered-ends h c below ne =
       let kept = stands list in
       let none : first_within n winner nodes kept ≡ Ok None =
@@ -66,7 +68,7 @@ module _ (nodes n winner : ℕ) (list : List Assertion) (some : 0 < n) where
         | inr ne ↦ let (k, w) = h i (omega arith) ne in scan-other n nodes (stands list) winner i (Ok k) (omega arith) ne (sym w)
       ] ∙ ap (scan_from n nodes (stands list) winner) one
 
-  pub ends-covered : EndsBelow n → covered_is n winner list nodes ≡ Ok Covered
+  pub ends-covered : EndsBelow n → covered_is n winner list (Nodes nodes) ≡ Ok Covered
   ends-covered h =
       let kept = stands list in
       let all : first_within n winner nodes kept ≡ Ok None =
@@ -74,7 +76,7 @@ module _ (nodes n winner : ℕ) (list : List Assertion) (some : 0 < n) where
       sym (none-covered (walk.first_over n winner nodes (kept_count n kept (first_kept n winner kept))) (first_kept n winner kept) (sym all))
 
   pub found-stands : (last : ℕ) (order : List ℕ) → last < n → last ≢ winner → EndsBelow last →
-      walked n nodes (stands list) 0 (all_ending n (last ∷ [])) ≡ Err (Found order) → covered_is n winner list nodes ≡ Ok (OrderStands order)
+      walked n nodes (stands list) 0 (all_ending n (last ∷ [])) ≡ Err (Found order) → covered_is n winner list (Nodes nodes) ≡ Ok (OrderStands order)
   found-stands last order below ne h w =
       let kept = stands list in
       let all : first_within n winner nodes kept ≡ Ok (Some order) =
@@ -114,7 +116,7 @@ module _ (nodes n winner : ℕ) (list : List Assertion) (claim : Option Assertio
   all-counts more scanned c below ne = none-left c below (replicate ROOM 0) refl ∙ scanned.0 c below ne
 
   -- where the list covers, no walk stops before its end
-  module _ (some : 0 < n) (h : covered_is n winner list nodes ≡ Ok Covered) where
+  module _ (some : 0 < n) (h : covered_is n winner list (Nodes nodes) ≡ Ok Covered) where
     never-stops : (last : ℕ) (stop : Stop) → last < n → last ≢ winner →
         walked n nodes (opens list claim) (get_or (replicate ROOM 0) last 0) (all_ending n (last ∷ [])) ≡ Err stop → ⊥
     never-stops last stop below ne e =
@@ -142,10 +144,10 @@ module _ (nodes n winner : ℕ) (list others : List Assertion) (claim : Assertio
   pub next-counts : (more : List ℕ) → Scanned nodes n winner others (Some claim) counts (ScanCovered more) → AreCounts nodes n winner others more
   next-counts more scanned c below ne = like c below ne (Ok (get_or more c 0)) (scanned.0 c below ne)
 
-  pub next-covered : (more : List ℕ) → Scanned nodes n winner others (Some claim) counts (ScanCovered more) → covered_is n winner others nodes ≡ Ok Covered
+  pub next-covered : (more : List ℕ) → Scanned nodes n winner others (Some claim) counts (ScanCovered more) → covered_is n winner others (Nodes nodes) ≡ Ok Covered
   next-covered more scanned = ends-covered nodes n winner others some (λ c lt ne. (get_or more c 0, next-counts more scanned c lt ne))
 
-  pub next-stands : Scanned nodes n winner others (Some claim) counts ScanStands → (order : List ℕ) × (covered_is n winner others nodes ≡ Ok (OrderStands order))
+  pub next-stands : Scanned nodes n winner others (Some claim) counts ScanStands → (order : List ℕ) × (covered_is n winner others (Nodes nodes) ≡ Ok (OrderStands order))
   next-stands (last, below, ne, before, (order, e)) = (
     order,
     found-stands nodes n winner others some last order below ne

@@ -1,5 +1,7 @@
 -- How many suffixes count, where claims cover, and what a scan of the alternative winners says of them.
-use Rattle.std.specs.Prelude.{◌≡◌, ◌≢◌, ◌<◌, ◌≤◌, ℕ, List, [], ◌∷◌, map, slice_index, Option, Ok, Err}
+use Rattle.std.specs.Prelude.{◌≡◌, ◌≢◌, ◌<◌, ◌≤◌, ℕ, List, [], ◌∷◌, map, slice_index, Option, Ok, Err, ⊤}
+use Rattle.budget.specs.declared.budget.Budget.{Budget}
+use Rattle.budget.specs.declared.budget.Budget.TheVariants.{Nodes, Sets}
 use Rattle.assertions.specs.declared.assertion.Assertion.{Assertion}
 use Rattle.assertions.specs.declared.assertion.Claim.{Claim}
 use Rattle.assertion_file.specs.Content.{Content, candidate_count}
@@ -40,8 +42,9 @@ module _ (nodes n winner : ℕ) (others : List Assertion) (claim : Option Assert
       × (walked n nodes (opens others claim) (slice_index counts last) (all_ending n (last ∷ []))
       ≡ Err WalkSpent)
 
--- the counts with these claims of the file
-abbrev pub CountWith : ℕ → Content → List Claim → List ℕ → Type 0
-CountWith nodes file claims counts =
+-- the counts with these claims of the file; of sets nothing is kept from one trial to the next
+abbrev pub CountWith : Budget → Content → List Claim → List ℕ → Type 0
+CountWith (Nodes nodes) file claims counts =
     AreCounts nodes (candidate_count file) file.winner (map (λ claim. claim.assertion) claims) counts
     × AreWithin nodes counts
+CountWith (Sets sets) file claims counts = ⊤

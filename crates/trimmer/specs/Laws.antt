@@ -1,5 +1,7 @@
 -- What is known of a trimmed file.
-use Rattle.std.specs.Prelude.{◌≡◌, ◌≢◌, ◌≤◌, ◌-◌, ◌*◌, ℕ, List, [], ◌∷◌, ◌++◌, map, Option, Some, None, Ok, Err, IsTrue, IsFalse, ⊤}
+use Rattle.std.specs.Prelude.{◌≡◌, ◌≢◌, ◌≤◌, ◌-◌, ◌*◌, ◌^◌, ℕ, List, [], ◌∷◌, ◌++◌, map, Option, Some, None, Ok, Err, IsTrue, IsFalse, ⊤}
+use Rattle.budget.specs.declared.budget.Budget.{Budget}
+use Rattle.budget.specs.declared.budget.Budget.TheVariants.{Nodes, Sets}
 use Rattle.assertions.specs.declared.assertion.Claim.{Claim}
 use Rattle.assertions.specs.Refutation.{covers}
 use Rattle.assertions.specs.Suffixes.{IsAlternative, factorial}
@@ -10,7 +12,7 @@ use Rattle.cover_checker.specs.Covers.{stands}
 use Rattle.cover_checker.specs.Checks.{IsAnswer}
 use Rattle.cover_checker.specs.declared.checked.Checked.TheVariants.{Accepted}
 use Rattle.trimmer.specs.Trimmed.{trimmed}
-use Rattle.trimmer.specs.declared.fault.TrimFault.TheVariants.{Spent}
+use Rattle.trimmer.specs.declared.fault.TrimFault.TheVariants.{Spent, SpentSets}
 
 -- the one list is the other without some of its claims, in the same order
 pub data IsPartOf {X : Type 0} : List X → List X → Type 0 where
@@ -32,14 +34,14 @@ IsPlannedAlike (Some plan) (Some other) = HasSameTerms plan other
 -- a check accepts the trimmed file where it accepts the one that was read
 abbrev pub TrimmedIsAccepted : Type 0
 TrimmedIsAccepted =
-    (nodes : ℕ) (ballots : BallotFile) (file left : Content) → IsSound file →
-    IsAnswer nodes ballots file (Ok Accepted) → trimmed nodes file ≡ Ok left →
-    IsAnswer nodes ballots left (Ok Accepted)
+    (budget : Budget) (ballots : BallotFile) (file left : Content) → IsSound file →
+    IsAnswer budget ballots file (Ok Accepted) → trimmed budget file ≡ Ok left →
+    IsAnswer budget ballots left (Ok Accepted)
 
 -- the claims are a part of those that were read, each with what was told of its draws, and all else is the same
 abbrev pub TrimmedIsPart : Type 0
 TrimmedIsPart =
-    (nodes : ℕ) (file left : Content) → trimmed nodes file ≡ Ok left →
+    (budget : Budget) (file left : Content) → trimmed budget file ≡ Ok left →
     IsPartOf left.claims file.claims
     × IsPartOf (told_of left.plan left.claims) (told_of file.plan file.claims)
     × IsPlannedAlike file.plan left.plan
@@ -48,7 +50,7 @@ TrimmedIsPart =
 -- for each claim an alternative order stands that no other claim refutes
 abbrev pub TrimmedIsIrredundant : Type 0
 TrimmedIsIrredundant =
-    (nodes : ℕ) (file left : Content) → trimmed nodes file ≡ Ok left →
+    (budget : Budget) (file left : Content) → trimmed budget file ≡ Ok left →
     (before : List Claim) (claim : Claim) (behind : List Claim) →
     left.claims ≡ before ++ claim ∷ behind →
     (order : List ℕ) × IsAlternative (candidate_count file) file.winner order
@@ -57,18 +59,24 @@ TrimmedIsIrredundant =
 -- no other part of the claims than all of them refutes each alternative order
 abbrev pub NoPartCovers : Type 0
 NoPartCovers =
-    (nodes : ℕ) (file left : Content) → trimmed nodes file ≡ Ok left →
+    (budget : Budget) (file left : Content) → trimmed budget file ≡ Ok left →
     (part : List Claim) → IsPartOf part left.claims → part ≢ left.claims →
     IsFalse (covers (candidate_count file) file.winner (map (λ claim. claim.assertion) part))
 
 -- trimmed again it stays as it is, where no budget is spent
 abbrev pub TrimmedStays : Type 0
 TrimmedStays =
-    (nodes : ℕ) (file left again : Content) → trimmed nodes file ≡ Ok left →
-    trimmed nodes left ≡ Ok again → again ≡ left
+    (budget : Budget) (file left again : Content) → trimmed budget file ≡ Ok left →
+    trimmed budget left ≡ Ok again → again ≡ left
 
 -- with 2 * (n - 1)! nodes no trial of n candidates is spent
 abbrev pub TrimIsNeverSpent : Type 0
 TrimIsNeverSpent =
     (nodes : ℕ) (file : Content) → 2 * factorial (candidate_count file - 1) ≤ nodes →
-    (claim last : ℕ) → trimmed nodes file ≢ Err (Spent claim last)
+    (claim last : ℕ) → trimmed (Nodes nodes) file ≢ Err (Spent claim last)
+
+-- nor with 2^n - 3 sets
+abbrev pub TrimBySetsIsNeverSpent : Type 0
+TrimBySetsIsNeverSpent =
+    (sets : ℕ) (file : Content) → IsSound file → 2 ^ candidate_count file - 3 ≤ sets →
+    (claim : ℕ) → trimmed (Sets sets) file ≢ Err (SpentSets claim sets)

@@ -1,20 +1,22 @@
 -- What is left of an assertion file once each claim that can go is dropped, from the last to the first.
 use Rattle.std.specs.Prelude.{ℕ, ◌+◌, Bool, true, false, if◌then◌else◌, List, [], ◌∷◌, ◌++◌, length, map, Option, option_map, Result, Ok, Err}
+use Rattle.budget.specs.declared.budget.Budget.{Budget}
 use Rattle.assertions.specs.declared.assertion.Claim.{Claim}
 use Rattle.assertion_file.specs.Content.{Content, Plan, candidate_count}
 use Rattle.cover_checker.specs.Covers.{covered_is}
 use Rattle.cover_checker.specs.declared.cover.Verdict.{Verdict}
 use Rattle.cover_checker.specs.declared.cover.Verdict.TheVariants.{Covered, Stands}
 use Rattle.cover_checker.specs.declared.cover.CoverFault.{CoverFault}
-use Rattle.cover_checker.specs.declared.cover.CoverFault.TheVariants.{Spent as CoverSpent, Memory as CoverMemory}
+use Rattle.cover_checker.specs.declared.cover.CoverFault.TheVariants.{Spent as CoverSpent, SpentSets as CoverSpentSets, Memory as CoverMemory}
 use Rattle.trimmer.specs.declared.fault.TrimFault.{TrimFault}
-use Rattle.trimmer.specs.declared.fault.TrimFault.TheVariants.{Spent, Memory}
+use Rattle.trimmer.specs.declared.fault.TrimFault.TheVariants.{Spent, SpentSets, Memory}
 
 -- whether the claim of this number can go, by a trial without it: it can where the others cover, and can't where an order stands
 abbrev pub can_go : ℕ → Result Verdict CoverFault → Result Bool TrimFault
 can_go number (Ok Covered) = Ok true
 can_go number (Ok (Stands order)) = Ok false
 can_go number (Err (CoverSpent last)) = Err (Spent number last)
+can_go number (Err (CoverSpentSets sets)) = Err (SpentSets number sets)
 can_go number (Err CoverMemory) = Err Memory
 
 abbrev pub unless_it_goes : Claim → List Claim → Result Bool TrimFault →
@@ -33,11 +35,11 @@ abbrev pub with_claims : Content → Option Plan → Result (List Claim) TrimFau
 with_claims file plan (Ok claims) = Ok (record file { claims = claims; plan = plan })
 with_claims file plan (Err fault) = Err fault
 
-module _ (nodes : ℕ) (file : Content) where
+module _ (budget : Budget) (file : Content) where
   -- whether these claims refute every order that elects another candidate than the file's winner
   abbrev pub covered_by : List Claim → Result Verdict CoverFault
   covered_by claims =
-      covered_is (candidate_count file) file.winner (map (λ claim. claim.assertion) claims) nodes
+      covered_is (candidate_count file) file.winner (map (λ claim. claim.assertion) claims) budget
 
   -- whether a claim can go, where the earlier ones are all there, and this is left of the later ones; it is numbered from 1
   abbrev pub trial : List Claim → Result (List Claim) TrimFault → Result Bool TrimFault

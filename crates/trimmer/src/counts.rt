@@ -8,6 +8,7 @@ ghost use Rattle.trimmer.specs.Counts.{AreCounts, AreWithin};
 
 use crate::opened::Without;
 use crate::scan::{Scan, scanned};
+use budget::Budget;
 use irv_base::{Candidate, ROOM};
 
 /// How many suffixes count for each alternative winner, where the claims cover; they are the others, with none left out.
@@ -15,7 +16,8 @@ pub fn counts_of(claims: &Without<'_>, winner: Candidate, nodes: u32) -> [u32; R
     requires number { 1 ≤ claims.now.n }
     requires room { claims.now.n ≤ ROOM }
     requires none { claims.now.claim ≡ None }
-    requires covered { covered_is claims.now.n winner (assertions_in claims.now.others.now) nodes ≡ Ok AllCovered }
+    requires covered { covered_is claims.now.n winner (assertions_in claims.now.others.now) (Budget.Nodes nodes)
+        ≡ Ok AllCovered }
     ensures counts { AreCounts nodes claims.now.n winner (assertions_in claims.now.others.now) result }
     ensures within { AreWithin nodes result }
 {

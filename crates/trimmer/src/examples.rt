@@ -5,23 +5,27 @@ ghost use Rattle.trimmer.specs.Examples as own;
 ghost use Rattle.trimmer.specs.Trimmed.{trimmed};
 
 use crate::TrimFault;
+use budget::Budget;
 
 /// NEN(2,0,{0,2}) can go, since NEB(1,2) refutes all that it does. The other two are needed: with the NEB alone 2,1,0 stands,
-/// and with the NEN alone 1,0,2. To see that, two suffixes count for a candidate.
+/// and with the NEN alone 1,0,2. To see that, two suffixes count for a candidate, and two sets in all.
 pub fn three_candidates()
-    ensures trimmed { trimmed 2 files.three_candidates
+    ensures trimmed { trimmed (Budget.Nodes 2) files.three_candidates
         ≡ Ok (record files.three_candidates { claims = take 2 files.three_candidates.claims }) }
-    ensures spent { trimmed 1 files.three_candidates ≡ Err (TrimFault.Spent 2 0) }
+    ensures spent { trimmed (Budget.Nodes 1) files.three_candidates ≡ Err (TrimFault.Spent 2 0) }
+    ensures by_sets { trimmed (Budget.Sets 2) files.three_candidates
+        ≡ Ok (record files.three_candidates { claims = take 2 files.three_candidates.claims }) }
+    ensures short { trimmed (Budget.Sets 1) files.three_candidates ≡ Err (TrimFault.SpentSets 2 1) }
 {}
 
 /// One claim of two candidates is needed.
 pub fn two_candidates()
-    ensures { trimmed 1 files.two_candidates ≡ Ok files.two_candidates }
+    ensures { trimmed (Budget.Nodes 1) files.two_candidates ≡ Ok files.two_candidates }
 {}
 
 /// The claims that are left keep their draws.
 pub fn planned()
-    ensures { trimmed 2 (own.planning (None ∷ Some 30 ∷ Some 31 ∷ []))
+    ensures { trimmed (Budget.Nodes 2) (own.planning (None ∷ Some 30 ∷ Some 31 ∷ []))
         ≡ Ok (record (own.planning (None ∷ Some 30 ∷ []))
         { claims = take 2 files.three_candidates.claims }) }
 {}

@@ -13,6 +13,8 @@ pub enum TrimFault {
     /// Whether the others cover without the claim with this number, from 1, isn't known: `last` is the least alternative winner
     /// for whom more suffixes count than the budget has. Of the claims for which that is so, it is the first that is tried.
     Spent { claim: u64, last: Candidate },
+    /// The same by sets: without the claim with this number more sets of candidates count than the budget has, which are so many.
+    SpentSets { claim: u64, sets: u32 },
     /// Memory could not be had.
     Memory,
 }
@@ -25,6 +27,12 @@ impl fmt::Display for TrimFault {
                 "without claim {} more suffixes than the budget has count for candidate {}",
                 claim, last.0
             ),
+            TrimFault::SpentSets { claim, sets } => {
+                write!(
+                    f,
+                    "without claim {claim} more sets of candidates than {sets} count"
+                )
+            }
             TrimFault::Memory => write!(f, "{Memory}"),
         }
     }

@@ -1,7 +1,7 @@
 //! What a trimmed file says. Each law holds of every value that it names, and has no code.
-ghost use Rattle.trimmer.specs.Laws.{TrimmedIsAccepted, TrimmedIsPart, TrimmedIsIrredundant, NoPartCovers, TrimmedStays, TrimIsNeverSpent};
+ghost use Rattle.trimmer.specs.Laws.{TrimmedIsAccepted, TrimmedIsPart, TrimmedIsIrredundant, NoPartCovers, TrimmedStays, TrimIsNeverSpent, TrimBySetsIsNeverSpent};
 
-/// Where a check accepts the file that was read, it accepts the trimmed one, on the same ballots and at the same nodes.
+/// Where a check accepts the file that was read, it accepts the trimmed one, on the same ballots and at the same budget.
 pub fn trimmed_is_accepted()
     ensures { TrimmedIsAccepted }
 {}
@@ -30,4 +30,9 @@ pub fn trimmed_stays()
 /// With `2 * (n - 1)!` nodes no trial of a file of n candidates is spent.
 pub fn trim_is_never_spent()
     ensures { TrimIsNeverSpent }
+{}
+
+/// Nor is one with `2^n - 3` sets.
+pub fn trim_by_sets_is_never_spent()
+    ensures { TrimBySetsIsNeverSpent }
 {}

@@ -15,8 +15,10 @@ use crate::remaining::Remaining;
 use crate::scan::{Scan, scanned};
 use assertion_file::{AssertionFile, Parts, PlanFacts};
 use assertions::Claim;
+use budget::Budget;
 use cover_checker::Verdict;
 use irv_base::{Candidate, Memory, ROOM};
+use set_walk::{WalkEnd, WalkFault, walk_within};
 use std::alloc::Global;
 use suffix_walk::first_within;
 
@@ -33,7 +35,7 @@ fn whole_trial(
     requires room { all.now.n ≤ ROOM }
     requires none { all.now.claim ≡ None }
     ensures goes { result ≡ can_go number
-        (covered_is all.now.n winner (assertions_in all.now.others.now) nodes) }
+        (covered_is all.now.n winner (assertions_in all.now.others.now) (Budget.Nodes nodes)) }
     ensures counts { IfOk result (λ goes. MatchBool goes
         (AreCounts nodes all.now.n winner (assertions_in all.now.others.now) counts.new
         × AreWithin nodes counts.new) (counts.new ≡ counts.old)) }
@@ -53,7 +55,7 @@ fn whole_trial(
 
 // Whether the claim at this place can go, where these are the others. The counts are those with the claim, and then those of what is
 // left.
-fn can_go(
+fn can_go_by_nodes(
     f: &AssertionFile,
     place: usize,
     others: &Remaining<'_>,
@@ -62,12 +64,12 @@ fn can_go(
 ) -> Result<bool, TrimFault>
     requires place { place < length f.now.claims }
     requires others { (others.now).untried ≡ take place f.now.claims }
-    requires counts { CountWith nodes f.now
+    requires counts { CountWith (Budget.Nodes nodes) f.now
         (take (place + 1) f.now.claims ++ (others.now).kept) counts.old }
     ensures goes { result ≡ can_go (place + 1)
-        (covered_by nodes f.now (take place f.now.claims ++ (others.now).kept)) }
+        (covered_by (Budget.Nodes nodes) f.now (take place f.now.claims ++ (others.now).kept)) }
     ensures counts { IfOk result (λ goes. MatchBool goes
-        (CountWith nodes f.now (take place f.now.claims ++ (others.now).kept) counts.new)
+        (CountWith (Budget.Nodes nodes) f.now (take place f.now.claims ++ (others.now).kept) counts.new)
         (counts.new ≡ counts.old)) }
 {
     let n = f.candidates().len() as u32;
@@ -93,12 +95,67 @@ fn can_go(
     }
 }
 
+// Whether it can go, by a walk into each set once that the others let stand.
+fn can_go_by_sets(
+    alloc: Global,
+    f: &AssertionFile,
+    place: usize,
+    others: &Remaining<'_>,
+    sets: u32,
+) -> Result<bool, TrimFault>
+    requires place { place < length f.now.claims }
+    requires others { (others.now).untried ≡ take place f.now.claims }
+    ensures { result ≢ Err TrimFault.Memory → result ≡ can_go (place + 1)
+        (covered_by (Budget.Sets sets) f.now (take place f.now.claims ++ (others.now).kept)) }
+{
+    let many = f.claims().len();
+    prove!(place < many);
+    let claim = place as u64 + 1;
+    let n = f.candidates().len() as u32;
+    let mut all = Without {
+        n,
+        others,
+        claim: None,
+    };
+    match walk_within(alloc, &mut all, n, f.winner(), sets) {
+        Ok(WalkEnd::Ended(_)) => Ok(true),
+        Ok(WalkEnd::Found(_)) => Ok(false),
+        Err(WalkFault::Spent) => Err(TrimFault::SpentSets { claim, sets }),
+        Err(WalkFault::Memory) => Err(TrimFault::Memory),
+    }
+}
+
+// Whether it can go, by the budget. Of sets the counts say nothing.
+fn can_go(
+    alloc: Global,
+    f: &AssertionFile,
+    place: usize,
+    others: &Remaining<'_>,
+    budget: Budget,
+    counts: &mut [u32; ROOM as usize],
+) -> Result<bool, TrimFault>
+    requires place { place < length f.now.claims }
+    requires others { (others.now).untried ≡ take place f.now.claims }
+    requires counts { CountWith budget f.now
+        (take (place + 1) f.now.claims ++ (others.now).kept) counts.old }
+    ensures goes { result ≢ Err TrimFault.Memory → result ≡ can_go (place + 1)
+        (covered_by budget f.now (take place f.now.claims ++ (others.now).kept)) }
+    ensures counts { IfOk result (λ goes. MatchBool goes
+        (CountWith budget f.now (take place f.now.claims ++ (others.now).kept) counts.new)
+        (counts.new ≡ counts.old)) }
+{
+    match budget {
+        Budget::Nodes(nodes) => can_go_by_nodes(f, place, others, nodes, counts),
+        Budget::Sets(sets) => can_go_by_sets(alloc, f, place, others, sets),
+    }
+}
+
 // How many suffixes count with all claims of the file.
-fn first_counts(f: &AssertionFile, all: &Remaining<'_>, nodes: u32) -> [u32; ROOM as usize]
-    requires covered { covered_is (candidate_count f.now) f.now.winner (assertions_of f.now) nodes
+fn first_counts_by_nodes(f: &AssertionFile, all: &Remaining<'_>, nodes: u32) -> [u32; ROOM as usize]
+    requires covered { covered_is (candidate_count f.now) f.now.winner (assertions_of f.now) (Budget.Nodes nodes)
         ≡ Ok Verdict.Covered }
     requires all { all.now ≡ record { untried = f.now.claims; kept = [] } }
-    ensures { CountWith nodes f.now f.now.claims result }
+    ensures { CountWith (Budget.Nodes nodes) f.now f.now.claims result }
 {
     let all = Without {
         n: f.candidates().len() as u32,
@@ -106,6 +163,19 @@ fn first_counts(f: &AssertionFile, all: &Remaining<'_>, nodes: u32) -> [u32; ROO
         claim: None,
     };
     counts_of(&all, f.winner(), nodes)
+}
+
+// The counts before the first trial.
+fn first_counts(f: &AssertionFile, all: &Remaining<'_>, budget: Budget) -> [u32; ROOM as usize]
+    requires covered { covered_is (candidate_count f.now) f.now.winner (assertions_of f.now) budget
+        ≡ Ok Verdict.Covered }
+    requires all { all.now ≡ record { untried = f.now.claims; kept = [] } }
+    ensures { CountWith budget f.now f.now.claims result }
+{
+    match budget {
+        Budget::Nodes(nodes) => first_counts_by_nodes(f, all, nodes),
+        Budget::Sets(_) => [0; ROOM as usize],
+    }
 }
 
 // What is left of the claims and of their draws. Without a plan there are no draws.
@@ -131,30 +201,30 @@ fn push_draws(
     Ok(())
 }
 
-fn left_of(alloc: Global, f: &AssertionFile, nodes: u32) -> Result<Left, TrimFault>
-    requires { covered_is (candidate_count f.now) f.now.winner (assertions_of f.now) nodes
+fn left_of(alloc: Global, f: &AssertionFile, budget: Budget) -> Result<Left, TrimFault>
+    requires { covered_is (candidate_count f.now) f.now.winner (assertions_of f.now) budget
         ≡ Ok Verdict.Covered }
-    ensures left { IfOk result (λ left. left_of nodes f.now [] f.now.claims
+    ensures left { IfOk result (λ left. left_of budget f.now [] f.now.claims
         ≡ Ok left.claims.items) }
     ensures sound { IfOk result (λ left.
         All (IsSoundClaim (candidate_count f.now) f.now.records) left.claims.items) }
     ensures draws { IfOk result (λ left. IfSome f.now.plan (λ plan.
-        draws_left nodes f.now [] f.now.claims plan.draws ≡ left.draws.items)) }
+        draws_left budget f.now [] f.now.claims plan.draws ≡ left.draws.items)) }
     ensures each { IfOk result (λ left. IfSome f.now.plan (λ _.
         length left.draws.items ≡ length left.claims.items)) }
     ensures few { IfOk result (λ left. IfSome f.now.plan (λ _.
         All (λ draws. IfSome draws IsDrawCount) left.draws.items)) }
     ensures spent { IfErr result (λ fault. fault ≢ TrimFault.Memory
-        → left_of nodes f.now [] f.now.claims ≡ Err fault) }
+        → left_of budget f.now [] f.now.claims ≡ Err fault) }
 {
     let claims = f.claims();
     let plan = f.plan();
     let mut left = Remaining::all(alloc, claims)?;
     let mut draws: Vec<Option<u32>> = Vec::new(alloc);
-    let mut counts = first_counts(f, &left, nodes);
+    let mut counts = first_counts(f, &left, budget);
     for j in (0..claims.len()).rev() {
         let others = left.without_last()?;
-        left = if can_go(f, j, &others, nodes, &mut counts)? {
+        left = if can_go(alloc, f, j, &others, budget, &mut counts)? {
             others
         } else {
             push_draws(&mut draws, plan, j)?;
@@ -207,13 +277,13 @@ fn with_claims(alloc: Global, f: &AssertionFile, left: Left) -> Result<Assertion
 }
 
 /// The file without the claims that can go, and without their draws. They are tried from the last to the first: a claim is dropped
-/// exactly where `covered`, at so many nodes, says of those that are left without it that they cover. All else of the file stays.
+/// exactly where `covered`, at such a budget, says of those that are left without it that they cover. All else of the file stays.
 ///
-/// `Spent` comes exactly at the first trial for which `covered` says so. The other error is want of memory.
-pub fn trim(alloc: Global, f: &AssertionFile, nodes: u32) -> Result<AssertionFile, TrimFault>
-    requires { covered_is (candidate_count f.now) f.now.winner (assertions_of f.now) nodes ≡ Ok Verdict.Covered }
-    ensures { result ≢ Err TrimFault.Memory → result ≡ trimmed nodes f.now }
+/// `Spent` or `SpentSets` comes exactly at the first trial for which `covered` says so. The other error is want of memory.
+pub fn trim(alloc: Global, f: &AssertionFile, budget: Budget) -> Result<AssertionFile, TrimFault>
+    requires { covered_is (candidate_count f.now) f.now.winner (assertions_of f.now) budget ≡ Ok Verdict.Covered }
+    ensures { result ≢ Err TrimFault.Memory → result ≡ trimmed budget f.now }
 {
-    let left = left_of(alloc, f, nodes)?;
+    let left = left_of(alloc, f, budget)?;
     Ok(with_claims(alloc, f, left)?)
 }

@@ -4,8 +4,6 @@ use Rattle.command.proofs.laws.limits.Goals as goal
 pub returns : goal.returns
 returns c = record {
   default_workers = refl;
-  nodes = refl;
-  default_nodes = refl;
   floor = refl;
   default_floor = refl;
   default_limit = refl;

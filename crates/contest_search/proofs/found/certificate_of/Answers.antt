@@ -13,8 +13,8 @@ file_of-requires g c =
 
 pub returns-in-Ok : goal.returns-in-Ok
 returns-in-Ok g c =
-    is_found c.args.contest.now c.args.counted.now.bag c.args.tabulated.now c.requires.counted c.args.end c.args.nodes c.in-Ok.certificate _ c.requires.some c.requires.best
-    c.in-Ok.ensures.certificate c.in_ok-file-in-Ok.ensures
+    is_found c.args.contest.now c.args.counted.now.bag c.args.tabulated.now c.requires.counted c.args.end c.args.nodes c.in-Ok.certificate c.requires.some c.requires.best
+    c.in-Ok.ensures.certificate _ c.in_ok-file-in-Ok.ensures
 
 pub returns-in-Spent : goal.returns-in-Spent
 returns-in-Spent g c =

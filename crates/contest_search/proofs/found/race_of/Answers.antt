@@ -1,4 +1,5 @@
 use Rattle.std.proofs.Common.{subst}
+use Rattle.budget.specs.declared.budget.Budget.TheVariants.{Nodes}
 use Rattle.bound_search.specs.Race.{IsSpent}
 use Rattle.contest_search.proofs.Findings.{race_is_spent, undecided_at_0}
 use Rattle.contest_search.proofs.found.race_of.Goals as goal
@@ -21,4 +22,4 @@ tie_of-requires-clause-undecided g c =
     undecided_at_0 c.args.contest.now c.args.counted.now.bag c.args.tabulated.now c.requires.counted c.in-Ok.end c.in-Ok.ensures.best c.if-end-eq0.true
 
 pub returns-then-end-eq0 : goal.returns-then-end-eq0
-returns-then-end-eq0 g c = c.tie_of.ensures c.args.nodes
+returns-then-end-eq0 g c = c.tie_of.ensures (Nodes c.args.nodes) tt

@@ -13,7 +13,7 @@ returns-in_err-verdict-clause-fault c =
     let listed : c.deref.result.now ≡ assertions_of c.args.file.now = c.deref.ensures.value ∙ c.in_ok-list.ensures
     ∙ ap (λ claims. map (λ claim. claim.assertion) claims) c.claims.ensures.same in
     rw (p.1, p.2)
-    (spent-found c.args.nodes c.args.file.now (length c.candidates.result.now) c.winner.result c.deref.result.now number c.winner.ensures.same listed
+    (spent-found c.args.budget c.args.file.now (length c.candidates.result.now) c.winner.result c.deref.result.now number c.winner.ensures.same listed
     c.in_err-verdict.field-0.0 c.in_err-verdict.ensures)
 
 pub returns-clause-found : goal.returns-clause-found
@@ -21,5 +21,5 @@ returns-clause-found c =
     let number : length c.candidates.result.now ≡ candidate_count c.args.file.now = ap length c.candidates.ensures.same in
     let listed : c.deref.result.now ≡ assertions_of c.args.file.now = c.deref.ensures.value ∙ c.in_ok-list.ensures
     ∙ ap (λ claims. map (λ claim. claim.assertion) claims) c.claims.ensures.same in
-    verdict-found c.args.nodes c.args.file.now (length c.candidates.result.now) c.winner.result c.deref.result.now number c.winner.ensures.same listed
+    verdict-found c.args.budget c.args.file.now (length c.candidates.result.now) c.winner.result c.deref.result.now number c.winner.ensures.same listed
     c.in_ok-verdict.verdict (option_map Ok c.standing.result) c.in_ok-verdict.ensures c.standing.ensures

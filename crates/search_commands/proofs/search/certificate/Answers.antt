@@ -15,7 +15,7 @@ returns-then-margin-task c =
         record {
           file = c.args.file;
           is = c.requires.found.is;
-          budget = c.requires.found.budget;
+          within = c.requires.found.within;
           floor = omega (arith, below, same);
           shown = c.in_ok-full_count.ensures;
         },
@@ -35,7 +35,7 @@ returns c =
         record {
           file = c.args.file;
           is = c.requires.found.is;
-          budget = c.requires.found.budget;
+          within = c.requires.found.within;
           floor = omega (arith, reached, same);
           shown = c.in_ok-print_file.ensures.text ∙ ap assertion_file_text c.in_ok-file.ensures;
         },

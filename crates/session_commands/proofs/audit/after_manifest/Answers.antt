@@ -42,7 +42,7 @@ returns-in_err-answer-clause-served g c =
     let p = err_from_is_err_and c.from_residual-in_err-answer.result c.from_residual-in_err-answer.ensures.1 in
     rw (p.1, p.2)
     (raised 1 1 _ _ _ (λ e. differ 9 0 (sym (ap status_in c.in_err-answer.ensures.memory) ∙ e) refl)
-    (ended_accounted _ _ (Checks c.args.task.now.nodes c.args.ballots.now c.in_ok-file.file) (due_refusal c.in_err-answer.field-0.0)
+    (ended_accounted _ _ (Checks c.args.task.now.budget c.args.ballots.now c.in_ok-file.file) (due_refusal c.in_err-answer.field-0.0)
     (inr c.in_err-answer.ensures.memory) c.in_ok-bytes.ensures.served))
 
 pub returns-in-Some-clause-due : goal.returns-in-Some-clause-due
@@ -55,15 +55,15 @@ returns-in-Some-clause-due g c =
     let file = c.in_ok-file.file in
     let is = ap judged (sym c.deref.ensures.value) ∙ c.in_ok-file.ensures in
     let no = c.in_ok-answer.ensures.accepted ∙ ap is_none c.in-Some.is in
-    let other = subst (λ found. IfSome found (λ answer. IsOneOrMemory (Checks task.nodes ballots file) (due (Ok answer)))) c.in-Some.is
+    let other = subst (λ found. IfSome found (λ answer. IsOneOrMemory (Checks task.budget ballots file) (due (Ok answer)))) c.in-Some.is
     c.in_ok-answer.ensures.other in
     read_last _ _ _ _ c.in_ok-bytes.bytes.items judged (λ bytes. after_assertions task session ballots batches) c.in_ok-bytes.ensures.read file
     (due (Ok c.in-Some.answer)) is
-    (checked_on task.nodes ballots file _ (after_check task session ballots batches file) (due (Ok c.in-Some.answer)) no other)
+    (checked_on task.budget ballots file _ (after_check task session ballots batches file) (due (Ok c.in-Some.answer)) no other)
 
 pub returns-in-Some-clause-served : goal.returns-in-Some-clause-served
 returns-in-Some-clause-served g c =
-    let verdicts = Checks c.args.task.now.nodes c.args.ballots.now c.in_ok-file.file in
+    let verdicts = Checks c.args.task.now.budget c.args.ballots.now c.in_ok-file.file in
     raised 1 1 _ _ _ (subst (λ found. IfSome found (λ answer. (due (Ok answer)).status ≢ 0)) c.in-Some.is c.in_ok-answer.ensures.not_done)
     (ended_accounted _ _ verdicts (due (Ok c.in-Some.answer))
     (subst (λ found. IfSome found (λ answer. IsOneOrMemory verdicts (due (Ok answer)))) c.in-Some.is c.in_ok-answer.ensures.other) c.in_ok-bytes.ensures.served)
@@ -86,7 +86,7 @@ returns-in_err-same_facts-clause-due g c =
     rw (p.1, p.2)
     (read_last _ _ _ _ c.in_ok-bytes.bytes.items judged (λ bytes. after_assertions task session ballots batches) c.in_ok-bytes.ensures.read file
     (due_refusal refusal) is
-    (accepted_on task.nodes ballots file _ (after_check task session ballots batches file) (due_refusal refusal) yes
+    (accepted_on task.budget ballots file _ (after_check task session ballots batches file) (due_refusal refusal) yes
     (judged_stopped _ (same_facts task session batches file) (λ same. after_facts task same ballots batches file) refusal
     (unless_stopped wrong (Ok session) refusal told))))
 
@@ -115,7 +115,7 @@ returns-clause-due g c =
     read_on _ _ _ _ c.in_ok-bytes.bytes.items judged (λ bytes. after_assertions task session ballots batches) c.in_ok-bytes.ensures.read _ _ file
     (due c.after_facts.result)
     c.in_ok-bytes.ensures.held c.in_ok-bytes.ensures.later c.after_facts.ensures.later is
-    (accepted_on task.nodes ballots file _ (after_check task session ballots batches file) (due c.after_facts.result) yes
+    (accepted_on task.budget ballots file _ (after_check task session ballots batches file) (due c.after_facts.result) yes
     (judged_on _ (same_facts task session batches file) (λ same. after_facts task same ballots batches file) session (due c.after_facts.result)
     (unless_passed wrong (Ok session) right) c.after_facts.ensures.due))
 

@@ -14,7 +14,7 @@ pub begin_session-requires-clause-margins : goal.begin_session-requires-clause-m
 begin_session-requires-clause-margins g c =
     let ballots = c.args.ballots.now in
     let file = c.args.file.now in
-    margins_fit c.cards.result ballots file (held c.args.task.now.nodes ballots file (c.in_ok-answer.ensures.accepted ∙ ap is_none c.in_default.is))
+    margins_fit c.cards.result ballots file (held c.args.task.now.budget ballots file (c.in_ok-answer.ensures.accepted ∙ ap is_none c.in_default.is))
     (rw c.cards.ensures.all (few_ballots c.args.manifest.now ballots c.ids-ids.ensures.differ c.ids-ids.ensures.one_each c.requires.linked))
     (subst (All (IsSoundClaim (length file.candidates) file.records)) c.claims-claims.ensures.same c.claims-claims.ensures.sound)
 
@@ -26,7 +26,7 @@ returns g c =
     let verdict = opened task batches file c.args.digests in
     let yes = c.in_ok-answer.ensures.accepted ∙ ap is_none c.in_default.is in
     let opens : Opens task c.args.ballots.now batches file c.args.digests verdict =
-    subst (λ b. MatchBool b (verdict ≡ verdict) (Checks task.nodes c.args.ballots.now file verdict)) (sym yes) refl in
+    subst (λ b. MatchBool b (verdict ≡ verdict) (Checks task.budget c.args.ballots.now file verdict)) (sym yes) refl in
     let session = c.in_ok-session.ensures ∙ ap₂ (λ contest cards. begun contest cards file task.seed task.limit task.gamma c.args.digests) c.contest.ensures
     c.cards.ensures.all in
     inl (verdict, opens, ap (λ text. outcome (Answered Done text)) (c.in_ok-print_session.ensures.text ∙ ap session_text session))

@@ -10,8 +10,8 @@ use Rattle.trim_command.proofs.trim.accepted.Goals as goal
 pub spent_answer-requires : goal.spent_answer-requires
 spent_answer-requires c =
     let is = c.in-Spent.is in
-    let e : trimmed c.args.nodes c.args.file.now ≡ Err (Spent c.in-Spent.claim c.in-Spent.last) = sym (c.in-Err.ensures (λ m. cc)) ∙ ap Err is in
-    spent-below c.args.nodes c.args.file.now c.in-Spent.claim c.in-Spent.last e
+    let e : trimmed c.args.budget c.args.file.now ≡ Err (Spent c.in-Spent.claim c.in-Spent.last) = sym (c.in-Err.ensures (λ m. cc)) ∙ ap Err is in
+    spent-below c.args.budget c.args.file.now c.in-Spent.claim c.in-Spent.last e
 
 pub returns-in_ok-print_file-in-Ok : goal.returns-in_ok-print_file-in-Ok
 returns-in_ok-print_file-in-Ok c =

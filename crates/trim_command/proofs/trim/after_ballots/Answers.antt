@@ -14,12 +14,12 @@ use Rattle.trim_command.proofs.trim.after_ballots.Goals as goal
 pub returns-clause-due : goal.returns-clause-due
 returns-clause-due g c =
     let judged = λ (bytes : List ℕ). told (refused_assertions c.args.assertions.now) (assertion_file_of bytes) in
-    read_last _ _ _ _ c.in_ok-bytes.bytes.items judged (λ bytes file. Ends (Trims c.args.nodes c.args.ballots.now file)) c.in_ok-bytes.ensures.read
+    read_last _ _ _ _ c.in_ok-bytes.bytes.items judged (λ bytes file. Ends (Trims c.args.budget c.args.ballots.now file)) c.in_ok-bytes.ensures.read
     c.in_ok-file.file (due c.of_file.result) (ap judged (sym c.deref.ensures.value) ∙ c.in_ok-file.ensures) c.of_file.ensures
 
 pub returns-clause-served : goal.returns-clause-served
 returns-clause-served g c =
-    ended_accounted _ _ (Trims c.args.nodes c.args.ballots.now c.in_ok-file.file) (due c.of_file.result) c.of_file.ensures c.in_ok-bytes.ensures.served
+    ended_accounted _ _ (Trims c.args.budget c.args.ballots.now c.in_ok-file.file) (due c.of_file.result) c.of_file.ensures c.in_ok-bytes.ensures.served
 
 pub of_file-requires : goal.of_file-requires
 of_file-requires g c = (

@@ -14,7 +14,7 @@ pub returns-clause-due : goal.returns-clause-due
 returns-clause-due g c =
     let task = c.args.task.now in
     let read = λ (bytes : List ℕ) (contest : Option Id). told (refused_ballots task.ballots) (ballots_of bytes contest) in
-    read_on _ _ _ _ c.in_ok-bytes.bytes.items (λ bytes. read bytes task.contest) (λ bytes ballots. after_ballots task.assertions task.nodes ballots)
+    read_on _ _ _ _ c.in_ok-bytes.bytes.items (λ bytes. read bytes task.contest) (λ bytes ballots. after_ballots task.assertions task.budget ballots)
     c.in_ok-bytes.ensures.read _ _ c.in_ok-ballots.ballots (due c.after_ballots.result) c.in_ok-bytes.ensures.held c.in_ok-bytes.ensures.later
     c.after_ballots.ensures.later
     (ap (λ bytes. read bytes task.contest) (sym c.deref.ensures.value) ∙ ap (read c.deref.result.now) (sym c.as_ref.ensures.value) ∙ c.in_ok-ballots.ensures)

@@ -15,19 +15,19 @@ use Rattle.trimmer.proofs.trimming.left_of.Goals as goal
 
 pub loop-j-init : goal.loop-j-init
 loop-j-init c =
-    let nodes = c.args.nodes in
+    let budget = c.args.budget in
     let file = c.args.f.now in
     let n = length c.claims-claims.result.now in
     let long : length file.claims ≡ n = sym (ap length c.claims-claims.ensures.same) in
     let none : c.in_ok-left.left.kept ≡ [] = ap (λ (left : Left). left.kept) c.in_ok-left.ensures in
     let all : file.claims ≡ take n file.claims ++ c.in_ok-left.left.kept =
-    sym (start-all nodes file file.claims n long) ∙ ap (λ later. take n file.claims ++ later) (sym none) in
+    sym (start-all budget file file.claims n long) ∙ ap (λ later. take n file.claims ++ later) (sym none) in
     record {
       untried = ap (λ (left : Left). left.untried) c.in_ok-left.ensures ∙ c.claims-claims.ensures.same
           ∙ sym (take_all n file.claims (omega (arith, long)));
-      behind = start-behind nodes file file.claims n long ∙ ap Ok (sym none);
-      counted = subst (λ claims. CountWith nodes file claims c.first_counts-counts.result) all c.first_counts-counts.ensures;
-      planned = draws-start nodes file file.claims n file.plan c.new-draws.result.items long c.new-draws.ensures.items;
+      behind = start-behind budget file file.claims n long ∙ ap Ok (sym none);
+      counted = subst (λ claims. CountWith budget file claims c.first_counts-counts.result) all c.first_counts-counts.ensures;
+      planned = draws-start budget file file.claims n file.plan c.new-draws.result.items long c.new-draws.ensures.items;
     }
 
 pub push_draws-requires : goal.push_draws-requires
@@ -41,84 +41,84 @@ can_go-requires-clause-counts c =
     let file = c.args.f.now in
     let next : c.loop-j.j - 1 + 1 ≡ c.loop-j.j = omega arith in
     let same : c.in_ok-others.others.kept ≡ c.loop-j.left.kept = ap (λ (left : Left). left.kept) c.in_ok-others.ensures.others in
-    subst (λ later. CountWith c.args.nodes file (take (c.loop-j.j - 1 + 1) file.claims ++ later) c.loop-j.counts) (sym same)
-    (subst (λ j. CountWith c.args.nodes file (take j file.claims ++ c.loop-j.left.kept) c.loop-j.counts) (sym next) c.loop-j.invariant.counted)
+    subst (λ later. CountWith c.args.budget file (take (c.loop-j.j - 1 + 1) file.claims ++ later) c.loop-j.counts) (sym same)
+    (subst (λ j. CountWith c.args.budget file (take j file.claims ++ c.loop-j.left.kept) c.loop-j.counts) (sym next) c.loop-j.invariant.counted)
 
 pub returns-in_err-can_go-clause-spent : goal.returns-in_err-can_go-clause-spent
 returns-in_err-can_go-clause-spent c =
-    let nodes = c.args.nodes in
+    let budget = c.args.budget in
     let file = c.args.f.now in
     let i = c.loop-j.j - 1 in
     let next : i + 1 ≡ c.loop-j.j = omega arith in
-    let behind : left_from nodes file file.claims (i + 1) ≡ Ok c.loop-j.left.kept = ap (left_from nodes file file.claims) next
+    let behind : left_from budget file file.claims (i + 1) ≡ Ok c.loop-j.left.kept = ap (left_from budget file file.claims) next
     ∙ c.loop-j.invariant.behind in
     let given : c.from_residual-in_err-can_go.result ≡ Err c.in_err-can_go.field-0.0 = search rules in
     let inside : i < length file.claims = omega (arith, ap length c.claims-claims.ensures.same) in
     let same : c.in_ok-others.others.kept ≡ c.loop-j.left.kept = ap (λ (left : Left). left.kept) c.in_ok-others.ensures.others in
-    subst (λ r. IfErr r (λ fault. fault ≢ Memory → left_of nodes file [] file.claims ≡ Err fault)) (sym given) (λ ne.
-    let told : Err c.in_err-can_go.field-0.0 ≡ trial nodes file file.claims i c.loop-j.left.kept =
-    c.in_err-can_go.ensures.goes ∙ ap (trial nodes file file.claims i) same in
-    fault-next nodes file file.claims i some_claim c.loop-j.left.kept c.in_err-can_go.field-0.0 inside behind told)
+    subst (λ r. IfErr r (λ fault. fault ≢ Memory → left_of budget file [] file.claims ≡ Err fault)) (sym given) (λ ne.
+    let told : Err c.in_err-can_go.field-0.0 ≡ trial budget file file.claims i c.loop-j.left.kept =
+    c.in_err-can_go.ensures.goes (λ e. ne cc) ∙ ap (trial budget file file.claims i) same in
+    fault-next budget file file.claims i some_claim c.loop-j.left.kept c.in_err-can_go.field-0.0 inside behind told)
 
 pub loop-j-preserved-then-branch : goal.loop-j-preserved-then-branch
 loop-j-preserved-then-branch c =
-    let nodes = c.args.nodes in
+    let budget = c.args.budget in
     let file = c.args.f.now in
     let i = c.loop-j.j - 1 in
     let next : i + 1 ≡ c.loop-j.j = omega arith in
-    let behind : left_from nodes file file.claims (i + 1) ≡ Ok c.loop-j.left.kept = ap (left_from nodes file file.claims) next
+    let behind : left_from budget file file.claims (i + 1) ≡ Ok c.loop-j.left.kept = ap (left_from budget file file.claims) next
     ∙ c.loop-j.invariant.behind in
     let inside : i < length file.claims = omega (arith, ap length c.claims-claims.ensures.same) in
     let same : c.in_ok-others.others.kept ≡ c.loop-j.left.kept = ap (λ (left : Left). left.kept) c.in_ok-others.ensures.others in
-    let told : Ok true ≡ trial nodes file file.claims i c.loop-j.left.kept =
-    ap Ok (sym c.if-branch.true) ∙ c.in_ok-can_go.ensures.goes ∙ ap (trial nodes file file.claims i) same in
+    let told : Ok true ≡ trial budget file file.claims i c.loop-j.left.kept =
+    ap Ok (sym c.if-branch.true) ∙ c.in_ok-can_go.ensures.goes (λ e. cc) ∙ ap (trial budget file file.claims i) same in
     let counts = c.can_go.new.counts in
     record {
       untried = ap (λ (left : Left). left.untried) c.in_ok-others.ensures.others
           ∙ take-before file.claims i c.loop-j.left.untried inside (c.loop-j.invariant.untried ∙ ap (λ j. take j file.claims) (sym next));
-      behind = told-next nodes file file.claims i some_claim c.loop-j.left.kept true inside behind told ∙ ap Ok (sym same);
-      counted = subst (λ b. MatchBool b (CountWith nodes file (take i file.claims ++ c.in_ok-others.others.kept) counts) (counts ≡ c.loop-j.counts))
+      behind = told-next budget file file.claims i some_claim c.loop-j.left.kept true inside behind told ∙ ap Ok (sym same);
+      counted = subst (λ b. MatchBool b (CountWith budget file (take i file.claims ++ c.in_ok-others.others.kept) counts) (counts ≡ c.loop-j.counts))
           c.if-branch.true c.in_ok-can_go.ensures.counts;
-      planned = draws-gone nodes file file.claims i some_claim file.plan c.loop-j.left.kept c.loop-j.draws.items inside
+      planned = draws-gone budget file file.claims i some_claim file.plan c.loop-j.left.kept c.loop-j.draws.items inside
           (shown-some (λ facts. facts.now) (λ plan. i < length plan.draws) c.plan-plan.result file.plan c.plan-plan.ensures.same
           (fits-at (λ facts. facts.now) file.records (length file.claims) i c.plan-plan.result inside c.plan-plan.ensures.sound)) behind told
-          (subst (λ j. IfSome file.plan (AreLeft nodes file file.claims j c.loop-j.draws.items)) (sym next) c.loop-j.invariant.planned);
+          (subst (λ j. IfSome file.plan (AreLeft budget file file.claims j c.loop-j.draws.items)) (sym next) c.loop-j.invariant.planned);
     }
 
 pub loop-j-preserved : goal.loop-j-preserved
 loop-j-preserved c =
-    let nodes = c.args.nodes in
+    let budget = c.args.budget in
     let file = c.args.f.now in
     let i = c.loop-j.j - 1 in
     let next : i + 1 ≡ c.loop-j.j = omega arith in
     let later = c.loop-j.left.kept in
-    let behind : left_from nodes file file.claims (i + 1) ≡ Ok later = ap (left_from nodes file file.claims) next ∙ c.loop-j.invariant.behind in
+    let behind : left_from budget file file.claims (i + 1) ≡ Ok later = ap (left_from budget file file.claims) next ∙ c.loop-j.invariant.behind in
     let inside : i < length file.claims = omega (arith, ap length c.claims-claims.ensures.same) in
     let same : c.in_ok-others.others.kept ≡ later = ap (λ (left : Left). left.kept) c.in_ok-others.ensures.others in
     let d = c.index-claims-j.result in
-    let told : Ok false ≡ trial nodes file file.claims i later =
-    ap Ok (sym c.if-branch.false) ∙ c.in_ok-can_go.ensures.goes ∙ ap (trial nodes file file.claims i) same in
+    let told : Ok false ≡ trial budget file file.claims i later =
+    ap Ok (sym c.if-branch.false) ∙ c.in_ok-can_go.ensures.goes (λ e. cc) ∙ ap (trial budget file file.claims i) same in
     let its : get_or file.claims i d ≡ d = ap (λ claims. get_or claims i d) (sym c.claims-claims.ensures.same) ∙ sym c.index-claims-j.is in
     let more : get_or file.claims i d ∷ later ≡ c.in_ok-left-2.left.kept =
     ap (λ claim. claim ∷ later) its ∙ ap (λ later. d ∷ later) (sym same)
     ∙ sym (ap (λ (left : Left). left.kept) c.in_ok-left-2.ensures) in
     let counts = c.can_go.new.counts in
     let kept : counts ≡ c.loop-j.counts =
-    subst (λ b. MatchBool b (CountWith nodes file (take i file.claims ++ c.in_ok-others.others.kept) counts) (counts ≡ c.loop-j.counts))
+    subst (λ b. MatchBool b (CountWith budget file (take i file.claims ++ c.in_ok-others.others.kept) counts) (counts ≡ c.loop-j.counts))
     c.if-branch.false c.in_ok-can_go.ensures.counts in
-    let with : CountWith nodes file (take (i + 1) file.claims ++ later) counts =
-    subst (CountWith nodes file (take (i + 1) file.claims ++ later)) (sym kept)
-    (subst (λ j. CountWith nodes file (take j file.claims ++ later) c.loop-j.counts) (sym next) c.loop-j.invariant.counted) in
+    let with : CountWith budget file (take (i + 1) file.claims ++ later) counts =
+    subst (CountWith budget file (take (i + 1) file.claims ++ later)) (sym kept)
+    (subst (λ j. CountWith budget file (take j file.claims ++ later) c.loop-j.counts) (sym next) c.loop-j.invariant.counted) in
     record {
       untried = ap (λ (left : Left). left.untried) c.in_ok-left-2.ensures ∙ ap (λ (left : Left). left.untried) c.in_ok-others.ensures.others
           ∙ take-before file.claims i c.loop-j.left.untried inside (c.loop-j.invariant.untried ∙ ap (λ j. take j file.claims) (sym next));
-      behind = told-next nodes file file.claims i d later false inside behind told ∙ ap Ok more;
-      counted = subst (λ claims. CountWith nodes file claims counts)
+      behind = told-next budget file file.claims i d later false inside behind told ∙ ap Ok more;
+      counted = subst (λ claims. CountWith budget file claims counts)
           (take-midst file.claims i d later inside ∙ ap (λ later. take i file.claims ++ later) more) with;
-      planned = draws-kept nodes file file.claims i d file.plan later c.loop-j.draws.items c.push_draws.new.draws.items inside
+      planned = draws-kept budget file file.claims i d file.plan later c.loop-j.draws.items c.push_draws.new.draws.items inside
           (shown-some (λ facts. facts.now) (λ plan. i < length plan.draws) c.plan-plan.result file.plan c.plan-plan.ensures.same
           (fits-at (λ facts. facts.now) file.records (length file.claims) i c.plan-plan.result inside c.plan-plan.ensures.sound)) behind told
-          (subst (λ j. IfSome file.plan (AreLeft nodes file file.claims j c.loop-j.draws.items)) (sym next) c.loop-j.invariant.planned)
+          (subst (λ j. IfSome file.plan (AreLeft budget file file.claims j c.loop-j.draws.items)) (sym next) c.loop-j.invariant.planned)
           (shown-some (λ facts. facts.now) (λ plan. c.push_draws.new.draws.items ≡ c.loop-j.draws.items ++ slice_index_or plan.draws i None ∷ [])
           c.plan-plan.result file.plan c.plan-plan.ensures.same c.in_ok-push_draws.ensures);
     }
@@ -127,36 +127,36 @@ pub returns-clause-sound : goal.returns-clause-sound
 returns-clause-sound c =
     let file = c.args.f.now in
     let none : 0 ≡ c.loop-j.j = omega arith in
-    let whole : left_from c.args.nodes file file.claims 0 ≡ Ok c.loop-j.left.kept = ap (left_from c.args.nodes file file.claims) none
+    let whole : left_from c.args.budget file file.claims 0 ≡ Ok c.loop-j.left.kept = ap (left_from c.args.budget file file.claims) none
     ∙ c.loop-j.invariant.behind in
     let all : All (IsSoundClaim (candidate_count file) file.records) file.claims =
     subst (All (IsSoundClaim (candidate_count file) file.records)) c.claims-claims.ensures.same c.claims-claims.ensures.sound in
     subst (All (IsSoundClaim (candidate_count file) file.records)) (sym c.into_kept.ensures)
-    (all-part (IsSoundClaim (candidate_count file) file.records) (left-part c.args.nodes file [] file.claims c.loop-j.left.kept whole) all)
+    (all-part (IsSoundClaim (candidate_count file) file.records) (left-part c.args.budget file [] file.claims c.loop-j.left.kept whole) all)
 
 pub returns-clause-draws : goal.returns-clause-draws
 returns-clause-draws c =
-    draws-end c.args.nodes c.args.f.now c.args.f.now.claims c.loop-j.j c.args.f.now.plan c.loop-j.draws.items c.reverse.new.self.items (omega arith)
+    draws-end c.args.budget c.args.f.now c.args.f.now.claims c.loop-j.j c.args.f.now.plan c.loop-j.draws.items c.reverse.new.self.items (omega arith)
     c.reverse.ensures.items c.loop-j.invariant.planned
 
 pub returns-clause-each : goal.returns-clause-each
 returns-clause-each c =
-    let nodes = c.args.nodes in
+    let budget = c.args.budget in
     let file = c.args.f.now in
     let none : 0 ≡ c.loop-j.j = omega arith in
-    let whole : left_from nodes file file.claims 0 ≡ Ok c.into_kept.result.items = ap (left_from nodes file file.claims) none
+    let whole : left_from budget file file.claims 0 ≡ Ok c.into_kept.result.items = ap (left_from budget file file.claims) none
     ∙ c.loop-j.invariant.behind ∙ ap Ok (sym c.into_kept.ensures) in
-    each-left nodes file c.into_kept.result.items c.reverse.new.self.items whole file.plan c.plan-plan.ensures.file.plan
-    (draws-end nodes file file.claims c.loop-j.j file.plan c.loop-j.draws.items c.reverse.new.self.items none c.reverse.ensures.items
+    each-left budget file c.into_kept.result.items c.reverse.new.self.items whole file.plan c.plan-plan.ensures.file.plan
+    (draws-end budget file file.claims c.loop-j.j file.plan c.loop-j.draws.items c.reverse.new.self.items none c.reverse.ensures.items
     c.loop-j.invariant.planned)
 
 pub returns-clause-few : goal.returns-clause-few
 returns-clause-few c =
-    let nodes = c.args.nodes in
+    let budget = c.args.budget in
     let file = c.args.f.now in
     let none : 0 ≡ c.loop-j.j = omega arith in
-    let whole : left_from nodes file file.claims 0 ≡ Ok c.into_kept.result.items = ap (left_from nodes file file.claims) none
+    let whole : left_from budget file file.claims 0 ≡ Ok c.into_kept.result.items = ap (left_from budget file file.claims) none
     ∙ c.loop-j.invariant.behind ∙ ap Ok (sym c.into_kept.ensures) in
-    few-left nodes file c.into_kept.result.items c.reverse.new.self.items whole file.plan c.plan-plan.ensures.file.plan
-    (draws-end nodes file file.claims c.loop-j.j file.plan c.loop-j.draws.items c.reverse.new.self.items none c.reverse.ensures.items
+    few-left budget file c.into_kept.result.items c.reverse.new.self.items whole file.plan c.plan-plan.ensures.file.plan
+    (draws-end budget file file.claims c.loop-j.j file.plan c.loop-j.draws.items c.reverse.new.self.items none c.reverse.ensures.items
     c.loop-j.invariant.planned)

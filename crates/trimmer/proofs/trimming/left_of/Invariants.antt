@@ -8,7 +8,7 @@ use Rattle.trimmer.proofs.trimming.left_of.Given as goal
 abbrev pub invariant-loop-j : goal.invariant-loop-j
 invariant-loop-j l = record {
   untried : l.left.untried ≡ take l.j l.f.claims;
-  behind : left_of l.nodes l.f (take l.j l.f.claims) (drop l.j l.f.claims) ≡ Ok l.left.kept;
-  counted : CountWith l.nodes l.f (take l.j l.f.claims ++ l.left.kept) l.counts;
-  planned : IfSome l.f.plan (AreLeft l.nodes l.f l.f.claims l.j l.draws.items);
+  behind : left_of l.budget l.f (take l.j l.f.claims) (drop l.j l.f.claims) ≡ Ok l.left.kept;
+  counted : CountWith l.budget l.f (take l.j l.f.claims ++ l.left.kept) l.counts;
+  planned : IfSome l.f.plan (AreLeft l.budget l.f l.f.claims l.j l.draws.items);
 }

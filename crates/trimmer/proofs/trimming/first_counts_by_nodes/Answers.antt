@@ -5,7 +5,7 @@ use Rattle.cover_checker.specs.Findings.{assertions_of}
 use Rattle.trimmer.specs.Counts.{AreCounts}
 use Rattle.trimmer.specs.Remaining.{assertions_in}
 use Rattle.trimmer.proofs.Lefts.{assertion_in}
-use Rattle.trimmer.proofs.trimming.first_counts.Goals as goal
+use Rattle.trimmer.proofs.trimming.first_counts_by_nodes.Goals as goal
 
 pub returns : goal.returns
 returns c =

@@ -7,7 +7,7 @@ use Rattle.trimmer.specs.Trimmed.{can_go}
 use Rattle.trimmer.specs.declared.scan.Scan.TheVariants.{Covered as ScanCovered, Stands as ScanStands}
 use Rattle.trimmer.proofs.Lefts.{assertion_in}
 use Rattle.trimmer.proofs.Nexts.{scanned-moved, goes-on, stays-on}
-use Rattle.trimmer.proofs.trimming.can_go.Goals as goal
+use Rattle.trimmer.proofs.trimming.can_go_by_nodes.Goals as goal
 
 pub returns-in-Covered-clause-goes : goal.returns-in-Covered-clause-goes
 returns-in-Covered-clause-goes c =

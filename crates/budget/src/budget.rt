@@ -1,0 +1,10 @@
+// What a budget counts, and how many of them it has.
+
+/// How far a walk through elimination orders may go.
+#[derive(Clone, Copy, Debug, PartialEq, Eq)]
+pub enum Budget {
+    /// So many suffixes for each piece of a race, and for each candidate who didn't win.
+    Nodes(u32),
+    /// So many sets of candidates, for all orders together.
+    Sets(u32),
+}

@@ -1,0 +1,10 @@
+// The limits and the default of budgets, each stated here once.
+
+/// The greatest number of suffixes that a line may allow a race for one piece, and a certificate or a check for one candidate.
+pub const MOST_NODES: u32 = 200_000;
+
+/// The number of suffixes that is allowed where a line doesn't say.
+pub const DEFAULT_NODES: u32 = 100_000;
+
+/// The greatest number of sets of candidates that a line may allow a search or a check: all of 20 candidates.
+pub const MOST_SETS: u32 = 1_048_576;

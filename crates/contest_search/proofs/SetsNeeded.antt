@@ -1,0 +1,55 @@
+-- How many sets suffice for a search, and where they don't.
+use Rattle.std.proofs.Common.{◌≡◌, ◌↔◌, ℕ, zero, suc, ◌-◌, ◌^◌, ◌<◌, ◌≤◌, Bool, nat_lt, nat_le, List, sym, ap, subst, arith, ◌∙◌}
+use Rattle.budget.specs.declared.budget.Budget.TheVariants.{Sets}
+use Rattle.ballot_reader.specs.Ballots.{BallotFile}
+use Rattle.assertions.specs.Hardness.{first_bound, best_margin, low as low_with}
+use Rattle.set_walk.specs.Steps.{step}
+use Rattle.set_walk.proofs.Counted.{counted_stand}
+use Rattle.set_walk.proofs.Few.{standing_are_fewer}
+use Rattle.set_search.specs.Sets.{sets_for}
+use Rattle.contest_search.specs.Budget.{sets_of}
+use Rattle.contest_search.specs.Contest.{candidate_count, IsWon}
+use Rattle.contest_search.specs.Found.{FoundIn, IsSpentFound}
+use Rattle.contest_search.specs.Laws.{SetsAreFew, SpentBySetsExactly}
+use Rattle.contest_search.specs.declared.found.Found.{Found}
+use Rattle.contest_search.specs.declared.found.Found.TheVariants.{Certificate, Tie, Spent, SpentSets}
+use Rattle.contest_search.proofs.Contests.{winner-one, winner-below, same_tabulated}
+
+sets-few : (n winner : ℕ) (records : List (List ℕ)) → winner < n → sets_for n records winner ≤ 2 ^ n - 3
+sets-few zero winner records low = absurd (omega (arith, low))
+sets-few (suc zero) zero records low = omega arith
+sets-few (suc zero) (suc winner) records low = absurd (omega (arith, low))
+sets-few (suc (suc n)) winner records low =
+    let m = suc (suc n) in
+    let best = best_margin m winner (low_with m records) in
+    let below : ℕ → ℕ → Bool = λ set c. nat_lt (step m records set c) best in
+    let most : ℕ → ℕ → Bool = λ set c. nat_le (step m records set c) best in
+    let cover = standing_are_fewer m winner below low (omega arith) in
+    let order = standing_are_fewer m winner most low (omega arith) in
+    let counts = (counted_stand m winner most).0 in
+    omega (arith, cover, order, counts)
+
+pub sets_are_few : SetsAreFew
+sets_are_few ballots winner won = sets-few (candidate_count ballots) winner ballots.rankings (winner-below ballots winner won)
+
+module _ (ballots : BallotFile) (w v : ℕ) (a : IsWon ballots w) (b : IsWon ballots v) where
+  bound-same : first_bound (candidate_count ballots) ballots.rankings a.order ≡ first_bound (candidate_count ballots) ballots.rankings b.order
+  bound-same = ap (first_bound (candidate_count ballots) ballots.rankings) (same_tabulated ballots w v a b)
+
+  sets-same : sets_of ballots w ≡ sets_of ballots v
+  sets-same = ap (sets_of ballots) (winner-one ballots w v a b)
+
+pub spent_by_sets_exactly : SpentBySetsExactly
+spent_by_sets_exactly sets ballots (Certificate file) winner won found =
+    (λ none. absurd none, λ (some, above).
+    let same = sets-same ballots winner found.is.winner won found.is.won in omega (arith, above, found.within, same))
+spent_by_sets_exactly sets ballots (Tie round tied votes) winner won (is, told) =
+    (λ none. absurd none, λ (some, above).
+    let same = sets-same ballots winner told.winner won told.won in
+    let bound = bound-same ballots winner told.winner won told.won in
+    let within = told.within (omega (arith, some, bound)) in omega (arith, above, within, same))
+spent_by_sets_exactly sets ballots (Spent last order margin) winner won found = absurd found
+spent_by_sets_exactly sets ballots (SpentSets told order margin) winner won (its, is) =
+    let same = sets-same ballots winner is.winner won is.won in
+    let bound = bound-same ballots winner is.winner won is.won in
+    (λ _. (omega (arith, is.some, is.hardness, bound), omega (arith, is.above, same)), λ _. tt)

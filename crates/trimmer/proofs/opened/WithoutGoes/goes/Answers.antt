@@ -1,0 +1,11 @@
+use Rattle.std.proofs.Common.{not, sym, ap, ◌∙◌}
+use Rattle.cover_checker.proofs.Passes.{passes-is}
+use Rattle.trimmer.specs.Remaining.{assertions_in}
+use Rattle.trimmer.proofs.opened.WithoutGoes.goes.Goals as goal
+
+pub returns-clause-answer : goal.returns-clause-answer
+returns-clause-answer c = λ may by.
+    let list = assertions_in c.args.self.now.others.now in
+    ap not c.is_any_new.ensures
+    ∙ passes-is list c.args.set c.args.c c.with.result (c.with.ensures.number c.requires.outside)
+    ∙ ap (λ f. f c.args.set c.args.c) (sym by)

@@ -19,7 +19,8 @@ import plain_contests
 import plain_plurality
 import plain_poll
 import plain_trim
-from plain_draws import clean_draws, UNIT
+from plain_draws import clean_draws, UNIT  # noqa: F401
+from plain_risk import discrepancy, drawn, MISSING, risk, risk_text, value
 from limits import (
     DEFAULT_NODES, FEWEST_CANDIDATES, GREATEST_GAMMA, GREATEST_LIMIT, MOST_BATCH_BYTES, MOST_BATCH_CARDS, MOST_CANDIDATES, MOST_CARDS,
     MOST_CONTESTS, MOST_DRAWS, MOST_FILE_BYTES, MOST_FLOOR, MOST_LISTED, MOST_NODES, MOST_NUMBER, MOST_RECORDS, MOST_SEED_BYTES,
@@ -240,9 +241,6 @@ def linked(ballots, manifest):
 
 # ---- seen files
 
-MISSING = "missing"
-
-
 def seen_of(data, manifest, ids):
     """What was seen of each card: its ranking, or that it is missing."""
     places, seen = {c: place for place, c in enumerate(ids)}, {}
@@ -288,44 +286,6 @@ def seen_by(data, manifest, contests):
 def without_contest(row):
     """The card, the contest where there is one, and the record without it."""
     return row[0], *row[1:2], row[:1] + row[2:]
-
-
-# ---- discrepancies, risk, draws
-
-def value(assertion, ranking):
-    """2 for the winner, 0 for the loser, else 1."""
-    kind, w, l = assertion[:3]
-    if kind == "FIRST":
-        return plain_plurality.lead(w, l, ranking)
-    if kind == "NEN":
-        top = next((c for c in ranking if c in assertion[3]), None)
-        return {w: 2, l: 0}.get(top, 1)
-    if ranking[:1] == (w,):
-        return 2
-    behind = l in ranking and (w not in ranking or ranking.index(l) < ranking.index(w))
-    return 0 if behind else 1
-
-
-def discrepancy(assertion, recorded, seen):
-    was = 1 if recorded is None else value(assertion, recorded)
-    found = 0 if seen == MISSING else value(assertion, seen)
-    return 2 - was + found
-
-
-def risk(counts, cards, margin, gamma):
-    """The printed risk of so many draws of each discrepancy."""
-    left, units = 2 * cards - margin, UNIT
-    for d in (4, 3, 2, 1, 0):
-        over, under = (500 + gamma) * left, 500 * d * cards + gamma * left
-        for _ in range(counts[d]):
-            units = -(-units * over // under)
-            if d < 2:
-                units = min(units, UNIT)
-    return units
-
-
-def drawn(seed, k, cards):
-    return int.from_bytes(hashlib.sha256(f"{seed},{k}".encode()).digest(), "big") % cards + 1
 
 
 # ---- sessions
@@ -626,10 +586,6 @@ def audit_plurality(options, session_path, ballots, manifest, seen):
     same(session_path, b"", session["assertions"])
     contest, cards, recorded = placed(session, ballots, manifest)
     return further_round(session, session_path, contest, cards, recorded, plain_plurality.claims(contest), seen, options["draws"])
-
-
-def risk_text(units):
-    return f"{units // UNIT}.{units % UNIT:018}"
 
 
 def report(options, path):

@@ -7,8 +7,7 @@ import json
 from typing import NamedTuple
 
 import plain
-
-UNIT = 10**18
+from plain_risk import risk_text
 
 
 class End(NamedTuple):
@@ -32,8 +31,8 @@ def block(contest, end, told, limit):
     lines, confirmed = [f"contest {contest.name}", *end.lines], []
     for (assertion, margin), (counts, units) in zip(end.claims, told, strict=True):
         confirmed.append(units <= limit * 10**12)
-        risk, state = f"{units // UNIT}.{units % UNIT:018}", "confirmed" if confirmed[-1] else "unconfirmed"
-        lines.append(f"{plain.shown(contest, assertion)} margin {margin} counts {' '.join(map(str, counts))} risk {risk} {state}")
+        state = "confirmed" if confirmed[-1] else "unconfirmed"
+        lines.append(f"{plain.shown(contest, assertion)} margin {margin} counts {' '.join(map(str, counts))} risk {risk_text(units)} {state}")
     is_signed_off = bool(confirmed) and all(confirmed)
     return [*lines, f"signed off {'yes' if is_signed_off else 'no'}"], is_signed_off
 

@@ -129,14 +129,14 @@ CANDIDATES = ["15", "16", "Lee Ann", "Zoe", "no", "c d", "e=1 f=2"]
 class Contest:
     def __init__(self, draws, name):
         self.name = name
-        if draws.below(60) == 0:
+        if draws.below(100) == 0:
             self.ids = [str(11 + c) for c in range(compare.many_of(draws))]
             self.rankings = compare.few_strong(draws, len(self.ids))
-        else:
-            first = draws.below(3)
-            self.ids = CANDIDATES[first:first + 2 + draws.below(4)]
-            self.rankings = audits.rankings_of(draws, self.ids)
-        if draws.below(12) == 0:
+            return
+        first = draws.below(3)
+        self.ids = CANDIDATES[first:first + 2 + draws.below(4)]
+        self.rankings = audits.rankings_of(draws, self.ids)
+        if draws.below(20) == 0:
             self.rankings = one_of(draws, [[], [()] * 3, [(0,), (1,)], [(1, 0), (0, 1), (), ()]])
 
     def named(self, ranking):
@@ -149,7 +149,7 @@ class County:
     def __init__(self, draws):
         self.draws = draws
         names = list(NAMES)
-        self.contests = [Contest(draws, names.pop(draws.below(len(names)))) for _ in range(1 + draws.below(12))]
+        self.contests = [Contest(draws, names.pop(draws.below(len(names)))) for _ in range(1 + draws.below(one_of(draws, [2, 12, 12])))]
         batches = [(f"9{k}_{k}", 1 + draws.below(15)) for k in range(1 + draws.below(3))]
         lacking = max(len(each.rankings) for each in self.contests) - sum(size for _, size in batches)
         batches.append(("last", max(1, lacking + draws.below(3))))
@@ -175,7 +175,7 @@ class County:
 
     def seen_text(self):
         """Each card in each contest as it is recorded, but in a county that isn't clean one in eight otherwise; now and then one contest is left out."""
-        left_out = one_of(self.draws, self.contests) if self.draws.below(6) == 0 else None
+        left_out = one_of(self.draws, self.contests) if self.contests[1:] and self.draws.below(6) == 0 else None
         return lines(*(self.seen_of(card, each) for card in self.cards for each in self.contests if each is not left_out))
 
     def seen_of(self, card, contest):
@@ -226,7 +226,7 @@ DAMAGES = [damage_seen] * 4 + [damage_ballots] * 3 + [audits.damage_bytes(name) 
 
 def options_of(draws):
     """A seed, a number of draws, and now and then a limit and a gamma."""
-    words = ["--seed", one_of(draws, ["2024", 'a "seed"', "a, b\\c"]), "--draws", str(1 + draws.below(one_of(draws, [5, 60, 300])))]
+    words = ["--seed", one_of(draws, ["2024", 'a "seed"', "a, b\\c"]), "--draws", str(1 + draws.below(one_of(draws, [5, 100, 400])))]
     if draws.below(2):
         words += ["--limit", str(1 + draws.below(900_000))]
     return words + (["--gamma", str(1 + draws.below(500))] if draws.below(2) else [])

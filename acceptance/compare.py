@@ -12,6 +12,7 @@ import sys
 import tempfile
 
 import plain
+import plain_audit
 from draws import Draws
 from limits import MOST_CANDIDATES
 
@@ -76,18 +77,23 @@ def differs(program, path, contest, make, command):
     return True
 
 
-def searched(program, path, workers):
-    ran = subprocess.run([program, "search", path, f"--workers={workers}"], capture_output=True, timeout=60)
+def contests_in(path):
+    with open(path, "rb") as file:
+        return list(plain_audit.contest_records(plain_audit.records_of(file.read())))
+
+
+def searched(program, path, name, workers):
+    ran = subprocess.run([program, "search", path, f"--contest={name}", f"--workers={workers}"], capture_output=True, timeout=60)
     return ran.returncode, ran.stdout, ran.stderr
 
 
-def hangs_on_turns(program, path):
+def hangs_on_turns(program, path, name):
     """Whether more workers, in one of several runs, come to another status or text than one."""
-    one = searched(program, path, 1)
-    others = [workers for workers, runs in RUNS.items() if any(searched(program, path, workers) != one for _ in range(runs))]
+    one = searched(program, path, name, 1)
+    others = [workers for workers, runs in RUNS.items() if any(searched(program, path, name, workers) != one for _ in range(runs))]
     if one[0] in (0, 3, 5) and not others:
         return False
-    print(f"search of {path}: status {one[0]} with one worker; {others} workers don't always come to what one comes to")
+    print(f"search of {name} of {path}: status {one[0]} with one worker; {others} workers don't always come to what one comes to")
     return True
 
 
@@ -104,8 +110,9 @@ def main():
             contest = plain.Contest("9", ids, rankings)
             search = plain.certificate if n < 7 else plain.certificate_by_bound
             failed += differs(program, path, contest, search, "search") or differs(program, path, contest, plain.tabulation, "tabulate")
-    examples = sorted(glob.glob(os.path.join(TOP, "examples", "**", "*.raire"), recursive=True))
-    failed += sum(hangs_on_turns(program, path) for path in examples)
+    paths = sorted(glob.glob(os.path.join(TOP, "examples", "**", "*.raire"), recursive=True))
+    examples = [(path, name) for path in paths for name in contests_in(path)]
+    failed += sum(hangs_on_turns(program, path, name) for path, name in examples)
     print(f"{len(sizes) + len(examples) - failed} contests agree, {failed} don't")
     sys.exit(1 if failed else 0)
 

@@ -128,11 +128,26 @@ OF_SEEN = [
     (SEEN + "\n" + SEEN, "V3", '"b_1" stood in record 1, line 1. Record 2, line 3: b_1,ballot,Ann'),
     ("b_1,ballot,Anne\n", "V5", '"Anne" is no candidate; the contest has "Ann". Record 1, line 1: b_1,ballot,Anne'),
 ]
+# Seen cards of two contests, by `contests` with four draws, of cards 1, 2, 3 and 4 (seed 10); where "10" is tied.
+TWO = "3\nContest,9,2,Ann,Ben\nContest,10,2,Cy,Di\nContest,11,2,Ed,Flo\n9,b_1,Ann\n11,b_2,Flo\n"
+OF_ALL_SEEN = [
+    (BALLOTS, "V1", 'It begins with "1", as a ballot file does'),
+    (SEEN, "V1", 'The contest\'s id is missing between the card and "ballot". Record 1, line 1: b_1,ballot,Ann'),
+    ("b_1,9\n", "V1", "It has 2 fields, and 3 are wanted at least. Record 1, line 1: b_1,9"),
+    ("b_1;9;ballot\n", "V1", "It has 1 field, and 3 are wanted at least; its semicolons have to be commas. Record 1, line 1: b_1;9;ballot"),
+    ("b_1,9,ballots,Ann\n", "V1", '"ballots" is no word of a seen card; nearly right is "ballot". Record 1, line 1: b_1,9,ballots,Ann'),
+    ("b_1,9,missing,Ann\n", "V1", '"Ann" stands behind missing. Record 1, line 1: b_1,9,missing,Ann'),
+    ("b_01,9,ballot\n", "V2", '"b_01" has a zero in front of its number; there is "b_1". Record 1, line 1: b_01,9,ballot'),
+    ("b_1,90,ballot\n", "V6", '"90" is no contest; the ballot file has "9", "10", "11". Record 1, line 1: b_1,90,ballot'),
+    ("b_1,Mayor,ballot\n", "V6", '"Mayor" is no contest; the ballot file has "9", "10", "11". Record 1, line 1: b_1,Mayor,ballot'),
+    ("b_1,9,ballot\n\nb_1,10,ballot\nb_1,9,ballot\n", "V3", '"b_1" stood with "9" in record 1, line 1. Record 3, line 4: b_1,9,ballot'),
+    ("b_1,11,ballot,Ann\n", "V5", '"Ann" is no candidate; the contest has "Ed", "Flo". Record 1, line 1: b_1,11,ballot,Ann'),
+]
 SCRIPTS = ("agree", "batches", "boxes", "cards", "convert", "export", "release", "show")
 # Words; which of them is wrong.
 OF_WORDS = [
     (["serch", "x"], '"serch" is no command; nearly right is "search"'),
-    (["x"], '"x" is no command; they are audit, check, open, plan, plurality, poll, report, sample, search, tabulate, trial, trim'),
+    (["x"], '"x" is no command; they are audit, check, contests, open, plan, plurality, poll, report, sample, search, tabulate, trial, trim'),
     *[([script, "x"], f'"{script}" is no command; it is a script of its own: ./{script}') for script in SCRIPTS],
     (["audit", "--draw", "5"], '"--draw" is no option of audit; nearly right is "--draws"'),
     (["search", "-x", "b"], '"-x" is no option of search; it has --contest, --workers, --nodes, --floor, --cards, --limit, --gamma'),
@@ -155,6 +170,11 @@ OF_WORDS = [
     (["poll", "m", "a", "--seed", "1", "--draws", "1"], "poll takes MANIFEST ASSERTIONS SEEN, and 2 of these stand here"),
     (["poll", "m", "a", "s", "--seed=1", "--draws=1", "--contest=1"],
      '"--contest=1" is no option of poll; it has --seed, --draws, --limit, --gamma, --nodes'),
+    (["contests", "b", "m", "s", "--seed=1"], "contests wants --draws"),
+    (["contests", "b", "m", "--seed=1", "--draws=1"], "contests takes BALLOTS MANIFEST SEEN, and 2 of these stand here"),
+    (["contests", "b", "m", "s", "--seed=1", "--draws=1", "--contest=1"],
+     '"--contest=1" is no option of contests; it has --seed, --draws, --limit, --gamma, --workers, --nodes'),
+    (["contest", "b"], '"contest" is no command; nearly right is "contests"'),
     (["plurality", "b", "m"], "plurality wants --seed"),
     (["plurality", "b", "--seed=1"], "plurality takes BALLOTS MANIFEST, and 1 of these stands here"),
     (["plurality", "b", "m", "--seed", "1", "--draws", "1"],
@@ -249,6 +269,21 @@ def audits_are_told(tried):
     tried.says(["report", "again.json"], f"S1: {table.causes()['S1']}. The file is empty; a > behind the command empties its file first. {END}")
 
 
+def contests_are_told(tried):
+    write("two.raire", TWO)
+    words = ["contests", "two.raire", "manifest.csv", "seen.csv", "--seed=10", "--draws=9"]
+    drawn = list(dict.fromkeys(line.split(",")[2] for line in tried.ran(["sample", "manifest.csv", "--seed=10", "--draws=9"])[1].decode().split()))
+    for text, rule, told in OF_ALL_SEEN:
+        tried.breaks("seen.csv", text, rule, told, *words)
+    text = "".join(f"{card},{name},ballot\n" for card in drawn for name in (9, 11) if (card, name) != (drawn[-1], 11))
+    tried.breaks("seen.csv", text, "V4", f'Not read yet for "11" (1 of the {len(drawn)} cards that are drawn): {drawn[-1]}', *words)
+    unread, none = f"({len(drawn)} of the {len(drawn)} cards that are drawn): {' '.join(drawn)}", "A contest that is tied wants none"
+    tried.breaks("seen.csv", "", "V4", ". ".join([*(f'Not read yet for "{name}" {unread}' for name in (9, 10, 11)), none]), *words)
+    write("far.raire", TWO + "11,c_1,Ed\n")
+    write("seen.csv", "")
+    tried.breaks("far.raire", TWO + "11,c_1,Ed\n", "M7", '"c" is no batch; the manifest has "b". Record 7, line 7: 11,c_1,Ed', "contests", "far.raire", *words[2:])
+
+
 def pluralities_are_told(tried):
     """A session of plurality is none of audit, and the other way round."""
     files = ["ballots.raire", "manifest.csv"]
@@ -339,7 +374,7 @@ def main():
     folder = tempfile.mkdtemp()
     os.chdir(folder)
     tried = Tried(program, folder)
-    for cases in (rules_are_told, files_are_told, audits_are_told, pluralities_are_told, words_are_told, answers_are_left, cards_are_counted):
+    for cases in (rules_are_told, files_are_told, audits_are_told, contests_are_told, pluralities_are_told, words_are_told, answers_are_left, cards_are_counted):
         cases(tried)
     os.chdir("/")
     shutil.rmtree(folder)

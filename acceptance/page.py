@@ -668,7 +668,7 @@ def refused_polls(shows, tried, files, terms):
     harbor_files = {name: os.path.join(TOP, "examples", "harbor", name) for name in ("ballots.raire", "session.json")}
     changed("seen.csv", "less.csv", ("H1_1,ballot", "H9_1,ballot"))
     write("one.csv", "H1_1,ballot\n")
-    tells = "show: --seed, --draws, --limit and --gamma are of a poll: give --seed, --draws, a manifest"
+    tells = "show: --seed, --draws, --limit and --gamma are of a poll or of all contests on one sample: give --seed, --draws, a manifest"
     for words, status, told in [
         ([*files, *terms], 1, tells), ([*files, "--draws=9"], 1, tells), ([*files, "--limit=9"], 1, tells), ([*files[:2], *terms, "--draws=9"], 1, tells),
         *(([*files, other, *terms, "--draws=9"], 1, tells) for other in harbor_files.values()), ([harbor_files["ballots.raire"], "--gamma=9"], 1, tells),
@@ -676,6 +676,113 @@ def refused_polls(shows, tried, files, terms):
         ([*files, *terms, "--draws=0"], 1, "show: --draws wants a number from 1 to 100000"), ([*files, *terms, "--limit=1000000"], 1, "show: --limit wants a number from 1 to 999999"),
         ([*files, "--seed=1", "--gamma=501"], 1, "show: --gamma wants a number from 1 to 500"), ([*files, *terms, "--draws=9", "--draws=9"], 1, "show: --draws stands twice"),
         ([*files[:2], "less.csv", *terms, "--draws=150"], 2, "raire: less.csv: V2 at "), ([*files[:2], "one.csv", *terms, "--draws=150"], 2, "raire: one.csv: V4 card "),
+    ]:
+        got = shows.run(*words)
+        tried.see(f"{words} are refused", got[0] == status and got[1] == "" and got[2].startswith(told), got)
+
+
+COUNTY_SEED = "2026-11-03 dice 5 1 4 4 2 6 3 1"
+
+
+def row_of(text, name):
+    """What a page of all contests says of one of them, up to the cards that were seen otherwise."""
+    return text.partition("The contests ")[2].partition(f" {name} ")[2]
+
+
+def counties(shows, tried):
+    """All contests of a file on one page: how each ends, its claims and its rounds; what is refused of them."""
+    files, terms = example("county"), [f"--seed={COUNTY_SEED}", "--draws=80"]
+    status, page, err = shows.run(*files, *terms)
+    text, found = (text_of(page), states_of(page)) if status == 0 else (err, [])
+    head = "4 OF 6 CONTESTS SIGNED OFF after 80 draws: each assertion of these has a risk of at most 0.05; 1 is not signed off, 1 is tied. Draw further cards"
+    tried.see("the county's state", [kind for kind, _, _ in found] == ["open"] and found[0][2].startswith(head), (found, err))
+    for name, told in [
+        ("Mayor", "✓ signed off Winner Chen Margin 112 Assertions 4 Greatest risk 0.000469 358 ballots on record; 2 cards of the manifest without"),
+        ("Sheriff", "✗ not signed off Winner Fox Margin 6 Assertions 3 Greatest risk 0.5722 358 ballots"),
+        ("Council ward 1", "✓ signed off Winner Ivers Margin 56 Assertions 2 Greatest risk 0.0044 179 ballots on record; 181 cards of"),
+        ("Council ward 2", "= tied Round 2 Lopez and Moss share the least votes, 80 votes each 179 ballots"),
+    ]:
+        tried.see(f"the row of {name}", row_of(text, name).startswith(told), row_of(text, name)[:300])
+    for told in (
+        "1 of 3 assertions is above the limit.", "Chen can't be eliminated before Ellis Chen has 163 first votes, Ellis at most 45 while Chen stands Margin 118",
+        "Draws by discrepancy, −2 to +2 0, 2, 78, 0, 0 Risk 0.000017 Confirmed yes", "P2_24 Draws 68 Recorded Chen > Abbott > Diaz > Ellis Seen Abbott > Chen > Diaz > Ellis",
+        "P1_34 Draws 10 Recorded Diaz > Chen > Abbott Seen no card found", "seen file, judged by the program", "360 cards by the manifest; 80 draws took 75 cards of them.",
+    ):
+        tried.see(f"the county's page says {told}", told in text, text[:900])
+    tried.see("each contest is opened by its row", page.count("<details class=") == page.count("<summary>") == 6, page.count("<summary>"))
+    for more, kind, told in [
+        (["--limit=900000"], "unsigned", "5 OF 6 CONTESTS SIGNED OFF after 80 draws: each assertion of these has a risk of at most 0.9; 1 is tied."),
+        (["--limit=1"], "open", "0 OF 6 CONTESTS SIGNED OFF after 80 draws: 5 are not signed off, 1 is tied. Draw further"), (["--gamma=500"], "open", "OF 6 CONTESTS SIGNED OFF after 80 draws: "),
+    ]:
+        found = states_of(shows.run(*files, *terms, *more)[1])
+        tried.see(f"the county's state with {more}", found and found[0][0] == kind and told in found[0][2], found)
+        tried.see(f"what is unusual with {more}", [each for each, _, _ in found[1:]] == ["unusual"] * (more != ["--limit=1"]), found)
+    small_counties(shows, tried)
+    refused_counties(shows, tried, files, terms)
+
+
+def write_county(cast, seen, cards=2):
+    """Contests 7 and 8 of two candidates with these records, and what was seen."""
+    write("ballots.raire", "2\nContest,7,2,1,2\nContest,8,2,1,2\n" + cast)
+    write("manifest.csv", f"batch,cards\nb,{cards}\n")
+    write("seen.csv", seen)
+    return ["ballots.raire", "manifest.csv", "seen.csv", "--seed=2024", "--draws=5"]
+
+
+# A program whose answer for all contests is prepared; the plain one is asked for the others.
+SPENDS = """#!/usr/bin/env bash
+[ "$1" != contests ] || { cat told.txt; exit 10; }
+exec "$PLAIN" "$@"
+"""
+
+
+def small_counties(shows, tried):
+    """All signed off; no cards left; nothing but ties; ids with blanks and marks; a search that is spent."""
+    words = write_county("7,b_1,1\n8,b_1,2\n", "b_1,7,ballot,1\nb_1,8,ballot,2\n", 1)
+    page = shows.run(*words)[1]
+    all_of = "ALL SIGNED OFF after 5 draws: 2 contests. Each assertion of these has a risk of at most 0.05."
+    tried.see("all signed off", states_of(page) == [("signed", "✓", all_of)], states_of(page))
+    words = write_county("7,b_1,1\n8,b_1,2\n", "b_1,7,ballot,1\nb_1,8,missing\n", 1)
+    page = shows.run(*words)[1]
+    told = "1 OF 2 CONTESTS SIGNED OFF after 5 draws: each assertion of it has a risk of at most 0.05; 1 is not signed off. No cards are left to draw: count in full"
+    tried.see("no cards are left", [(kind, told in text) for kind, _, text in states_of(page)] == [("unsigned", True)], states_of(page))
+    tried.see("nothing stands of a wrong winner", row_of(text_of(page), "8").startswith("✗ not signed off Winner 2 Margin 1 Assertions 1 Greatest risk 1.0000"), text_of(page)[:900])
+    words = write_county("7,b_1,1\n7,b_2,2\n", "", 2)
+    page = shows.run(*words)[1]
+    told = "0 OF 2 CONTESTS SIGNED OFF after 5 draws: 2 are tied."
+    tried.see("nothing but ties", states_of(page) == [("unsigned", "✗", told)], states_of(page))
+    write("told.txt", "contest 7\nspent\ncandidate 1\norder 2,1\nmargin 1\nsigned off no\ncontest 8\ntie\nround 1\ntied 1,2\ntally 0\nsigned off no\nall no\n")
+    write_program("spends", SPENDS)
+    status, page, err = shows.run(*words, program=os.path.abspath("spends"))
+    text = text_of(page) if status == 0 else err
+    tried.see("a spent search", row_of(text, "7").startswith("? spent Budget the search ended before all was known") and "spent, candidate 1, order 2,1, margin 1" in text, text[:900])
+    tried.see("is told on top", "2 CONTESTS SIGNED OFF after 5 draws: 1 is tied, 1 is not searched to the end." in text, text[:300])
+    write("told.txt", "contest 8\ntie\nround 1\ntied 1,2\ntally 0\nsigned off no\nall no\n")
+    got = shows.run(*words, program=os.path.abspath("spends"))
+    tried.see("another list of contests is refused", got[0] == 1 and "doesn't answer “contests” as ./raire does" in got[2], got)
+    ids, cast = ["Lee", "Lee Ann", "Ann Zoe", "<b>Zoe"], "".join(f"a=1 <i>,b_{k},{c}\n" for k, c in enumerate(["Lee", "Lee", "Lee Ann", "Lee", "<b>Zoe", "Lee"], 1))
+    write("ballots.raire", f"1\nContest,a=1 <i>,{len(ids)},{','.join(ids)}\n{cast}")
+    write("manifest.csv", "batch,cards\nb,6\n")
+    write("seen.csv", "".join(f"b_{k},a=1 <i>,ballot,{line.split(',')[2]}\n" for k, line in enumerate(cast.splitlines(), 1)))
+    status, page, err = shows.run(*words)
+    tried.see("ids with blanks and marks are told apart", status == 0 and "<i>" not in page.partition("<main>")[2] and "Winner Lee Margin" in text_of(page), err)
+
+
+def refused_counties(shows, tried, files, terms):
+    ballots, manifest, seen = files
+    town = os.path.join(TOP, "examples", "town", "manifest.csv")
+    changed(seen, "other.csv", ("P1_34,Mayor", "P1_34,Major"))
+    changed(ballots, "far.raire", ("Sheriff,P1_1,", "Sheriff,P9_1,"))
+    write("names.csv", "id,name\nChen,Chen\n")
+    write("counted.raire", "1\nContest,7,2,1,2\n")
+    tells = "show: --seed, --draws, --limit and --gamma are of a poll or of all contests on one sample: give"
+    for words, status, told in [
+        ([ballots, manifest, "other.csv", *terms], 2, "raire: other.csv: V6 at "), (["far.raire", manifest, seen, *terms], 2, "raire: far.raire: M7 at "),
+        ([ballots, town, seen, *terms], 2, f"raire: {seen}: V2 at 1\n"), ([*files, terms[0], "--draws=100"], 2, f"raire: {seen}: V4 card "),
+        ([*files, *terms, "--contest=Mayor"], 1, "show: --contest is of one contest"), ([*files, "names.csv", *terms], 1, "show: names.csv names the candidates of one contest"),
+        ([*files, "counted.raire", *terms], 1, "show: counted.raire is a full count of one contest"), ([*files, terms[0]], 1, tells), ([*files, terms[1]], 1, tells),
+        ([ballots, manifest, *terms], 1, tells), ([ballots, seen, *terms], 1, tells), ([*files, *terms, "--draws=0"], 1, "show: --draws stands twice"),
+        ([*files, os.path.join(TOP, "examples", "town", "session.json"), *terms], 1, tells), (files, 2, f"raire: {ballots}: B5 at 1\n"),
     ]:
         got = shows.run(*words)
         tried.see(f"{words} are refused", got[0] == status and got[1] == "" and got[2].startswith(told), got)
@@ -983,7 +1090,10 @@ def looks(shows, tried, folder, keep):
         "library": shows.run(*example("library")),
         "poll": shows.run(*harbor(), f"--seed={SEED}", "--gamma=500", "--draws=100"),
         "confirmed": shows.run(*harbor(), f"--seed={SEED}", "--gamma=500", "--draws=150"),
+        "county": shows.run(*example("county"), f"--seed={COUNTY_SEED}", "--draws=80"),
     }
+    status, page, err = pages["county"]
+    pages["opened county"] = status, page.replace("<details class=", "<details open class="), err
     for other in found[1:]:
         wrong = look(other, pages["town"][1], "narrow", folder, None)
         tried.see(f"the town looks right in {other}", not wrong, wrong[:5])
@@ -1118,7 +1228,7 @@ def main():
     made = (numbers, plurality_numbers, poll_numbers)
     with tempfile.TemporaryDirectory() as tools:
         shows = Shows(program, tools)
-        cases = (refusals, words, programs, sessions, promises, belonging, seen_alone, kinds, states, later, bytes_of_sessions, clean_draws, counts, pluralities, polls, cards, names, ties)
+        cases = (refusals, words, programs, sessions, promises, belonging, seen_alone, kinds, states, later, bytes_of_sessions, clean_draws, counts, pluralities, polls, counties, cards, names, ties)
         makers = [lambda case=case: case(shows, tried) for case in cases] + [lambda case=case: case(shows, tried, draws) for case in made] * count
         makers += [lambda: without_browser(tried), lambda: bars(shows, tried, draws, count), lambda: looks(shows, tried, os.getcwd(), keep)]
         for maker in makers:

@@ -15,10 +15,12 @@ import re
 import sys
 
 import plain
+import plain_contests
 import plain_plurality
 import plain_poll
 import plain_trim
-from plain_draws import clean_draws, UNIT
+from plain_draws import clean_draws, UNIT  # noqa: F401
+from plain_risk import discrepancy, drawn, MISSING, risk, risk_text, value
 from limits import (
     DEFAULT_NODES, FEWEST_CANDIDATES, GREATEST_GAMMA, GREATEST_LIMIT, MOST_BATCH_BYTES, MOST_BATCH_CARDS, MOST_CANDIDATES, MOST_CARDS,
     MOST_CONTESTS, MOST_DRAWS, MOST_FILE_BYTES, MOST_FLOOR, MOST_LISTED, MOST_NODES, MOST_NUMBER, MOST_RECORDS, MOST_SEED_BYTES,
@@ -138,16 +140,29 @@ def ranking_of(fields, places):
 
 
 def ballots_of(data, asked):
+    """The contest that is asked for, or the file's only one."""
     records = records_of(data)
     contests = contest_records(records)
     if asked not in contests and (asked is not None or len(contests) > 1):
         raise Broken("B5", 1)
-    name = next(iter(contests)) if asked is None else asked
-    ids, at = contests[name]
-    if not FEWEST_CANDIDATES <= len(ids) <= MOST_CANDIDATES:
-        raise Broken("B3", at)
+    found, = kept_of(records, contests, [next(iter(contests)) if asked is None else asked])
+    return found
+
+
+def contests_of(data):
+    """All contests of the file, in its order."""
+    records = records_of(data)
+    contests = contest_records(records)
+    return kept_of(records, contests, list(contests))
+
+
+def kept_of(records, contests, asked):
+    """Those contests that are asked for, each with its own ballots; the ballots of all are judged."""
+    for ids, at in map(contests.get, asked):
+        if not FEWEST_CANDIDATES <= len(ids) <= MOST_CANDIDATES:
+            raise Broken("B3", at)
     places = {name: {c: place for place, c in enumerate(ids)} for name, (ids, _) in contests.items()}
-    stood, cast, first = set(), [], len(contests) + 2
+    stood, cast, first = set(), {name: [] for name in contests}, len(contests) + 2
     for at, row in enumerate(records[first - 1:], first):
         if at - first == MOST_RECORDS:
             raise Broken("B10", at)
@@ -163,9 +178,8 @@ def ballots_of(data, asked):
         if ranking is None:
             raise Broken("B8", at)
         stood.add((row[0], row[1]))
-        if row[0] == name:
-            cast.append((row[1], at, ranking))
-    return Ballots(name, ids, cast)
+        cast[row[0]].append((row[1], at, ranking))
+    return [Ballots(name, contests[name][0], cast[name]) for name in asked]
 
 
 # ---- manifests
@@ -227,63 +241,51 @@ def linked(ballots, manifest):
 
 # ---- seen files
 
-MISSING = "missing"
-
-
 def seen_of(data, manifest, ids):
     """What was seen of each card: its ranking, or that it is missing."""
     places, seen = {c: place for place, c in enumerate(ids)}, {}
     for at, row in enumerate(records_of(data), 1):
-        if len(row) < 2 or row[1] not in ("ballot", "missing") or (row[1] == "missing" and any(row[2:])):
-            raise Broken("V1", at)
-        card = manifest.place(row[0])
-        if card is None:
-            raise Broken("V2", at)
-        if card in seen:
-            raise Broken("V3", at)
-        ranking = ranking_of(row[2:], places)
-        if ranking is None:
-            raise Broken("V5", at)
-        seen[card] = ranking if row[1] == "ballot" else MISSING
+        see(seen, places, manifest, at, row)
     return seen
 
 
-# ---- discrepancies, risk, draws
-
-def value(assertion, ranking):
-    """2 for the winner, 0 for the loser, else 1."""
-    kind, w, l = assertion[:3]
-    if kind == "FIRST":
-        return plain_plurality.lead(w, l, ranking)
-    if kind == "NEN":
-        top = next((c for c in ranking if c in assertion[3]), None)
-        return {w: 2, l: 0}.get(top, 1)
-    if ranking[:1] == (w,):
-        return 2
-    behind = l in ranking and (w not in ranking or ranking.index(l) < ranking.index(w))
-    return 0 if behind else 1
-
-
-def discrepancy(assertion, recorded, seen):
-    was = 1 if recorded is None else value(assertion, recorded)
-    found = 0 if seen == MISSING else value(assertion, seen)
-    return 2 - was + found
+def see(seen, places, manifest, at, row):
+    """One record more: a card, a word and a ranking."""
+    if not is_seen(row):
+        raise Broken("V1", at)
+    card = manifest.place(row[0])
+    if card is None:
+        raise Broken("V2", at)
+    if card in seen:
+        raise Broken("V3", at)
+    ranking = ranking_of(row[2:], places)
+    if ranking is None:
+        raise Broken("V5", at)
+    seen[card] = ranking if row[1] == "ballot" else MISSING
 
 
-def risk(counts, cards, margin, gamma):
-    """The printed risk of so many draws of each discrepancy."""
-    left, units = 2 * cards - margin, UNIT
-    for d in (4, 3, 2, 1, 0):
-        over, under = (500 + gamma) * left, 500 * d * cards + gamma * left
-        for _ in range(counts[d]):
-            units = -(-units * over // under)
-            if d < 2:
-                units = min(units, UNIT)
-    return units
+def is_seen(row):
+    return len(row) >= 2 and row[1] in ("ballot", "missing") and not (row[1] == "missing" and any(row[2:]))
 
 
-def drawn(seed, k, cards):
-    return int.from_bytes(hashlib.sha256(f"{seed},{k}".encode()).digest(), "big") % cards + 1
+def seen_by(data, manifest, contests):
+    """Of each contest, by its id, what was seen of each card: in a record the contest's id stands behind the card's."""
+    places = {each.name: {c: place for place, c in enumerate(each.ids)} for each in contests}
+    seen = {name: {} for name in places}
+    for at, (card, *names, row) in enumerate(map(without_contest, records_of(data)), 1):
+        if not names or not is_seen(row):
+            raise Broken("V1", at)
+        if manifest.place(card) is None:
+            raise Broken("V2", at)
+        if names[0] not in seen:
+            raise Broken("V6", at)
+        see(seen[names[0]], places[names[0]], manifest, at, row)
+    return seen
+
+
+def without_contest(row):
+    """The card, the contest where there is one, and the record without it."""
+    return row[0], *row[1:2], row[:1] + row[2:]
 
 
 # ---- sessions
@@ -586,10 +588,6 @@ def audit_plurality(options, session_path, ballots, manifest, seen):
     return further_round(session, session_path, contest, cards, recorded, plain_plurality.claims(contest), seen, options["draws"])
 
 
-def risk_text(units):
-    return f"{units // UNIT}.{units % UNIT:018}"
-
-
 def report(options, path):
     session = session_of(read(path))
     if session is None:
@@ -631,6 +629,28 @@ def trial(options):
     return 0, "".join(f"{name} {value}\n" for name, value in lines.items())
 
 
+def contests(options, path, manifest_path, seen_path):
+    every = judged(path, contests_of, read(path))
+    manifest = judged(manifest_path, manifest_of, read(manifest_path))
+    seen = judged(seen_path, seen_by, read(seen_path), manifest, every)
+    recorded = [judged(path, linked, contest, manifest) for contest in every]
+    ends = [plain_contests.searched(contest) for contest in every]
+    for contest, end in zip(every, ends):
+        if end.claims:
+            see_all(seen_path, options["seed"], manifest.cards, seen[contest.name], options["draws"])
+    terms = {"cards": manifest.cards, "gamma": options.get("gamma", 100), "limit": options.get("limit", 50_000), "seed": options["seed"]}
+
+    def told_by(contest, had, assertion, margin):
+        counts = counts_of(terms, had, seen[contest.name], assertion, options["draws"])
+        return counts, risk(counts, terms["cards"], margin, terms["gamma"])
+
+    blocks = [
+        plain_contests.block(contest, end, [told_by(contest, had, *claim) for claim in end.claims], terms["limit"])
+        for contest, end, had in zip(every, ends, recorded)
+    ]
+    return plain_contests.printed(blocks)
+
+
 # ---- words
 
 def as_number(low, high):
@@ -658,6 +678,7 @@ COMMANDS = {
     "poll": (poll, 3, "seed draws", "limit gamma nodes"),
     "trial": (trial, 0, "number", "candidates ballots workers nodes"),
     "plurality": (open_plurality, 2, "seed", "contest limit gamma"),
+    "contests": (contests, 3, "seed draws", "limit gamma workers nodes"),
 }
 
 # a word's second line: of another number of files, or with an option that others want

@@ -84,16 +84,21 @@ def found_of_assertions(call, data, rule, at):
 
 
 def found_of_seen(call, data, rule, at):
-    files = call.files
+    files, is_of_all = call.files, call.command == "contests"
     if rule == "V1":
-        return rules.seen_record(data, at)
+        return rules.seen_record(data, at, is_of_all)
     if rule == "V3":
-        return rules.stood_before(data, at, 1)
+        return rules.seen_twice(data, at) if is_of_all else rules.stood_before(data, at, 1)
     if rule == "V4":
-        return rules.unread(seed_of(call), rules.data_of(files["MANIFEST"]), data, int(call.options["draws"]))
+        given = seed_of(call), rules.data_of(files["MANIFEST"]), data, int(call.options["draws"])
+        return rules.unread_in_contests(*given, rules.data_of(files["BALLOTS"]), at) if is_of_all else rules.unread(*given)
     record = rules.record_at(data, at)
     if rule == "V2":
         return [rules.no_card(record.fields[0], rules.batches_of(rules.data_of(files["MANIFEST"]))), rules.where(record)]
+    if rule == "V6":
+        return rules.other_contest_seen(record, rules.data_of(files["BALLOTS"]))
+    if is_of_all:
+        return rules.no_candidate(record, record.fields[3:], rules.heads_of(rules.data_of(files["BALLOTS"]))[record.fields[1]][0])
     return rules.no_candidate(record, record.fields[2:], candidates_of(call))
 
 

@@ -14,6 +14,7 @@ from records import listed, quoted, record_at, records, shown
 from table import limits
 
 MOST_UNREAD = 1_000
+MOST_CONTESTS = 3  # of which all cards are told
 
 
 def data_of(path):
@@ -35,7 +36,7 @@ def looks_like(data):
         return None
     if first.fields == ["batch", "cards"]:
         return "a manifest"
-    if len(first.fields) > 1 and first.fields[1] in ("ballot", "missing"):
+    if {"ballot", "missing"} & set(first.fields[1:3]):
         return "a file of seen cards"
     second = record_at(data[:65_536], 2)
     return "a ballot file" if second and second.fields[0] == "Contest" else None
@@ -248,32 +249,67 @@ def no_card(name, batches):
 
 # ---- seen cards
 
-def seen_record(data, at):
+WORDS = ("ballot", "missing")
+
+
+def seen_record(data, at, has_contest):
     """V1"""
     record = record_at(data, at)
     fields = record.fields
     if at == 1 and looks_like(data) not in (None, "a file of seen cards"):
         return [begins(data, "a file of seen cards")]
-    if len(fields) < 2:
-        told = f"It has {len(fields)} field" + semicolons(record)
-    elif fields[1] not in ("ballot", "missing"):
-        told = is_none("word of a seen card", fields[1], ["ballot", "missing"], "nearly right is")
+    if has_contest and fields[1:2] and fields[1] in WORDS:
+        told = f"The contest's id is missing between the card and {quoted(fields[1])}"
+    elif len(fields) < 2 + has_contest:
+        told = f"It has {plural(len(fields), 'field')}" + (", and 3 are wanted at least" if has_contest else "") + semicolons(record)
+    elif fields[1 + has_contest] not in WORDS:
+        told = is_none("word of a seen card", fields[1 + has_contest], WORDS, "nearly right is")
     else:
-        told = f"{quoted(next(text for text in fields[2:] if text))} stands behind missing"
+        told = f"{quoted(next(text for text in fields[2 + has_contest:] if text))} stands behind missing"
     return [told, where(record)]
+
+
+def seen_twice(data, at):
+    """V3 of a card in a contest: the record that had both first."""
+    record = record_at(data, at)
+    had = next(had for had in records(data) if had.fields[:2] == record.fields[:2])
+    return [f"{quoted(record.fields[0])} stood with {quoted(record.fields[1])} in record {had.number}, line {had.line}", where(record)]
+
+
+def other_contest_seen(record, ballots):
+    """V6"""
+    return [is_none("contest", record.fields[1], heads_of(ballots), "the ballot file has"), where(record)]
+
+
+def drawn_cards(seed, manifest, draws):
+    """The cards of these draws, in the order of their first ones, each with that draw."""
+    sys.path.append(os.path.join(os.path.dirname(os.path.dirname(os.path.abspath(__file__))), "acceptance"))
+    import plain_audit
+
+    cards, found = plain_audit.Manifest(batches_of(manifest)), {}
+    for k in range(1, draws + 1):
+        found.setdefault(cards.card(plain_audit.drawn(seed, k, cards.cards)), k)
+    return found
 
 
 def unread(seed, manifest, seen, draws):
     """V4: all drawn cards that have no record, in the order of their first draws."""
-    sys.path.append(os.path.join(os.path.dirname(os.path.dirname(os.path.abspath(__file__))), "acceptance"))
-    import plain_audit
+    read, drawn = {record.fields[0] for record in records(seen)}, drawn_cards(seed, manifest, draws)
+    return [told_unread([card for card in drawn if card not in read], drawn, "")]
 
-    cards = plain_audit.Manifest(batches_of(manifest))
-    read = {record.fields[0] for record in records(seen)}
-    drawn = dict.fromkeys(cards.card(plain_audit.drawn(seed, k, cards.cards)) for k in range(1, draws + 1))
-    left = [card for card in drawn if card not in read]
+
+def told_unread(left, drawn, of):
     more = f" and {len(left) - MOST_UNREAD} more" if len(left) > MOST_UNREAD else ""
-    return [f"Not read yet ({len(left)} of the {len(drawn)} cards that are drawn): {' '.join(left[:MOST_UNREAD])}{more}"]
+    return f"Not read yet{of} ({len(left)} of the {len(drawn)} cards that are drawn): {' '.join(left[:MOST_UNREAD])}{more}"
+
+
+def unread_in_contests(seed, manifest, seen, draws, ballots, k):
+    """V4 of all contests: the same of the contests whose first card without a record is that of draw k. Those that are tied may be among them."""
+    read, drawn = {tuple(record.fields[:2]) for record in records(seen)}, drawn_cards(seed, manifest, draws)
+    left = {name: [card for card in drawn if (card, name) not in read] for name in heads_of(ballots)}
+    meant = [name for name, cards in left.items() if cards and drawn[cards[0]] == k]
+    told = [told_unread(left[name], drawn, f" for {quoted(name)}") for name in meant[:MOST_CONTESTS]]
+    return told + ([f"So it is for {listed(meant[MOST_CONTESTS:])}"] if meant[MOST_CONTESTS:] else []) + ["A contest that is tied wants none"] * (len(meant) > 1)
 
 
 # ---- assertion files and sessions

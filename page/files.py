@@ -65,13 +65,14 @@ def kind_of_rows(rows):
     if not rows:
         return None
     seconds = [row[1] if len(row) > 1 else "" for row in rows]
+    words = {word for row in rows for word in row[1:3]}  # the word of a seen card stands behind its id, or behind a contest's
     if [field.lower() for field in rows[0]] == ["id", "name"]:
         return "names"
     if rows[0][0] == "batch":
         return "manifest"
     if any(row[0] == "Contest" for row in rows[:2]):
         return "ballots"
-    if {"ballot", "missing"} & set(seconds):
+    if {"ballot", "missing"} & words:
         return "seen"
     if rows[0][0].lower().startswith("batch") or {"batch", "cards"} & {field.lower() for field in rows[0]}:
         return "manifest"

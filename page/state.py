@@ -1,5 +1,6 @@
 """The state of an audit, for the top of a page. A mark and a frame tell it too, for those who see no colours or no words."""
 import audit
+import county
 import plain_audit
 from limits import GREATEST_GAMMA, MOST_DRAWS
 from texts import millionths, plural
@@ -62,6 +63,11 @@ def of_poll(poll, winner):
     else:
         state = told("open", f"OPEN: not confirmed by a poll after {draws}:", f"{missing} Draw further cards with the same seed, or count in full.")
     return [state, *unusual(poll, ANY_GAMMA)]
+
+
+def of_county(all_of):
+    """How many contests are signed off, and what is unusual of their terms."""
+    return [told(*county.state_in_words(all_of)), *unusual(all_of.terms)]
 
 
 def not_polled(poll):

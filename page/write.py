@@ -6,6 +6,7 @@ import sys
 import jinja2
 
 import audit
+import county
 import files
 import firsts
 import orders
@@ -88,7 +89,7 @@ class Page:
         self.files, self.options, self.program, self.notes = given, options, program, []
         self.parts = dict.fromkeys((
             "session", "contest", "tabulation", "firsts", "counted", "assertions", "verdict", "tree", "plan", "draws", "manifest", "claims", "seen_file",
-            "other_form", "is_plurality", "is_opened", "is_replayed", "poll",
+            "other_form", "is_plurality", "is_opened", "is_replayed", "poll", "county",
         ))
         self.names = Names(given.get("names"))
         self.judged = set(files.KINDS) - files.NOT_THE_PROGRAMS  # the kinds that the program judges; seen cards once it has run the audit again
@@ -265,8 +266,15 @@ class Page:
         whose = "the session" if session else "the manifest"
         self.parts["draws"] = planned.shown(planned.said_by(file), self.parts["plan"], known, whose)
 
-    def is_poll(self):
+    def is_of_sample(self):
+        """The options are those of a sample: a poll's, or those of all contests of a ballot file."""
         return not self.options.keys().isdisjoint(POLL)
+
+    def is_county(self):
+        return self.has_terms() and self.has(*county.KINDS) and not {"assertions", "session"} & set(self.files)
+
+    def is_poll(self):
+        return self.is_of_sample() and not self.is_county()
 
     def read_poll(self):
         """The poll, by the program: all draws anew."""
@@ -415,7 +423,9 @@ class Page:
 
     def see_options(self):
         """Each option has to have a meaning for the files that are given."""
-        if self.is_poll():
+        if self.is_county():
+            county.see_files(self)
+        elif self.is_poll():
             self.see_poll()
         elif "--nodes" in self.options and not self.has("ballots", "assertions"):
             raise told("--nodes is the budget of a check: give a ballot file and an assertion file")
@@ -426,12 +436,21 @@ class Page:
 
     def see_poll(self):
         """A poll has its seed, its draws and its three files, and none that a comparison has."""
-        is_whole = {"--seed", "--draws"} <= set(self.options) and self.has(*POLLED)
+        is_whole = self.has_terms() and self.has(*POLLED)
         if not is_whole or {"ballots", "session"} & set(self.files):
-            raise told(f"{listed(POLL)} are of a poll: give --seed, --draws, a manifest, an assertion file, a seen file, and neither ballot file nor session")
+            raise told(
+                f"{listed(POLL)} are of a poll or of all contests on one sample: give --seed, --draws, a manifest, a seen file, either an assertion file "
+                "or a ballot file, and no session"
+            )
+
+    def has_terms(self):
+        return {"--seed", "--draws"} <= set(self.options)
 
     def read(self):
         self.see_options()
+        if self.is_county():
+            self.parts["county"] = county.County(self)
+            return
         self.read_session()
         self.read_assertions()
         self.read_ballots()
@@ -468,12 +487,28 @@ def filled(page):
         loader=loader, autoescape=True, trim_blocks=True, lstrip_blocks=True, undefined=jinja2.ChainableUndefined,
     )
     made.filters.update(plural=plural, ordinal=ordinal, risk=audit.risk_text, short=audit.short, millionths=millionths, number=shown, listed=listed)
+    if page.parts["county"]:
+        return filled_county(page, made)
     session = page.parts["session"]
     drawn = rounds_drawn(page.parts)
     return made.get_template("page.html").render(
         page.parts, files=page.files, judged=page.judged, notes=page.notes, asked=page.program.asked, program=page.program.told(),
         chart=audit.chart(session, [row["number"] for row in page.parts["listed"]]) if session else None, title=title(page), most_counted=orders.MOST_COUNTED, most_draws=MOST_DRAWS,
         states=state.states(page.parts), scale=rounds.scale_of(drawn) if drawn else None, names=page.names.by_id,
+    )
+
+
+def filled_county(page, made):
+    """A page of all contests: a row each, which opens its contest."""
+    all_of = page.parts["county"]
+    for contest in all_of.contests:
+        drawn = contest["tabulation"].get("rounds")
+        contest["scale"] = rounds.scale_of(drawn) if drawn else None
+        for row in contest.get("claims", []):
+            row["words"] = in_words(row["claim"], drawn[0]["votes"] if drawn else None, False)
+    return made.get_template("county.html").render(
+        county=all_of, states=state.of_county(all_of), files=page.files, judged=page.judged, asked=page.program.asked, program=page.program.told(),
+        title=f"{plural(len(all_of.contests), 'contest')} on one sample",
     )
 
 

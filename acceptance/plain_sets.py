@@ -1,8 +1,7 @@
 """What a search counts with `--sets`, plainly and in two ways, and what comes of it.
 
 `by_list` tries every suffix, by docs/rules.md alone. `by_sets` goes from set to set: what refutes a suffix first when one more candidate
-is put in front hangs on who that is and on the set behind alone. Both give `Found`. `searched` gives status and text of a search or, with
-a `tell` of its own, of a trial. `MOST_SUMMED` is as many candidates as tallies of all sets are summed of in a second or two.
+is put in front hangs on who that is and on the set behind alone. Both give `Found`. `searched` gives status and text of a search.
 """
 import heapq
 import itertools
@@ -11,7 +10,7 @@ from typing import NamedTuple
 import plain
 
 MOST_LISTED = 5  # candidates of whose contest all suffixes are listed
-MOST_SUMMED = 16
+MOST_SUMMED = 15  # candidates of whose contest the tallies of all sets are summed, ahead of any walk
 
 
 class Found(NamedTuple):
@@ -54,8 +53,8 @@ class Steps:
     """How much the low of a suffix has to be at least once a candidate is put in front of it, and by which assertion; sets are bits."""
 
     def __init__(self, contest):
-        self.n, self.full = contest.n, (1 << contest.n) - 1
-        self.sums = [self.summed(contest, c) for c in range(contest.n)]
+        self.n, self.full, self.contest = contest.n, (1 << contest.n) - 1, contest
+        self.sums = [self.summed(contest, c) for c in range(contest.n)] if contest.n <= MOST_SUMMED else None
         self.rivals = [sorted(((contest.margin(("NEB", w, c)), w) for w in range(contest.n) if w != c), key=lambda rival: (-rival[0], rival[1]))
                        for c in range(contest.n)]
 
@@ -71,13 +70,19 @@ class Steps:
                     sums[gone] += sums[gone ^ 1 << other]
         return sums
 
+    def votes(self, gone, c, behind):
+        """The tally of a candidate where these are gone, and the least tally of those behind it with the first who has it."""
+        if self.sums:
+            return self.sums[c][gone], *min((self.sums[l][gone], l) for l in members(behind))
+        tally = self.contest.tally(frozenset(members(behind | 1 << c)))
+        return tally[c], *min((tally[l], l) for l in members(behind))
+
     def of(self, behind, c):
         gone = self.full & ~behind & ~(1 << c)
         margin, w = next(((margin, w) for margin, w in self.rivals[c] if gone >> w & 1), (0, None))
         best = (margin, ("NEB", w, c)) if margin > 0 else (0, None)
         if behind:
-            votes = self.sums[c][gone]
-            least, l = min((self.sums[l][gone], l) for l in members(behind))
+            votes, least, l = self.votes(gone, c, behind)
             if votes - least > best[0]:
                 best = votes - least, ("NEN", c, l, frozenset(members(behind | 1 << c)))
         return best
@@ -111,16 +116,16 @@ def by_sets(contest):
 
 
 def least_way(steps, outside):
-    """The least, over the ways from nobody to all, of their greatest step."""
+    """The least, over the ways from nobody to all, of their greatest step. Of ways as good as each other the one that has come further goes on."""
     heap, done = [(0, 0)], set()
     while True:
-        low, behind = heapq.heappop(heap)
-        if behind == steps.full:
+        low, come = heapq.heappop(heap)
+        if -come == steps.full:
             return low
-        if behind not in done:
-            done.add(behind)
-            for c in outside(behind):
-                heapq.heappush(heap, (max(low, steps.of(behind, c)[0]), behind | 1 << c))
+        if come not in done:
+            done.add(come)
+            for c in outside(-come):
+                heapq.heappush(heap, (max(low, steps.of(-come, c)[0]), -(-come | 1 << c)))
 
 
 def first_way(steps, outside, best):
@@ -139,12 +144,12 @@ def found(contest):
     return (by_list if contest.n <= MOST_LISTED else by_sets)(contest)
 
 
-def printed(contest, found, floor, plan):
+def printed(contest, came, floor, plan):
     """An assertion file, or the reason for a full count."""
     winner = plain.decided(contest)[0][-1]
-    if found.best < floor:
-        return 5, f"full count\norder {','.join(contest.ids[c] for c in found.order)}\nmargin {found.best}\nfloor {floor}\n"
-    return 0, plain.text_of(contest, winner, found.best, found.order, found.claims, plan)
+    if came.best < floor:
+        return 5, f"full count\norder {','.join(contest.ids[c] for c in came.order)}\nmargin {came.best}\nfloor {floor}\n"
+    return 0, plain.text_of(contest, winner, came.best, came.order, came.claims, plan)
 
 
 def searched(contest, sets, floor=1, plan=None, by=found):

@@ -5,8 +5,8 @@ acceptance/sets.py PROGRAM [CONTESTS] makes so many contests of 2 to 9 candidate
 search has to print what it prints with all nodes, byte for byte, at one worker and at eight; with as many sets as count it does too, and
 with one fewer it is spent. A check of what is printed says yes with just as many sets as its search counted for the assertions; without
 one of the assertions, and with few sets, it says what plain.py does, and so does a trim. Then a tenth as many contests of 10 to 20
-candidates are made as they occur: each has to be answered with the most sets there may be, and checked; those of up to 13 candidates
-are compared with plain_sets.py. The last line says how many agreed.
+candidates are made as they occur: each has to be answered with the most sets there may be, and checked; those of up to 13 candidates, or with few
+assertions, are compared with plain_sets.py. The last line says how many agreed.
 """
 import json
 import multiprocessing.pool
@@ -25,6 +25,7 @@ from limits import MOST_NODES, MOST_SETS, MOST_WORKERS
 
 ALL = 512  # never spent up to nine candidates: there are 2^9 sets of them
 MOST_LARGE, MOST_COMPARED, MOST_TRIMMED = 20, 13, 5  # candidates
+FEW = 100  # assertions, of whose contest any number of candidates is compared
 
 # How often each candidate is ranked, and up to how many candidates such a contest is made: a file of assertions about more has a length that
 # no command reads.
@@ -118,7 +119,8 @@ class Contest:
     def large(self):
         """One of many candidates, which has to be answered and checked."""
         status, text, err = ran(self.program, "search", self.ballots, f"--sets={MOST_SETS}")
-        if self.contest.n <= MOST_COMPARED and (status, text) != plain_sets.searched(self.contest, MOST_SETS):
+        is_compared = self.contest.n <= MOST_COMPARED or (status == 0 and text.count('"kind"') <= FEW)
+        if is_compared and (status, text) != plain_sets.searched(self.contest, MOST_SETS):
             self.wrong.append(f"contest {self.number}: plain_sets.py comes to another end than {status} {text[:400]} {err}")
         if status == 3:
             return

@@ -24,7 +24,8 @@ pub record ArePlaces (places : List (Option Row)) : Type 0 where
   pub few : length places ≤ MOST_ROWS
 
 -- what tallies keep
-pub record AreTallies (bag : Kept) (counts : Counts) (kept : List (Option Row)) : Type 0 where
+pub record AreTallies (bag : Kept) (counts : Counts) (summed : Option Kept) (kept : List (Option Row)) : Type 0 where
   pub filled : AreFilledFrom bag counts
+  pub same : IfSome summed (λ own. own ≡ bag)
   pub places : ArePlaces kept
   pub rows : AreRows bag kept

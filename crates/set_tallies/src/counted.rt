@@ -5,7 +5,7 @@ ghost use Rattle.set_tallies.specs.Bags.{IsOf};
 
 use crate::ahead::Ahead;
 use crate::bag::Bag;
-use crate::tallies::{Tallies, rows_before_sums};
+use crate::tallies::Tallies;
 use irv_base::{Memory, Ranking};
 use std::alloc::Global;
 use std::marker::Model;
@@ -53,12 +53,13 @@ impl Counted {
         Ok(Counted { alloc, bag, ahead })
     }
 
-    /// The tallies of sets of candidates over the records.
+    /// The tallies of sets of candidates over the records. Where counting rows takes as long as making the sums over all sets, these are
+    /// made, for these tallies alone.
     pub fn tallies(&self) -> Result<Tallies<'_>, Memory>
         ensures bag { IfOk result (λ tallies. tallies.bag ≡ self.now.bag) }
         ensures counts { IfOk result (λ tallies. tallies.counts ≡ self.now.counts) }
     {
-        Tallies::new(self.alloc, &self.bag, &self.ahead, u64::MAX)
+        Tallies::new(self.alloc, &self.bag, &self.ahead, true)
     }
 
     /// The tallies for one of several workers. Where counting rows takes as long as making the sums over all sets, it ends as for
@@ -67,12 +68,7 @@ impl Counted {
         ensures bag { IfOk result (λ tallies. tallies.bag ≡ self.now.bag) }
         ensures counts { IfOk result (λ tallies. tallies.counts ≡ self.now.counts) }
     {
-        Tallies::new(
-            self.alloc,
-            &self.bag,
-            &self.ahead,
-            rows_before_sums(&self.bag),
-        )
+        Tallies::new(self.alloc, &self.bag, &self.ahead, false)
     }
 
     /// The same records with the sums over all sets, where they have none and there are few enough candidates for them.

@@ -18,8 +18,8 @@ use std::marker::Model;
 /// The tallies of the sets of candidates, over the records of a bag.
 ///
 /// Where the bag has the sums over all sets, rows are read from them. Else a row that was counted is kept until another set's takes its
-/// place, and so many are counted at most. To a contract the tallies are what they are made from, the bag and the two numbers of NEB's
-/// margin.
+/// place; once so many were counted that the sums would have been made in that time, they are made, or the tallies give up. To a
+/// contract the tallies are what they are made from, the bag and the two numbers of NEB's margin.
 #[derive(Drop)]
 pub struct Tallies<'b> {
     alloc: Global,
@@ -28,6 +28,10 @@ pub struct Tallies<'b> {
     rows: Rows,
     // how many more rows may be counted
     left: u64,
+    // whether sums are made here then
+    alone: bool,
+    // the bag with sums that were made here
+    summed: Option<Bag>,
 }
 
 impl<'b> Model for Tallies<'b> {
@@ -38,7 +42,19 @@ impl<'b> Model for Tallies<'b> {
 
     ghost view = { λ t. record { bag = t.bag.now; counts = t.ahead.now } };
 
-    ghost invariant = { λ t. AreTallies t.bag.now t.ahead.now t.rows.places.items };
+    ghost invariant = { λ t.
+        AreTallies t.bag.now t.ahead.now t.summed t.rows.places.items };
+}
+
+// The bag, with sums if some were made.
+fn with_sums<'b>(bag: &'b Bag, summed: &'b Option<Bag>) -> &'b Bag
+    requires { IfSome summed.now (λ own. own ≡ bag.now) }
+    ensures { result.now ≡ bag.now }
+{
+    match summed {
+        Some(own) => own,
+        None => bag,
+    }
 }
 
 // The sums over all sets, where the bag has them.
@@ -51,8 +67,8 @@ fn sums_in(bag: &Bag) -> Option<&Sums>
     }
 }
 
-/// How many rows are counted in the time in which the sums over all sets are made. Where they are made, or can't be, there is no limit.
-pub fn rows_before_sums(bag: &Bag) -> u64 {
+// How many rows are counted in the time in which the sums over all sets are made. Where they are made, or can't be, there is no limit.
+fn rows_before_sums(bag: &Bag) -> u64 {
     match bag.kept() {
         Votes::Listed(lists) if bag.candidates() <= MOST_SUMMED => rows_in_time(
             bag.candidates(),
@@ -92,12 +108,13 @@ fn tallied(alloc: Global, n: u32, row: &[u32], s: CandSet) -> Result<Vec<u32>, M
 }
 
 impl<'b> Tallies<'b> {
-    /// The tallies over the records of the bag, which `ahead` was filled from. At most so many rows are counted.
+    /// The tallies over the records of the bag, which `ahead` was filled from. Where counting rows takes as long as making the sums over all
+    /// sets, tallies that are alone make them, and others give up as for want of memory.
     pub fn new(
         alloc: Global,
         bag: &'b Bag,
         ahead: &'b Ahead,
-        most: u64,
+        alone: bool,
     ) -> Result<Tallies<'b>, Memory>
         requires { AreFilledFrom bag.now ahead.now }
         ensures bag { IfOk result (λ t. t.bag ≡ bag.now) }
@@ -109,7 +126,9 @@ impl<'b> Tallies<'b> {
             bag,
             ahead,
             rows,
-            left: most,
+            left: rows_before_sums(bag),
+            alone,
+            summed: None,
         })
     }
 
@@ -147,14 +166,28 @@ impl<'b> Tallies<'b> {
             → HasTallies records self.now.bag.n s row.now) }
         ensures one_each { IfSome result (λ row. length row.now ≡ self.now.bag.n) }
     {
-        match sums_in(self.bag) {
+        match sums_in(with_sums(self.bag, &self.summed)) {
             Some(sums) => Some(sums.row(s.number())),
             None => self.rows.get(s.number()),
         }
     }
 
-    /// The tallies of the candidates in the set `s`, one number for each candidate, 0 for those outside. Where no more rows may be
-    /// counted, that is want of memory.
+    // Where no more rows may be counted, tallies that are alone make the sums, and others give up.
+    fn go_on(&mut self) -> Result<(), Memory>
+        ensures { self.new ≡ self.old }
+    {
+        if self.left > 0 {
+            return Ok(());
+        }
+        if !self.alone {
+            return Err(Memory);
+        }
+        self.left = u64::MAX;
+        self.summed = self.bag.summed(self.alloc)?;
+        Ok(())
+    }
+
+    /// The tallies of the candidates in the set `s`, one number for each candidate, 0 for those outside.
     pub fn tally(&mut self, s: CandSet) -> Result<Vec<u32>, Memory>
         requires { s < 2 ^ self.old.bag.n }
         ensures tallies { IfOk result (λ row. (records : List (List ℕ)) → IsOf self.old.bag records
@@ -162,14 +195,12 @@ impl<'b> Tallies<'b> {
         ensures one_each { IfOk result (λ row. length row.items ≡ self.old.bag.n) }
         ensures same { self.new ≡ self.old }
     {
+        self.go_on()?;
         if let Some(row) = self.row(s) {
             let copied = tallied(self.alloc, self.bag.candidates(), row, s)?;
             return Ok(copied);
         }
-        if self.left == 0 {
-            return Err(Memory);
-        }
-        self.left -= 1;
+        self.left = self.left.saturating_sub(1);
         let set = s.number();
         let votes = row_of(self.alloc, self.bag, s, set)?;
         let answer = Vec::from_slice(self.alloc, &votes)?;

@@ -7,9 +7,11 @@ use Rattle.std.proofs.lemmas.Bool.{and_parts, false≢true}
 use Rattle.irv_base.proofs.Members.{from_find}
 use Rattle.command_line.specs.Laws.{LinesHaveMeanings, LinesAreChecked, IsChecked}
 use Rattle.irv_base.specs.declared.limits.TheConstants.{GREATEST_GAMMA, GREATEST_LIMIT, MOST_CARDS}
+use Rattle.budget.specs.Budgets.{IsWithin}
+use Rattle.budget.specs.declared.limits.TheConstants.{MOST_NODES, MOST_SETS}
 use Rattle.command.specs.Limits.{IsNamed, IsFromTo, IsUpTo}
 use Rattle.command.specs.PlanTerms.{AreWithinLimits}
-use Rattle.command_line.specs.Line.{are_right, is_given_right, pieces_of, is_line_of, line_named, is_line, command_of, meaning, file, seed, value, given_number, number_of, terms_with}
+use Rattle.command_line.specs.Line.{are_right, is_given_right, pieces_of, is_line_of, line_named, is_line, command_of, meaning, file, seed, value, given_number, number_of, budget_with, terms_with}
 use Rattle.command_line.specs.Pieces.{Piece, File, Given, Stray, fits, files_in}
 use Rattle.command_line.specs.Table.{commands, form_of, text_of, kind_of, default_of, is_needed}
 use Rattle.command_line.specs.Values.{is_number, is_number_within, number, is_value}
@@ -142,6 +144,11 @@ terms_checked : (pieces : List Piece) (cards : Option ℕ) → IfSome cards (IsU
 terms_checked pieces None some limit gamma = tt
 terms_checked pieces (Some cards) some limit gamma = record { cards = some; limit = limit; gamma = gamma }
 
+-- so many sets, or else so many nodes
+budget_checked : (nodes : ℕ) (sets : Option ℕ) → IsUpTo MOST_NODES nodes → IfSome sets (IsUpTo MOST_SETS) → IsWithin (budget_with nodes sets)
+budget_checked nodes None most few = most
+budget_checked nodes (Some sets) most few = few
+
 -- a row a command
 meaning_checked : (name : CommandName) (pieces : List Piece) → IsRight name pieces → IsChecked (meaning name pieces)
 meaning_checked command.Search pieces line =
@@ -150,7 +157,7 @@ meaning_checked command.Search pieces line =
     record {
       ballots = file 0 refl;
       workers = value option.Workers refl;
-      nodes = value option.Nodes refl;
+      budget = budget_checked (number_of option.Nodes pieces) (given_number option.Sets pieces) (value option.Nodes refl) (value option.Sets refl);
       floor = value option.Floor refl;
       plan = terms_checked pieces (given_number option.Cards pieces) (value option.Cards refl) (value option.Limit refl) (value option.Gamma refl);
     }
@@ -161,11 +168,19 @@ meaning_checked command.Tabulate pieces line =
 meaning_checked command.Check pieces line =
     let file = named command.Check pieces line in
     let value = value_of command.Check pieces line in
-    record { ballots = file 0 refl; assertions = file 1 refl; nodes = value option.Nodes refl }
+    record {
+      ballots = file 0 refl;
+      assertions = file 1 refl;
+      budget = budget_checked (number_of option.Nodes pieces) (given_number option.Sets pieces) (value option.Nodes refl) (value option.Sets refl);
+    }
 meaning_checked command.Trim pieces line =
     let file = named command.Trim pieces line in
     let value = value_of command.Trim pieces line in
-    record { ballots = file 0 refl; assertions = file 1 refl; nodes = value option.Nodes refl }
+    record {
+      ballots = file 0 refl;
+      assertions = file 1 refl;
+      budget = budget_checked (number_of option.Nodes pieces) (given_number option.Sets pieces) (value option.Nodes refl) (value option.Sets refl);
+    }
 meaning_checked command.Sample pieces line =
     let file = named command.Sample pieces line in
     let value = value_of command.Sample pieces line in
@@ -184,7 +199,7 @@ meaning_checked command.Open pieces line =
       seed = value option.Seed refl;
       limit = value option.Limit refl;
       gamma = value option.Gamma refl;
-      nodes = value option.Nodes refl;
+      budget = budget_checked (number_of option.Nodes pieces) (given_number option.Sets pieces) (value option.Nodes refl) (value option.Sets refl);
     }
 meaning_checked command.Audit pieces line =
     let file = named command.Audit pieces line in
@@ -196,7 +211,7 @@ meaning_checked command.Audit pieces line =
       assertions = file 3 refl;
       seen = file 4 refl;
       draws = value option.Draws refl;
-      nodes = value option.Nodes refl;
+      budget = budget_checked (number_of option.Nodes pieces) (given_number option.Sets pieces) (value option.Nodes refl) (value option.Sets refl);
     }
 meaning_checked command.Report pieces line =
     let file = named command.Report pieces line in
@@ -235,7 +250,7 @@ meaning_checked command.Trial pieces line =
       candidates = value option.Candidates refl;
       ballots = value option.Ballots refl;
       workers = value option.Workers refl;
-      nodes = value option.Nodes refl;
+      budget = budget_checked (number_of option.Nodes pieces) (given_number option.Sets pieces) (value option.Nodes refl) (value option.Sets refl);
     }
 
 -- the words of a line are right

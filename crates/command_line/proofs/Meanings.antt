@@ -12,7 +12,7 @@ use Rattle.command_line.specs.Table.{text_of, kind_of, is_number_kind, is_number
 use Rattle.command_line.specs.Values.{is_number, is_number_within, number, is_value}
 use Rattle.irv_base.specs.declared.limits.TheConstants.{MOST_NUMBER_DIGITS}
 use Rattle.command_line.specs.declared.table.OptionName.{OptionName}
-use Rattle.command_line.specs.declared.table.OptionName.TheVariants.{Contest, Workers, Nodes, Floor, Cards, Draws, Limit, Gamma, Candidates, Ballots}
+use Rattle.command_line.specs.declared.table.OptionName.TheVariants.{Contest, Workers, Nodes, Sets, Floor, Cards, Draws, Limit, Gamma, Candidates, Ballots}
 use Rattle.command_line.specs.declared.table.OptionName.TheVariants as option
 use Rattle.command_line.specs.declared.table.ValueKind.{ValueKind}
 use Rattle.command_line.specs.declared.table.ValueKind.TheVariants.{Id, Seed, Number, FreeNumber}
@@ -24,6 +24,7 @@ pub same_option : (a b : OptionName) → bytes_eq (text_of a) (text_of b) ≡ tr
 same_option Contest Contest h = refl
 same_option Workers Workers h = refl
 same_option Nodes Nodes h = refl
+same_option Sets Sets h = refl
 same_option Floor Floor h = refl
 same_option Cards Cards h = refl
 same_option option.Seed option.Seed h = refl

@@ -4,7 +4,7 @@ use Rattle.std.specs.Prelude.{slice_get, unwrap_or}
 use Rattle.std.specs.List.{list_all}
 use Rattle.std.proofs.lemmas.Bool.{and_parts, false≢true}
 use Rattle.sampler.specs.Seeds.{is_seed}
-use Rattle.command_line.specs.Line.{are_right, is_given_right, seed, value}
+use Rattle.command_line.specs.Line.{are_right, is_given_right, is_given_together, seed, value}
 use Rattle.command_line.specs.Pieces.{Piece, fits, files_in, values_in}
 use Rattle.command_line.specs.Table.{form_of, kind_of, is_needed}
 use Rattle.command_line.specs.declared.table.CommandName.{CommandName}
@@ -22,9 +22,11 @@ as_many : (a b : ℕ) → (a == b) ≡ true → a ≡ b
 as_many a b h = grind arith
 
 pub parts : (name : CommandName) (pieces : List Piece) → are_right name pieces ≡ true → IsRight name pieces
-parts name pieces right =
-    let (front, given) = and_parts (list_all fits pieces && length (files_in pieces) == length (form_of name).files) _ right in
-    let (options, together) = and_parts (list_all (λ option. is_given_right option pieces) (form_of name).options) _ given in
+parts name pieces all =
+    let (front, given) = and_parts (list_all fits pieces && length (files_in pieces) == length (form_of name).files) _ all in
+    let (right, apart) = and_parts (list_all (λ option. is_given_right option pieces) (form_of name).options
+    && list_all (λ two. is_given_together two pieces) (form_of name).together) _ given in
+    let (options, together) = and_parts (list_all (λ option. is_given_right option pieces) (form_of name).options) _ right in
     let (fit, count) = and_parts (list_all fits pieces) (length (files_in pieces) == length (form_of name).files) front in
     record { fit = fit; count = as_many (length (files_in pieces)) (length (form_of name).files) count; options = options }
 

@@ -15,5 +15,5 @@ pub record IsTaken (command : CommandName) (pieces : List Piece) : Type 0 where
 
 pub is_taken : (command : CommandName) (pieces : List Piece) → IsTaken command pieces
 unfolding clap_on_literals
-is_taken Search pieces = record { simple = refl; taken = refl; shown = record { options = (refl, (refl, (refl, (refl, (refl, (refl, (refl, tt))))))); files = (refl, tt) } }
+is_taken Search pieces = record { simple = refl; taken = refl; shown = record { options = (refl, (refl, (refl, (refl, (refl, (refl, (refl, (refl, tt)))))))); files = (refl, tt) } }
 is_taken _ pieces = record { simple = refl; taken = refl; shown = record { options = search rules; files = search rules } }

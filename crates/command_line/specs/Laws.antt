@@ -18,10 +18,12 @@ use Rattle.command_line.specs.Table.{kind_of}
 use Rattle.command_line.specs.Values.{is_number, is_value}
 use Rattle.command_line.specs.declared.commands.Command.{Command}
 use Rattle.command_line.specs.declared.commands.Command.TheVariants.{Search, Tabulate, Check, Trim, Sample, Plan, Open, Audit, Report, Poll, OpenPlurality, AuditPlurality, Trial}
-use Rattle.command.specs.declared.limits.TheConstants.{DEFAULT_WORKERS, DEFAULT_NODES, DEFAULT_FLOOR, DEFAULT_LIMIT, DEFAULT_GAMMA, DEFAULT_CANDIDATES, DEFAULT_BALLOTS}
+use Rattle.budget.specs.declared.budget.Budget.TheVariants as budget_of
+use Rattle.budget.specs.declared.limits.TheConstants.{DEFAULT_NODES}
+use Rattle.command.specs.declared.limits.TheConstants.{DEFAULT_WORKERS, DEFAULT_FLOOR, DEFAULT_LIMIT, DEFAULT_GAMMA, DEFAULT_CANDIDATES, DEFAULT_BALLOTS}
 use Rattle.command_line.specs.declared.table.CommandName.{CommandName}
 use Rattle.command_line.specs.declared.table.OptionName.{OptionName}
-use Rattle.command_line.specs.declared.table.OptionName.TheVariants.{Workers, Nodes, Floor, Cards, Seed, Draws, Limit, Gamma, Number, Candidates, Ballots}
+use Rattle.command_line.specs.declared.table.OptionName.TheVariants.{Workers, Nodes, Sets, Floor, Cards, Seed, Draws, Limit, Gamma, Number, Candidates, Ballots}
 
 -- Words are a line exactly where they have a meaning.
 abbrev pub LinesHaveMeanings : Type 0
@@ -69,6 +71,10 @@ pub record Examples : Type 0 where
   pub no_nodes : is_taken Nodes (codes "0") ≡ false
   pub most_nodes : is_taken Nodes (codes "200000") ≡ true
   pub more_nodes : is_taken Nodes (codes "200001") ≡ false
+  pub least_sets : is_taken Sets (codes "1") ≡ true
+  pub no_sets : is_taken Sets (codes "0") ≡ false
+  pub most_sets : is_taken Sets (codes "1048576") ≡ true
+  pub more_sets : is_taken Sets (codes "1048577") ≡ false
   pub least_floor : is_taken Floor (codes "1") ≡ true
   pub no_floor : is_taken Floor (codes "0") ≡ false
   pub most_floor : is_taken Floor (codes "1000000") ≡ true
@@ -172,7 +178,7 @@ pub record Meanings : Type 0 where
         ballots = codes "b";
         contest = Some (codes "c");
         workers = 2;
-        nodes = 3;
+        budget = budget_of.Nodes 3;
         floor = 4;
         plan = Some (record { cards = 5; limit = 6; gamma = 7 });
       }))
@@ -182,7 +188,7 @@ pub record Meanings : Type 0 where
         ballots = codes "b";
         contest = None;
         workers = DEFAULT_WORKERS;
-        nodes = DEFAULT_NODES;
+        budget = budget_of.Nodes DEFAULT_NODES;
         floor = DEFAULT_FLOOR;
         plan = Some (record { cards = 5; limit = DEFAULT_LIMIT; gamma = DEFAULT_GAMMA });
       }))
@@ -192,7 +198,7 @@ pub record Meanings : Type 0 where
         ballots = codes "b";
         contest = None;
         workers = DEFAULT_WORKERS;
-        nodes = DEFAULT_NODES;
+        budget = budget_of.Nodes DEFAULT_NODES;
         floor = DEFAULT_FLOOR;
         plan = None;
       }))
@@ -203,7 +209,7 @@ pub record Meanings : Type 0 where
         ballots = codes "b";
         assertions = codes "a";
         contest = Some (codes "c");
-        nodes = 2;
+        budget = budget_of.Nodes 2;
       }))
   pub check_left_out :
       command_of (codes "check" ∷ codes "b" ∷ codes "a" ∷ [])
@@ -211,7 +217,7 @@ pub record Meanings : Type 0 where
         ballots = codes "b";
         assertions = codes "a";
         contest = None;
-        nodes = DEFAULT_NODES;
+        budget = budget_of.Nodes DEFAULT_NODES;
       }))
   pub trim :
       command_of (codes "trim" ∷ codes "b" ∷ codes "a" ∷ codes "--contest=c"
@@ -220,7 +226,7 @@ pub record Meanings : Type 0 where
         ballots = codes "b";
         assertions = codes "a";
         contest = Some (codes "c");
-        nodes = 2;
+        budget = budget_of.Nodes 2;
       }))
   pub trim_left_out :
       command_of (codes "trim" ∷ codes "b" ∷ codes "a" ∷ [])
@@ -228,7 +234,7 @@ pub record Meanings : Type 0 where
         ballots = codes "b";
         assertions = codes "a";
         contest = None;
-        nodes = DEFAULT_NODES;
+        budget = budget_of.Nodes DEFAULT_NODES;
       }))
   pub sample :
       command_of (codes "sample" ∷ codes "m" ∷ codes "--seed=s" ∷ codes "--draws=2" ∷ [])
@@ -255,7 +261,7 @@ pub record Meanings : Type 0 where
         contest = Some (codes "c");
         limit = 2;
         gamma = 3;
-        nodes = 4;
+        budget = budget_of.Nodes 4;
       }))
   pub open_left_out :
       command_of (codes "open" ∷ codes "b" ∷ codes "m" ∷ codes "a" ∷ codes "--seed=s" ∷ [])
@@ -267,7 +273,7 @@ pub record Meanings : Type 0 where
         contest = None;
         limit = DEFAULT_LIMIT;
         gamma = DEFAULT_GAMMA;
-        nodes = DEFAULT_NODES;
+        budget = budget_of.Nodes DEFAULT_NODES;
       }))
   pub audit :
       command_of (codes "audit" ∷ codes "s" ∷ codes "b" ∷ codes "m" ∷ codes "a" ∷ codes "t"
@@ -279,7 +285,7 @@ pub record Meanings : Type 0 where
         assertions = codes "a";
         seen = codes "t";
         draws = 2;
-        nodes = 3;
+        budget = budget_of.Nodes 3;
       }))
   pub audit_left_out :
       command_of (codes "audit" ∷ codes "s" ∷ codes "b" ∷ codes "m" ∷ codes "a" ∷ codes "t"
@@ -291,7 +297,7 @@ pub record Meanings : Type 0 where
         assertions = codes "a";
         seen = codes "t";
         draws = 2;
-        nodes = DEFAULT_NODES;
+        budget = budget_of.Nodes DEFAULT_NODES;
       }))
   pub report :
       command_of (codes "report" ∷ codes "s" ∷ [])
@@ -356,7 +362,13 @@ pub record Meanings : Type 0 where
   pub trial :
       command_of (codes "trial" ∷ codes "--number=2" ∷ codes "--candidates=3"
       ∷ codes "--ballots=4" ∷ codes "--workers=5" ∷ codes "--nodes=6" ∷ [])
-      ≡ Some (Trial (record { number = 2; candidates = 3; ballots = 4; workers = 5; nodes = 6 }))
+      ≡ Some (Trial (record {
+        number = 2;
+        candidates = 3;
+        ballots = 4;
+        workers = 5;
+        budget = budget_of.Nodes 6;
+      }))
   pub trial_left_out :
       command_of (codes "trial" ∷ codes "--number=0" ∷ [])
       ≡ Some (Trial (record {
@@ -364,7 +376,7 @@ pub record Meanings : Type 0 where
         candidates = DEFAULT_CANDIDATES;
         ballots = DEFAULT_BALLOTS;
         workers = DEFAULT_WORKERS;
-        nodes = DEFAULT_NODES;
+        budget = budget_of.Nodes DEFAULT_NODES;
       }))
   pub two_words :
       command_of (codes "plan" ∷ codes "--gamma" ∷ codes "3" ∷ codes "m" ∷ codes "--limit"
@@ -380,6 +392,69 @@ pub record Meanings : Type 0 where
       command_of (codes "sample" ∷ codes "m" ∷ codes "--seed=-1" ∷ codes "--draws=1" ∷ [])
       ≡ Some (Sample (record { manifest = codes "m"; seed = codes "-1"; draws = 1 }))
 
+-- a line of each command that may have a number of sets
+pub record SetsMeanings : Type 0 where
+  pub search :
+      command_of (codes "search" ∷ codes "b" ∷ codes "--sets=8" ∷ [])
+      ≡ Some (Search (record {
+        ballots = codes "b";
+        contest = None;
+        workers = DEFAULT_WORKERS;
+        budget = budget_of.Sets 8;
+        floor = DEFAULT_FLOOR;
+        plan = None;
+      }))
+  pub check :
+      command_of (codes "check" ∷ codes "--sets" ∷ codes "8" ∷ codes "b" ∷ codes "a" ∷ [])
+      ≡ Some (Check (record {
+        ballots = codes "b";
+        assertions = codes "a";
+        contest = None;
+        budget = budget_of.Sets 8;
+      }))
+  pub trim :
+      command_of (codes "trim" ∷ codes "b" ∷ codes "a" ∷ codes "--sets=8" ∷ [])
+      ≡ Some (Trim (record {
+        ballots = codes "b";
+        assertions = codes "a";
+        contest = None;
+        budget = budget_of.Sets 8;
+      }))
+  pub open_session :
+      command_of (codes "open" ∷ codes "b" ∷ codes "m" ∷ codes "a" ∷ codes "--seed=s"
+      ∷ codes "--sets=8" ∷ [])
+      ≡ Some (Open (record {
+        ballots = codes "b";
+        manifest = codes "m";
+        assertions = codes "a";
+        seed = codes "s";
+        contest = None;
+        limit = DEFAULT_LIMIT;
+        gamma = DEFAULT_GAMMA;
+        budget = budget_of.Sets 8;
+      }))
+  pub audit :
+      command_of (codes "audit" ∷ codes "s" ∷ codes "b" ∷ codes "m" ∷ codes "a" ∷ codes "t"
+      ∷ codes "--draws=2" ∷ codes "--sets=8" ∷ [])
+      ≡ Some (Audit (record {
+        session = codes "s";
+        ballots = codes "b";
+        manifest = codes "m";
+        assertions = codes "a";
+        seen = codes "t";
+        draws = 2;
+        budget = budget_of.Sets 8;
+      }))
+  pub trial :
+      command_of (codes "trial" ∷ codes "--sets=8" ∷ codes "--number=0" ∷ [])
+      ≡ Some (Trial (record {
+        number = 0;
+        candidates = DEFAULT_CANDIDATES;
+        ballots = DEFAULT_BALLOTS;
+        workers = DEFAULT_WORKERS;
+        budget = budget_of.Sets 8;
+      }))
+
 -- words that are no line
 pub record NoLines : Type 0 where
   pub part_of_a_word : is_line (codes "searc" ∷ codes "b" ∷ []) ≡ false
@@ -389,6 +464,15 @@ pub record NoLines : Type 0 where
       is_line (codes "tabulate" ∷ codes "b" ∷ codes "--floor=3" ∷ []) ≡ false
   pub limit_without_cards : is_line (codes "search" ∷ codes "b" ∷ codes "--limit=3" ∷ []) ≡ false
   pub gamma_without_cards : is_line (codes "search" ∷ codes "b" ∷ codes "--gamma=3" ∷ []) ≡ false
+  pub both_budgets :
+      is_line (codes "search" ∷ codes "b" ∷ codes "--nodes=1" ∷ codes "--sets=1" ∷ []) ≡ false
+  pub sets_and_nodes :
+      is_line (codes "check" ∷ codes "b" ∷ codes "a" ∷ codes "--sets=1" ∷ codes "--nodes=1" ∷ [])
+      ≡ false
+  pub sets_twice :
+      is_line (codes "search" ∷ codes "b" ∷ codes "--sets=1" ∷ codes "--sets=1" ∷ []) ≡ false
+  pub sets_of_a_tabulation :
+      is_line (codes "tabulate" ∷ codes "b" ∷ codes "--sets=1" ∷ []) ≡ false
   pub hyphen_alone : is_line (codes "report" ∷ codes "-" ∷ []) ≡ false
   pub file_without_name : is_line (codes "report" ∷ codes "" ∷ []) ≡ false
   pub hyphen_as_value :

@@ -1,18 +1,21 @@
 -- What is a line, and what it asks for.
-use Rattle.std.specs.Prelude.{ℕ, Bool, false, not, ◌&&◌, ◌||◌, ◌==◌, nat_le, List, [], ◌∷◌, length, find, slice_get, Option, None, is_some, unwrap_or, option_map}
+use Rattle.std.specs.Prelude.{ℕ, Bool, false, not, ◌&&◌, ◌||◌, ◌==◌, nat_le, List, [], ◌∷◌, length, find, slice_get, Option, None, Some, is_some, unwrap_or, option_map}
 use Rattle.std.specs.List.{list_all}
 use Rattle.std.specs.Str.{bytes_eq}
 use Rattle.irv_base.specs.Names.{Id}
 use Rattle.command_line.specs.Table.{form_of, commands, kind_of, is_needed, default_of}
 use Rattle.command_line.specs.Pieces.{Piece, pieces, files_in, values_in, fits}
 use Rattle.command_line.specs.Values.{number}
+use Rattle.budget.specs.declared.budget.Budget.{Budget}
+use Rattle.budget.specs.declared.budget.Budget.TheVariants as budget_of
 use Rattle.command.specs.declared.plan_terms.PlanTerms.{PlanTerms}
 use Rattle.command_line.specs.declared.commands.Command.{Command}
 use Rattle.command_line.specs.declared.commands.Command.TheVariants.{Search, Tabulate, Check, Trim, Sample, Plan, Open, Audit, Report, Poll, OpenPlurality, AuditPlurality, Trial}
+use Rattle.command_line.specs.declared.table.Apart.{Apart}
 use Rattle.command_line.specs.declared.table.CommandName.{CommandName}
 use Rattle.command_line.specs.declared.table.CommandName.TheVariants as name
 use Rattle.command_line.specs.declared.table.OptionName.{OptionName}
-use Rattle.command_line.specs.declared.table.OptionName.TheVariants.{Contest, Workers, Nodes, Floor, Cards, Seed, Draws, Limit, Gamma, Number, Candidates, Ballots}
+use Rattle.command_line.specs.declared.table.OptionName.TheVariants.{Contest, Workers, Nodes, Sets, Floor, Cards, Seed, Draws, Limit, Gamma, Number, Candidates, Ballots}
 use Rattle.command_line.specs.declared.table.Together.{Together}
 
 -- ---- the rules
@@ -30,17 +33,22 @@ is_given option pieces = nat_le 1 (length (values_in option pieces))
 abbrev pub is_given_together : Together → List Piece → Bool
 is_given_together two pieces = not (is_given two.option pieces) || is_given two.with pieces
 
--- each option is given right, and none without the one that it asks for
-abbrev pub are_given : List OptionName → List Together → List Piece → Bool
-are_given options together pieces =
+-- not both are given
+abbrev pub is_given_apart : Apart → List Piece → Bool
+is_given_apart two pieces = not (is_given two.option pieces && is_given two.other pieces)
+
+-- each option is given right, none without the one that it asks for, and none beside one that it excludes
+abbrev pub are_given : List OptionName → List Together → List Apart → List Piece → Bool
+are_given options together apart pieces =
     list_all (λ option. is_given_right option pieces) options
     && list_all (λ two. is_given_together two pieces) together
+    && list_all (λ two. is_given_apart two pieces) apart
 
 -- each piece is right, there are as many files as the command has, and its options are given right
 abbrev pub are_right : CommandName → List Piece → Bool
 are_right command pieces =
     list_all fits pieces && length (files_in pieces) == length (form_of command).files
-    && are_given (form_of command).options (form_of command).together pieces
+    && are_given (form_of command).options (form_of command).together (form_of command).apart pieces
 
 -- the pieces of a line of the command
 abbrev pub pieces_of : CommandName → List (List ℕ) → List Piece
@@ -83,6 +91,14 @@ given_number option pieces = option_map number (value option pieces)
 abbrev pub number_of : OptionName → List Piece → ℕ
 number_of option pieces = unwrap_or (given_number option pieces) (default_of (kind_of option))
 
+-- so many sets where a line gives them, and else so many nodes
+abbrev pub budget_with : ℕ → Option ℕ → Budget
+budget_with nodes None = budget_of.Nodes nodes
+budget_with nodes (Some sets) = budget_of.Sets sets
+
+abbrev pub budget : List Piece → Budget
+budget pieces = budget_with (number_of Nodes pieces) (given_number Sets pieces)
+
 -- what clean draws are planned for, where a line gives a number of cards
 abbrev pub terms_with : List Piece → ℕ → PlanTerms
 terms_with pieces cards =
@@ -97,7 +113,7 @@ meaning name.Search pieces = Search (record {
   ballots = file 0 pieces;
   contest = contest pieces;
   workers = number_of Workers pieces;
-  nodes = number_of Nodes pieces;
+  budget = budget pieces;
   floor = number_of Floor pieces;
   plan = plan_terms pieces;
 })
@@ -110,13 +126,13 @@ meaning name.Check pieces = Check (record {
   ballots = file 0 pieces;
   assertions = file 1 pieces;
   contest = contest pieces;
-  nodes = number_of Nodes pieces;
+  budget = budget pieces;
 })
 meaning name.Trim pieces = Trim (record {
   ballots = file 0 pieces;
   assertions = file 1 pieces;
   contest = contest pieces;
-  nodes = number_of Nodes pieces;
+  budget = budget pieces;
 })
 meaning name.Sample pieces = Sample (record {
   manifest = file 0 pieces;
@@ -137,7 +153,7 @@ meaning name.Open pieces = Open (record {
   contest = contest pieces;
   limit = number_of Limit pieces;
   gamma = number_of Gamma pieces;
-  nodes = number_of Nodes pieces;
+  budget = budget pieces;
 })
 meaning name.Audit pieces = Audit (record {
   session = file 0 pieces;
@@ -146,7 +162,7 @@ meaning name.Audit pieces = Audit (record {
   assertions = file 3 pieces;
   seen = file 4 pieces;
   draws = number_of Draws pieces;
-  nodes = number_of Nodes pieces;
+  budget = budget pieces;
 })
 meaning name.Report pieces = Report (record { session = file 0 pieces })
 meaning name.Poll pieces = Poll (record {
@@ -179,7 +195,7 @@ meaning name.Trial pieces = Trial (record {
   candidates = number_of Candidates pieces;
   ballots = number_of Ballots pieces;
   workers = number_of Workers pieces;
-  nodes = number_of Nodes pieces;
+  budget = budget pieces;
 })
 
 -- the command that the words ask for

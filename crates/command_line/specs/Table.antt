@@ -1,7 +1,9 @@
 -- The commands and the options: a line for each.
 use Rattle.std.specs.Prelude.{ℕ, Bool, true, false, List, [], ◌∷◌, None, Some, is_none, unwrap_or, codes}
 use Rattle.irv_base.specs.declared.limits.TheConstants.{FEWEST_CANDIDATES, GREATEST_GAMMA, GREATEST_LIMIT, MOST_CANDIDATES, MOST_CARDS, MOST_DRAWS, MOST_RECORDS, MOST_WORKERS}
-use Rattle.command.specs.declared.limits.TheConstants.{MOST_NODES, MOST_FLOOR, MOST_TRIAL_NUMBER, DEFAULT_WORKERS, DEFAULT_NODES, DEFAULT_FLOOR, DEFAULT_LIMIT, DEFAULT_GAMMA, DEFAULT_CANDIDATES, DEFAULT_BALLOTS}
+use Rattle.budget.specs.declared.limits.TheConstants.{MOST_NODES, DEFAULT_NODES, MOST_SETS}
+use Rattle.command.specs.declared.limits.TheConstants.{MOST_FLOOR, MOST_TRIAL_NUMBER, DEFAULT_WORKERS, DEFAULT_FLOOR, DEFAULT_LIMIT, DEFAULT_GAMMA, DEFAULT_CANDIDATES, DEFAULT_BALLOTS}
+use Rattle.command_line.specs.declared.table.Apart.{Apart}
 use Rattle.command_line.specs.declared.table.CommandName.{CommandName}
 use Rattle.command_line.specs.declared.table.CommandName.TheVariants.{Search, Tabulate, Check, Trim, Sample, Plan, Open, Audit, Report, Poll, OpenPlurality, AuditPlurality, Trial}
 use Rattle.command_line.specs.declared.table.OptionName.{OptionName}
@@ -10,23 +12,29 @@ use Rattle.command_line.specs.declared.table.Together.{Together}
 use Rattle.command_line.specs.declared.table.ValueKind.{ValueKind}
 use Rattle.command_line.specs.declared.table.ValueKind.TheVariants.{Id, Seed, Number, FreeNumber}
 
--- what a line of a command has: its word, its files in order, the options that it may have, and which of them it may give only together
--- with others
+-- what a line of a command has: its word, its files in order, the options that it may have, which of them it may give only together
+-- with others, and which only without others
 pub record Form : Type 0 where
   pub word : List ℕ
   pub files : List (List ℕ)
   pub options : List OptionName
   pub together : List Together
+  pub apart : List Apart
+
+-- a budget is of nodes or of sets
+abbrev pub budgets : List Apart
+budgets = record { option = option.Nodes; other = option.Sets } ∷ []
 
 abbrev pub form_of : CommandName → Form
 form_of Search = record {
   word = codes "search";
   files = codes "ballots" ∷ [];
   options =
-      option.Contest ∷ option.Workers ∷ option.Nodes ∷ option.Floor ∷ option.Cards ∷ option.Limit
-      ∷ option.Gamma ∷ [];
+      option.Contest ∷ option.Workers ∷ option.Nodes ∷ option.Sets ∷ option.Floor ∷ option.Cards
+      ∷ option.Limit ∷ option.Gamma ∷ [];
   together = record { option = option.Limit; with = option.Cards }
       ∷ record { option = option.Gamma; with = option.Cards } ∷ [];
+  apart = budgets;
 }
 form_of Tabulate =
     record {
@@ -34,20 +42,23 @@ form_of Tabulate =
       files = codes "ballots" ∷ [];
       options = option.Contest ∷ option.Nodes ∷ [];
       together = [];
+      apart = [];
     }
 form_of Check =
     record {
       word = codes "check";
       files = codes "ballots" ∷ codes "assertions" ∷ [];
-      options = option.Contest ∷ option.Nodes ∷ [];
+      options = option.Contest ∷ option.Nodes ∷ option.Sets ∷ [];
       together = [];
+      apart = budgets;
     }
 form_of Trim =
     record {
       word = codes "trim";
       files = codes "ballots" ∷ codes "assertions" ∷ [];
-      options = option.Contest ∷ option.Nodes ∷ [];
+      options = option.Contest ∷ option.Nodes ∷ option.Sets ∷ [];
       together = [];
+      apart = budgets;
     }
 form_of Sample =
     record {
@@ -55,6 +66,7 @@ form_of Sample =
       files = codes "manifest" ∷ [];
       options = option.Seed ∷ option.Draws ∷ [];
       together = [];
+      apart = [];
     }
 form_of Plan =
     record {
@@ -62,45 +74,55 @@ form_of Plan =
       files = codes "manifest" ∷ codes "assertions" ∷ [];
       options = option.Limit ∷ option.Gamma ∷ [];
       together = [];
+      apart = [];
     }
 form_of Open = record {
   word = codes "open";
   files = codes "ballots" ∷ codes "manifest" ∷ codes "assertions" ∷ [];
-  options = option.Seed ∷ option.Contest ∷ option.Limit ∷ option.Gamma ∷ option.Nodes ∷ [];
+  options =
+      option.Seed ∷ option.Contest ∷ option.Limit ∷ option.Gamma ∷ option.Nodes ∷ option.Sets ∷ [];
   together = [];
+  apart = budgets;
 }
 form_of Audit = record {
   word = codes "audit";
   files =
       codes "session" ∷ codes "ballots" ∷ codes "manifest" ∷ codes "assertions"
       ∷ codes "seen" ∷ [];
-  options = option.Draws ∷ option.Nodes ∷ [];
+  options = option.Draws ∷ option.Nodes ∷ option.Sets ∷ [];
   together = [];
+  apart = budgets;
 }
-form_of Report = record { word = codes "report"; files = codes "session" ∷ []; options = []; together = [] }
+form_of Report = record { word = codes "report"; files = codes "session" ∷ []; options = []; together = []; apart = [] }
 form_of Poll = record {
   word = codes "poll";
   files = codes "manifest" ∷ codes "assertions" ∷ codes "seen" ∷ [];
   options = option.Seed ∷ option.Draws ∷ option.Limit ∷ option.Gamma ∷ option.Nodes ∷ [];
   together = [];
+  apart = [];
 }
 form_of OpenPlurality = record {
   word = codes "plurality";
   files = codes "ballots" ∷ codes "manifest" ∷ [];
   options = option.Seed ∷ option.Contest ∷ option.Limit ∷ option.Gamma ∷ [];
   together = [];
+  apart = [];
 }
 form_of AuditPlurality = record {
   word = codes "plurality";
   files = codes "session" ∷ codes "ballots" ∷ codes "manifest" ∷ codes "seen" ∷ [];
   options = option.Draws ∷ [];
   together = [];
+  apart = [];
 }
 form_of Trial = record {
   word = codes "trial";
   files = [];
-  options = option.Number ∷ option.Candidates ∷ option.Ballots ∷ option.Workers ∷ option.Nodes ∷ [];
+  options =
+      option.Number ∷ option.Candidates ∷ option.Ballots ∷ option.Workers ∷ option.Nodes
+      ∷ option.Sets ∷ [];
   together = [];
+  apart = budgets;
 }
 
 abbrev pub commands : List CommandName
@@ -113,6 +135,7 @@ abbrev pub text_of : OptionName → List ℕ
 text_of option.Contest = codes "contest"
 text_of option.Workers = codes "workers"
 text_of option.Nodes = codes "nodes"
+text_of option.Sets = codes "sets"
 text_of option.Floor = codes "floor"
 text_of option.Cards = codes "cards"
 text_of option.Seed = codes "seed"
@@ -128,6 +151,7 @@ abbrev pub kind_of : OptionName → ValueKind
 kind_of option.Contest = Id
 kind_of option.Workers = Number 1 MOST_WORKERS (Some DEFAULT_WORKERS)
 kind_of option.Nodes = Number 1 MOST_NODES (Some DEFAULT_NODES)
+kind_of option.Sets = FreeNumber 1 MOST_SETS
 kind_of option.Floor = Number 1 MOST_FLOOR (Some DEFAULT_FLOOR)
 kind_of option.Cards = FreeNumber 1 MOST_CARDS
 kind_of option.Seed = Seed

@@ -4,10 +4,11 @@ ghost use Rattle.std.specs.List.{list_all};
 ghost use Rattle.clap.specs.Words.{first_of, rows_of, found_of};
 ghost use Rattle.command_line.specs.Table.{is_number_option};
 ghost use Rattle.command_line.specs.Pieces.{Piece, fits};
-ghost use Rattle.command_line.specs.Line.{contest, given_number, number_of, plan_terms, seed};
+ghost use Rattle.command_line.specs.Line.{budget, contest, given_number, number_of, plan_terms, seed};
 ghost use Rattle.command_line.specs.OneForm.{IsShown, HasSeed, name_in, may_be_number, number_in};
 
 use crate::table::OptionName;
+use budget::Budget;
 use clap::ArgMatches;
 use command::{FileName, PlanTerms};
 use irv_base::Name;
@@ -74,6 +75,20 @@ pub fn number(option: OptionName, matches: &ArgMatches<'_>) -> u32
         → result ≡ number_of option pieces }
 {
     given_number(option, matches).unwrap_or(option.kind().default())
+}
+
+/// So many sets where a line gives them, and else so many nodes.
+pub fn budget(matches: &ArgMatches<'_>) -> Budget
+    ensures { (pieces : List Piece) → list_all fits pieces ≡ true
+        → IsShown OptionName.Nodes pieces (rows_of (found_of matches.now))
+        → IsShown OptionName.Sets pieces (rows_of (found_of matches.now))
+        → result ≡ budget pieces }
+{
+    let nodes = number(OptionName::Nodes, matches);
+    match given_number(OptionName::Sets, matches) {
+        Some(sets) => Budget::Sets(sets),
+        None => Budget::Nodes(nodes),
+    }
 }
 
 /// What clean draws are planned for, if a line gives a number of cards.

@@ -6,7 +6,7 @@ ghost use Rattle.command_line.specs.Line.{is_line, are_right, pieces_of, command
 ghost use Rattle.command_line.specs.OneForm.{AreOfLine, IsMeant};
 ghost use Rattle.command_line.specs.Laws.{IsChecked};
 
-use crate::arguments::{contest, file, number, plan_terms, seed};
+use crate::arguments::{budget, contest, file, number, plan_terms, seed};
 use crate::line::line_named;
 use crate::matches::matches_of;
 use crate::one_form::one_form;
@@ -57,7 +57,7 @@ fn search(alloc: Global, matches: &ArgMatches<'_>) -> Result<Command, AllocError
         ballots: file(alloc, BALLOTS, matches)?,
         contest: contest(matches),
         workers: number(OptionName::Workers, matches),
-        nodes: number(OptionName::Nodes, matches),
+        budget: budget(matches),
         floor: number(OptionName::Floor, matches),
         plan: plan_terms(matches),
     }))
@@ -80,7 +80,7 @@ fn check(alloc: Global, matches: &ArgMatches<'_>) -> Result<Command, AllocError>
         ballots: file(alloc, BALLOTS, matches)?,
         assertions: file(alloc, ASSERTIONS, matches)?,
         contest: contest(matches),
-        nodes: number(OptionName::Nodes, matches),
+        budget: budget(matches),
     }))
 }
 
@@ -91,7 +91,7 @@ fn trim(alloc: Global, matches: &ArgMatches<'_>) -> Result<Command, AllocError>
         ballots: file(alloc, BALLOTS, matches)?,
         assertions: file(alloc, ASSERTIONS, matches)?,
         contest: contest(matches),
-        nodes: number(OptionName::Nodes, matches),
+        budget: budget(matches),
     }))
 }
 
@@ -129,7 +129,7 @@ fn open_session(alloc: Global, matches: &ArgMatches<'_>) -> Result<Command, Allo
         contest: contest(matches),
         limit: number(OptionName::Limit, matches),
         gamma: number(OptionName::Gamma, matches),
-        nodes: number(OptionName::Nodes, matches),
+        budget: budget(matches),
     }))
 }
 
@@ -143,7 +143,7 @@ fn audit(alloc: Global, matches: &ArgMatches<'_>) -> Result<Command, AllocError>
         assertions: file(alloc, ASSERTIONS, matches)?,
         seen: file(alloc, SEEN, matches)?,
         draws: number(OptionName::Draws, matches),
-        nodes: number(OptionName::Nodes, matches),
+        budget: budget(matches),
     }))
 }
 
@@ -205,7 +205,7 @@ fn trial(matches: &ArgMatches<'_>) -> Command
         candidates: number(OptionName::Candidates, matches),
         ballots: number(OptionName::Ballots, matches),
         workers: number(OptionName::Workers, matches),
-        nodes: number(OptionName::Nodes, matches),
+        budget: budget(matches),
     })
 }
 

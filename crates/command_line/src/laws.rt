@@ -1,5 +1,5 @@
 //! The laws of lines: each holds of all words, and has no code.
-ghost use Rattle.command_line.specs.Laws.{LinesHaveMeanings, LinesAreOfOne, LinesAreChecked, Examples, Searches, Samples, Trials, Meanings, NoLines};
+ghost use Rattle.command_line.specs.Laws.{LinesHaveMeanings, LinesAreOfOne, LinesAreChecked, Examples, Searches, Samples, Trials, Meanings, SetsMeanings, NoLines};
 
 /// Words are a line exactly where they have a meaning.
 pub fn lines_have_meanings()
@@ -39,6 +39,11 @@ pub fn trial_lines()
 /// Lines of each command, and what they ask for.
 pub fn meanings()
     ensures { Meanings }
+{}
+
+/// Lines with a number of sets, and what they ask for.
+pub fn sets_meanings()
+    ensures { SetsMeanings }
 {}
 
 /// Words that are no line.

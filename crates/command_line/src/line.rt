@@ -2,11 +2,11 @@
 ghost use Rattle.std.specs.Prelude.{◌≡◌, length};
 ghost use Rattle.std.specs.List.{list_all};
 ghost use Rattle.command_line.specs.Words.{texts};
-ghost use Rattle.command_line.specs.Line.{is_line, is_line_of, line_named, are_given, are_right, is_given, is_given_right, is_given_together, pieces_of};
+ghost use Rattle.command_line.specs.Line.{is_line, is_line_of, line_named, are_given, are_right, is_given, is_given_apart, is_given_right, is_given_together, pieces_of};
 ghost use Rattle.command_line.specs.Pieces.{pieces, files_in, values_in, fits};
 
 use crate::pieces::Pieces;
-use crate::table::{COMMANDS, CommandName, OptionName, Together};
+use crate::table::{Apart, COMMANDS, CommandName, OptionName, Together};
 
 fn file_count(pieces: Pieces<'_>) -> usize
     ensures { result ≡ length (files_in pieces.entry) }
@@ -57,10 +57,28 @@ fn are_given_together(options: &[OptionName], together: &[Together], words: &[St
     })
 }
 
-fn are_given(options: &[OptionName], together: &[Together], words: &[String]) -> bool
-    ensures { result ≡ are_given options.now together.now (pieces options.now (texts words.now)) }
+fn are_given_apart(options: &[OptionName], apart: &[Apart], words: &[String]) -> bool
+    ensures { let all = pieces options.now (texts words.now) in
+        result ≡ list_all (λ two. is_given_apart two all) apart.now }
 {
-    are_given_right(options, words) && are_given_together(options, together, words)
+    apart.iter().all(|two| {
+        !(is_given(two.option, Pieces::of(options, words))
+            && is_given(two.other, Pieces::of(options, words)))
+    })
+}
+
+fn are_given(
+    options: &[OptionName],
+    together: &[Together],
+    apart: &[Apart],
+    words: &[String],
+) -> bool
+    ensures { let all = pieces options.now (texts words.now) in
+        result ≡ are_given options.now together.now apart.now all }
+{
+    are_given_right(options, words)
+        && are_given_together(options, together, words)
+        && are_given_apart(options, apart, words)
 }
 
 // Whether the words after its word are right.
@@ -70,7 +88,7 @@ fn are_right(command: CommandName, words: &[String]) -> bool
     let form = command.form();
     all_fit(Pieces::of(form.options, words))
         && file_count(Pieces::of(form.options, words)) == form.files.len()
-        && are_given(form.options, form.together, words)
+        && are_given(form.options, form.together, form.apart, words)
 }
 
 fn is_line_of(command: CommandName, word: &str, words: &[String]) -> bool

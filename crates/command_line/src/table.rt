@@ -3,9 +3,10 @@ ghost use Rattle.std.specs.Prelude.{◌≡◌, [], map};
 ghost use Rattle.command_line.specs.Table.{form_of, text_of, kind_of, is_needed, default_of};
 ghost use Rattle.command_line.specs.declared.table.ValueKind.TheVariants.{Number, FreeNumber};
 
+use budget::{DEFAULT_NODES, MOST_NODES, MOST_SETS};
 use command::{
     DEFAULT_BALLOTS, DEFAULT_CANDIDATES, DEFAULT_FLOOR, DEFAULT_GAMMA, DEFAULT_LIMIT,
-    DEFAULT_NODES, DEFAULT_WORKERS, MOST_FLOOR, MOST_NODES, MOST_TRIAL_NUMBER,
+    DEFAULT_WORKERS, MOST_FLOOR, MOST_TRIAL_NUMBER,
 };
 use irv_base::{
     FEWEST_CANDIDATES, GREATEST_GAMMA, GREATEST_LIMIT, MOST_CANDIDATES, MOST_CARDS, MOST_DRAWS,
@@ -52,6 +53,8 @@ pub enum OptionName {
     Workers,
     /// The most suffixes that a race may expand for one piece, or that may count for one candidate.
     Nodes,
+    /// The most sets of candidates that may count, in place of suffixes.
+    Sets,
     /// The least margin of a search, in votes.
     Floor,
     /// How many cards the manifest will have, for an assertion file that carries its clean draws.
@@ -106,8 +109,17 @@ pub struct Together {
     pub with: OptionName,
 }
 
-/// What a line of a command has: its word, its files in order, the options that it may have, and which of them it may give only
-/// together with others.
+/// Two options of which a line may give one alone.
+#[derive(Clone, Copy, Debug, PartialEq, Eq)]
+pub struct Apart {
+    /// The one option.
+    pub option: OptionName,
+    /// The other.
+    pub other: OptionName,
+}
+
+/// What a line of a command has: its word, its files in order, the options that it may have, which of them it may give only together
+/// with others, and which only without others.
 #[derive(Clone, Copy)]
 pub struct Form<'f> {
     /// The command's word.
@@ -118,6 +130,8 @@ pub struct Form<'f> {
     pub options: &'f [OptionName],
     /// Those of them that ask for another one.
     pub together: &'f [Together],
+    /// Those of them that exclude each other.
+    pub apart: &'f [Apart],
 }
 
 /// All commands.
@@ -152,10 +166,17 @@ pub const SESSION: &str = "session";
 /// The name of a file of seen cards.
 pub const SEEN: &str = "seen";
 
-const SEARCH_OPTIONS: [OptionName; 7] = [
+// A budget is of nodes or of sets.
+const BUDGETS: [Apart; 1] = [Apart {
+    option: OptionName::Nodes,
+    other: OptionName::Sets,
+}];
+
+const SEARCH_OPTIONS: [OptionName; 8] = [
     OptionName::Contest,
     OptionName::Workers,
     OptionName::Nodes,
+    OptionName::Sets,
     OptionName::Floor,
     OptionName::Cards,
     OptionName::Limit,
@@ -174,13 +195,19 @@ const SEARCH_TOGETHER: [Together; 2] = [
     },
 ];
 
-const OPEN_OPTIONS: [OptionName; 5] = [
+// Of a check, and of a trim.
+const CHECK_OPTIONS: [OptionName; 3] = [OptionName::Contest, OptionName::Nodes, OptionName::Sets];
+
+const OPEN_OPTIONS: [OptionName; 6] = [
     OptionName::Seed,
     OptionName::Contest,
     OptionName::Limit,
     OptionName::Gamma,
     OptionName::Nodes,
+    OptionName::Sets,
 ];
+
+const AUDIT_OPTIONS: [OptionName; 3] = [OptionName::Draws, OptionName::Nodes, OptionName::Sets];
 
 const POLL_OPTIONS: [OptionName; 5] = [
     OptionName::Seed,
@@ -197,12 +224,13 @@ const OPEN_PLURALITY_OPTIONS: [OptionName; 4] = [
     OptionName::Gamma,
 ];
 
-const TRIAL_OPTIONS: [OptionName; 5] = [
+const TRIAL_OPTIONS: [OptionName; 6] = [
     OptionName::Number,
     OptionName::Candidates,
     OptionName::Ballots,
     OptionName::Workers,
     OptionName::Nodes,
+    OptionName::Sets,
 ];
 
 impl<'f> Form<'f> {
@@ -212,12 +240,14 @@ impl<'f> Form<'f> {
             ≡ map (λ name. name.now) files.entry.now }
         ensures options { result.options.now ≡ options.entry.now }
         ensures together { result.together.now ≡ [] }
+        ensures apart { result.apart.now ≡ [] }
     {
         Form {
             word,
             files,
             options,
             together: &[],
+            apart: &[],
         }
     }
 
@@ -227,8 +257,20 @@ impl<'f> Form<'f> {
             ≡ map (λ name. name.now) self.entry.files.now }
         ensures options { result.options.now ≡ self.entry.options.now }
         ensures together { result.together.now ≡ together.entry.now }
+        ensures apart { result.apart.now ≡ self.entry.apart.now }
     {
         Form { together, ..self }
+    }
+
+    fn apart(self, apart: &'f [Apart]) -> Form<'f>
+        ensures word { result.word.now ≡ self.entry.word.now }
+        ensures files { map (λ name. name.now) result.files.now
+            ≡ map (λ name. name.now) self.entry.files.now }
+        ensures options { result.options.now ≡ self.entry.options.now }
+        ensures together { result.together.now ≡ self.entry.together.now }
+        ensures apart { result.apart.now ≡ apart.entry.now }
+    {
+        Form { apart, ..self }
     }
 }
 
@@ -239,26 +281,23 @@ impl CommandName {
         ensures files { map (λ name. name.now) result.files.now ≡ (form_of self).files }
         ensures options { result.options.now ≡ (form_of self).options }
         ensures together { result.together.now ≡ (form_of self).together }
+        ensures apart { result.apart.now ≡ (form_of self).apart }
     {
         match self {
-            CommandName::Search => {
-                Form::of("search", &[BALLOTS], &SEARCH_OPTIONS).together(&SEARCH_TOGETHER)
-            }
+            CommandName::Search => Form::of("search", &[BALLOTS], &SEARCH_OPTIONS)
+                .together(&SEARCH_TOGETHER)
+                .apart(&BUDGETS),
             CommandName::Tabulate => Form::of(
                 "tabulate",
                 &[BALLOTS],
                 &[OptionName::Contest, OptionName::Nodes],
             ),
-            CommandName::Check => Form::of(
-                "check",
-                &[BALLOTS, ASSERTIONS],
-                &[OptionName::Contest, OptionName::Nodes],
-            ),
-            CommandName::Trim => Form::of(
-                "trim",
-                &[BALLOTS, ASSERTIONS],
-                &[OptionName::Contest, OptionName::Nodes],
-            ),
+            CommandName::Check => {
+                Form::of("check", &[BALLOTS, ASSERTIONS], &CHECK_OPTIONS).apart(&BUDGETS)
+            }
+            CommandName::Trim => {
+                Form::of("trim", &[BALLOTS, ASSERTIONS], &CHECK_OPTIONS).apart(&BUDGETS)
+            }
             CommandName::Sample => {
                 Form::of(
                     "sample",
@@ -271,12 +310,15 @@ impl CommandName {
                 &[MANIFEST, ASSERTIONS],
                 &[OptionName::Limit, OptionName::Gamma],
             ),
-            CommandName::Open => Form::of("open", &[BALLOTS, MANIFEST, ASSERTIONS], &OPEN_OPTIONS),
+            CommandName::Open => {
+                Form::of("open", &[BALLOTS, MANIFEST, ASSERTIONS], &OPEN_OPTIONS).apart(&BUDGETS)
+            }
             CommandName::Audit => Form::of(
                 "audit",
                 &[SESSION, BALLOTS, MANIFEST, ASSERTIONS, SEEN],
-                &[OptionName::Draws, OptionName::Nodes],
-            ),
+                &AUDIT_OPTIONS,
+            )
+            .apart(&BUDGETS),
             CommandName::Report => Form::of("report", &[SESSION], &[]),
             CommandName::Poll => Form::of("poll", &[MANIFEST, ASSERTIONS, SEEN], &POLL_OPTIONS),
             CommandName::OpenPlurality => {
@@ -287,7 +329,7 @@ impl CommandName {
                 &[SESSION, BALLOTS, MANIFEST, SEEN],
                 &[OptionName::Draws],
             ),
-            CommandName::Trial => Form::of("trial", &[], &TRIAL_OPTIONS),
+            CommandName::Trial => Form::of("trial", &[], &TRIAL_OPTIONS).apart(&BUDGETS),
         }
     }
 }
@@ -317,6 +359,7 @@ impl OptionName {
             OptionName::Contest => "contest",
             OptionName::Workers => "workers",
             OptionName::Nodes => "nodes",
+            OptionName::Sets => "sets",
             OptionName::Floor => "floor",
             OptionName::Cards => "cards",
             OptionName::Seed => "seed",
@@ -337,6 +380,7 @@ impl OptionName {
             OptionName::Contest => ValueKind::Id,
             OptionName::Workers => number(1, MOST_WORKERS, Some(DEFAULT_WORKERS)),
             OptionName::Nodes => number(1, MOST_NODES, Some(DEFAULT_NODES)),
+            OptionName::Sets => free_number(1, MOST_SETS),
             OptionName::Floor => number(1, MOST_FLOOR, Some(DEFAULT_FLOOR)),
             OptionName::Cards => free_number(1, MOST_CARDS),
             OptionName::Seed => ValueKind::Seed,

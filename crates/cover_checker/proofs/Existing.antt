@@ -64,7 +64,7 @@ module _ (budget : Budget) (ballots : BallotFile) (file : Content) where
       ]
 
 -- ---- no other finding is a fault
-abbrev NeverFails : Option Answer → Type 0
+abbrev pub NeverFails : Option Answer → Type 0
 NeverFails found = (fault : CheckFault) → found ≡ Some (Err fault) → ⊥
 
 from_failed : (found : Option Answer) (more : List (Option Answer)) (fault : CheckFault) → NeverFails found →
@@ -84,7 +84,7 @@ when-never false checked fault h = cc
 found-at : List (List ℕ) → ℕ → Claim → Option Answer
 found-at records at claim = Some (Ok (OtherMargin at (margin records claim.assertion)))
 
-margins-never : (records : List (List ℕ)) (at : ℕ) (claims : List Claim) → NeverFails (other_margin_from records at claims)
+pub margins-never : (records : List (List ℕ)) (at : ℕ) (claims : List Claim) → NeverFails (other_margin_from records at claims)
 unfolding found-at
 margins-never records at [] fault h = cc
 margins-never records at (claim ∷ claims) fault h = go (has_other_margin records claim) (margins-never records (at + 1) claims fault) h where

@@ -1,6 +1,8 @@
 // Tests of `command_line`: lines, words that are none, and what a line asks for.
 mod polling;
+mod sets;
 
+use budget::Budget;
 use command_line::{Command, is_line, read};
 use std::alloc::{AllocError, Global};
 use std::test::Fail;
@@ -149,7 +151,7 @@ fn reads_a_search(rt: HostRuntime) -> Result<(), Fail> {
             .is_some_and(|name| name.bytes() == b"1".as_slice())
     );
     assert!(rt; task.workers == 2);
-    assert!(rt; task.nodes == 8);
+    assert!(rt; task.budget == Budget::Nodes(8));
     assert!(rt; task.floor == 1);
     Ok(())
 }
@@ -180,7 +182,7 @@ fn reads_a_check(rt: HostRuntime) -> Result<(), Fail> {
     assert!(rt; task.ballots.as_str() == "row1.raire");
     assert!(rt; task.assertions.as_str() == "f.json");
     assert!(rt; task.contest.is_none());
-    assert!(rt; task.nodes == 3);
+    assert!(rt; task.budget == Budget::Nodes(3));
     Ok(())
 }
 
@@ -228,7 +230,7 @@ fn reads_an_opening(rt: HostRuntime) -> Result<(), Fail> {
     assert!(rt; task.contest.is_none());
     assert!(rt; task.limit == 50_000);
     assert!(rt; task.gamma == 9);
-    assert!(rt; task.nodes == 8);
+    assert!(rt; task.budget == Budget::Nodes(8));
     Ok(())
 }
 
@@ -248,7 +250,7 @@ fn reads_an_audit(rt: HostRuntime) -> Result<(), Fail> {
     assert!(rt; task.assertions.as_str() == "f.json");
     assert!(rt; task.seen.as_str() == "v.csv");
     assert!(rt; task.draws == 4);
-    assert!(rt; task.nodes == 100_000);
+    assert!(rt; task.budget == Budget::Nodes(100_000));
     Ok(())
 }
 
@@ -274,6 +276,6 @@ fn reads_a_trial(rt: HostRuntime) -> Result<(), Fail> {
     assert!(rt; task.candidates == 3);
     assert!(rt; task.ballots == 10_000);
     assert!(rt; task.workers == 2);
-    assert!(rt; task.nodes == 100_000);
+    assert!(rt; task.budget == Budget::Nodes(100_000));
     Ok(())
 }

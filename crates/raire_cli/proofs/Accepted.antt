@@ -9,7 +9,7 @@ use Rattle.cover_checker.specs.Checks.{IsAnswer}
 use Rattle.cover_checker.specs.Findings.{Answer}
 use Rattle.cover_checker.proofs.Held.{accepted_iff_holds}
 use Rattle.cover_checker.specs.declared.checked.Checked.TheVariants.{OtherContest, OtherWinner, OtherMargin, Stands, NotLeast, NotAlternative, Harder, OtherDraws, Accepted}
-use Rattle.cover_checker.specs.declared.checked.CheckFault.TheVariants.{Spent, Memory}
+use Rattle.cover_checker.specs.declared.checked.CheckFault.TheVariants.{Spent, SpentSets, Memory}
 use Rattle.cli_base.specs.Outcome.{Answered}
 use Rattle.cli_base.specs.Script.{Script, Ends, AsHeld, ComesTo}
 use Rattle.cli_base.specs.declared.outcome.AnswerKind.TheVariants.{Done}
@@ -32,6 +32,7 @@ accepted_answer file (Ok (Harder assertion margin)) text told = absurd (cc told)
 accepted_answer file (Ok (OtherDraws index found)) text told = absurd (cc told)
 accepted_answer file (Ok Accepted) text told = refl
 accepted_answer file (Err (Spent last)) text told = absurd (cc told)
+accepted_answer file (Err (SpentSets sets)) text told = absurd (cc told)
 accepted_answer file (Err Memory) text told = absurd (cc told)
 
 yes_is : (file : Content) (text : List ℕ) → verdict_on file (Ok Accepted) ≡ Some (Answered Done text) → text ≡ yes_text file
@@ -44,25 +45,25 @@ module _ (words : List (List ℕ)) (files : List File) (asks : AsksForCheck word
 
   -- a check that says yes accepts its file, which was read
   accepts : (ballots : BallotFile) → HasBallots asks files ballots → (file : Content) → HasAssertions asks files file →
-      Checks asks.task.nodes ballots file (Answered Done text) → Held
+      Checks asks.task.budget ballots file (Answered Done text) → Held
   accepts ballots of_ballots file of_file (answer, found, told) =
       let yes = accepted_answer file answer text told in
       let sound = read_is_sound of_file.bytes file of_file.accepted in
-      let holds = (accepted_iff_holds asks.task.nodes ballots file Accepted sound (subst (IsAnswer asks.task.nodes ballots file) yes found)).0 refl in (
+      let holds = (accepted_iff_holds asks.task.budget ballots file Accepted sound (subst (IsAnswer asks.task.budget ballots file) yes found)).0 refl in (
         file,
         record { asks = asks; ballots = ballots; of_ballots = of_ballots; of_assertions = of_file; holds = holds },
         yes_is file text (subst (λ a. verdict_on file a ≡ Some (Answered Done text)) yes told),
       )
 
   abbrev with_ballots : List ℕ → BallotFile → Script
-  with_ballots bytes ballots = after_ballots asks.task.assertions asks.task.nodes ballots
+  with_ballots bytes ballots = after_ballots asks.task.assertions asks.task.budget ballots
 
   pub held_of : ComesTo (AsHeld files) (asked words) (Answered Done text) → Held
   held_of comes =
       let task = asks.task in
       let is = said files task.ballots (refused_ballots task.ballots) (λ bytes. ballots_of bytes task.contest) with_ballots Done text (λ why. tt)
       (subst (λ command. ComesTo (AsHeld files) (asked_by command) (Answered Done text)) asks.asked comes) in
-      let its = said files task.assertions (refused_assertions task.assertions) assertion_file_of (λ bytes file. Ends (Checks task.nodes is.value file)) Done
+      let its = said files task.assertions (refused_assertions task.assertions) assertion_file_of (λ bytes file. Ends (Checks task.budget is.value file)) Done
       text (λ why. tt) is.rest in
       accepts is.value (record { bytes = is.bytes; held = is.held; accepted = is.is }) its.value
       (record { bytes = its.bytes; held = its.held; accepted = its.is }) its.rest

@@ -5,6 +5,7 @@ use Rattle.std.proofs.lemmas.List.{length-map}
 use Rattle.sha2.specs.Sha256.{sha256}
 use Rattle.desk.specs.Desk.{File, held_bytes}
 use Rattle.assertions.specs.Assorter.{assorter_value}
+use Rattle.budget.specs.declared.budget.Budget.{Budget}
 use Rattle.ballot_reader.specs.Ballots.{BallotFile}
 use Rattle.manifest.specs.Cards.{Batches, cards_of}
 use Rattle.manifest.specs.Linked.{linked_of, recorded_of}
@@ -56,23 +57,23 @@ IsKind kind = (kind ≡ Done) ⊎ (kind ≡ Unconfirmed)
 -- ---- the assertion file was accepted
 
 -- a check alone answers `yes`, which is no session
-pub not_checked : (nodes : ℕ) (ballots : BallotFile) (file : FileContent) (kind : AnswerKind) (text : List ℕ) → IsKind kind →
-    is_accepted nodes ballots file ≡ false → Checks nodes ballots file (Answered kind text) → ⊥
-not_checked nodes ballots file kind text (inl done) out (answer, found, is) =
+pub not_checked : (budget : Budget) (ballots : BallotFile) (file : FileContent) (kind : AnswerKind) (text : List ℕ) → IsKind kind →
+    is_accepted budget ballots file ≡ false → Checks budget ballots file (Answered kind text) → ⊥
+not_checked budget ballots file kind text (inl done) out (answer, found, is) =
     let holds = accepted_answer file answer text (subst (λ k. verdict_on file answer ≡ Some (Answered k text)) done is) in
-    let accepted : is_accepted nodes ballots file ≡ true = (decided nodes ballots file).1 (subst (λ a. IsAnswer nodes ballots file a) holds found) in
+    let accepted : is_accepted budget ballots file ≡ true = (decided budget ballots file).1 (subst (λ a. IsAnswer budget ballots file a) holds found) in
     cc (out, accepted)
-not_checked nodes ballots file kind text (inr unconfirmed) out (answer, found, is) =
+not_checked budget ballots file kind text (inr unconfirmed) out (answer, found, is) =
     not_among kinds Unconfirmed refl (subst (Contains kinds) unconfirmed (answer-kind file answer (Answered kind text) is))
 
-accepted_on : (readings : Readings) (nodes : ℕ) (ballots : BallotFile) (file : FileContent) (next : Script) (kind : AnswerKind) (text : List ℕ) → IsKind kind →
-    Concludes readings (if_accepted nodes ballots file next) (Answered kind text) → (is_accepted nodes ballots file ≡ true)
+accepted_on : (readings : Readings) (budget : Budget) (ballots : BallotFile) (file : FileContent) (next : Script) (kind : AnswerKind) (text : List ℕ) → IsKind kind →
+    Concludes readings (if_accepted budget ballots file next) (Answered kind text) → (is_accepted budget ballots file ≡ true)
     × Concludes readings next (Answered kind text)
-accepted_on readings nodes ballots file next kind text of comes = by (is_accepted nodes ballots file) refl comes where
-  by : (b : Bool) → is_accepted nodes ballots file ≡ b → Concludes readings (on_if b next (Ends (Checks nodes ballots file))) (Answered kind text) →
-      (is_accepted nodes ballots file ≡ true) × Concludes readings next (Answered kind text)
+accepted_on readings budget ballots file next kind text of comes = by (is_accepted budget ballots file) refl comes where
+  by : (b : Bool) → is_accepted budget ballots file ≡ b → Concludes readings (on_if b next (Ends (Checks budget ballots file))) (Answered kind text) →
+      (is_accepted budget ballots file ≡ true) × Concludes readings next (Answered kind text)
   by true accepted comes = (accepted, comes)
-  by false out comes = absurd (not_checked nodes ballots file kind text of out comes)
+  by false out comes = absurd (not_checked budget ballots file kind text of out comes)
 
 -- ---- the session goes on
 
@@ -136,7 +137,7 @@ module _ (words : List (List ℕ)) (files : List File) (asks : AsksForAudit word
   gone : (bytes : AllBytes) → AreAllHeld task files bytes → (inputs : Inputs) → session_to_go_on task.session task.draws bytes.session ≡ Ok inputs.session →
       same_ballots task.ballots inputs.session bytes.basis.ballots ≡ Ok inputs.basis.ballots →
       same_manifest task.ballots task.manifest inputs.session inputs.basis.ballots bytes.basis.manifest ≡ Ok inputs.basis.batches →
-      same_assertions task inputs.session bytes.basis.assertions ≡ Ok inputs.basis.file → is_accepted task.nodes inputs.basis.ballots inputs.basis.file ≡ true →
+      same_assertions task inputs.session bytes.basis.assertions ≡ Ok inputs.basis.file → is_accepted task.budget inputs.basis.ballots inputs.basis.file ≡ true →
       HasFacts inputs.session (length (cards_of inputs.basis.batches)) inputs.basis.file.contest (margins_of inputs.basis.file) → seen_of inputs.basis.batches inputs.basis.file.candidates bytes.seen
       ≡ Ok inputs.entries →
       verdict ≡ verdict_of (round_of inputs) → Gone
@@ -147,7 +148,7 @@ module _ (words : List (List ℕ)) (files : List File) (asks : AsksForAudit word
       inputs.basis.batches is_m in
       let (digest_a, assertions) = said_assertions task inputs.session bytes.basis.assertions inputs.basis.file is_a in
       let sound = read_is_sound bytes.basis.assertions inputs.basis.file assertions in
-      let found = (decided task.nodes inputs.basis.ballots inputs.basis.file).0 accepted in
+      let found = (decided task.budget inputs.basis.ballots inputs.basis.file).0 accepted in
       let (next, ok, kind-is, text-is) = next_of (round_of inputs) kind text
       (next-only task.session task.seen task.draws inputs.session (values_of inputs.basis.file) (compared_of inputs)) ends in (
         next,
@@ -158,7 +159,7 @@ module _ (words : List (List ℕ)) (files : List File) (asks : AsksForAudit word
           inputs = inputs;
           say = record { session = read; basis = record { ballots = ballots; manifest = manifest; assertions = assertions }; seen = is_v };
           of_files = record { digests = λ i. record { ballots = digest_b i; manifest = digest_m i; assertions = digest_a i }; facts = facts };
-          together = record { placed = placed; holds = (accepted_iff_holds task.nodes inputs.basis.ballots inputs.basis.file Accepted sound found).0 refl };
+          together = record { placed = placed; holds = (accepted_iff_holds task.budget inputs.basis.ballots inputs.basis.file Accepted sound found).0 refl };
           is_next = next_round inputs.session (recorded inputs) inputs.entries (values_of inputs.basis.file) (claims inputs)
               (fitting inputs bytes.session read facts) task.session task.seen task.draws next more ok;
         },
@@ -171,7 +172,7 @@ module _ (words : List (List ℕ)) (files : List File) (asks : AsksForAudit word
       module _ (m : List ℕ) (held_m : held_bytes task.manifest files ≡ Some m) (batches : Batches)
           (is_m : same_manifest task.ballots task.manifest session ballots m ≡ Ok batches) where
         module _ (a : List ℕ) (held_a : held_bytes task.assertions files ≡ Some a) (file : FileContent) (is_a : same_assertions task session a ≡ Ok file)
-            (accepted : is_accepted task.nodes ballots file ≡ true) where
+            (accepted : is_accepted task.budget ballots file ≡ true) where
           from_seen : HasFacts session (length (cards_of batches)) file.contest (margins_of file) → (v : List ℕ) → held_bytes task.seen files ≡ Some v → (entries : List Entry) →
               seen_of batches file.candidates v ≡ Ok entries →
               verdict ≡ verdict_of (next_session task.session task.seen task.draws session (values_of file) (record { recorded = linked_of batches ballots; entries = entries })) → Gone
@@ -204,7 +205,7 @@ module _ (words : List (List ℕ)) (files : List File) (asks : AsksForAudit word
         from_assertions : (a : List ℕ) → held_bytes task.assertions files ≡ Some a → (file : FileContent) → same_assertions task session a ≡ Ok file →
             Concludes readings (after_assertions task session ballots batches file) verdict → Gone
         from_assertions a held_a file is_a comes =
-            let (accepted, on) = accepted_on readings task.nodes ballots file (after_check task session ballots batches file) kind text of comes in
+            let (accepted, on) = accepted_on readings task.budget ballots file (after_check task session ballots batches file) kind text of comes in
             from_check a held_a file is_a accepted on
 
         from_manifest : Concludes readings (after_manifest task session ballots batches) verdict → Gone

@@ -1,7 +1,10 @@
 -- The clauses of `run`, each from how the call went.
-use Rattle.std.proofs.Common.{◌≡◌, ◌⊎◌, inl, inr, ⊎_elim, ℕ, List, Option, None, Some, IfSome, false, refl, sym, ap, subst, ◌∙◌, arith}
+use Rattle.std.proofs.Common.{◌≡◌, ◌⊎◌, inl, inr, ⊎_elim, ℕ, ◌≤◌, ◌-◌, ◌^◌, List, Option, None, Some, IfSome, false, refl, sym, ap, subst, ◌∙◌, arith}
 use Rattle.std.specs.Prelude.{◌≢◌, is_some}
 use Rattle.desk.specs.Desk.{File}
+use Rattle.ballot_reader.specs.Ballots.{BallotFile}
+use Rattle.budget.specs.declared.budget.Budget.TheVariants.{Sets}
+use Rattle.contest_search.specs.Contest.{candidate_count}
 use Rattle.assertion_file.specs.Content.{Content}
 use Rattle.assertion_file.specs.Text.{assertion_file_text}
 use Rattle.cli_base.specs.Outcome.{Outcome, Answered}
@@ -25,9 +28,11 @@ use Rattle.session_file.specs.Text.{session_text}
 use Rattle.raire_cli.specs.Answers.{asked, asked_by, is_open}
 use Rattle.raire_cli.specs.Confirmation.{AsksForSearch, ConfirmsAsked, GivesReason, IsConfirmed, IsReasoned}
 use Rattle.raire_cli.specs.Acceptance.{AsksForCheck, HoldsAsked, IsUpheld}
+use Rattle.raire_cli.specs.Budgets.{budget_of}
+use Rattle.raire_cli.specs.Sets.{IsNeverSpentBySets, IsSpentBySets, MoreCount}
 use Rattle.raire_cli.specs.Trims.{AsksForTrim, IsTrimmed, IsTrimmedOf}
 use Rattle.raire_cli.specs.Promises.{IsComplete, IsTabulationComplete, IsTrialComplete, IsExactUnlessOpen, HasCause}
-use Rattle.raire_cli.specs.Undecided.{IsTied, IsTieComplete, TellsTie}
+use Rattle.raire_cli.specs.Undecided.{IsAbout, IsTied, IsTieComplete, TellsTie}
 use Rattle.raire_cli.specs.Audits.{AsksForAudit, GoesOn, IsAudited}
 use Rattle.raire_cli.specs.Pluralities.{AsksForPlurality, AsksForPluralRound, IsPluralityAudited, IsPluralityOpened, OpensPlurality, PluralGoesOn}
 use Rattle.raire_cli.specs.PluralityTies.{TellsPluralityTie}
@@ -48,6 +53,7 @@ use Rattle.raire_cli.proofs.EachCommand.{agrees_by, agrees_exactly, counts_in_fu
 use Rattle.raire_cli.proofs.Complete.{not_spent, has_answer, tried}
 use Rattle.raire_cli.proofs.Headline.{confirms_asked, gives_reason}
 use Rattle.raire_cli.proofs.Rounds.{has_rounds, never_stopped}
+use Rattle.raire_cli.proofs.SetsSpent.{closed_by, more_spent, never_by_sets, spent_more}
 use Rattle.raire_cli.proofs.Undecided.{has_tie, never_spent_there, tells_tie}
 
 -- how a call went by what was due, and by what the sinks took of it
@@ -250,6 +256,29 @@ module _ (words : List (List ℕ)) {held : Option (List File)} {failed : Type 0}
       (λ files. (command : Command) (judging : Judging) → command_of words ≡ Some command → judging_of command ≡ Some judging → AreEnough files judging →
       status ≢ 4)
       (λ files spent command judging line is enough four. never_spent words files command judging line is enough (spent four))
+      causes.spent
+
+  -- ---- a number of sets
+
+  pub spent_sets_clause : IsSpentBySets held words status
+  spent_sets_clause = by held exact_promise where
+    by : (h : Option (List File)) → IsExactUnlessOpen h words status → IsSpentBySets h words status
+    by None exact = tt
+    by (Some files) exact = λ command sets line counts is.
+        exactly_same 4 status (HasAnswer (asked words) files Spent) (MoreCount files command sets)
+        (λ (text, comes). spent_more files command sets text counts is (subst (λ c. ComesTo (AsHeld files) (asked_by c) (Answered Spent text)) line comes))
+        (λ more. let (text, comes) = more_spent files command sets is more in
+        (text, subst (λ c. ComesTo (AsHeld files) (asked_by c) (Answered Spent text)) (sym line) comes))
+        (exact command line (closed_by command sets is) Spent)
+
+  pub enough_sets_clause : IsNeverSpentBySets held words status
+  enough_sets_clause = if_some held (λ files. status ≡ 4 → HasAnswer (asked words) files Spent)
+      (λ files. (command : Command) (ballots : BallotFile) (sets : ℕ) → command_of words ≡ Some command → IsAbout files command ballots →
+      budget_of command ≡ Sets sets → 2 ^ candidate_count ballots - 3 ≤ sets → status ≢ 4)
+      (λ files spent command ballots sets line about is enough four.
+      let (text, comes) = spent four in
+      never_by_sets files command ballots sets text about is enough
+      (subst (λ c. ComesTo (AsHeld files) (asked_by c) (Answered Spent text)) line comes))
       causes.spent
 
   -- ---- a call that can't be spent

@@ -2,8 +2,11 @@
 use Rattle.std.proofs.Common.{◌≡◌, ◌⊎◌, inl, inr, ◌≤◌, ◌<◌, ℕ, List, refl, sym, ◌∙◌, ap, subst, arith}
 use Rattle.std.proofs.lemmas.Bool.Decides.{leb_tells}
 use Rattle.desk.specs.Desk.{File}
+use Rattle.ballot_reader.specs.Ballots.{BallotFile}
 use Rattle.ballot_reader.specs.Grammar.{ballots_of}
 use Rattle.assertion_file.specs.Text.{assertion_file_text}
+use Rattle.budget.specs.declared.budget.Budget.{Budget}
+use Rattle.budget.specs.declared.budget.Budget.TheVariants.{Nodes, Sets}
 use Rattle.cli_base.specs.Outcome.{Outcome, Verdict, Answered, outcome}
 use Rattle.cli_base.specs.Script.{Readings, AsHeld, MayCome, ComesTo}
 use Rattle.cli_base.specs.Statuses.{HasAnswer}
@@ -13,8 +16,8 @@ use Rattle.cli_base.proofs.Scripts.{some_is}
 use Rattle.cli_base.proofs.Statuses.{status_in}
 use Rattle.command.specs.declared.search.SearchTask.{SearchTask}
 use Rattle.input_files.specs.Refusals.{refused_ballots}
-use Rattle.contest_search.specs.Budget.{certificate_nodes, nodes_for, IsInBudget}
-use Rattle.contest_search.specs.Contest.{IsOther}
+use Rattle.contest_search.specs.Budget.{certificate_nodes, nodes_for, sets_of, IsInBudget}
+use Rattle.contest_search.specs.Contest.{IsOther, IsWon}
 use Rattle.contest_search.proofs.Certificates.{won-certificate}
 use Rattle.contest_search.proofs.Contests.{winner-one, same_tabulated}
 use Rattle.contest_search.proofs.Nodes.{spent_above}
@@ -24,9 +27,46 @@ use Rattle.search_commands.specs.Search.{full_count_text, printed, HasCertificat
 use Rattle.search_commands.specs.Trial.{contest_of, Tries}
 use Rattle.search_commands.proofs.Searches.{found_by, searched_with, spent_is}
 use Rattle.raire_cli.specs.Answers.{asked, asked_by}
+use Rattle.raire_cli.specs.Budgets.{Suffices}
 use Rattle.raire_cli.specs.Promises.{IsSearchable, IsTriable}
 use Rattle.raire_cli.proofs.Headline.{search_came, searching}
 use Rattle.raire_cli.proofs.Said.{only, saying}
+
+-- ---- a budget that suffices
+
+-- it isn't spent
+suffices_spent : (budget : Budget) (ballots : BallotFile) (winner : ℕ) (won : IsWon ballots winner) (text : List ℕ) → Suffices budget ballots won.order winner →
+    HasSpent budget ballots text → ⊥
+suffices_spent (Nodes nodes) ballots winner won text suffices spent =
+    let is = spent.is in
+    let w : is.winner ≡ winner = winner-one ballots is.winner winner is.won won in
+    let other : IsOther ballots winner spent.last = subst (λ v. IsOther ballots v spent.last) w is.named in
+    let enough : nodes_for ballots won.order winner spent.last ≤ nodes = suffices spent.last other in
+    let above : nodes < nodes_for ballots is.won.order is.winner spent.last = spent_above nodes ballots spent.last spent.order spent.margin is in
+    let same = ap (λ order. nodes_for ballots order is.winner spent.last) (same_tabulated ballots is.winner winner is.won won)
+    ∙ ap (λ v. nodes_for ballots won.order v spent.last) w in
+    omega (arith, enough, above, same)
+suffices_spent (Sets sets) ballots winner won text suffices spent =
+    let is = spent.is in
+    let enough : sets_of ballots winner ≤ sets = suffices in
+    let above = is.above in
+    let same = ap (sets_of ballots) (winner-one ballots is.winner winner is.won won) in
+    omega (arith, enough, above, same)
+
+-- and the certificate is within it
+in_budget : (budget : Budget) (ballots : BallotFile) (winner : ℕ) (won : IsWon ballots winner) → Suffices budget ballots won.order winner →
+    (other : ℕ) → IsWon ballots other → IsInBudget ballots other budget
+in_budget (Nodes nodes) ballots winner won suffices v its c other =
+    let w : v ≡ winner = winner-one ballots v winner its won in
+    let enough : nodes_for ballots won.order winner c ≤ nodes = suffices c (subst (λ v. IsOther ballots v c) w other) in
+    let same : certificate_nodes ballots v c ≡ certificate_nodes ballots winner c = ap (λ v. certificate_nodes ballots v c) w in
+    omega (arith, enough, same)
+in_budget (Sets sets) ballots winner won suffices v its =
+    let enough : sets_of ballots winner ≤ sets = suffices in
+    let same = ap (sets_of ballots) (winner-one ballots v winner its won) in
+    omega (arith, enough, same)
+
+-- ---- a search
 
 module _ (words : List (List ℕ)) (files : List File) (ok : IsSearchable words files) where
   abbrev task : SearchTask
@@ -35,70 +75,52 @@ module _ (words : List (List ℕ)) (files : List File) (ok : IsSearchable words 
   -- what the search ends with is found in its ballots, and what is found there it may end with
 
   found_there : (kind : AnswerKind) (text : List ℕ) → ComesTo (AsHeld files) (asked words) (Answered kind text) →
-      Finds task.nodes task.floor task.plan ok.ballots (Answered kind text)
+      Finds task.budget task.floor task.plan ok.ballots (Answered kind text)
   found_there kind text comes =
       let came = search_came words files ok.asks.search kind text comes in
       let whole : came.bytes ≡ ok.asks.bytes = some_is (sym came.held ∙ ok.asks.held) in
       let same : came.value ≡ ok.ballots = only came.is (ap (λ b. ballots_of b task.contest) whole ∙ ok.asks.accepted) in
-      subst (λ ballots. Finds task.nodes task.floor task.plan ballots (Answered kind text)) same (found_by task came.value kind text came.rest).1
+      subst (λ ballots. Finds task.budget task.floor task.plan ballots (Answered kind text)) same (found_by task came.value kind text came.rest).1
 
-  comes_there : (v : Verdict) → Finds task.nodes task.floor task.plan ok.ballots v → ComesTo (AsHeld files) (asked words) v
+  comes_there : (v : Verdict) → Finds task.budget task.floor task.plan ok.ballots v → ComesTo (AsHeld files) (asked words) v
   comes_there v finds =
       subst (λ command. ComesTo (AsHeld files) (asked_by command) v) (sym ok.asks.search.asked)
       (saying files task.ballots (refused_ballots task.ballots) (λ bytes. ballots_of bytes task.contest) (searching words files ok.asks.search)
       ok.asks.bytes ok.asks.held ok.is_short ok.ballots ok.asks.accepted v (searched_with task ok.ballots v ok.asks.cards finds))
 
-  enough_spent : (text : List ℕ) → HasSpent task.nodes ok.ballots text → ⊥
-  enough_spent text spent =
-      let is = spent.is in
-      let w : is.winner ≡ ok.winner = winner-one ok.ballots is.winner ok.winner is.won ok.asks.won in
-      let other : IsOther ok.ballots ok.winner spent.last = subst (λ v. IsOther ok.ballots v spent.last) w is.named in
-      let enough : nodes_for ok.ballots ok.asks.won.order ok.winner spent.last ≤ task.nodes = ok.budget spent.last other in
-      let above : task.nodes < nodes_for ok.ballots is.won.order is.winner spent.last =
-      spent_above task.nodes ok.ballots spent.last spent.order spent.margin is in
-      let same = ap (λ order. nodes_for ok.ballots order is.winner spent.last) (same_tabulated ok.ballots is.winner ok.winner is.won ok.asks.won)
-      ∙ ap (λ v. nodes_for ok.ballots ok.asks.won.order v spent.last) w in
-      omega (arith, enough, above, same)
-
   -- its budget isn't spent
   pub not_spent : HasAnswer (asked words) files Spent → ⊥
   not_spent (text, comes) =
-      enough_spent text (spent_is task.nodes task.floor task.plan ok.ballots text (found_there Spent text comes))
-
-  in_budget : (winner : ℕ) → winner ≡ ok.winner → IsInBudget ok.ballots winner task.nodes
-  in_budget winner w c other =
-      let enough : nodes_for ok.ballots ok.asks.won.order ok.winner c ≤ task.nodes = ok.budget c (subst (λ v. IsOther ok.ballots v c) w other) in
-      let same : certificate_nodes ok.ballots winner c ≡ certificate_nodes ok.ballots ok.winner c = ap (λ v. certificate_nodes ok.ballots v c) w in
-      omega (arith, enough, same)
+      suffices_spent task.budget ok.ballots ok.winner ok.asks.won text ok.budget
+      (spent_is task.budget task.floor task.plan ok.ballots text (found_there Spent text comes))
 
   -- it has an answer, or calls for a full count
   pub has_answer : HasAnswer (asked words) files Done ⊎ HasAnswer (asked words) files FullCount
   has_answer =
       let (file, is) = won-certificate ok.ballots ok.winner ok.asks.won ok.decided (ballots_fit ok.asks.bytes task.contest ok.ballots ok.asks.accepted).fewest in
-      let budget = in_budget is.winner (winner-one ok.ballots is.winner ok.winner is.won ok.asks.won) in
+      let within = in_budget task.budget ok.ballots ok.winner ok.asks.won ok.budget is.winner is.won in
       elim (leb_tells task.floor file.margin) [
         | inl (test, le) ↦
             let text = assertion_file_text (printed task.plan file) in
-            let has : HasCertificate task.nodes task.floor task.plan ok.ballots text = record { file = file; is = is; budget = budget; floor = le; shown = refl } in
+            let has : HasCertificate task.budget task.floor task.plan ok.ballots text = record { file = file; is = is; within = within; floor = le; shown = refl } in
             inl (text, comes_there (Answered Done text) (inl (text, has, refl)))
         | inr (test, lt) ↦
             let text = full_count_text file task.floor in
-            let has : HasFullCount task.nodes task.floor ok.ballots text = record { file = file; is = is; budget = budget; floor = lt; shown = refl } in
+            let has : HasFullCount task.budget task.floor ok.ballots text = record { file = file; is = is; within = within; floor = lt; shown = refl } in
             inr (text, comes_there (Answered FullCount text) (inr (inr (inr (text, has, refl)))))
       ]
 
 -- ---- a trial
 
-module _ (words : List (List ℕ)) (ok : IsTriable words) where
-  enough_tried : (text : List ℕ) → HasSpent ok.trial.task.nodes (contest_of ok.trial.task) text → ⊥
-  enough_tried text spent =
-      let contest = contest_of ok.trial.task in
-      let is = spent.is in
-      let enough : nodes_for contest is.won.order is.winner spent.last ≤ ok.trial.task.nodes = ok.budget is.winner spent.last is.won is.named in
-      let above : ok.trial.task.nodes < nodes_for contest is.won.order is.winner spent.last =
-      spent_above ok.trial.task.nodes contest spent.last spent.order spent.margin is in
-      omega (arith, enough, above)
+-- a budget that suffices for each winner isn't spent
+each_suffices : (budget : Budget) (ballots : BallotFile) (text : List ℕ) →
+    ((winner : ℕ) (won : IsWon ballots winner) → Suffices budget ballots won.order winner) → HasSpent budget ballots text → ⊥
+each_suffices (Nodes nodes) ballots text all spent =
+    suffices_spent (Nodes nodes) ballots spent.is.winner spent.is.won text (all spent.is.winner spent.is.won) spent
+each_suffices (Sets sets) ballots text all spent =
+    suffices_spent (Sets sets) ballots spent.is.winner spent.is.won text (all spent.is.winner spent.is.won) spent
 
+module _ (words : List (List ℕ)) (ok : IsTriable words) where
   -- it has its lines, or a tie
   pub tried : (readings : Readings) (due : Outcome) → MayCome readings (asked words) due → (due.status ≡ 0) ⊎ (due.status ≡ 3)
   tried readings due may =
@@ -107,4 +129,4 @@ module _ (words : List (List ℕ)) (ok : IsTriable words) where
       by : (v : Verdict) → Tries ok.trial.task v → due ≡ outcome v → (due.status ≡ 0) ⊎ (due.status ≡ 3)
       by v (inl (text, lines, e)) is = inl (ap status_in (is ∙ ap outcome e))
       by v (inr (inl (text, tie, e))) is = inr (ap status_in (is ∙ ap outcome e))
-      by v (inr (inr (text, spent, e))) is = absurd (enough_tried text spent)
+      by v (inr (inr (text, spent, e))) is = absurd (each_suffices ok.trial.task.budget (contest_of ok.trial.task) text ok.budget spent)

@@ -6,6 +6,10 @@ use Rattle.cli_base.specs.declared.outcome.AnswerKind.{AnswerKind}
 use Rattle.cli_base.specs.declared.outcome.AnswerKind.TheVariants.{Tie, FullCount}
 use Rattle.cli_base.proofs.AmongKinds.{is_among, not_among}
 use Rattle.cli_base.proofs.Scripts.{agree-weaker, of_kind}
+use Rattle.budget.specs.declared.budget.Budget.{Budget}
+use Rattle.budget.specs.declared.budget.Budget.TheVariants.{Nodes, Sets}
+use Rattle.command.specs.declared.search.SearchTask.{SearchTask}
+use Rattle.command.specs.declared.trial.TrialTask.{TrialTask}
 use Rattle.command_line.specs.Line.{command_of}
 use Rattle.command_line.specs.declared.commands.Command.{Command}
 use Rattle.command_line.specs.declared.commands.Command.TheVariants.{Search, Tabulate, Check, Trim, Sample, Plan, Open, Audit, Report, Trial, Poll, OpenPlurality, AuditPlurality}
@@ -35,8 +39,9 @@ use Rattle.session_commands.proofs.Reports as reports
 use Rattle.poll_command.proofs.Polls as polls
 use Rattle.plurality_commands.proofs.Opens as plurality_opens
 use Rattle.plurality_commands.proofs.Audits as plurality_audits
-use Rattle.raire_cli.specs.Answers.{script_of, asked_by, is_open}
+use Rattle.raire_cli.specs.Answers.{script_of, asked_by, has_nodes, is_open}
 use Rattle.raire_cli.specs.Confirmation.{AsksForSearch}
+use Rattle.raire_cli.proofs.EitherBudget.{search_agrees, trial_agrees}
 
 -- how far the ends of a script agree
 abbrev SameBy : Bool → Outcome → Outcome → Type 0
@@ -64,9 +69,22 @@ record IsKnown (may_be_open : Bool) (kinds : List AnswerKind) (script : Script) 
   pub agree : Agree (SameBy may_be_open) script
   pub are : AreOfKind kinds script
 
+-- a number of sets leaves nothing open
+searches_agree : (task : SearchTask) → Agree (SameBy (has_nodes task.budget)) (search.script task)
+searches_agree task = by task.budget refl where
+  by : (budget : Budget) → task.budget ≡ budget → Agree (SameBy (has_nodes budget)) (search.script task)
+  by (Nodes nodes) is = searches.agrees task
+  by (Sets sets) is = search_agrees task sets is
+
+trials_agree : (task : TrialTask) → Agree (SameBy (has_nodes task.budget)) (trial.script task)
+trials_agree task = by task.budget refl where
+  by : (budget : Budget) → task.budget ≡ budget → Agree (SameBy (has_nodes budget)) (trial.script task)
+  by (Nodes nodes) is = tried.agrees task
+  by (Sets sets) is = trial_agrees task sets is
+
 -- a row a command
 known : (command : Command) → IsKnown (is_open command) (kinds_of command) (script_of command)
-known (Search task) = record { agree = searches.agrees task; are = searches.kinds_are task }
+known (Search task) = record { agree = searches_agree task; are = searches.kinds_are task }
 known (Tabulate task) = record { agree = tabulations.agrees task; are = tabulations.kinds_are task }
 known (Check task) = record { agree = checks.agrees task; are = checks.kinds_are task }
 known (Trim task) = record { agree = trims.agrees task; are = trims.kinds_are task }
@@ -75,7 +93,7 @@ known (Plan task) = record { agree = plans.agrees task; are = plans.kinds_are ta
 known (Open task) = record { agree = opens.agrees task; are = opens.kinds_are task }
 known (Audit task) = record { agree = audits.agrees task; are = audits.kinds_are task }
 known (Report task) = record { agree = reports.agrees task; are = reports.kinds_are task }
-known (Trial task) = record { agree = tried.agrees task; are = tried.kinds_are task }
+known (Trial task) = record { agree = trials_agree task; are = tried.kinds_are task }
 known (Poll task) = record { agree = polls.agrees task; are = polls.kinds_are task }
 known (OpenPlurality task) = record { agree = plurality_opens.agrees task; are = plurality_opens.kinds_are task }
 known (AuditPlurality task) = record { agree = plurality_audits.agrees task; are = plurality_audits.kinds_are task }

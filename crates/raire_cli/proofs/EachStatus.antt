@@ -23,7 +23,9 @@ use Rattle.cli_base.specs.Outcome.{Verdict, Answered, outcome, bad_words, no_suc
 use Rattle.cli_base.specs.Script.{Ends, Bytes, Missing, TooLong, AsHeld, May, MayCome, limit, reading_of}
 use Rattle.cli_base.specs.declared.outcome.AnswerKind.TheVariants.{Done, Tie, Spent, FullCount}
 use Rattle.command_line.specs.Line.{command_of}
-use Rattle.command.specs.declared.limits.TheConstants.{DEFAULT_NODES, DEFAULT_WORKERS}
+use Rattle.budget.specs.declared.budget.Budget.TheVariants.{Nodes}
+use Rattle.budget.specs.declared.limits.TheConstants.{DEFAULT_NODES}
+use Rattle.command.specs.declared.limits.TheConstants.{DEFAULT_WORKERS}
 use Rattle.cover_checker.specs.Checks.{IsAnswer, checked_is}
 use Rattle.cover_checker.specs.Findings.{Answer}
 use Rattle.cover_checker.specs.Outcomes.{IsWinner}
@@ -201,11 +203,11 @@ certificate = certificate_of one 0 (0 ∷ 1 ∷ [])
 margin_is_one : margin_of one 0 ≡ 1
 margin_is_one = refl
 
-full_count : HasFullCount DEFAULT_NODES 2 one (full_count_text certificate 2)
+full_count : HasFullCount (Nodes DEFAULT_NODES) 2 one (full_count_text certificate 2)
 full_count = record {
   file = certificate;
   is = record { winner = 0; won = won_of_one; decided = elected_of_one; order = 0 ∷ 1 ∷ []; least = refl; is = refl };
-  budget = λ c other. let few = default_suffices one [] 0 c other (omega arith) in omega (arith, few);
+  within = λ c other. let few = default_suffices one [] 0 c other (omega arith) in omega (arith, few);
   floor = let is = margin_is_one in omega (arith, is);
   shown = refl;
 }
@@ -213,9 +215,9 @@ full_count = record {
 full_count_end : IsOfSome 5
 full_count_end =
     let task : SearchTask =
-    record { ballots = f; contest = None; workers = DEFAULT_WORKERS; nodes = DEFAULT_NODES; floor = 2; plan = None } in
+    record { ballots = f; contest = None; workers = DEFAULT_WORKERS; budget = Nodes DEFAULT_NODES; floor = 2; plan = None } in
     let verdict : Verdict = Answered FullCount (full_count_text certificate 2) in
-    let finds : Finds DEFAULT_NODES 2 None one verdict = inr (inr (inr (full_count_text certificate 2, full_count, refl))) in
+    let finds : Finds (Nodes DEFAULT_NODES) 2 None one verdict = inr (inr (inr (full_count_text certificate 2, full_count, refl))) in
     let ends : May (AsHeld (one_file one_bytes)) (go_on (told (refused_ballots f) (ballots_of one_bytes None)) (λ ballots. Ends (Searches task ballots)))
     (outcome verdict) =
     going (AsHeld (one_file one_bytes)) (told (refused_ballots f) (ballots_of one_bytes None)) one (λ ballots. Ends (Searches task ballots))
@@ -284,24 +286,24 @@ won_of_three : IsWinner 3 three.rankings 0
 won_of_three = record { order = 2 ∷ 1 ∷ 0 ∷ []; permutation = refl; tabulated = refl; elects = (2 ∷ 1 ∷ [], refl) }
 
 checked_end : (words : List (List ℕ)) (nodes : ℕ) (answer : Answer) (v : Verdict) →
-    command_of words ≡ Some (Check (record { ballots = f; assertions = g; contest = None; nodes = nodes })) →
-    checked_is nodes three.rankings empty 0 ≡ answer →
+    command_of words ≡ Some (Check (record { ballots = f; assertions = g; contest = None; budget = Nodes nodes })) →
+    checked_is (Nodes nodes) three.rankings empty 0 ≡ answer →
     verdict_on empty answer ≡ Some v → EndsWith (outcome v).status words two_files
 checked_end words nodes answer v is found told_is =
     ends_with words two_files (outcome v) (subst (λ command. MayCome (AsHeld two_files) (asked_by command) (outcome v)) (sym is) comes)
     (λ asks. absurd (not_spent words (Check task) is refl asks))
   where
     task : CheckTask
-    task = record { ballots = f; assertions = g; contest = None; nodes = nodes }
+    task = record { ballots = f; assertions = g; contest = None; budget = Nodes nodes }
 
-    judges : IsAnswer nodes three empty answer
+    judges : IsAnswer (Nodes nodes) three empty answer
     judges = record { winner = 0; tabulated = won_of_three; answer_is = found }
 
-    after : May (AsHeld two_files) (after_ballots g nodes three) (outcome v)
+    after : May (AsHeld two_files) (after_ballots g (Nodes nodes) three) (outcome v)
     after = inr (
       empty_bytes,
       refl,
-      going (AsHeld two_files) (told (refused_assertions g) (assertion_file_of empty_bytes)) empty (λ file. Ends (Checks nodes three file)) (outcome v)
+      going (AsHeld two_files) (told (refused_assertions g) (assertion_file_of empty_bytes)) empty (λ file. Ends (Checks (Nodes nodes) three file)) (outcome v)
           (ap (told (refused_assertions g)) read_empty) (v, (answer, judges, told_is), refl),
     )
 
@@ -309,7 +311,7 @@ checked_end words nodes answer v is found told_is =
     comes = inr (
       three_bytes,
       refl,
-      going (AsHeld two_files) (told (refused_ballots f) (ballots_of three_bytes None)) three (λ ballots. after_ballots g nodes ballots) (outcome v)
+      going (AsHeld two_files) (told (refused_ballots f) (ballots_of three_bytes None)) three (λ ballots. after_ballots g (Nodes nodes) ballots) (outcome v)
           (ap (told (refused_ballots f)) three_read) after,
     )
 

@@ -1,10 +1,12 @@
--- A command that judges an assertion file isn't spent where its nodes are enough.
-use Rattle.std.proofs.Common.{◌≡◌, ℕ, ◌≤◌, ◌-◌, ◌*◌, List, Bool, true, false, if◌then◌else◌, Option, None, Some, Result, Ok, Err, MatchBool, refl, sym, ap, subst}
+-- A command that judges an assertion file isn't spent where its budget is enough.
+use Rattle.std.proofs.Common.{◌≡◌, ℕ, ◌≤◌, ◌-◌, ◌*◌, List, Bool, true, false, if◌then◌else◌, Option, None, Some, Result, Ok, Err, MatchBool, refl, sym, ap, subst, arith}
 use Rattle.std.specs.Prelude.{option_map, unwrap_or}
 use Rattle.std.specs.Option.{option_or}
 use Rattle.sha2.specs.Sha256.{sha256}
 use Rattle.desk.specs.Desk.{File, held_bytes}
 use Rattle.assertions.specs.Suffixes.{factorial}
+use Rattle.budget.specs.declared.budget.Budget.{Budget}
+use Rattle.budget.specs.declared.budget.Budget.TheVariants.{Nodes}
 use Rattle.ballot_reader.specs.Ballots.{BallotFile}
 use Rattle.ballot_reader.specs.Grammar.{ballots_of}
 use Rattle.manifest.specs.Cards.{Batches}
@@ -13,20 +15,23 @@ use Rattle.manifest.specs.Manifest.{manifest_of}
 use Rattle.sampler.specs.Draws.{drawn_card}
 use Rattle.seen_file.specs.Reading.{seen_of}
 use Rattle.seen_file.specs.Seen.{Entry}
-use Rattle.assertion_file.specs.Content.{Content as FileContent, candidate_count}
+use Rattle.assertion_file.specs.Content.{Content as FileContent, IsSound, candidate_count}
 use Rattle.assertion_file.specs.Reading.{assertion_file_of}
+use Rattle.assertion_file.proofs.SoundFiles.{read_is_sound}
 use Rattle.session_state.specs.Claims.{values_of}
 use Rattle.session_state.specs.Content.{Content}
 use Rattle.session_state.specs.Sessions.{is_signed_off}
 use Rattle.audit_session.specs.Refusals.{unseen_draw}
 use Rattle.session_state.specs.declared.digests.Digests.{Digests}
 use Rattle.cover_checker.specs.Checks.{IsAnswer}
-use Rattle.cover_checker.specs.Covers.{first_over, or_spent, standing_order, verdict_on as cover_verdict_on}
+use Rattle.cover_checker.specs.Covers.{first_over, or_spent, standing_order, verdict_on as cover_verdict_on, IsEnoughFor}
 use Rattle.cover_checker.specs.Findings.{Answer, assertions_of}
 use Rattle.cover_checker.specs.declared.checked.Checked.TheVariants.{OtherContest, OtherWinner, OtherMargin, Stands, NotLeast, NotAlternative, Harder, OtherDraws, Accepted}
-use Rattle.cover_checker.specs.declared.checked.CheckFault.TheVariants.{Spent as SpentAt, Memory}
-use Rattle.cover_checker.proofs.Enough.{never_spent as cover_never_spent}
-use Rattle.cover_checker.proofs.Existing.{answer_never_spent}
+use Rattle.cover_checker.specs.declared.checked.CheckFault.{CheckFault}
+use Rattle.cover_checker.specs.declared.checked.CheckFault.TheVariants.{Spent as SpentAt, SpentSets, Memory}
+use Rattle.cover_checker.specs.declared.cover.CoverFault.TheVariants.{Spent as CoverSpent}
+use Rattle.cover_checker.proofs.Enough.{never_over, never_spent as cover_never_spent}
+use Rattle.cover_checker.proofs.Existing.{answer_never_fault}
 use Rattle.cli_base.specs.Outcome.{Verdict, Answered, Refused}
 use Rattle.cli_base.specs.Script.{Script, Read, Ends, Bytes, AsHeld, ComesTo, Concludes}
 use Rattle.cli_base.specs.Statuses.{HasAnswer}
@@ -44,8 +49,8 @@ use Rattle.check_command.specs.Check.{Checks, verdict_on}
 use Rattle.check_command.specs.Check as check
 use Rattle.trimmer.specs.Trimmed.{trimmed}
 use Rattle.trimmer.specs.declared.fault.TrimFault.{TrimFault}
-use Rattle.trimmer.specs.declared.fault.TrimFault.TheVariants.{Spent as TrimSpent, Memory as TrimMemory}
-use Rattle.trimmer.proofs.Enough.{trim_is_never_spent}
+use Rattle.trimmer.proofs.Enough.{file-never}
+use Rattle.trimmer.proofs.Lefts.{assertion_in}
 use Rattle.trim_command.specs.Trim.{Trims, trim_verdict}
 use Rattle.trim_command.specs.Trim as trim
 use Rattle.input_files.specs.Cards.{cards_for}
@@ -65,8 +70,8 @@ use Rattle.raire_cli.proofs.Said.{held_whole, value_of, told_ok, unless_ok}
 
 -- ---- a check
 
-spent_answer : (file : FileContent) (answer : Answer) (text : List ℕ) → verdict_on file answer ≡ Some (Answered Spent text) →
-    (last : ℕ) × (answer ≡ Err (SpentAt last))
+pub spent_answer : (file : FileContent) (answer : Answer) (text : List ℕ) → verdict_on file answer ≡ Some (Answered Spent text) →
+    (fault : CheckFault) × (answer ≡ Err fault)
 spent_answer file (Ok OtherContest) text is = absurd (cc is)
 spent_answer file (Ok (OtherWinner winner)) text is = absurd (cc is)
 spent_answer file (Ok (OtherMargin index found)) text is = absurd (cc is)
@@ -76,37 +81,39 @@ spent_answer file (Ok NotAlternative) text is = absurd (cc is)
 spent_answer file (Ok (Harder assertion margin)) text is = absurd (cc is)
 spent_answer file (Ok (OtherDraws index found)) text is = absurd (cc is)
 spent_answer file (Ok Accepted) text is = absurd (cc is)
-spent_answer file (Err (SpentAt last)) text is = (last, refl)
-spent_answer file (Err Memory) text is = absurd (cc is)
+spent_answer file (Err fault) text is = (fault, refl)
 
-checks-never : (nodes : ℕ) (ballots : BallotFile) (file : FileContent) (text : List ℕ) → 2 * factorial (candidate_count file - 1) ≤ nodes →
-    Checks nodes ballots file (Answered Spent text) → ⊥
-checks-never nodes ballots file text enough (answer, found, is) =
-    let (last, e) = spent_answer file answer text is in
-    answer_never_spent nodes ballots file last enough (subst (IsAnswer nodes ballots file) e found)
+checks-never : (budget : Budget) (ballots : BallotFile) (file : FileContent) (text : List ℕ) → IsSound file → IsEnoughFor (candidate_count file) budget →
+    Checks budget ballots file (Answered Spent text) → ⊥
+checks-never budget ballots file text sound enough (answer, found, is) =
+    let (fault, e) = spent_answer file answer text is in
+    let within = never_over (candidate_count file) file.winner (assertions_of file) budget sound.winner (omega (arith, sound.fewest)) enough in
+    answer_never_fault budget ballots file fault within (subst (IsAnswer budget ballots file) e found)
 
 -- ---- a trim
 
 spent_trial : (file : FileContent) (r : Result FileContent TrimFault) (text : List ℕ) → trim_verdict file r ≡ Some (Answered Spent text) →
-    (claim : ℕ) × (last : ℕ) × (r ≡ Err (TrimSpent claim last))
+    (fault : TrimFault) × (r ≡ Err fault)
 spent_trial file (Ok left) text is = absurd (cc is)
-spent_trial file (Err (TrimSpent claim last)) text is = (claim, last, refl)
-spent_trial file (Err TrimMemory) text is = absurd (cc is)
+spent_trial file (Err fault) text is = (fault, refl)
 
-trims-never : (nodes : ℕ) (ballots : BallotFile) (file : FileContent) (text : List ℕ) → 2 * factorial (candidate_count file - 1) ≤ nodes →
-    Trims nodes ballots file (Answered Spent text) → ⊥
-trims-never nodes ballots file text enough (Ok Accepted, found, is) =
-    let (claim, last, e) = spent_trial file (trimmed nodes file) text is in trim_is_never_spent nodes file enough claim last e
-trims-never nodes ballots file text enough (Ok OtherContest, found, is) = checks-never nodes ballots file text enough (Ok OtherContest, found, is)
-trims-never nodes ballots file text enough (Ok (OtherWinner c), found, is) = checks-never nodes ballots file text enough (Ok (OtherWinner c), found, is)
-trims-never nodes ballots file text enough (Ok (OtherMargin at m), found, is) = checks-never nodes ballots file text enough (Ok (OtherMargin at m), found, is)
-trims-never nodes ballots file text enough (Ok (Stands order), found, is) = checks-never nodes ballots file text enough (Ok (Stands order), found, is)
-trims-never nodes ballots file text enough (Ok (NotLeast m), found, is) = checks-never nodes ballots file text enough (Ok (NotLeast m), found, is)
-trims-never nodes ballots file text enough (Ok NotAlternative, found, is) = checks-never nodes ballots file text enough (Ok NotAlternative, found, is)
-trims-never nodes ballots file text enough (Ok (Harder a m), found, is) = checks-never nodes ballots file text enough (Ok (Harder a m), found, is)
-trims-never nodes ballots file text enough (Ok (OtherDraws at d), found, is) = checks-never nodes ballots file text enough (Ok (OtherDraws at d), found, is)
-trims-never nodes ballots file text enough (Err (SpentAt last), found, is) = checks-never nodes ballots file text enough (Err (SpentAt last), found, is)
-trims-never nodes ballots file text enough (Err Memory, found, is) = checks-never nodes ballots file text enough (Err Memory, found, is)
+trims-never : (budget : Budget) (ballots : BallotFile) (file : FileContent) (text : List ℕ) → IsSound file → IsEnoughFor (candidate_count file) budget →
+    Trims budget ballots file (Answered Spent text) → ⊥
+trims-never budget ballots file text sound enough (Ok Accepted, found, is) =
+    let (fault, e) = spent_trial file (trimmed budget file) text is in
+    file-never budget file (λ claims. never_over (candidate_count file) file.winner (map assertion_in claims) budget sound.winner (omega (arith, sound.fewest))
+    enough) fault e
+trims-never budget ballots file text sound enough (Ok OtherContest, found, is) = checks-never budget ballots file text sound enough (Ok OtherContest, found, is)
+trims-never budget ballots file text sound enough (Ok (OtherWinner c), found, is) = checks-never budget ballots file text sound enough (Ok (OtherWinner c), found, is)
+trims-never budget ballots file text sound enough (Ok (OtherMargin at m), found, is) = checks-never budget ballots file text sound enough (Ok (OtherMargin at m), found, is)
+trims-never budget ballots file text sound enough (Ok (Stands order), found, is) = checks-never budget ballots file text sound enough (Ok (Stands order), found, is)
+trims-never budget ballots file text sound enough (Ok (NotLeast m), found, is) = checks-never budget ballots file text sound enough (Ok (NotLeast m), found, is)
+trims-never budget ballots file text sound enough (Ok NotAlternative, found, is) = checks-never budget ballots file text sound enough (Ok NotAlternative, found, is)
+trims-never budget ballots file text sound enough (Ok (Harder a m), found, is) = checks-never budget ballots file text sound enough (Ok (Harder a m), found, is)
+trims-never budget ballots file text sound enough (Ok (OtherDraws at d), found, is) = checks-never budget ballots file text sound enough (Ok (OtherDraws at d), found, is)
+trims-never budget ballots file text sound enough (Err (SpentAt last), found, is) = checks-never budget ballots file text sound enough (Err (SpentAt last), found, is)
+trims-never budget ballots file text sound enough (Err (SpentSets sets), found, is) = checks-never budget ballots file text sound enough (Err (SpentSets sets), found, is)
+trims-never budget ballots file text sound enough (Err Memory, found, is) = checks-never budget ballots file text sound enough (Err Memory, found, is)
 
 module _ (files : List File) (judging : Judging) (enough : AreEnough files judging) (text : List ℕ) where
   -- what is read comes to no budget that is spent
@@ -117,16 +124,12 @@ module _ (files : List File) (judging : Judging) (enough : AreEnough files judgi
       Never (go_on judged next)
   after_value judged next only each comes = let (value, is, on) = value_of (AsHeld files) judged next Spent text only comes in each value is on
 
-  -- its assertion file is read
-  few : (bytes : List ℕ) (file : FileContent) → AsHeld files judging.assertions (Bytes bytes) → assertion_file_of bytes ≡ Ok file →
-      2 * factorial (candidate_count file - 1) ≤ judging.nodes
-  few bytes file there is = enough bytes file (held_whole (held_bytes judging.assertions files) bytes there) is
-
-  -- the same of a command that judges it
-  few_there : (assertions : List ℕ) (nodes : ℕ) → assertions ≡ judging.assertions → nodes ≡ judging.nodes → (bytes : List ℕ) (file : FileContent) →
-      AsHeld files assertions (Bytes bytes) → assertion_file_of bytes ≡ Ok file → 2 * factorial (candidate_count file - 1) ≤ nodes
-  few_there assertions nodes name same bytes file there is =
-      subst (λ n. 2 * factorial (candidate_count file - 1) ≤ n) (sym same) (few bytes file (subst (λ n. AsHeld files n (Bytes bytes)) name there) is)
+  -- the budget of a command that judges the assertion file is enough for what that says
+  few_there : (assertions : List ℕ) (budget : Budget) → assertions ≡ judging.assertions → budget ≡ judging.budget → (bytes : List ℕ) (file : FileContent) →
+      AsHeld files assertions (Bytes bytes) → assertion_file_of bytes ≡ Ok file → IsEnoughFor (candidate_count file) budget
+  few_there assertions budget name same bytes file there is =
+      let its : AsHeld files judging.assertions (Bytes bytes) = subst (λ n. AsHeld files n (Bytes bytes)) name there in
+      subst (IsEnoughFor (candidate_count file)) (sym same) (enough bytes file (held_whole (held_bytes judging.assertions files) bytes its) is)
 
   -- what is read of a file is gone on with
   abbrev ReadNever : {A Why : Type 0} → List ℕ → (Why → Verdict) → (List ℕ → Result A Why) → (List ℕ → A → Script) → Type 0
@@ -140,50 +143,50 @@ module _ (files : List File) (judging : Judging) (enough : AreEnough files judgi
       after_value (told words (read bytes)) (next bytes) (told-only words (read bytes) refuses)
       (λ value is. each bytes value there (told_ok words (read bytes) value is)) rest
 
-  check-never : (task : CheckTask) → task.assertions ≡ judging.assertions → task.nodes ≡ judging.nodes → Never (check.script task)
+  check-never : (task : CheckTask) → task.assertions ≡ judging.assertions → task.budget ≡ judging.budget → Never (check.script task)
   check-never task name same =
       read-never task.ballots (refused_ballots task.ballots) (λ bytes. ballots_of bytes task.contest)
-      (λ bytes ballots. check.after_ballots task.assertions task.nodes ballots) (λ why. tt)
+      (λ bytes ballots. check.after_ballots task.assertions task.budget ballots) (λ why. tt)
       (λ b ballots at_b is_b. read-never task.assertions (refused_assertions task.assertions) assertion_file_of
-      (λ bytes file. Ends (Checks task.nodes ballots file)) (λ why. tt)
-      (λ a file at_a is_a. checks-never task.nodes ballots file text (few_there task.assertions task.nodes name same a file at_a is_a)))
+      (λ bytes file. Ends (Checks task.budget ballots file)) (λ why. tt)
+      (λ a file at_a is_a. checks-never task.budget ballots file text (read_is_sound a file is_a) (few_there task.assertions task.budget name same a file at_a is_a)))
 
-  trim-never : (task : TrimTask) → task.assertions ≡ judging.assertions → task.nodes ≡ judging.nodes → Never (trim.script task)
+  trim-never : (task : TrimTask) → task.assertions ≡ judging.assertions → task.budget ≡ judging.budget → Never (trim.script task)
   trim-never task name same =
       read-never task.ballots (refused_ballots task.ballots) (λ bytes. ballots_of bytes task.contest)
-      (λ bytes ballots. trim.after_ballots task.assertions task.nodes ballots) (λ why. tt)
+      (λ bytes ballots. trim.after_ballots task.assertions task.budget ballots) (λ why. tt)
       (λ b ballots at_b is_b. read-never task.assertions (refused_assertions task.assertions) assertion_file_of
-      (λ bytes file. Ends (Trims task.nodes ballots file)) (λ why. tt)
-      (λ a file at_a is_a. trims-never task.nodes ballots file text (few_there task.assertions task.nodes name same a file at_a is_a)))
+      (λ bytes file. Ends (Trims task.budget ballots file)) (λ why. tt)
+      (λ a file at_a is_a. trims-never task.budget ballots file text (read_is_sound a file is_a) (few_there task.assertions task.budget name same a file at_a is_a)))
 
   -- ---- a session that is opened
 
   opens-never : (task : OpenTask) (ballots : BallotFile) (batches : Batches) (file : FileContent) (digests : Digests) →
-      2 * factorial (candidate_count file - 1) ≤ task.nodes →
+      IsSound file → IsEnoughFor (candidate_count file) task.budget →
       opening.Opens task ballots batches file digests (Answered Spent text) → ⊥
-  opens-never task ballots batches file digests le opens = by (is_accepted task.nodes ballots file) opens where
-    by : (b : Bool) → MatchBool b (Answered Spent text ≡ opening.opened task batches file digests) (Checks task.nodes ballots file (Answered Spent text)) → ⊥
+  opens-never task ballots batches file digests sound le opens = by (is_accepted task.budget ballots file) opens where
+    by : (b : Bool) → MatchBool b (Answered Spent text ≡ opening.opened task batches file digests) (Checks task.budget ballots file (Answered Spent text)) → ⊥
     by true is = cc is
-    by false checks = checks-never task.nodes ballots file text le checks
+    by false checks = checks-never task.budget ballots file text sound le checks
 
-  open-never : (task : OpenTask) → task.assertions ≡ judging.assertions → task.nodes ≡ judging.nodes → Never (opening.script task)
+  open-never : (task : OpenTask) → task.assertions ≡ judging.assertions → task.budget ≡ judging.budget → Never (opening.script task)
   open-never task name same =
       read-never task.ballots (refused_ballots task.ballots) (λ bytes. ballots_of bytes task.contest)
       (λ bytes ballots. opening.after_ballots task ballots (sha256 bytes)) (λ why. tt)
       (λ b ballots at_b is_b (m, at_m, from_m).
       after_value (cards_for task.ballots ballots task.manifest m) _ (cards-only task.ballots ballots task.manifest m) (λ batches is_m.
       read-never task.assertions (refused_assertions task.assertions) assertion_file_of _ (λ why. tt) (λ a file at_a is_a.
-      opens-never task ballots batches file _ (few_there task.assertions task.nodes name same a file at_a is_a)))
+      opens-never task ballots batches file _ (read_is_sound a file is_a) (few_there task.assertions task.budget name same a file at_a is_a)))
       from_m)
 
   -- ---- a round of an audit
 
-  accepted-never : (nodes : ℕ) (ballots : BallotFile) (file : FileContent) (next : Script) → 2 * factorial (candidate_count file - 1) ≤ nodes → Never next →
-      Never (if_accepted nodes ballots file next)
-  accepted-never nodes ballots file next le never = by (is_accepted nodes ballots file) where
-    by : (b : Bool) → Never (on_if b next (Ends (Checks nodes ballots file)))
+  accepted-never : (budget : Budget) (ballots : BallotFile) (file : FileContent) (next : Script) → IsSound file → IsEnoughFor (candidate_count file) budget → Never next →
+      Never (if_accepted budget ballots file next)
+  accepted-never budget ballots file next sound le never = by (is_accepted budget ballots file) where
+    by : (b : Bool) → Never (on_if b next (Ends (Checks budget ballots file)))
     by true = never
-    by false = λ checks. checks-never nodes ballots file text le checks
+    by false = λ checks. checks-never budget ballots file text sound le checks
 
   -- a session is signed off or not
   session-never : (signed : Bool) → Spent ≡ (if signed then Done else Unconfirmed) → ⊥
@@ -204,16 +207,15 @@ module _ (files : List File) (judging : Judging) (enough : AreEnough files judgi
       next-never _ (next-only task.session task.seen task.draws same (values_of file) (record { recorded = linked_of batches ballots; entries = entries }))
       ends) from_v)
 
-  audit-never : (task : AuditTask) → task.assertions ≡ judging.assertions → task.nodes ≡ judging.nodes → Never (audit.script task)
+  audit-never : (task : AuditTask) → task.assertions ≡ judging.assertions → task.budget ≡ judging.budget → Never (audit.script task)
   audit-never task name same = λ (s, at_s, from_s).
       after_value (session_to_go_on task.session task.draws s) _ (session-only task.session task.draws s) (λ session is_s (b, at_b, from_b).
       after_value (same_ballots task.ballots session b) _ (ballots-only task.ballots session b) (λ ballots is_b (m, at_m, from_m).
       after_value (same_manifest task.ballots task.manifest session ballots m) _ (manifest-only task.ballots task.manifest session ballots m)
       (λ batches is_m (a, at_a, from_a).
       after_value (audit.same_assertions task session a) _ (assertions-only task session a) (λ file is_a.
-      accepted-never task.nodes ballots file _
-      (few_there task.assertions task.nodes name same a file at_a
-      (told_ok (refused_assertions task.assertions) (assertion_file_of a) file (unless_ok _ _ file is_a).1))
+      let reads = told_ok (refused_assertions task.assertions) (assertion_file_of a) file (unless_ok _ _ file is_a).1 in
+      accepted-never task.budget ballots file _ (read_is_sound a file reads) (few_there task.assertions task.budget name same a file at_a reads)
       (facts-never task session ballots batches file))
       from_a) from_m) from_b) from_s
 
@@ -229,7 +231,7 @@ module _ (files : List File) (judging : Judging) (enough : AreEnough files judgi
         by : (over : Option ℕ) (left : Option (List ℕ)) → first_over n file.winner (assertions_of file) nodes ≡ over →
             Never (poll.unless_ended (option_or (option_map (poll.spent file) over) (option_map (poll.standing file) left)) next)
         by (Some last) left e is = cover_never_spent n file.winner nodes (assertions_of file) last le
-            (ap (λ over. or_spent over (cover_verdict_on (standing_order n file.winner (assertions_of file)))) e)
+            (ap (λ over. or_spent (option_map CoverSpent over) (cover_verdict_on (standing_order n file.winner (assertions_of file)))) e)
         by None (Some order) e is = cc is
         by None None e comes = never comes
 
@@ -249,13 +251,13 @@ module _ (files : List File) (judging : Judging) (enough : AreEnough files judgi
     by None is = told-never (poll.is_yes task batches file entries) (cc is)
     by (Some k) is = cc is
 
-  poll-never : (task : PollTask) → task.assertions ≡ judging.assertions → task.nodes ≡ judging.nodes → Never (poll.script task)
+  poll-never : (task : PollTask) → task.assertions ≡ judging.assertions → Nodes task.nodes ≡ judging.budget → Never (poll.script task)
   poll-never task name same =
       read-never task.manifest (refused_manifest task.manifest) manifest_of (λ bytes batches. poll.after_manifest task batches) (λ why. tt)
       (λ m batches at_m is_m. read-never task.assertions (refused_assertions task.assertions) assertion_file_of
       (λ bytes file. poll.after_assertions task batches file) (λ why. tt)
       (λ a file at_a is_a. covered-never task.nodes file (poll.after_cover task batches file)
-      (few_there task.assertions task.nodes name same a file at_a is_a)
+      (few_there task.assertions (Nodes task.nodes) name same a file at_a is_a)
       (read-never task.seen (refused_seen task.seen) (seen_of batches file.candidates) (λ bytes entries. Ends (poll.Polls task batches file entries))
       (λ why. tt) (λ v entries at_v is_v. polls-never task batches file entries))))
 
@@ -267,19 +269,19 @@ judged-is files own judging is enough = subst (AreEnough files) (sym (some_is is
 script-never : (files : List File) (command : Command) (judging : Judging) (text : List ℕ) → judging_of command ≡ Some judging → AreEnough files judging →
     Concludes (AsHeld files) (script_of command) (Answered Spent text) → ⊥
 script-never files (Check task) judging text is enough =
-    let own : Judging = record { assertions = task.assertions; nodes = task.nodes } in
+    let own : Judging = record { assertions = task.assertions; budget = task.budget } in
     check-never files own (judged-is files own judging is enough) text task refl refl
 script-never files (Trim task) judging text is enough =
-    let own : Judging = record { assertions = task.assertions; nodes = task.nodes } in
+    let own : Judging = record { assertions = task.assertions; budget = task.budget } in
     trim-never files own (judged-is files own judging is enough) text task refl refl
 script-never files (Open task) judging text is enough =
-    let own : Judging = record { assertions = task.assertions; nodes = task.nodes } in
+    let own : Judging = record { assertions = task.assertions; budget = task.budget } in
     open-never files own (judged-is files own judging is enough) text task refl refl
 script-never files (Audit task) judging text is enough =
-    let own : Judging = record { assertions = task.assertions; nodes = task.nodes } in
+    let own : Judging = record { assertions = task.assertions; budget = task.budget } in
     audit-never files own (judged-is files own judging is enough) text task refl refl
 script-never files (Poll task) judging text is enough =
-    let own : Judging = record { assertions = task.assertions; nodes = task.nodes } in
+    let own : Judging = record { assertions = task.assertions; budget = Nodes task.nodes } in
     poll-never files own (judged-is files own judging is enough) text task refl refl
 script-never files _ judging text is enough = absurd (cc is)
 

@@ -38,7 +38,7 @@ module _ (words : List (List ℕ)) (files : List File) (asks : AsksForSearch wor
 
   confirmed : (bytes : List ℕ) (ballots : BallotFile) (text : List ℕ) → held_bytes asks.task.ballots files ≡ Some bytes →
       ballots_of bytes asks.task.contest ≡ Ok ballots → has_cards asks.task.plan ballots ≡ true →
-      HasCertificate asks.task.nodes asks.task.floor asks.task.plan ballots text → Confirmed text
+      HasCertificate asks.task.budget asks.task.floor asks.task.plan ballots text → Confirmed text
   confirmed bytes ballots text held is cards has =
       let c = has.is in
       let confirms = certificate-confirms ballots has.file (ballots_fit bytes asks.task.contest ballots is).fewest c in (
@@ -67,7 +67,7 @@ module _ (words : List (List ℕ)) (files : List File) (asks : AsksForSearch wor
 
   reasoned : (bytes : List ℕ) (ballots : BallotFile) (text : List ℕ) → held_bytes asks.task.ballots files ≡ Some bytes →
       ballots_of bytes asks.task.contest ≡ Ok ballots → has_cards asks.task.plan ballots ≡ true →
-      HasFullCount asks.task.nodes asks.task.floor ballots text → GivesReason words files text
+      HasFullCount asks.task.budget asks.task.floor ballots text → GivesReason words files text
   reasoned bytes ballots text held is cards has =
       let c = has.is in
       let confirms = certificate-confirms ballots has.file (ballots_fit bytes asks.task.contest ballots is).fewest c in
@@ -89,10 +89,10 @@ module _ (words : List (List ℕ)) (files : List File) (asks : AsksForSearch wor
   confirms_asked text comes =
       let came = search_came Done text comes in
       let (cards, finds) = found_by asks.task came.value Done text came.rest in
-      confirmed came.bytes came.value text came.held came.is cards (done_is asks.task.nodes asks.task.floor asks.task.plan came.value text finds)
+      confirmed came.bytes came.value text came.held came.is cards (done_is asks.task.budget asks.task.floor asks.task.plan came.value text finds)
 
   pub gives_reason : (text : List ℕ) → ComesTo (AsHeld files) (asked words) (Answered FullCount text) → GivesReason words files text
   gives_reason text comes =
       let came = search_came FullCount text comes in
       let (cards, finds) = found_by asks.task came.value FullCount text came.rest in
-      reasoned came.bytes came.value text came.held came.is cards (full_count_is asks.task.nodes asks.task.floor asks.task.plan came.value text finds)
+      reasoned came.bytes came.value text came.held came.is cards (full_count_is asks.task.budget asks.task.floor asks.task.plan came.value text finds)

@@ -13,6 +13,7 @@ mod PollsLimit
 mod Enough
 mod Limited
 mod SignedOff
+mod EitherBudget
 mod EachCommand
 mod Workers
 mod Complete
@@ -21,6 +22,7 @@ mod PluralOpened
 mod PluralAudited
 mod PluralsLimit
 mod Undecided
+mod SetsSpent
 mod Rounds
 mod Clauses
 mod Nodes

@@ -2,7 +2,7 @@
 use Rattle.std.proofs.Common.{ℕ, zero, suc, ◌≤◌, ◌-◌, ◌*◌, List, arith}
 use Rattle.assertions.specs.Suffixes.{factorial}
 use Rattle.ballot_reader.specs.Ballots.{BallotFile}
-use Rattle.command.specs.declared.limits.TheConstants.{DEFAULT_NODES}
+use Rattle.budget.specs.declared.limits.TheConstants.{DEFAULT_NODES}
 use Rattle.contest_search.specs.Budget.{nodes_for}
 use Rattle.contest_search.specs.Contest.{candidate_count, IsOther}
 use Rattle.contest_search.proofs.Nodes.{nodes_are_few}

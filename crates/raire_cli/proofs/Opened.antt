@@ -33,14 +33,14 @@ use Rattle.raire_cli.proofs.Said.{held_whole, said, said_cards, value_of}
 
 -- a check accepts the file, since `yes` alone is no session
 said_opened : (task : OpenTask) (ballots : BallotFile) (batches : Batches) (file : FileContent) (digests : Digests) (text : List ℕ) →
-    EndsSo task ballots batches file digests (Answered Done text) → (is_accepted task.nodes ballots file ≡ true)
+    EndsSo task ballots batches file digests (Answered Done text) → (is_accepted task.budget ballots file ≡ true)
     × (Answered Done text ≡ opened task batches file digests)
-said_opened task ballots batches file digests text ends = by (is_accepted task.nodes ballots file) refl ends where
-  by : (b : Bool) → is_accepted task.nodes ballots file ≡ b → MatchBool b (Answered Done text ≡ opened task batches file digests)
-      (Checks task.nodes ballots file (Answered Done text)) →
-      (is_accepted task.nodes ballots file ≡ true) × (Answered Done text ≡ opened task batches file digests)
+said_opened task ballots batches file digests text ends = by (is_accepted task.budget ballots file) refl ends where
+  by : (b : Bool) → is_accepted task.budget ballots file ≡ b → MatchBool b (Answered Done text ≡ opened task batches file digests)
+      (Checks task.budget ballots file (Answered Done text)) →
+      (is_accepted task.budget ballots file ≡ true) × (Answered Done text ≡ opened task batches file digests)
   by true accepted is = (accepted, is)
-  by false out checks = absurd (not_checked task.nodes ballots file Done text (inl refl) out checks)
+  by false out checks = absurd (not_checked task.budget ballots file Done text (inl refl) out checks)
 
 module _ (words : List (List ℕ)) (files : List File) (asks : AsksForOpening words) (text : List ℕ) where
   -- the words open a session, and this tells it
@@ -57,9 +57,9 @@ module _ (words : List (List ℕ)) (files : List File) (asks : AsksForOpening wo
   all_read bytes held basis ballots cards assertions ends =
       let (manifest, placed) = said_cards task.ballots basis.ballots task.manifest bytes.manifest basis.batches cards in
       let (accepted, is) = said_opened task basis.ballots basis.batches basis.file (digests_of bytes) text ends in
-      let found = (decided task.nodes basis.ballots basis.file).0 accepted in
+      let found = (decided task.budget basis.ballots basis.file).0 accepted in
       let holds : Holds basis.ballots basis.file =
-      (accepted_iff_holds task.nodes basis.ballots basis.file Accepted (read_is_sound bytes.assertions basis.file assertions) found).0 refl in (
+      (accepted_iff_holds task.budget basis.ballots basis.file Accepted (read_is_sound bytes.assertions basis.file assertions) found).0 refl in (
         begun basis.file.contest (length (cards_of basis.batches)) basis.file task.seed task.limit task.gamma (digests_of bytes),
         record {
           asks = asks;

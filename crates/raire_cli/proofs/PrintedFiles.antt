@@ -13,6 +13,7 @@ use Rattle.session_state.specs.declared.digests.Digests.{Digests}
 use Rattle.cover_checker.specs.Checks.{IsAnswer}
 use Rattle.cover_checker.specs.Draws.{IsPlanOf}
 use Rattle.cover_checker.specs.declared.checked.Checked.TheVariants.{Accepted}
+use Rattle.budget.specs.declared.budget.Budget.{Budget}
 use Rattle.ballot_reader.specs.Ballots.{BallotFile}
 use Rattle.ballot_reader.specs.Grammar.{ballots_of}
 use Rattle.manifest.specs.Cards.{Batches}
@@ -68,7 +69,7 @@ module _ {words : List (List ℕ)} (files : List File) (search : AsksForSearch w
     pub ballots : BallotFile
     pub read : ballots_of bytes task.contest ≡ Ok ballots
     pub cards : has_cards task.plan ballots ≡ true
-    pub has : HasCertificate task.nodes task.floor task.plan ballots text
+    pub has : HasCertificate task.budget task.floor task.plan ballots text
 
   found_by : (d : Outcome) → d.status ≡ 0 → May (AsHeld files) (script task) d → Found d.out
   found_by d zero may = elim (ended (AsHeld files) (script task) d may) [
@@ -85,7 +86,7 @@ module _ {words : List (List ℕ)} (files : List File) (search : AsksForSearch w
           ballots = came.value;
           read = came.is;
           cards = cards;
-          has = done_is task.nodes task.floor task.plan came.value d.out finds;
+          has = done_is task.budget task.floor task.plan came.value d.out finds;
         }
     | inr (name, reading, reaches, there, stops) ↦ absurd (stopped 0 name reading d stops zero refl refl refl)
   ]
@@ -101,7 +102,7 @@ module _ {words : List (List ℕ)} (files : List File) (search : AsksForSearch w
   ]
 
 -- what a search printed
-abbrev file_of : {nodes least : ℕ} {ballots : BallotFile} {text : List ℕ} (plan : Option PlanTerms) → HasCertificate nodes least plan ballots text → Content
+abbrev file_of : {budget : Budget} {least : ℕ} {ballots : BallotFile} {text : List ℕ} (plan : Option PlanTerms) → HasCertificate budget least plan ballots text → Content
 file_of plan has = printed plan has.file
 
 -- the plan that is printed can be one, and has the clean draws of the claims
@@ -124,21 +125,21 @@ clean_by None claims = tt
 clean_by (Some terms) claims = refl
 
 -- it reads back, and is accepted
-module _ (nodes least : ℕ) (plan : Option PlanTerms) (limits : IfSome plan AreWithinLimits) (bytes : List ℕ) (contest : Option Id) (ballots : BallotFile)
-    (text : List ℕ) (read : ballots_of bytes contest ≡ Ok ballots) (cards : has_cards plan ballots ≡ true) (has : HasCertificate nodes least plan ballots text)
+module _ (budget : Budget) (least : ℕ) (plan : Option PlanTerms) (limits : IfSome plan AreWithinLimits) (bytes : List ℕ) (contest : Option Id) (ballots : BallotFile)
+    (text : List ℕ) (read : ballots_of bytes contest ≡ Ok ballots) (cards : has_cards plan ballots ≡ true) (has : HasCertificate budget least plan ballots text)
   where
-    taken : IsTaken nodes ballots (file_of plan has)
+    taken : IsTaken budget ballots (file_of plan has)
     taken =
         let file = has.file in
         let records : file.records ≡ length ballots.rankings = ap (λ (f : Content). f.records) has.is.is in
-        accepted_with nodes bytes contest ballots file (option_map (plan_by file.claims) plan) read (record { is = has.is; budget = has.budget })
+        accepted_with budget bytes contest ballots file (option_map (plan_by file.claims) plan) read (record { is = has.is; within = has.within })
         (sound_by plan ballots file records limits cards) (clean_by plan file.claims)
 
     printed_reads : assertion_file_of text ≡ Ok (file_of plan has)
     printed_reads = subst (λ t. assertion_file_of t ≡ Ok (file_of plan has)) (sym has.shown)
         (let (is, reads, accepted) = taken in reads)
 
-    printed_accepted : IsAnswer nodes ballots (file_of plan has) (Ok Accepted)
+    printed_accepted : IsAnswer budget ballots (file_of plan has) (Ok Accepted)
     printed_accepted = let (is, reads, accepted) = taken in accepted
 
 -- ---- a check
@@ -149,17 +150,17 @@ printed_is_accepted words others search check files more first second text print
     let found = found files search first text printed in
     let file = file_of search.task.plan found.has in
     let limits = (are_checked words (Search search.task) search.asked).plan in
-    let reads = printed_reads search.task.nodes search.task.floor search.task.plan limits found.bytes search.task.contest found.ballots text found.read
+    let reads = printed_reads search.task.budget search.task.floor search.task.plan limits found.bytes search.task.contest found.ballots text found.read
     found.cards found.has in
-    let known = printed_accepted search.task.nodes search.task.floor search.task.plan limits found.bytes search.task.contest found.ballots text found.read
+    let known = printed_accepted search.task.budget search.task.floor search.task.plan limits found.bytes search.task.contest found.ballots text found.read
     found.cards found.has in
     let yes : Verdict = Answered Done (yes_text file) in
-    let checks : Checks task.nodes found.ballots file yes =
-    subst (λ nodes. Checks nodes found.ballots file yes) (sym check.same_nodes)
-    ((accepted_is_yes search.task.nodes found.ballots file yes known).1 refl) in
-    let with_ballots : List ℕ → BallotFile → Script = λ bytes ballots. after_ballots task.assertions task.nodes ballots in
-    let after : May (AsHeld more) (after_ballots task.assertions task.nodes found.ballots) (outcome yes) =
-    may_say more task.assertions (refused_assertions task.assertions) assertion_file_of (λ bytes file. Ends (Checks task.nodes found.ballots file)) text
+    let checks : Checks task.budget found.ballots file yes =
+    subst (λ budget. Checks budget found.ballots file yes) (sym check.same_budget)
+    ((accepted_is_yes search.task.budget found.ballots file yes known).1 refl) in
+    let with_ballots : List ℕ → BallotFile → Script = λ bytes ballots. after_ballots task.assertions task.budget ballots in
+    let after : May (AsHeld more) (after_ballots task.assertions task.budget found.ballots) (outcome yes) =
+    may_say more task.assertions (refused_assertions task.assertions) assertion_file_of (λ bytes file. Ends (Checks task.budget found.ballots file)) text
     holds.printed holds.is_short file reads (outcome yes) (yes, checks, refl) in
     let comes : MayCome (AsHeld more) (asked_by (Some (Check task))) (outcome yes) =
     may_say more task.ballots (refused_ballots task.ballots) (λ bytes. ballots_of bytes task.contest) with_ballots found.bytes
@@ -185,9 +186,9 @@ printed_is_opened words others search opening files more first second text print
     let ballots = found.ballots in
     let file = file_of search.task.plan found.has in
     let limits = (are_checked words (Search search.task) search.asked).plan in
-    let reads = printed_reads search.task.nodes search.task.floor search.task.plan limits found.bytes search.task.contest ballots text found.read
+    let reads = printed_reads search.task.budget search.task.floor search.task.plan limits found.bytes search.task.contest ballots text found.read
     found.cards found.has in
-    let known = printed_accepted search.task.nodes search.task.floor search.task.plan limits found.bytes search.task.contest ballots text found.read
+    let known = printed_accepted search.task.budget search.task.floor search.task.plan limits found.bytes search.task.contest ballots text found.read
     found.cards found.has in
     let held = AsHeld more in
     let digests : Digests = opened.all_digests (record { ballots = sha256 found.bytes; manifest = sha256 cards.bytes }) text in
@@ -196,10 +197,10 @@ printed_is_opened words others search opening files more first second text print
     let asks : AsksFor words files ballots found.has.is.winner =
     record { search = search; bytes = found.bytes; held = found.held; accepted = found.read; cards = found.cards; won = found.has.is.won } in
     let placed = cards.placed ballots found.has.is.winner asks in
-    let accepted : is_accepted task.nodes ballots file ≡ true =
-    ap (λ nodes. is_accepted nodes ballots file) opening.same_nodes ∙ (decided search.task.nodes ballots file).1 known in
+    let accepted : is_accepted task.budget ballots file ≡ true =
+    ap (λ budget. is_accepted budget ballots file) opening.same_budget ∙ (decided search.task.budget ballots file).1 known in
     let opens : opened.Opens task ballots cards.batches file digests session =
-    subst (λ b. MatchBool b (session ≡ session) (Checks task.nodes ballots file session)) (sym accepted) refl in
+    subst (λ b. MatchBool b (session ≡ session) (Checks task.budget ballots file session)) (sym accepted) refl in
     let with_file : List ℕ → Content → Script = λ bytes file. Ends (opened.Opens task ballots cards.batches file (opened.all_digests (record { ballots = sha256 found.bytes; manifest = sha256 cards.bytes }) bytes)) in
     let from_assertions : May held (opened.after_manifest task ballots cards.batches
     (record { ballots = sha256 found.bytes; manifest = sha256 cards.bytes })) due =

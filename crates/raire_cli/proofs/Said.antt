@@ -35,7 +35,7 @@ pub read_whole : (name : List ℕ) (files : List File) (bytes : List ℕ) → he
 read_whole name files bytes held short =
     sym (ap reading_of held ∙ ap (λ b. if b then Bytes bytes else TooLong) (le-leb (length bytes) limit short))
 
-none_is_some : {due : Outcome} → None ≡ Some due → ⊥
+pub none_is_some : {due : Outcome} → None ≡ Some due → ⊥
 none_is_some e = cc e
 
 -- ---- a file that is judged

@@ -1,6 +1,7 @@
 -- A later call accepts what a trim printed, and trims it to the same.
 use Rattle.std.proofs.Common.{◌≡◌, ◌⊎◌, inl, inr, ℕ, List, Some, Result, Ok, Err, refl, sym, ap, subst, ◌∙◌, arith}
 use Rattle.desk.specs.Desk.{File}
+use Rattle.budget.specs.declared.budget.Budget.{Budget}
 use Rattle.assertion_file.specs.Content.{Content}
 use Rattle.assertion_file.specs.Reading.{assertion_file_of}
 use Rattle.assertion_file.specs.Text.{assertion_file_text}
@@ -11,7 +12,7 @@ use Rattle.cover_checker.specs.declared.checked.Checked.TheVariants.{Accepted}
 use Rattle.cover_checker.proofs.OneAnswer.{answer_is_one}
 use Rattle.trimmer.specs.Trimmed.{trimmed}
 use Rattle.trimmer.specs.declared.fault.TrimFault.{TrimFault}
-use Rattle.trimmer.specs.declared.fault.TrimFault.TheVariants.{Spent as TrimSpent, Memory as TrimMemory}
+use Rattle.trimmer.specs.declared.fault.TrimFault.TheVariants.{Spent as TrimSpent, SpentSets as TrimSpentSets, Memory as TrimMemory}
 use Rattle.trimmer.proofs.Kept.{trimmed_stays}
 use Rattle.cli_base.specs.Ends.{Took}
 use Rattle.cli_base.specs.Outcome.{Outcome, Verdict, Answered, outcome}
@@ -65,12 +66,12 @@ trimmed_is_accepted words others trim check files more first second text printed
     let l = left_of_call files trim first text printed in
     let reads : assertion_file_of text ≡ Ok l.left = subst (λ t. assertion_file_of t ≡ Ok l.left) (sym l.shown) (reads_back words files trim text l) in
     let yes : Verdict = Answered Done (yes_text l.left) in
-    let checks : Checks task.nodes l.ballots l.left yes =
-    subst (λ nodes. Checks nodes l.ballots l.left yes) (sym check.same_nodes)
-    ((accepted_is_yes trim.task.nodes l.ballots l.left yes (accepted_left words files trim text l)).1 refl) in
-    let with_ballots : List ℕ → BallotFile → Script = λ bytes ballots. check_after_ballots task.assertions task.nodes ballots in
-    let after : May (AsHeld more) (check_after_ballots task.assertions task.nodes l.ballots) (outcome yes) =
-    may_say more task.assertions (refused_assertions task.assertions) assertion_file_of (λ bytes file. Ends (Checks task.nodes l.ballots file)) text
+    let checks : Checks task.budget l.ballots l.left yes =
+    subst (λ budget. Checks budget l.ballots l.left yes) (sym check.same_budget)
+    ((accepted_is_yes trim.task.budget l.ballots l.left yes (accepted_left words files trim text l)).1 refl) in
+    let with_ballots : List ℕ → BallotFile → Script = λ bytes ballots. check_after_ballots task.assertions task.budget ballots in
+    let after : May (AsHeld more) (check_after_ballots task.assertions task.budget l.ballots) (outcome yes) =
+    may_say more task.assertions (refused_assertions task.assertions) assertion_file_of (λ bytes file. Ends (Checks task.budget l.ballots file)) text
     holds.printed holds.is_short l.left reads (outcome yes) (yes, checks, refl) in
     let comes : MayCome (AsHeld more) (asked_by (Some (Check task))) (outcome yes) =
     may_say more task.ballots (refused_ballots task.ballots) (λ bytes. ballots_of bytes task.contest) with_ballots l.are.ballot_bytes
@@ -82,21 +83,22 @@ trimmed_is_accepted words others trim check files more first second text printed
 -- ---- a trim
 
 -- of a file that stays as it is the same text is told, or a trial that is spent
-module _ (nodes : ℕ) (ballots : BallotFile) (file left : Content) (accepted : IsAnswer nodes ballots left (Ok Accepted)) (is : trimmed nodes file ≡ Ok left) where
+module _ (budget : Budget) (ballots : BallotFile) (file left : Content) (accepted : IsAnswer budget ballots left (Ok Accepted)) (is : trimmed budget file ≡ Ok left) where
   abbrev IsSame : Verdict → Type 0
   IsSame v = ((outcome v).status ≡ 4) ⊎ (v ≡ Answered Done (assertion_file_text left))
 
-  same_verdict : (r : Result Content TrimFault) (v : Verdict) → trimmed nodes left ≡ r → trim_verdict left r ≡ Some v → IsSame v
+  same_verdict : (r : Result Content TrimFault) (v : Verdict) → trimmed budget left ≡ r → trim_verdict left r ≡ Some v → IsSame v
   same_verdict (Ok again) v found told =
-      let stays : again ≡ left = trimmed_stays nodes file left again is found in
+      let stays : again ≡ left = trimmed_stays budget file left again is found in
       inr (sym (some_is told) ∙ ap (λ content. Answered Done (assertion_file_text content)) stays)
   same_verdict (Err (TrimSpent claim last)) v found told = inl (ap (λ v. (outcome v).status) (sym (some_is told)))
+  same_verdict (Err (TrimSpentSets claim sets)) v found told = inl (ap (λ v. (outcome v).status) (sym (some_is told)))
   same_verdict (Err TrimMemory) v found told = absurd (cc told)
 
-  trims_same : (v : Verdict) → Trims nodes ballots left v → IsSame v
+  trims_same : (v : Verdict) → Trims budget ballots left v → IsSame v
   trims_same v (answer, found, told) =
-      let yes : answer ≡ Ok Accepted = answer_is_one nodes ballots left answer (Ok Accepted) found accepted in
-      same_verdict (trimmed nodes left) v refl (subst (λ a. verdict_on nodes left a ≡ Some v) yes told)
+      let yes : answer ≡ Ok Accepted = answer_is_one budget ballots left answer (Ok Accepted) found accepted in
+      same_verdict (trimmed budget left) v refl (subst (λ a. verdict_on budget left a ≡ Some v) yes told)
 
 pub trimmed_is_trimmed : TrimmedIsTrimmed
 trimmed_is_trimmed words others trim again files more first second text printed holds settled =
@@ -106,14 +108,14 @@ trimmed_is_trimmed words others trim again files more first second text printed 
     let (out, err, may, took, took_err) = settled.answer.quiet settled.quiet settled.memory in
     let ended : Outcome = record { status = second.status; out = out; err = err } in
     let comes : May (AsHeld more) (script task) ended = subst (λ command. MayCome (AsHeld more) (asked_by command) ended) again.asked_for may in
-    let with_ballots : List ℕ → BallotFile → Script = λ bytes ballots. after_ballots task.assertions task.nodes ballots in
-    let after : May (AsHeld more) (after_ballots task.assertions task.nodes l.ballots) ended =
+    let with_ballots : List ℕ → BallotFile → Script = λ bytes ballots. after_ballots task.assertions task.budget ballots in
+    let after : May (AsHeld more) (after_ballots task.assertions task.budget l.ballots) ended =
     says more task.ballots (refused_ballots task.ballots) (λ bytes. ballots_of bytes task.contest) with_ballots l.are.ballot_bytes
     (holds.same_ballots ∙ l.are.ballots_held) l.is_short l.ballots (ap (ballots_of l.are.ballot_bytes) again.same_contest ∙ l.are.ballots_say) ended comes in
-    let (v, trims, is) = says more task.assertions (refused_assertions task.assertions) assertion_file_of (λ bytes file. Ends (Trims task.nodes l.ballots file))
+    let (v, trims, is) = says more task.assertions (refused_assertions task.assertions) assertion_file_of (λ bytes file. Ends (Trims task.budget l.ballots file))
     text holds.printed holds.is_short l.left reads ended after in
-    elim (trims_same trim.task.nodes l.ballots l.file l.left (accepted_left words files trim text l) l.is v
-    (subst (λ nodes. Trims nodes l.ballots l.left v) again.same_nodes trims)) [
+    elim (trims_same trim.task.budget l.ballots l.file l.left (accepted_left words files trim text l) l.is v
+    (subst (λ budget. Trims budget l.ballots l.left v) again.same_budget trims)) [
       | inl four ↦ inl (ap (λ (o : Outcome). o.status) is ∙ four)
       | inr same ↦ inr (
         ap (λ (o : Outcome). o.status) is ∙ ap (λ v. (outcome v).status) same,

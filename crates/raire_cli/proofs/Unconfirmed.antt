@@ -37,7 +37,8 @@ use Rattle.session_file.proofs.ReadsBack.{printed_reads_back as printed_session_
 use Rattle.cli_base.specs.Outcome.{Outcome, Verdict, outcome}
 use Rattle.cli_base.specs.Script.{Ends, Readings, AsHeld, May}
 use Rattle.command_line.specs.declared.commands.Command.TheVariants.{Audit}
-use Rattle.command.specs.declared.limits.TheConstants.{DEFAULT_NODES}
+use Rattle.budget.specs.declared.budget.Budget.TheVariants.{Nodes}
+use Rattle.budget.specs.declared.limits.TheConstants.{DEFAULT_NODES}
 use Rattle.session_commands.specs.Accepted.{is_accepted, on_if}
 use Rattle.session_commands.specs.Audit.{after_assertions, after_ballots, after_check, after_facts, after_manifest, after_session, script, same_assertions, same_facts}
 use Rattle.session_commands.specs.Rounds.{Compared, GoesOn, next_session, same_ballots, same_manifest, session_to_go_on, verdict_of}
@@ -217,7 +218,7 @@ audit_files =
     ∷ record { name = codes "a"; bytes = assertions_bytes } ∷ record { name = codes "v"; bytes = seen_bytes } ∷ []
 
 abbrev asks : AuditTask
-asks = record { session = codes "s"; ballots = codes "b"; manifest = codes "m"; assertions = codes "a"; seen = codes "v"; draws = 1; nodes = DEFAULT_NODES }
+asks = record { session = codes "s"; ballots = codes "b"; manifest = codes "m"; assertions = codes "a"; seen = codes "v"; draws = 1; budget = Nodes DEFAULT_NODES }
 
 no_search : MayBeSpent audit_words → ⊥
 no_search = not_spent audit_words (Audit asks) refl refl
@@ -248,7 +249,7 @@ of_manifest = rw (manifest_hash, manifest_read, placed) refl
 of_assertions : same_assertions asks session assertions_bytes ≡ Ok file
 of_assertions = rw (assertions_hash, file_read) refl
 
-accepted : is_accepted DEFAULT_NODES ballots file ≡ true
+accepted : is_accepted (Nodes DEFAULT_NODES) ballots file ≡ true
 accepted = refl
 
 of_facts : same_facts asks session batches file ≡ Ok session
@@ -278,7 +279,7 @@ facts_hold = going held (same_facts asks session batches file) session (λ same.
 
 assertions_hold : May held (after_assertions asks session ballots batches file) due
 assertions_hold =
-    subst (λ b. May held (on_if b (after_check asks session ballots batches file) (Ends (Checks DEFAULT_NODES ballots file))) due) (sym accepted) facts_hold
+    subst (λ b. May held (on_if b (after_check asks session ballots batches file) (Ends (Checks (Nodes DEFAULT_NODES) ballots file))) due) (sym accepted) facts_hold
 
 cards_there : May held (after_manifest asks session ballots batches) due
 cards_there =

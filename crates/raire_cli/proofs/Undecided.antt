@@ -8,6 +8,8 @@ use Rattle.irv_base.specs.declared.limits.TheConstants.{FEWEST_CANDIDATES}
 use Rattle.assertions.proofs.Decided.{positive-decided}
 use Rattle.bound_search.specs.Race.{work_for}
 use Rattle.ballot_reader.specs.Ballots.{BallotFile}
+use Rattle.budget.specs.declared.budget.Budget.{Budget}
+use Rattle.budget.specs.declared.budget.Budget.TheVariants.{Nodes, Sets}
 use Rattle.ballot_reader.specs.Grammar.{ballots_of}
 use Rattle.cli_base.specs.Outcome.{Verdict, Answered}
 use Rattle.cli_base.specs.Script.{Script, Read, Ends, AsHeld, Concludes, ComesTo}
@@ -24,10 +26,10 @@ use Rattle.command_line.specs.declared.commands.Command.TheVariants.{Search, Tab
 use Rattle.command_line.proofs.Checked.{are_checked}
 use Rattle.input_files.specs.Judged.{told, go_on}
 use Rattle.input_files.specs.Refusals.{refused_ballots}
-use Rattle.contest_search.specs.Budget.{IsCertificateSpent, IsRaceSpent, IsSpent}
+use Rattle.contest_search.specs.Budget.{IsCertificateSpent, IsRaceSpent, IsSpent, IsTold}
 use Rattle.contest_search.specs.Certificate.{margin_of}
 use Rattle.contest_search.specs.Contest.{candidate_count, IsOther, IsUndecided, IsWon}
-use Rattle.contest_search.proofs.Contests.{winner-below}
+use Rattle.contest_search.proofs.Contests.{winner-below, winner_exists}
 use Rattle.contest_search.proofs.ReadBallots.{ballots_fit}
 use Rattle.search_commands.specs.Ends.{HasSpent, HasTie}
 use Rattle.search_commands.specs.Search.{Finds, Searches}
@@ -37,8 +39,9 @@ use Rattle.search_commands.proofs.Ends.{undecided_has_tie}
 use Rattle.search_commands.proofs.Searches.{found_by, searched_with, spent_is}
 use Rattle.raire_cli.specs.Answers.{asked, asked_by, script_of}
 use Rattle.raire_cli.specs.Ballots.{AreBallots}
+use Rattle.raire_cli.specs.Budgets.{SufficesForTie, budget_of}
 use Rattle.raire_cli.specs.PluralityTies.{TellsPluralityTie}
-use Rattle.raire_cli.specs.Undecided.{AsksUndecided, IsAbout, TellsTie, nodes_of}
+use Rattle.raire_cli.specs.Undecided.{AsksUndecided, IsAbout, TellsTie}
 use Rattle.raire_cli.proofs.EachCommand.{tells_no_tie}
 use Rattle.raire_cli.proofs.PluralAudited.{round_tie}
 use Rattle.raire_cli.proofs.PluralOpened.{opening_tie}
@@ -47,11 +50,12 @@ use Rattle.raire_cli.proofs.Said.{only, said, saying}
 -- ---- a tie that is told
 
 module _ (text : List ℕ) where
-  tie_found : (nodes least : ℕ) (plan : Option PlanTerms) (ballots : BallotFile) → Finds nodes least plan ballots (Answered Tie text) → HasTie ballots text
-  tie_found nodes least plan ballots (inl (other, has, e)) = absurd (cc e)
-  tie_found nodes least plan ballots (inr (inl (other, has, e))) = let same : other ≡ text = cc in subst (HasTie ballots) same has
-  tie_found nodes least plan ballots (inr (inr (inl (other, has, e)))) = absurd (cc e)
-  tie_found nodes least plan ballots (inr (inr (inr (other, has, e)))) = absurd (cc e)
+  tie_found : (budget : Budget) (least : ℕ) (plan : Option PlanTerms) (ballots : BallotFile) → Finds budget least plan ballots (Answered Tie text) →
+      HasTie ballots text
+  tie_found budget least plan ballots (inl (other, has, e)) = absurd (cc e)
+  tie_found budget least plan ballots (inr (inl (other, has, e))) = let same : other ≡ text = cc in subst (HasTie ballots) same has.0
+  tie_found budget least plan ballots (inr (inr (inl (other, has, e)))) = absurd (cc e)
+  tie_found budget least plan ballots (inr (inr (inr (other, has, e)))) = absurd (cc e)
 
   tie_tabulated : (nodes : ℕ) (ballots : BallotFile) → Tabulates nodes ballots (Answered Tie text) → HasTie ballots text
   tie_tabulated nodes ballots (inl (other, has, e)) = absurd (cc e)
@@ -60,7 +64,7 @@ module _ (text : List ℕ) where
 
   tie_tried : (task : TrialTask) → Tries task (Answered Tie text) → HasTie (contest_of task) text
   tie_tried task (inl (other, has, e)) = absurd (cc e)
-  tie_tried task (inr (inl (other, has, e))) = let same : other ≡ text = cc in subst (HasTie (contest_of task)) same has
+  tie_tried task (inr (inl (other, has, e))) = let same : other ≡ text = cc in subst (HasTie (contest_of task)) same has.0
   tie_tried task (inr (inr (other, has, e))) = absurd (cc e)
 
 -- a command goes on with the ballots of a file
@@ -71,7 +75,7 @@ module _ (files : List File) (name : List ℕ) (contest : Option Id) (Ended : Ba
   abbrev reading : Script
   reading = Read name (λ bytes. go_on (told (refused_ballots name) (ballots_of bytes contest)) (ended_by bytes))
 
-  said_of : (kind : AnswerKind) (text : List ℕ) → Concludes (AsHeld files) reading (Answered kind text) →
+  pub said_of : (kind : AnswerKind) (text : List ℕ) → Concludes (AsHeld files) reading (Answered kind text) →
       (ballots : BallotFile) × AreBallots files name contest ballots × Ended ballots (Answered kind text)
   said_of kind text comes =
       let is = said files name (refused_ballots name) (λ bytes. ballots_of bytes contest) ended_by kind text (λ why. tt) comes in
@@ -107,7 +111,7 @@ module _ (words : List (List ℕ)) (files : List File) (text : List ℕ) where
   tells (Some (Search task)) is comes =
       let (ballots, are, ends) = said_of files task.ballots task.contest (Searches task) Tie text comes in
       let (cards, finds) = found_by task ballots Tie text ends in
-      inl (told_of (Search task) ballots is (are, cards) (tie_found text task.nodes task.floor task.plan ballots finds))
+      inl (told_of (Search task) ballots is (are, cards) (tie_found text task.budget task.floor task.plan ballots finds))
   tells (Some (Tabulate task)) is comes =
       let (ballots, are, ends) = said_of files task.ballots task.contest (Tabulates task.nodes) Tie text comes in
       inl (told_of (Tabulate task) ballots is are (tie_tabulated text task.nodes ballots ends))
@@ -139,25 +143,20 @@ module _ (files : List File) (ballots : BallotFile) where
       omega (arith, fewest, long)
   fewest_of _ checked about = absurd about
 
-  comes_to_tie : (text : List ℕ) → HasTie ballots text → (command : Command) → IsAbout files command ballots →
+  comes_to_tie : (text : List ℕ) → HasTie ballots text → (command : Command) → IsAbout files command ballots → IsTold (budget_of command) ballots →
       Concludes (AsHeld files) (script_of command) (Answered Tie text)
-  comes_to_tie text tie (Search task) (are, cards) =
+  comes_to_tie text tie (Search task) (are, cards) told =
       comes_of files task.ballots task.contest (Searches task) ballots are (Answered Tie text)
-      (searched_with task ballots (Answered Tie text) cards (inr (inl (text, tie, refl))))
-  comes_to_tie text tie (Tabulate task) are =
+      (searched_with task ballots (Answered Tie text) cards (inr (inl (text, (tie, told), refl))))
+  comes_to_tie text tie (Tabulate task) are told =
       comes_of files task.ballots task.contest (Tabulates task.nodes) ballots are (Answered Tie text) (inr (inl (text, tie, refl)))
-  comes_to_tie text tie (Trial task) is = inr (inl (text, subst (λ contest. HasTie contest text) is tie, refl))
-  comes_to_tie text tie _ about = absurd about
+  comes_to_tie text tie (Trial task) is told = inr (inl (text, subst (λ contest. HasTie contest text × IsTold task.budget contest) is (tie, told), refl))
+  comes_to_tie text tie _ about told = absurd about
 
 -- ---- and no budget that is spent
 
--- the nodes are as many as the race may need
-abbrev Suffice : BallotFile → ℕ → Type 0
-Suffice ballots nodes =
-    (winner c : ℕ) (won : IsWon ballots winner) → IsOther ballots winner c → work_for (candidate_count ballots) ballots.rankings won.order c ≤ nodes
-
 module _ (ballots : BallotFile) (nodes : ℕ) (fewest : FEWEST_CANDIDATES ≤ candidate_count ballots) (undecided : IsUndecided ballots)
-    (budget : Suffice ballots nodes) where
+    (budget : SufficesForTie (Nodes nodes) ballots) where
   within : (winner last : ℕ) (won : IsWon ballots winner) → IsOther ballots winner last → IsRaceSpent nodes ballots won.order last → ⊥
   within winner last won other race =
       let enough : work_for (candidate_count ballots) ballots.rankings won.order last ≤ nodes = budget winner last won other in
@@ -183,27 +182,45 @@ module _ (ballots : BallotFile) (nodes : ℕ) (fewest : FEWEST_CANDIDATES ≤ ca
   never_stopped text (inr (inl (other, has, e))) = cc e
   never_stopped text (inr (inr (other, has, e))) = let is = has.is in within is.winner has.last is.won is.named is.cause
 
-tried_spent : (task : TrialTask) (text : List ℕ) → Tries task (Answered Spent text) → (other : List ℕ) × HasSpent task.nodes (contest_of task) other
+-- of sets either
+spent_never : (budget : Budget) (ballots : BallotFile) (text : List ℕ) → FEWEST_CANDIDATES ≤ candidate_count ballots → IsUndecided ballots →
+    SufficesForTie budget ballots → HasSpent budget ballots text → ⊥
+spent_never (Nodes nodes) ballots text fewest undecided suffices spent =
+    never_spent_so ballots nodes fewest undecided suffices spent.last spent.order spent.margin spent.is
+spent_never (Sets sets) ballots text fewest undecided suffices spent =
+    let is = spent.is in
+    let some = is.some in
+    let hard = is.hardness in
+    let above = is.above in
+    let enough = suffices is.winner is.won (omega (arith, some, hard)) in
+    omega (arith, above, enough)
+
+-- and then the tie can be told
+told_within : (budget : Budget) (ballots : BallotFile) → FEWEST_CANDIDATES ≤ candidate_count ballots → SufficesForTie budget ballots → IsTold budget ballots
+told_within (Nodes nodes) ballots fewest suffices = tt
+told_within (Sets sets) ballots fewest suffices =
+    let (winner, won) = winner_exists ballots (omega (arith, fewest)) in
+    record { winner = winner; won = won; within = suffices winner won }
+
+pub tried_spent : (task : TrialTask) (text : List ℕ) → Tries task (Answered Spent text) → (other : List ℕ) × HasSpent task.budget (contest_of task) other
 tried_spent task text (inl (other, has, e)) = absurd (cc e)
 tried_spent task text (inr (inl (other, has, e))) = absurd (cc e)
 tried_spent task text (inr (inr (other, has, e))) = (other, has)
 
 module _ (files : List File) (ballots : BallotFile) (text : List ℕ) (fewest : FEWEST_CANDIDATES ≤ candidate_count ballots)
     (undecided : IsUndecided ballots) where
-  never_spent : (command : Command) → IsAbout files command ballots → Suffice ballots (nodes_of command) →
+  never_spent : (command : Command) → IsAbout files command ballots → SufficesForTie (budget_of command) ballots →
       Concludes (AsHeld files) (script_of command) (Answered Spent text) → ⊥
   never_spent (Search task) (are, cards) budget comes =
       let (has, finds) = found_by task ballots Spent text
       (ends_there files task.ballots task.contest (Searches task) ballots are Spent text comes) in
-      let spent = spent_is task.nodes task.floor task.plan ballots text finds in
-      never_spent_so ballots task.nodes fewest undecided budget spent.last spent.order spent.margin spent.is
+      spent_never task.budget ballots text fewest undecided budget (spent_is task.budget task.floor task.plan ballots text finds)
   never_spent (Tabulate task) are budget comes =
       never_stopped ballots task.nodes fewest undecided budget text
       (ends_there files task.ballots task.contest (Tabulates task.nodes) ballots are Spent text comes)
   never_spent (Trial task) is budget ends =
       let (other, has) = tried_spent task text ends in
-      let spent : HasSpent task.nodes ballots other = subst (λ contest. HasSpent task.nodes contest other) (sym is) has in
-      never_spent_so ballots task.nodes fewest undecided budget spent.last spent.order spent.margin spent.is
+      spent_never task.budget ballots other fewest undecided budget (subst (λ contest. HasSpent task.budget contest other) (sym is) has)
   never_spent _ about budget comes = absurd about
 
 -- ---- the call
@@ -215,7 +232,8 @@ module _ (words : List (List ℕ)) (files : List File) (ok : AsksUndecided words
   pub has_tie : HasAnswer (asked words) files Tie
   has_tie =
       let (text, tie) = undecided_has_tie ok.ballots fewest ok.undecided in
-      let comes = comes_to_tie files ok.ballots text tie ok.asks.command ok.asks.about in
+      let told = told_within (budget_of ok.asks.command) ok.ballots fewest ok.budget in
+      let comes = comes_to_tie files ok.ballots text tie ok.asks.command ok.asks.about told in
       (text, subst (λ command. ComesTo (AsHeld files) (asked_by command) (Answered Tie text)) (sym ok.asks.asked) comes)
 
   pub never_spent_there : HasAnswer (asked words) files Spent → ⊥

@@ -19,14 +19,14 @@ pub record Call : Type 0 where
 abbrev pub Failed : Call → Type 0
 Failed call = Rose call.faults_before call.faults_after
 
--- the words ask for a command that its budget may leave open: a search, a tabulation or a trial
+-- the words ask for a command that its budget may leave open: a search, a tabulation or a trial, and none with a number of sets
 pub record MayBeSpent (words : List (List ℕ)) : Type 0 where
   pub command : Command
   pub asked_for : command_of words ≡ Some command
   pub is_open : is_open command ≡ true
 
 -- The call was of these words, over a desk that holds these files. Nothing failed in it, memory was found, and it is no search, no
--- tabulation and no trial whose budget was spent.
+-- tabulation and no trial whose budget of nodes was spent.
 pub record IsSettled (words : List (List ℕ)) (files : List File) (call : Call) : Type 0 where
   pub answer : IsAnswered (asked words) (Some files) (Failed call) call.status call.out call.err
   pub quiet : IsQuiet (Failed call) call.out call.err

@@ -1,5 +1,7 @@
 -- What the words of a call ask for: a command is the files that it reads, one after the other, and what it comes to.
 use Rattle.std.specs.Prelude.{ℕ, Bool, true, false, List, [], ◌∷◌, length, Option, None, Some}
+use Rattle.budget.specs.declared.budget.Budget.{Budget}
+use Rattle.budget.specs.declared.budget.Budget.TheVariants.{Nodes, Sets}
 use Rattle.cli_base.specs.Script.{Script, Asked, Nothing, Runs}
 use Rattle.command_line.specs.Line.{command_of}
 use Rattle.command_line.specs.declared.commands.Command.{Command}
@@ -65,9 +67,13 @@ count_of (Some command) = length (files_of command)
 abbrev pub file_count : List (List ℕ) → ℕ
 file_count words = count_of (command_of words)
 
--- a budget may leave open what the command comes to: a search, a tabulation or a trial
+-- a budget of nodes may leave open what the command comes to: a search, a tabulation or a trial
+abbrev pub has_nodes : Budget → Bool
+has_nodes (Nodes nodes) = true
+has_nodes (Sets sets) = false
+
 abbrev pub is_open : Command → Bool
-is_open (Search task) = true
+is_open (Search task) = has_nodes task.budget
 is_open (Tabulate task) = true
-is_open (Trial task) = true
+is_open (Trial task) = has_nodes task.budget
 is_open _ = false

@@ -1,5 +1,6 @@
--- What the workers of a search or a trial change, how many nodes suffice for it, and which sessions of an audit the risk limit counts.
-use Rattle.std.specs.Prelude.{◌≡◌, ℕ, ◌≤◌, List, length, Option, Some, IsTrue, ⊤}
+-- What the workers and the budget of a search or a trial change, how many nodes or sets suffice for it, and which sessions of an audit
+-- the risk limit counts.
+use Rattle.std.specs.Prelude.{◌≡◌, ℕ, ◌≤◌, ◌-◌, ◌^◌, List, length, Option, Some, IsTrue, ⊤}
 use Rattle.desk.specs.Desk.{File}
 use Rattle.manifest.specs.Linked.{linked_of}
 use Rattle.session_state.specs.Content.{Content}
@@ -13,7 +14,9 @@ use Rattle.command.specs.declared.search.SearchTask.{SearchTask}
 use Rattle.command.specs.declared.trial.TrialTask.{TrialTask}
 use Rattle.command_line.specs.Line.{command_of}
 use Rattle.command_line.specs.declared.commands.Command.TheVariants.{Search, Trial}
-use Rattle.command.specs.declared.limits.TheConstants.{DEFAULT_NODES}
+use Rattle.budget.specs.declared.budget.Budget.{Budget}
+use Rattle.budget.specs.declared.budget.Budget.TheVariants.{Sets}
+use Rattle.budget.specs.declared.limits.TheConstants.{DEFAULT_NODES, MOST_SETS}
 use Rattle.raire_cli.specs.Answers.{asked}
 use Rattle.contest_search.specs.Budget.{nodes_for}
 use Rattle.contest_search.specs.Contest.{candidate_count, IsOther}
@@ -52,12 +55,45 @@ TrialsComeToTheSame =
     MayCome (AsHeld files) (asked others) other →
     SameButBudget due other
 
+-- With a number of sets there is no such budget: two searches that differ in their workers alone come to the same.
+abbrev pub SetsComeToTheSame : Type 0
+SetsComeToTheSame =
+    (task : SearchTask) (sets some more : ℕ) (words others : List (List ℕ)) →
+    AskForWorkers (record task { budget = Sets sets }) some words →
+    AskForWorkers (record task { budget = Sets sets }) more others →
+    (files : List File) (due other : Outcome) → MayCome (AsHeld files) (asked words) due →
+    MayCome (AsHeld files) (asked others) other → due ≡ other
+
+-- And so do two trials.
+abbrev pub TrialsBySetsComeToTheSame : Type 0
+TrialsBySetsComeToTheSame =
+    (task : TrialTask) (sets some more : ℕ) (words others : List (List ℕ)) →
+    command_of words ≡ Some (Trial (record task { budget = Sets sets; workers = some })) →
+    command_of others ≡ Some (Trial (record task { budget = Sets sets; workers = more })) →
+    (files : List File) (due other : Outcome) → MayCome (AsHeld files) (asked words) due →
+    MayCome (AsHeld files) (asked others) other → due ≡ other
+
+-- Two searches of the same contest with the same floor and plan come to the same status and bytes, by nodes or by sets, but for a budget
+-- that is spent.
+abbrev pub BudgetsComeToTheSame : Type 0
+BudgetsComeToTheSame =
+    (task : SearchTask) (some more : Budget) (few many : ℕ) (words others : List (List ℕ)) →
+    AskForWorkers (record task { budget = some }) few words →
+    AskForWorkers (record task { budget = more }) many others →
+    (files : List File) (due other : Outcome) → MayCome (AsHeld files) (asked words) due →
+    MayCome (AsHeld files) (asked others) other →
+    SameButBudget due other
+
 -- The default suffices for up to nine candidates.
 abbrev pub DefaultSuffices : Type 0
 DefaultSuffices =
     (ballots : BallotFile) (tabulated : List ℕ) (winner c : ℕ) → IsOther ballots winner c →
     candidate_count ballots ≤ 9 →
     nodes_for ballots tabulated winner c ≤ DEFAULT_NODES
+
+-- The most sets suffice for up to twenty.
+abbrev pub MostSetsSuffice : Type 0
+MostSetsSuffice = (n : ℕ) → n ≤ 20 → 2 ^ n - 3 ≤ MOST_SETS
 
 -- A session that an audit signs off is one that the risk limit counts, where the cards that were drawn were read as they are; also
 -- among sequences of more draws.

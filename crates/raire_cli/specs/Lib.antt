@@ -10,9 +10,11 @@ pub mod Openings
 pub mod Enough
 pub mod Promises
 pub mod Ballots
+pub mod Budgets
 pub mod Pluralities
 pub mod PluralityTies
 pub mod Undecided
+pub mod Sets
 pub mod Laws
 pub mod SignedOff
 pub mod PollLaws

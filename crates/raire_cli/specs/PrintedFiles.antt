@@ -1,5 +1,6 @@
 -- What a search or a trim printed, and a later call that is given it: two calls of `run`, one after the other.
 use Rattle.std.specs.Prelude.{◌≡◌, ◌⊎◌, ◌≤◌, ℕ, List, ◌++◌, length, Option, Some, None, Ok}
+use Rattle.budget.specs.declared.budget.Budget.{Budget}
 use Rattle.desk.specs.Desk.{File, held_bytes}
 use Rattle.irv_base.specs.Names.{Id}
 use Rattle.irv_base.specs.declared.limits.TheConstants.{MOST_FILE_BYTES}
@@ -52,26 +53,26 @@ pub record HoldsCards (words : List (List ℕ)) (files more : List File)
 
 -- ---- the words of the later call
 
--- they ask for a check, with the contest and the nodes of the first call
-pub record ChecksTheSame (contest : Option Id) (nodes : ℕ) (others : List (List ℕ)) : Type 0 where
+-- they ask for a check, with the contest and the budget of the first call
+pub record ChecksTheSame (contest : Option Id) (budget : Budget) (others : List (List ℕ)) : Type 0 where
   pub task : CheckTask
   pub asked_for : command_of others ≡ Some (Check task)
   pub same_contest : task.contest ≡ contest
-  pub same_nodes : task.nodes ≡ nodes
+  pub same_budget : task.budget ≡ budget
 
 -- they ask that a session be opened, with them
-pub record OpensTheSame (contest : Option Id) (nodes : ℕ) (others : List (List ℕ)) : Type 0 where
+pub record OpensTheSame (contest : Option Id) (budget : Budget) (others : List (List ℕ)) : Type 0 where
   pub task : OpenTask
   pub asked_for : command_of others ≡ Some (Open task)
   pub same_contest : task.contest ≡ contest
-  pub same_nodes : task.nodes ≡ nodes
+  pub same_budget : task.budget ≡ budget
 
 -- they ask for a trim, with them
-pub record TrimsTheSame (contest : Option Id) (nodes : ℕ) (others : List (List ℕ)) : Type 0 where
+pub record TrimsTheSame (contest : Option Id) (budget : Budget) (others : List (List ℕ)) : Type 0 where
   pub task : TrimTask
   pub asked_for : command_of others ≡ Some (Trim task)
   pub same_contest : task.contest ≡ contest
-  pub same_nodes : task.nodes ≡ nodes
+  pub same_budget : task.budget ≡ budget
 
 -- ---- the laws
 
@@ -79,7 +80,7 @@ pub record TrimsTheSame (contest : Option Id) (nodes : ℕ) (others : List (List
 abbrev pub PrintedIsAccepted : Type 0
 PrintedIsAccepted =
     (words others : List (List ℕ)) (search : AsksForSearch words)
-    (check : ChecksTheSame search.task.contest search.task.nodes others) (files more : List File) (first second : Call)
+    (check : ChecksTheSame search.task.contest search.task.budget others) (files more : List File) (first second : Call)
     (text : List ℕ) → HasPrinted words files first text →
     HoldsPrinted search.task.ballots files more text check.task.ballots check.task.assertions →
     IsSettled others more second → second.status ≡ 0
@@ -88,7 +89,7 @@ PrintedIsAccepted =
 abbrev pub PrintedIsOpened : Type 0
 PrintedIsOpened =
     (words others : List (List ℕ)) (search : AsksForSearch words)
-    (opening : OpensTheSame search.task.contest search.task.nodes others) (files more : List File) (first second : Call)
+    (opening : OpensTheSame search.task.contest search.task.budget others) (files more : List File) (first second : Call)
     (text : List ℕ) → HasPrinted words files first text →
     HoldsPrinted search.task.ballots files more text opening.task.ballots opening.task.assertions →
     HoldsCards words files more opening.task.manifest → IsSettled others more second → second.status ≡ 0
@@ -97,7 +98,7 @@ PrintedIsOpened =
 abbrev pub TrimmedIsAccepted : Type 0
 TrimmedIsAccepted =
     (words others : List (List ℕ)) (trim : AsksForTrim words)
-    (check : ChecksTheSame trim.task.contest trim.task.nodes others)
+    (check : ChecksTheSame trim.task.contest trim.task.budget others)
     (files more : List File) (first second : Call) (text : List ℕ) →
     HasPrinted words files first text →
     HoldsPrinted trim.task.ballots files more text check.task.ballots check.task.assertions →
@@ -107,7 +108,7 @@ TrimmedIsAccepted =
 abbrev pub TrimmedIsTrimmed : Type 0
 TrimmedIsTrimmed =
     (words others : List (List ℕ)) (trim : AsksForTrim words)
-    (again : TrimsTheSame trim.task.contest trim.task.nodes others)
+    (again : TrimsTheSame trim.task.contest trim.task.budget others)
     (files more : List File) (first second : Call) (text : List ℕ) →
     HasPrinted words files first text →
     HoldsPrinted trim.task.ballots files more text again.task.ballots again.task.assertions →

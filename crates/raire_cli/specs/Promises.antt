@@ -12,24 +12,23 @@ use Rattle.command.specs.declared.trial.TrialTask.{TrialTask}
 use Rattle.command_line.specs.Line.{command_of, is_line}
 use Rattle.command_line.specs.declared.commands.Command.{Command}
 use Rattle.command_line.specs.declared.commands.Command.TheVariants.{Tabulate, Trial}
-use Rattle.contest_search.specs.Budget.{nodes_for}
 use Rattle.contest_search.specs.Contest.{candidate_count, IsElected, IsOther, IsWon}
 use Rattle.search_commands.specs.Trial.{contest_of}
 use Rattle.raire_cli.specs.Answers.{asked, is_open}
 use Rattle.raire_cli.specs.Ballots.{AreBallots}
+use Rattle.raire_cli.specs.Budgets.{Suffices}
 use Rattle.raire_cli.specs.Confirmation.{AsksFor}
 
 -- The words ask for a search of a file that is held, not too long and accepted, with as many cards as ballots if they give a number.
 -- Its contest is decided: each way of breaking its ties elects the winner. The budget has as many nodes as may be needed for each
--- candidate who didn't win.
+-- candidate who didn't win, or as many sets as are needed.
 pub record IsSearchable (words : List (List ℕ)) (files : List File) : Type 0 where
   pub ballots : BallotFile
   pub winner : ℕ
   pub asks : AsksFor words files ballots winner
   pub decided : IsElected ballots winner
   pub is_short : length asks.bytes ≤ limit
-  pub budget : (c : ℕ) → IsOther ballots winner c →
-      nodes_for ballots asks.won.order winner c ≤ asks.search.task.nodes
+  pub budget : Suffices asks.search.task.budget ballots asks.won.order winner
 
 -- Such a search ends with its assertions or with reason for a full count, if memory was found and no count of faults rose.
 abbrev pub IsComplete : Option (List File) → List (List ℕ) → Type 0 → ℕ → Writing → Writing → Type 0
@@ -64,12 +63,11 @@ pub record AsksForTrial (words : List (List ℕ)) : Type 0 where
   pub asked : command_of words ≡ Some (Trial task)
 
 -- The words ask for a trial. The budget has as many nodes as may be needed for each candidate whom the tabulated order of its
--- contest doesn't elect.
+-- contest doesn't elect, or as many sets as are needed.
 pub record IsTriable (words : List (List ℕ)) : Type 0 where
   pub trial : AsksForTrial words
-  pub budget : (winner c : ℕ) (won : IsWon (contest_of trial.task) winner) →
-      IsOther (contest_of trial.task) winner c →
-      nodes_for (contest_of trial.task) won.order winner c ≤ trial.task.nodes
+  pub budget : (winner : ℕ) (won : IsWon (contest_of trial.task) winner) →
+      Suffices trial.task.budget (contest_of trial.task) won.order winner
 
 -- Such a trial ends with its lines or with a tie, if memory was found and no count of faults rose.
 abbrev pub IsTrialComplete : List (List ℕ) → Type 0 → ℕ → Writing → Writing → Type 0

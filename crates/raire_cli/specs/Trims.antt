@@ -46,10 +46,10 @@ pub record IsTrimmedOf (words : List (List ℕ)) (files : List File) (left : Con
   pub are : AreTrimFiles asks.task files ballots file
   -- what is printed of it says the same when it is read
   pub reads_back : assertion_file_of (assertion_file_text left) ≡ Ok left
-  -- a check of the same ballots with the same nodes accepts the file that was read
-  pub was_accepted : IsAnswer asks.task.nodes ballots file (Ok Accepted)
+  -- a check of the same ballots with the same budget accepts the file that was read
+  pub was_accepted : IsAnswer asks.task.budget ballots file (Ok Accepted)
   -- and what is left of it
-  pub accepted : IsAnswer asks.task.nodes ballots left (Ok Accepted)
+  pub accepted : IsAnswer asks.task.budget ballots left (Ok Accepted)
   -- its claims are among those that were read, in their order and each with its draws, and all else is the same
   pub part : IsPartOf left.claims file.claims
   pub draws : IsPartOf (told_of left.plan left.claims) (told_of file.plan file.claims)

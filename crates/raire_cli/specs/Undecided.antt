@@ -1,5 +1,5 @@
 -- What it means that ways of breaking a contest's ties elect different candidates: what status 3 tells.
-use Rattle.std.specs.Prelude.{◌≡◌, ◌⊎◌, ◌≤◌, ℕ, List, Option, Some, IfSome, IsTrue}
+use Rattle.std.specs.Prelude.{◌≡◌, ◌⊎◌, ℕ, List, Option, Some, IfSome, IsTrue}
 use Rattle.desk.specs.Desk.{File}
 use Rattle.ballot_reader.specs.Ballots.{BallotFile}
 use Rattle.cli_base.specs.Ends.{Writing, Took}
@@ -7,12 +7,12 @@ use Rattle.cli_base.specs.Statuses.{IsQuiet}
 use Rattle.command_line.specs.Line.{command_of}
 use Rattle.command_line.specs.declared.commands.Command.{Command}
 use Rattle.command_line.specs.declared.commands.Command.TheVariants.{Search, Tabulate, Check, Trim, Sample, Plan, Open, Audit, Report, Trial, Poll, OpenPlurality, AuditPlurality}
-use Rattle.bound_search.specs.Race.{work_for}
-use Rattle.contest_search.specs.Contest.{candidate_count, IsOther, IsUndecided, IsWon}
+use Rattle.contest_search.specs.Contest.{IsUndecided}
 use Rattle.search_commands.specs.Ends.{HasTie}
 use Rattle.search_commands.specs.Search.{has_cards}
 use Rattle.search_commands.specs.Trial.{contest_of}
 use Rattle.raire_cli.specs.Ballots.{AreBallots}
+use Rattle.raire_cli.specs.Budgets.{SufficesForTie, budget_of}
 use Rattle.raire_cli.specs.PluralityTies.{TellsPluralityTie}
 
 -- ---- the contest of a command
@@ -33,22 +33,6 @@ IsAbout files (Report task) ballots = ⊥
 IsAbout files (Poll task) ballots = ⊥
 IsAbout files (OpenPlurality task) ballots = ⊥
 IsAbout files (AuditPlurality task) ballots = ⊥
-
--- the nodes of its budget; 0, which is below each budget, of a command that has none
-abbrev pub nodes_of : Command → ℕ
-nodes_of (Search task) = task.nodes
-nodes_of (Tabulate task) = task.nodes
-nodes_of (Trial task) = task.nodes
-nodes_of (Check task) = task.nodes
-nodes_of (Trim task) = task.nodes
-nodes_of (Sample task) = 0
-nodes_of (Plan task) = 0
-nodes_of (Open task) = task.nodes
-nodes_of (Audit task) = task.nodes
-nodes_of (Report task) = 0
-nodes_of (Poll task) = task.nodes
-nodes_of (OpenPlurality task) = 0
-nodes_of (AuditPlurality task) = 0
 
 -- the words ask who has won this contest
 pub record AsksAbout (words : List (List ℕ)) (files : List File)
@@ -74,14 +58,12 @@ IsTied held words status out =
     (text : List ℕ) × (TellsTie words files text ⊎ TellsPluralityTie words files text)
     × Took out text)
 
--- The words ask who has won a contest that isn't decided, and the budget has as many nodes as the race may need for each candidate
--- whom the tabulated order doesn't elect.
+-- The words ask who has won a contest that isn't decided, and the budget suffices to tell that.
 pub record AsksUndecided (words : List (List ℕ)) (files : List File) : Type 0 where
   pub ballots : BallotFile
   pub asks : AsksAbout words files ballots
   pub undecided : IsUndecided ballots
-  pub budget : (winner c : ℕ) (won : IsWon ballots winner) → IsOther ballots winner c →
-      work_for (candidate_count ballots) ballots.rankings won.order c ≤ nodes_of asks.command
+  pub budget : SufficesForTie (budget_of asks.command) ballots
 
 -- Such a call ends with the first tie, if memory was found and no count of faults rose.
 abbrev pub IsTieComplete : Option (List File) → List (List ℕ) → Type 0 → ℕ → Writing →

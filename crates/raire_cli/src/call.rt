@@ -16,6 +16,7 @@ ghost use Rattle.raire_cli.specs.Enough.{IsNeverSpent};
 ghost use Rattle.raire_cli.specs.Openings.{IsOpened};
 ghost use Rattle.raire_cli.specs.Pluralities.{IsPluralityAudited, IsPluralityOpened};
 ghost use Rattle.raire_cli.specs.Polls.{IsPolled};
+ghost use Rattle.raire_cli.specs.Sets.{IsNeverSpentBySets, IsSpentBySets};
 ghost use Rattle.raire_cli.specs.Trims.{IsTrimmed};
 ghost use Rattle.raire_cli.specs.Promises.{IsComplete, IsTabulationComplete, IsTrialComplete, IsExactUnlessOpen, HasCause};
 ghost use Rattle.raire_cli.specs.Undecided.{IsTied, IsTieComplete};
@@ -34,7 +35,7 @@ use std::thread::Threads;
 /// | 1 | the words are no command line | `err` |
 /// | 2 | a rule refuses a file | `err` |
 /// | 3 | the contest isn't decided: ways of breaking its ties elect different candidates, or a plurality contest has a tie | `out` |
-/// | 4 | the budget of nodes is spent | `out` |
+/// | 4 | the budget of nodes or of sets is spent | `out` |
 /// | 5 | the margin is below the floor, a full count is called for | `out` |
 /// | 6 | the assertion file doesn't hold of the ballots, or its claims don't prove its winner | `out` |
 /// | 7 | a file could not be read | `err` |
@@ -83,8 +84,15 @@ pub fn run<R: AllocGlobal + Threads + Sync, D: Desk, O: Sink, E: Sink, G: Gate +
         (Rose (D.faults desk.old) (D.faults desk.new)) result
         (writing O.Sink out.old out.new) (writing E.Sink err.old err.new) }
 
-    // With enough nodes no check is spent, also where a file is trimmed, where a session is opened or goes on, and before a poll.
+    // With enough nodes or sets no check is spent, also where a file is trimmed, where a session is opened or goes on, and before a
+    // poll.
     ensures enough { IsNeverSpent (D.held desk.old) (texts words.now) result }
+
+    // With as many sets as the candidates have no search and no trial is spent.
+    ensures enough_sets { IsNeverSpentBySets (D.held desk.old) (texts words.now) result }
+
+    // A search, a trial or a check with a number of sets is spent exactly where more sets count.
+    ensures spent_sets { IsSpentBySets (D.held desk.old) (texts words.now) result }
 
     // An assertion file that is accepted holds.
     ensures accepted { IsUpheld (D.held desk.old) (texts words.now) result
@@ -124,7 +132,7 @@ pub fn run<R: AllocGlobal + Threads + Sync, D: Desk, O: Sink, E: Sink, G: Gate +
         (Rose (D.faults desk.old) (D.faults desk.new)) result
         (writing O.Sink out.old out.new) (writing E.Sink err.old err.new) }
 
-    // No budget leaves open what another command than a search, a tabulation or a trial comes to.
+    // No budget leaves open what another command than a search, a tabulation or a trial comes to, and no number of sets what any does.
     ensures exact { IsExactUnlessOpen (D.held desk.old) (texts words.now) result }
 
     // 11 and 12 come exactly where the desk served so, told or not told what it holds. At most as many files are begun as the words

@@ -1,7 +1,7 @@
 //! The laws of the top call: each holds of every value that it names, and has no code.
 ghost use Rattle.raire_cli.specs.Agreement.{SameFilesSameAnswer};
 ghost use Rattle.raire_cli.specs.EachStatus.{EachStatus};
-ghost use Rattle.raire_cli.specs.Laws.{WorkersAskTheSame, WorkersComeToTheSame, TrialsComeToTheSame, DefaultSuffices, SignedOffIsCounted};
+ghost use Rattle.raire_cli.specs.Laws.{WorkersAskTheSame, WorkersComeToTheSame, TrialsComeToTheSame, SetsComeToTheSame, TrialsBySetsComeToTheSame, BudgetsComeToTheSame, DefaultSuffices, MostSetsSuffice, SignedOffIsCounted};
 ghost use Rattle.raire_cli.specs.PluralLaws.{PluralSignedOffAreFew, PluralSignedOffIsCounted};
 ghost use Rattle.raire_cli.specs.PollLaws.{ConfirmedAreFew, ConfirmedIsCounted};
 ghost use Rattle.raire_cli.specs.PrintedFiles.{PrintedIsAccepted, PrintedIsOpened, TrimmedIsAccepted, TrimmedIsTrimmed};
@@ -22,9 +22,29 @@ pub fn trials_come_to_the_same()
     ensures { TrialsComeToTheSame }
 {}
 
+/// With a number of sets searches that differ in their number of workers alone come to the same status and bytes.
+pub fn sets_come_to_the_same()
+    ensures { SetsComeToTheSame }
+{}
+
+/// So do trials.
+pub fn trials_by_sets_come_to_the_same()
+    ensures { TrialsBySetsComeToTheSame }
+{}
+
+/// Searches that differ in their budgets alone, by nodes or by sets, come to the same status and bytes, unless a budget is spent.
+pub fn budgets_come_to_the_same()
+    ensures { BudgetsComeToTheSame }
+{}
+
 /// With the default number of nodes no search of up to nine candidates is spent.
 pub fn default_suffices()
     ensures { DefaultSuffices }
+{}
+
+/// With the most sets no search, no trial and no check of up to twenty candidates is spent.
+pub fn most_sets_suffice()
+    ensures { MostSetsSuffice }
 {}
 
 /// A session that an audit signs off is among those that the risk limit counts, if the cards that were seen were read as they are.
@@ -63,12 +83,12 @@ pub fn plural_signed_off_are_few()
 {}
 
 /// Two calls with the same words, over desks that hold the same, have the same status and write the same, where nothing failed,
-/// memory was found, and no search, no tabulation and no trial was spent.
+/// memory was found, and no search, no tabulation and no trial with nodes was spent.
 pub fn same_files_same_answer()
     ensures { SameFilesSameAnswer }
 {}
 
-/// A check of the same ballots with the same nodes accepts what a search printed, where nothing failed and memory was found: two
+/// A check of the same ballots with the same budget accepts what a search printed, where nothing failed and memory was found: two
 /// calls, one after the other.
 pub fn printed_is_accepted()
     ensures { PrintedIsAccepted }
@@ -80,12 +100,12 @@ pub fn printed_is_opened()
     ensures { PrintedIsOpened }
 {}
 
-/// A check of the same ballots with the same nodes accepts what a trim printed, where nothing failed and memory was found.
+/// A check of the same ballots with the same budget accepts what a trim printed, where nothing failed and memory was found.
 pub fn trimmed_is_accepted()
     ensures { TrimmedIsAccepted }
 {}
 
-/// A trim of it, with the same ballots and the same nodes, prints the same, unless the budget is spent.
+/// A trim of it, with the same ballots and the same budget, prints the same, unless the budget is spent.
 pub fn trimmed_is_trimmed()
     ensures { TrimmedIsTrimmed }
 {}

@@ -36,7 +36,7 @@ module _ (budget : Budget) (file : Content)
             trial-never (length earlier + 1) claim rest (covered_by budget file (earlier ++ rest)) (covered-never (earlier ++ rest)) fault e
         go never (Err other) is e = never other is
 
-  file-never : (fault : TrimFault) → trimmed budget file ≡ Err fault → ⊥
+  pub file-never : (fault : TrimFault) → trimmed budget file ≡ Err fault → ⊥
   file-never fault e = go (left_of budget file [] file.claims) refl e where
     go : (r : Result (List Claim) TrimFault) → left_of budget file [] file.claims ≡ r → with_claims file (plan_left budget file) r ≡ Err fault → ⊥
     go (Ok claims) is e = cc e

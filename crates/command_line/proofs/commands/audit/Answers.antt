@@ -9,5 +9,5 @@ returns c = λ pieces fit shows i. Audit (record {
   assertions = c.in_ok-file-4.ensures _ shows.files.1.1.1.0 i;
   seen = c.in_ok-file-5.ensures _ shows.files.1.1.1.1.0 i;
   draws = c.number.ensures pieces fit shows.options.0 i;
-  nodes = c.number-2.ensures pieces fit shows.options.1.0 i;
+  budget = c.budget.ensures pieces fit shows.options.1.0 shows.options.1.1.0 i;
 })

@@ -22,5 +22,5 @@ returns c = λ pieces fit shows i. Open (record {
   contest = c.contest.ensures pieces fit shows.options.1.0 i;
   limit = c.number.ensures pieces fit shows.options.1.1.0 i;
   gamma = c.number-2.ensures pieces fit shows.options.1.1.1.0 i;
-  nodes = c.number-3.ensures pieces fit shows.options.1.1.1.1.0 i;
+  budget = c.budget.ensures pieces fit shows.options.1.1.1.1.0 shows.options.1.1.1.1.1.0 i;
 })

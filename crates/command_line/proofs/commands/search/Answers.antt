@@ -6,7 +6,7 @@ returns c = λ pieces fit shows i. Search (record {
   ballots = c.in_ok-file.ensures _ shows.files.0 i;
   contest = c.contest.ensures pieces fit shows.options.0 i;
   workers = c.number.ensures pieces fit shows.options.1.0 i;
-  nodes = c.number-2.ensures pieces fit shows.options.1.1.0 i;
-  floor = c.number-3.ensures pieces fit shows.options.1.1.1.0 i;
-  plan = c.plan_terms.ensures pieces fit shows.options.1.1.1.1.0 shows.options.1.1.1.1.1.0 shows.options.1.1.1.1.1.1.0 i;
+  budget = c.budget.ensures pieces fit shows.options.1.1.0 shows.options.1.1.1.0 i;
+  floor = c.number-2.ensures pieces fit shows.options.1.1.1.1.0 i;
+  plan = c.plan_terms.ensures pieces fit shows.options.1.1.1.1.1.0 shows.options.1.1.1.1.1.1.0 shows.options.1.1.1.1.1.1.1.0 i;
 })

@@ -7,5 +7,5 @@ returns c = λ pieces fit shows i. Trial (record {
   candidates = c.number-2.ensures pieces fit shows.options.1.0 i;
   ballots = c.number-3.ensures pieces fit shows.options.1.1.0 i;
   workers = c.number-4.ensures pieces fit shows.options.1.1.1.0 i;
-  nodes = c.number-5.ensures pieces fit shows.options.1.1.1.1.0 i;
+  budget = c.budget.ensures pieces fit shows.options.1.1.1.1.0 shows.options.1.1.1.1.1.0 i;
 })

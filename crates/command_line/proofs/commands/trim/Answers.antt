@@ -6,5 +6,5 @@ returns c = λ pieces fit shows i. Trim (record {
   ballots = c.in_ok-file.ensures _ shows.files.0 i;
   assertions = c.in_ok-file-2.ensures _ shows.files.1.0 i;
   contest = c.contest.ensures pieces fit shows.options.0 i;
-  nodes = c.number.ensures pieces fit shows.options.1.0 i;
+  budget = c.budget.ensures pieces fit shows.options.1.0 shows.options.1.1.0 i;
 })

@@ -1,7 +1,7 @@
 -- Each clause follows from the story of the call: what was due, and what the sinks took of it.
 use Rattle.cli_base.proofs.Clauses.{answered_clause, kept_clause}
 use Rattle.command_line.specs.Words.{texts}
-use Rattle.raire_cli.proofs.Clauses.{story_of, headline_clause, full_count_clause, tied_clause, complete_tie_clause, complete_clause, complete_tabulation_clause, complete_trial_clause, enough_clause, accepted_clause, trimmed_clause, opened_clause, audited_clause, polled_clause, opened_plurality_clause, audited_plurality_clause, status_clause, exact_promise}
+use Rattle.raire_cli.proofs.Clauses.{story_of, headline_clause, full_count_clause, tied_clause, complete_tie_clause, complete_clause, complete_tabulation_clause, complete_trial_clause, enough_clause, enough_sets_clause, spent_sets_clause, accepted_clause, trimmed_clause, opened_clause, audited_clause, polled_clause, opened_plurality_clause, audited_plurality_clause, status_clause, exact_promise}
 use Rattle.raire_cli.proofs.call.run.Goals as goal
 
 pub returns-clause-headline : goal.returns-clause-headline
@@ -27,6 +27,12 @@ returns-clause-complete_trial g c = complete_trial_clause (texts c.args.words.no
 
 pub returns-clause-enough : goal.returns-clause-enough
 returns-clause-enough g c = enough_clause (texts c.args.words.now) (story_of c.answer-outcome.ensures.due c.deliver.ensures)
+
+pub returns-clause-enough_sets : goal.returns-clause-enough_sets
+returns-clause-enough_sets g c = enough_sets_clause (texts c.args.words.now) (story_of c.answer-outcome.ensures.due c.deliver.ensures)
+
+pub returns-clause-spent_sets : goal.returns-clause-spent_sets
+returns-clause-spent_sets g c = spent_sets_clause (texts c.args.words.now) (story_of c.answer-outcome.ensures.due c.deliver.ensures)
 
 pub returns-clause-accepted : goal.returns-clause-accepted
 returns-clause-accepted g c = accepted_clause (texts c.args.words.now) (story_of c.answer-outcome.ensures.due c.deliver.ensures)

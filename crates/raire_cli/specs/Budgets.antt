@@ -1,0 +1,48 @@
+-- How large a budget suffices for a search or a trial.
+use Rattle.std.specs.Prelude.{ℕ, ◌≤◌, List}
+use Rattle.assertions.specs.Hardness.{first_bound}
+use Rattle.bound_search.specs.Race.{work_for}
+use Rattle.ballot_reader.specs.Ballots.{BallotFile}
+use Rattle.budget.specs.declared.budget.Budget.{Budget}
+use Rattle.budget.specs.declared.budget.Budget.TheVariants.{Nodes, Sets}
+use Rattle.contest_search.specs.Budget.{nodes_for, sets_of}
+use Rattle.contest_search.specs.Contest.{candidate_count, IsOther, IsWon}
+use Rattle.command_line.specs.declared.commands.Command.{Command}
+use Rattle.command_line.specs.declared.commands.Command.TheVariants.{Search, Tabulate, Check, Trim, Sample, Plan, Open, Audit, Report, Trial, Poll, OpenPlurality, AuditPlurality}
+
+-- the budget of a command; no nodes, which are fewer than those of any budget, of a command that has none
+abbrev pub budget_of : Command → Budget
+budget_of (Search task) = task.budget
+budget_of (Tabulate task) = Nodes task.nodes
+budget_of (Trial task) = task.budget
+budget_of (Check task) = task.budget
+budget_of (Trim task) = task.budget
+budget_of (Sample task) = Nodes 0
+budget_of (Plan task) = Nodes 0
+budget_of (Open task) = task.budget
+budget_of (Audit task) = task.budget
+budget_of (Report task) = Nodes 0
+budget_of (Poll task) = Nodes task.nodes
+budget_of (OpenPlurality task) = Nodes 0
+budget_of (AuditPlurality task) = Nodes 0
+
+-- the hardness of the order that a search starts with, where this is the tabulated order
+abbrev pub start_of : BallotFile → List ℕ → ℕ
+start_of ballots tabulated = first_bound (candidate_count ballots) ballots.rankings tabulated
+
+-- where this is the tabulated order, and this candidate has won: there are as many nodes as a search may need for each other
+-- candidate, or as many sets as it needs
+abbrev pub Suffices : Budget → BallotFile → List ℕ → ℕ → Type 0
+Suffices (Nodes nodes) ballots tabulated winner =
+    (c : ℕ) → IsOther ballots winner c → nodes_for ballots tabulated winner c ≤ nodes
+Suffices (Sets sets) ballots tabulated winner = sets_of ballots winner ≤ sets
+
+-- of a contest that isn't decided: there are as many nodes as the race may need for each candidate whom the tabulated order doesn't
+-- elect, or as many sets as a search needs, if the order that it starts with doesn't tell
+abbrev pub SufficesForTie : Budget → BallotFile → Type 0
+SufficesForTie (Nodes nodes) ballots =
+    (winner c : ℕ) (won : IsWon ballots winner) → IsOther ballots winner c →
+    work_for (candidate_count ballots) ballots.rankings won.order c ≤ nodes
+SufficesForTie (Sets sets) ballots =
+    (winner : ℕ) (won : IsWon ballots winner) → 1 ≤ start_of ballots won.order →
+    sets_of ballots winner ≤ sets

@@ -3,6 +3,7 @@ use Rattle.std.proofs.Common.{◌≡◌, ◌<◌, ◌≤◌, true, Ok, [], ◌�
 use Rattle.std.specs.Fmt.{digits}
 use Rattle.std.specs.List.{range_with_len}
 use Rattle.std.proofs.lemmas.List.Elements.{All-nil, All-cons}
+use Rattle.budget.specs.declared.budget.Budget.TheVariants.{Nodes}
 use Rattle.irv_base.specs.Candidates.{is_distinct}
 use Rattle.assertions.specs.declared.assertion.Assertion.TheVariants.{Neb}
 use Rattle.ballot_reader.specs.Ballots.{IsSound as AreSound}
@@ -24,7 +25,7 @@ use Rattle.audit_laws.specs.Examples.{two_records, two_actual, two_seen, two_bat
 won : IsWinner 2 two_ballots.rankings 0
 won = record { order = 1 ∷ 0 ∷ []; permutation = refl; tabulated = refl; elects = (1 ∷ [], refl) }
 
-accepted : IsAnswer 10 two_ballots two_file (Ok Accepted)
+accepted : IsAnswer (Nodes 10) two_ballots two_file (Ok Accepted)
 accepted = record { winner = 0; tabulated = won; answer_is = refl }
 
 batches : AreBatches two_batches.ids two_batches.counts
@@ -65,7 +66,7 @@ file = record {
   plan = tt;
 }
 
-pub published : ArePublished 10 two_batches two_ballots two_file
+pub published : ArePublished (Nodes 10) two_batches two_ballots two_file
 unfolding digits
 published = record { manifest_sound = batches; ballots_sound = ballots; file_sound = file; linked = refl; accepted = accepted }
 
@@ -122,7 +123,7 @@ unfolding printed_risk
 counted = refl
 
 -- ---- another set of assertions
-pub rival : IsRival 10 2 500 two_ballots two_file other_proof
+pub rival : IsRival (Nodes 10) 2 500 two_ballots two_file other_proof
 rival = record {
   file_sound = file;
   accepted = accepted;

@@ -1,6 +1,7 @@
 //! Worked examples: a wrong winner that meets all that the risk limit asks, and a set of assertions beside that of a file.
 ghost use Rattle.std.specs.Prelude.{◌≡◌, ◌<◌, ◌*◌, [], ◌∷◌, count_by, None, Some};
 ghost use Rattle.std.specs.List.{range_with_len};
+ghost use Rattle.budget.specs.declared.budget.Budget.TheVariants.{Nodes};
 ghost use Rattle.km_risk.specs.declared.limits.TheConstants.{MILLIONTH};
 ghost use Rattle.km_risk.specs.Clean.{clean_draws};
 ghost use Rattle.km_risk.specs.Counts.{clean};
@@ -17,7 +18,7 @@ ghost use Rattle.audit_laws.specs.Examples as examples;
 /// Two cards are recorded for candidate 0, and in truth there is a tie. At a limit of 0.7 a draw of the first card is
 /// enough, and a draw of the second isn't: of the two sequences of one card, one is signed off, and 1 of 2 is at most 0.7.
 pub fn wrong_winner()
-    ensures published { ArePublished 10
+    ensures published { ArePublished (Nodes 10)
         examples.two_batches examples.two_ballots examples.two_file }
     ensures terms { AreTerms 700000 500 }
     ensures wrong { MayElectAnother 2 0 2 examples.two_actual }
@@ -31,7 +32,8 @@ pub fn wrong_winner()
 /// Two assertions of margin 2 that each prove the winner: two clean draws are enough for both at a limit of 0.5. With a
 /// margin of 1 none up to the two cards would be; with more draws than cards, five would.
 pub fn another_proof()
-    ensures rival { IsRival 10 2 500 examples.two_ballots examples.two_file examples.other_proof }
+    ensures rival { IsRival (Nodes 10) 2 500 examples.two_ballots examples.two_file
+        examples.other_proof }
     ensures two { clean_draws 2 2 500 500000 ≡ Some 2 }
     ensures enough { AreEnough 2 500 500000 2 2 }
     ensures one { 500000 * MILLIONTH < printed_risk 2 2 500 (clean 1) }

@@ -91,7 +91,7 @@ module _ (ballots : BallotFile) (fit : IsFit ballots) (winner : ℕ) (won : IsWo
   }
 
   enough : (budget : Budget) → IsInBudget ballots winner budget → IsEnoughBelow budget (candidate_count ballots) winner ballots.rankings (margin_of ballots winner)
-  enough (Nodes nodes) within c below other = let few = within c (record { candidate = below; other = other }) in omega (arith, few)
+  enough (Nodes nodes) within = λ c below other. let few = within c (record { candidate = below; other = other }) in omega (arith, few)
   enough (Sets sets) within = omega (arith, within)
 
   accepted : IfSome plan (IsSoundPlan (length ballots.rankings) (length claims)) → IfSome plan (IsPlanOf claims) → (budget : Budget) →

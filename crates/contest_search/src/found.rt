@@ -106,17 +106,21 @@ fn sets_of(
     ensures { IfOk result (FoundIn (Budget.Sets sets) contest.now) }
 {
     match certify_by_sets(alloc, counted, tabulated, sets) {
-        Ok(SetsEnd::Certificate(certificate)) => {
-            let file = file_of(alloc, contest, tabulated.winner, certificate)?;
-            Ok(Found::Certificate(file))
-        }
-        Ok(SetsEnd::Undecided) => Ok(tie_of(contest, tabulated)),
-        Err(SetsFault::Spent { order, margin }) => Ok(Found::SpentSets {
-            sets,
-            order,
-            margin,
-        }),
-        Err(SetsFault::Memory) => Err(Memory),
+        Ok(end) => match end {
+            SetsEnd::Certificate(certificate) => {
+                let file = file_of(alloc, contest, tabulated.winner, certificate)?;
+                Ok(Found::Certificate(file))
+            }
+            SetsEnd::Undecided => Ok(tie_of(contest, tabulated)),
+        },
+        Err(fault) => match fault {
+            SetsFault::Spent { order, margin } => Ok(Found::SpentSets {
+                sets,
+                order,
+                margin,
+            }),
+            SetsFault::Memory => Err(Memory),
+        },
     }
 }
 

@@ -1,4 +1,4 @@
-use Rattle.std.proofs.Common.{◌≡◌, ℕ, List, ap, sym, ◌∙◌}
+use Rattle.std.proofs.Common.{ℕ, List, ap, sym, ◌∙◌}
 use Rattle.assertion_file.specs.Reading.{assertion_file_of}
 use Rattle.cli_base.specs.Due.{due}
 use Rattle.cli_base.specs.Script.{Ends}

@@ -1,4 +1,4 @@
-use Rattle.std.proofs.Common.{◌≡◌, ℕ, List, Option, ap, sym, ◌∙◌}
+use Rattle.std.proofs.Common.{ℕ, List, Option, ap, sym, ◌∙◌}
 use Rattle.irv_base.specs.Names.{Id}
 use Rattle.ballot_reader.specs.Grammar.{ballots_of}
 use Rattle.cli_base.specs.Due.{due}

@@ -4,4 +4,4 @@ use Rattle.report.proofs.examples.ends.Goals as goal
 
 pub returns : goal.returns
 unfolding digits
-returns c = record { tie = refl; spent = refl }
+returns c = record { tie = refl; spent = refl; by_sets = refl; sets = refl }

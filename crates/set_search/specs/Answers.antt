@@ -1,0 +1,43 @@
+-- What a search by sets answers.
+use Rattle.std.specs.Prelude.{◌≡◌, ℕ, ◌<◌, ◌≤◌, List, Some, ⊤}
+use Rattle.assertions.specs.Certificate.{certificate_claims, certificate_order}
+use Rattle.assertions.specs.Hardness.{low, start_order, first_bound}
+use Rattle.irv_tabulator.specs.declared.tabulated.Tabulated.{Tabulated}
+use Rattle.certifier.specs.declared.certificate.Certificate.{Certificate}
+use Rattle.set_search.specs.Sets.{best_of, sets_for}
+use Rattle.set_search.specs.declared.ends.SetsEnd.{SetsEnd}
+use Rattle.set_search.specs.declared.ends.SetsEnd.TheVariants.{Certificate as CertificateEnd, Undecided}
+use Rattle.set_search.specs.declared.ends.SetsFault.{SetsFault}
+use Rattle.set_search.specs.declared.ends.SetsFault.TheVariants.{Spent, Memory}
+
+-- x is the canonical certificate of the records, with a margin above 0, and the budget has the sets that are needed
+pub record IsCertified (n : ℕ) (records : List (List ℕ)) (winner sets : ℕ) (x : Certificate)
+    : Type 0 where
+  pub claims : x.claims.items ≡ certificate_claims n records winner
+  pub margin : x.margin ≡ best_of n records winner
+  pub order : certificate_order n winner (low n records) (best_of n records winner) ≡ Some x.order
+  pub some : 1 ≤ x.margin
+  pub within : sets_for n records winner ≤ sets
+
+-- the best margin is 0, and the budget has the sets that are needed, if the start order doesn't tell it
+pub record IsUndecided (n : ℕ) (records : List (List ℕ)) (tab : Tabulated) (sets : ℕ)
+    : Type 0 where
+  pub none : best_of n records tab.winner ≡ 0
+  pub within : 1 ≤ first_bound n records tab.order → sets_for n records tab.winner ≤ sets
+
+-- more sets are needed than the budget has; beside it the start order with its hardness, which is above 0
+pub record IsSpent (n : ℕ) (records : List (List ℕ)) (tab : Tabulated) (sets : ℕ)
+    (order : List ℕ) (margin : ℕ) : Type 0 where
+  pub above : sets < sets_for n records tab.winner
+  pub start : order ≡ start_order tab.order
+  pub hardness : margin ≡ first_bound n records tab.order
+  pub some : 1 ≤ margin
+
+abbrev pub IsEnd : ℕ → List (List ℕ) → Tabulated → ℕ → SetsEnd → Type 0
+IsEnd n records tab sets (CertificateEnd x) = IsCertified n records tab.winner sets x
+IsEnd n records tab sets Undecided = IsUndecided n records tab sets
+
+-- of want of memory nothing is said
+abbrev pub IsFault : ℕ → List (List ℕ) → Tabulated → ℕ → SetsFault → Type 0
+IsFault n records tab sets (Spent order margin) = IsSpent n records tab sets order margin
+IsFault n records tab sets Memory = ⊤

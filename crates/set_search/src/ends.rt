@@ -1,0 +1,44 @@
+// How a search by sets ends.
+ghost use Rattle.std.specs.Prelude.{◌≡◌};
+ghost use Rattle.set_search.specs.declared.ends.SetsFault.TheVariants.{Memory as WantOfMemory};
+
+use certifier::Certificate;
+use irv_base::{Memory, Order};
+use std::error::Error;
+use std::fmt;
+
+/// How a search by sets ends.
+#[derive(Drop)]
+pub enum SetsEnd {
+    /// With the canonical certificate.
+    Certificate(Certificate),
+    /// The best margin is 0: some ways of breaking ties elect another candidate.
+    Undecided,
+}
+
+/// Why a search by sets doesn't come to its end.
+#[derive(Clone, Copy)]
+pub enum SetsFault {
+    /// More sets are needed than the budget has. Beside it the order that a search starts with, and its hardness, in votes, which is
+    /// above 0.
+    Spent { order: Order, margin: u32 },
+    /// Memory could not be had.
+    Memory,
+}
+
+impl From<Memory> for SetsFault {
+    ghost from_gives = { λ _ fault. fault ≡ WantOfMemory };
+
+    fn from(_: Memory) -> Self {
+        SetsFault::Memory
+    }
+}
+
+impl fmt::Display for SetsFault {
+    fn fmt<W: fmt::Write>(&self, f: &mut fmt::Formatter<W>) -> fmt::Result {
+        match self {
+            SetsFault::Spent { .. } => write!(f, "more sets are needed than the budget has"),
+            SetsFault::Memory => write!(f, "{Memory}"),
+        }
+    }
+}

@@ -1,0 +1,10 @@
+//! The canonical certificate of a contest, found by walks into each set of candidates once, within a budget of sets. It is the very
+//! certificate that the race and the walks through suffixes find; what differs is which contests the budget suffices for.
+#![tactic(auto)]
+
+mod certificate;
+mod ends;
+pub mod laws;
+
+pub use certificate::certify_by_sets;
+pub use ends::{SetsEnd, SetsFault};

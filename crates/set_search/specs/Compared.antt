@@ -1,7 +1,7 @@
--- The order of open sets is a total one.
+-- The order of waiting sets is a total one.
 use Rattle.std.specs.Cmp.{IsTotalOrder, back_total, on_total, nat_cmp_total}
-use Rattle.set_search.specs.declared.open.Open.{Open}
-use Rattle.set_search.specs.Opens.{least_first}
+use Rattle.set_search.specs.declared.waiting.Waiting.{Waiting}
+use Rattle.set_search.specs.Waits.{least_first}
 
 pub least_total : IsTotalOrder least_first
-least_total = back_total (on_total (λ (o : Open). o.margin) nat_cmp_total)
+least_total = back_total (on_total (λ (o : Waiting). o.margin) nat_cmp_total)

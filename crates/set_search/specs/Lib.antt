@@ -3,7 +3,7 @@ pub mod Answers
 pub mod Laws
 pub mod Offers
 pub mod Limits
-pub mod Opens
+pub mod Waits
 pub mod Compared
 pub mod Levels
 pub mod Given

@@ -36,11 +36,15 @@ fn order_in(
     let margin = level(alloc, &mut steps.tallies, winner, sets)?;
     steps.limit = Limit::AtMost(margin);
     match walk_within(alloc, steps, n, winner, sets) {
-        Ok(WalkEnd::Found(order)) => Ok(Some(Best { order, margin })),
-        // An order walks by this margin, or more sets stand than the budget has, so that the walk doesn't end.
-        Ok(WalkEnd::Ended(_seen)) => Ok(None),
-        Err(WalkFault::Spent) => Ok(None),
-        Err(WalkFault::Memory) => Err(Memory),
+        Ok(end) => match end {
+            WalkEnd::Found(order) => Ok(Some(Best { order, margin })),
+            // An order walks by this margin, or more sets stand than the budget has, so that the walk doesn't end.
+            WalkEnd::Ended(_seen) => Ok(None),
+        },
+        Err(fault) => match fault {
+            WalkFault::Spent => Ok(None),
+            WalkFault::Memory => Err(Memory),
+        },
     }
 }
 
@@ -65,11 +69,15 @@ fn cover_in(
     let n = steps.tallies.candidates();
     steps.limit = Limit::Below(margin);
     match walk_within(alloc, steps, n, winner, sets) {
-        Ok(WalkEnd::Ended(seen)) => Ok(Some(seen)),
-        // No order walks by steps below the best margin.
-        Ok(WalkEnd::Found(_order)) => Ok(None),
-        Err(WalkFault::Spent) => Ok(None),
-        Err(WalkFault::Memory) => Err(Memory),
+        Ok(end) => match end {
+            // No order walks by steps below the best margin.
+            WalkEnd::Found(_order) => Ok(None),
+            WalkEnd::Ended(seen) => Ok(Some(seen)),
+        },
+        Err(fault) => match fault {
+            WalkFault::Spent => Ok(None),
+            WalkFault::Memory => Err(Memory),
+        },
     }
 }
 

@@ -27,9 +27,11 @@ fn put_step(
     ensures { OnOk result (claims.new.entries
         ≡ with_step ⟦<Assertion as Ord>⟧.cmp margin claims.old.entries step) }
 {
-    if step.low >= margin {
-        if let Some(by) = step.by {
-            claims.insert(by, step.low)?;
+    let low = step.low;
+    let by = step.by;
+    if low >= margin {
+        if let Some(by) = by {
+            claims.insert(by, low)?;
         }
     }
     Ok(())
@@ -69,6 +71,7 @@ pub(crate) fn claims_of(
     sets: &[CandSet],
     margin: u32,
 ) -> Result<Vec<Claim>, Memory>
+    requires several { 1 < tallies.old.bag.n }
     requires winner { winner < tallies.old.bag.n }
     requires below { All (λ set. set < 2 ^ tallies.old.bag.n) sets.now }
     ensures claims { (records : List (List ℕ)) → IsOf tallies.old.bag records

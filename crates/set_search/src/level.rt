@@ -4,7 +4,7 @@ ghost use Rattle.irv_base.specs.declared.limits.TheConstants.{ROOM};
 ghost use Rattle.set_tallies.specs.Bags.{IsOf};
 ghost use Rattle.set_search.specs.Levels.{IsLevel};
 
-use crate::open::{open_from, take_least};
+use crate::waiting::{put_next, take_least};
 use indexmap::IndexSet;
 use irv_base::{CandSet, Candidate, Memory};
 use set_tallies::Tallies;
@@ -28,11 +28,11 @@ pub(crate) fn level(
 {
     let n = tallies.candidates();
     let mut seen = IndexSet::new(alloc);
-    let mut open = BinaryHeap::new(alloc);
+    let mut waiting = BinaryHeap::new(alloc);
     let nobody = CandSet::empty();
-    open_from(&mut open, tallies, nobody, nobody.with(winner))?;
+    put_next(&mut waiting, tallies, nobody, nobody.with(winner))?;
     let mut level = 0;
-    while let Some(next) = take_least(&mut open) {
+    while let Some(next) = take_least(&mut waiting) {
         level = next.margin.max(level);
         if next.set.len() == n {
             return Ok(level);
@@ -42,7 +42,7 @@ pub(crate) fn level(
                 return Ok(level);
             }
             seen.insert(next.set)?;
-            open_from(&mut open, tallies, next.set, next.set)?;
+            put_next(&mut waiting, tallies, next.set, next.set)?;
         }
     }
     Ok(level)

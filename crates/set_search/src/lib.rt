@@ -8,8 +8,8 @@ mod claims;
 mod ends;
 pub mod laws;
 mod level;
-mod open;
 mod steps;
+mod waiting;
 
 pub use certificate::certify_by_sets;
 pub use ends::{SetsEnd, SetsFault};

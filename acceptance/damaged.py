@@ -23,7 +23,7 @@ TOP = os.path.dirname(os.path.dirname(os.path.abspath(__file__)))
 COMMANDS = {
     "ballots.raire": [
         ["tabulate", "ballots.raire"], ["open", "ballots.raire", "whole.csv", "whole.json", "--seed=1"],
-        ["plurality", "ballots.raire", "whole.csv", "--seed=1"],
+        ["plurality", "ballots.raire", "whole.csv", "--seed=1"], ["contests", "ballots.raire", "whole.csv", "whole_by.csv", "--seed=1", "--draws=5"],
     ],
     "assertions.json": [
         ["check", "whole.raire", "assertions.json"], ["trim", "whole.raire", "assertions.json"], ["plan", "whole.csv", "assertions.json"],
@@ -33,6 +33,7 @@ COMMANDS = {
     "manifest.csv": [
         ["sample", "manifest.csv", "--seed=1", "--draws=5"], ["open", "whole.raire", "manifest.csv", "whole.json", "--seed=1"],
         ["poll", "manifest.csv", "whole.json", "whole_seen.csv", "--seed=1", "--draws=5"], ["plurality", "whole.raire", "manifest.csv", "--seed=1"],
+        ["contests", "whole.raire", "manifest.csv", "whole_by.csv", "--seed=1", "--draws=5"],
     ],
     "session.json": [
         ["report", "session.json"], ["audit", "session.json", "whole.raire", "whole.csv", "whole.json", "whole_seen.csv", "--draws=20"],
@@ -43,6 +44,7 @@ COMMANDS = {
         ["audit", "opened.json", "whole.raire", "whole.csv", "whole.json", "seen.csv", "--draws=20"],
         ["poll", "whole.csv", "whole.json", "seen.csv", "--seed=7", "--draws=20"],
     ],
+    "seen_by.csv": [["contests", "whole.raire", "whole.csv", "seen_by.csv", "--seed=7", "--draws=20"]],
 }
 WORDS = {
     "csv": [b",", b"\n", b"\r\n", b"\r", b'"', b'""', b" ", b"\t", b"\xef\xbb\xbf", b"\0", b"\xff", b"0", b"1", b"-1", b"1000001", b"Contest",
@@ -94,7 +96,11 @@ def whole_files(draws):
     audits.write("assertions.json", text)
     cards = json.loads(text)["records"] + draws.below(100)
     audits.write("planned.json", plain_audit.run(["search", "ballots.raire", f"--cards={cards}", "--limit=300000"])[1])
-    names = {"ballots.raire": "whole.raire", "manifest.csv": "whole.csv", "assertions.json": "whole.json", "seen.csv": "whole_seen.csv"}
+    with open("seen.csv") as file:
+        audits.write("seen_by.csv", "".join(line.replace(",", ",9,", 1) for line in file))
+    names = {
+        "ballots.raire": "whole.raire", "manifest.csv": "whole.csv", "assertions.json": "whole.json", "seen.csv": "whole_seen.csv", "seen_by.csv": "whole_by.csv",
+    }
     for name, other in names.items():
         with open(name) as file:
             audits.write(other, file.read())

@@ -17,7 +17,7 @@ import time
 
 import audits
 import plain_audit
-from limits import MOST_CANDIDATES, MOST_FILE_BYTES as LARGEST, MOST_LISTED, MOST_RECORDS, MOST_SETS
+from limits import MOST_CANDIDATES, MOST_CONTESTS, MOST_FILE_BYTES as LARGEST, MOST_LISTED, MOST_RECORDS, MOST_SETS
 
 MOST_SECONDS = 10
 MIB = 2**20
@@ -44,8 +44,9 @@ LINES = {
     "check by sets": ["check", "ballots.raire", "assertions.json", "--sets=1"],
     "plurality": ["plurality", "ballots.raire", "manifest.csv", "--seed=2024"],
     "plurality, a round": ["plurality", "plural.json", "ballots.raire", "manifest.csv", "seen.csv", "--draws=5"],
+    "contests": ["contests", "ballots.raire", "manifest.csv", "seen_by.csv", "--seed=2024", "--draws=5"],
 }
-FILES = {"ballots.raire", "manifest.csv", "assertions.json", "planned.json", "session.json", "plural.json", "seen.csv"}
+FILES = {"ballots.raire", "manifest.csv", "assertions.json", "planned.json", "session.json", "plural.json", "seen.csv", "seen_by.csv"}
 
 
 def good_files():
@@ -56,6 +57,7 @@ def good_files():
     audits.write("session.json", audits.session_with([audits.FIRST], False))
     audits.write("plural.json", plain_audit.run(LINES["plurality"])[1])
     audits.write("seen.csv", audits.SEEN)
+    audits.write("seen_by.csv", audits.SEEN.replace("b_1,", "b_1,7,"))
 
 
 class Runs:
@@ -241,6 +243,10 @@ SEEN = COMMA_SEPARATED + [
     ("one card again and again", repeated(b"b_1,ballot,1\n"), {2}), ("a ballot of one candidate", b"b_1,ballot" + repeated(b",1", LARGEST - 10), {0}),
     ("cards that aren't there", b"".join(b"b_%d,missing\n" % k for k in range(2, 100_000)), {2}),
 ]
+SEEN_BY = COMMA_SEPARATED + [
+    ("one card again and again", repeated(b"b_1,7,ballot,1\n"), {2}), ("a ballot of one candidate", b"b_1,7,ballot" + repeated(b",1", LARGEST - 12), {0}),
+    ("contests that aren't there", b"".join(b"b_1,%d,missing\n" % k for k in range(8, 100_000)), {2}),
+]
 MANIFESTS = COMMA_SEPARATED + [
     ("batches of one card", b"batch,cards\n" + b"".join(b"%d,1\n" % k for k in range(2_000_000)), {0}),
     ("one batch again and again", b"batch,cards\n" + repeated(b"b,1\n", LARGEST - 12), {2}),
@@ -264,11 +270,11 @@ PLANNED = [
 # Of each kind of file the commands that are given malicious ones, with the statuses that may come beside those of the table. All go to the
 # first command; a further one, which reads them likewise, gets few of those that have to be refused.
 MALICIOUS = {
-    "ballots.raire": (BALLOTS, {"tabulate": set(), "open": {2, 6}, "plurality": {2, 3}}), "plural.json": (SESSIONS, {"plurality, a round": {2}}),
+    "ballots.raire": (BALLOTS, {"tabulate": set(), "open": {2, 6}, "plurality": {2, 3}, "contests": {2}}), "plural.json": (SESSIONS, {"plurality, a round": {2}}),
     "assertions.json": (ASSERTIONS, {"check": set(), "trim": {0, 2}, "plan": {0, 2}, "poll": {0, 2}}),
     "planned.json": (PLANNED, {"check of draws": set()}),
-    "manifest.csv": (MANIFESTS, {"sample": set(), "open": {2}, "poll": {2}, "plurality": {2}}), "session.json": (SESSIONS, {"report": set(), "audit": {2}}),
-    "seen.csv": (SEEN, {"audit": set(), "poll": set(), "plurality, a round": set()}),
+    "manifest.csv": (MANIFESTS, {"sample": set(), "open": {2}, "poll": {2}, "plurality": {2}, "contests": {2}}), "session.json": (SESSIONS, {"report": set(), "audit": {2}}),
+    "seen.csv": (SEEN, {"audit": set(), "poll": set(), "plurality, a round": set()}), "seen_by.csv": (SEEN_BY, {"contests": set()}),
 }
 
 
@@ -282,11 +288,27 @@ def malicious(runs):
                 if command in runs.lines and (is_first or statuses != {2} or shows == "brackets"):
                     words = ["malicious" if word == name else word for word in runs.lines[command]]
                     runs.run(f"{command}: {shows}", words, statuses | (more if 11 not in statuses else set()))
-
-
     if "check of draws" in runs.lines:
         doubtful(runs)
     many_sets(runs)
+    if "contests" in runs.lines:
+        many_contests(runs)
+
+
+def many_contests(runs):
+    """As many contests as there may be: of as many candidates as may be and without ballots, each a tie; and with ballots, as many as a file may have."""
+    ids, cards = b",".join(b"c%d" % c for c in range(MOST_CANDIDATES)), MOST_RECORDS // MOST_CONTESTS
+    heads = b"%d\n" % MOST_CONTESTS + b"".join(b"Contest,%d,%d,%s\n" % (k, MOST_CANDIDATES, ids) for k in range(MOST_CONTESTS))
+    with open("many.raire", "wb") as file:
+        file.write(heads)
+    with open("full.raire", "wb") as file:
+        file.write(heads + b"".join(b"%d,b_%d,c%d\n" % (k, card + 1, card % 3 // 2) for card in range(cards) for k in range(MOST_CONTESTS)))
+    audits.write("full.csv", f"batch,cards\nb,{cards}\n")
+    card = plain_audit.drawn("1", 1, cards)
+    audits.write("full_by.csv", audits.lines(*(f"b_{card},{k},missing" for k in range(MOST_CONTESTS))))
+    audits.write("none.csv", "")
+    runs.run("contests: many without ballots", ["contests", "many.raire", "manifest.csv", "none.csv", "--seed=1", "--draws=1"], {10})
+    runs.run("contests: many with many ballots", ["contests", "full.raire", "full.csv", "full_by.csv", "--seed=1", "--draws=1"], {10})
 
 
 # Where a risk is very near the limit, bounds don't tell whether it is within it, and each draw is a step. A file may ask that of each of its
@@ -341,7 +363,10 @@ def memory(runs):
         "tabulate": ["large.raire"], "search": ["large.raire"], "check": ["large.raire", "large.json"], "trim": ["large.raire", "large.json"],
         "open": ["large.raire", "large.csv", "large.json", "--seed=1"], "plurality": ["large.raire", "large.csv", "--seed=1"],
         "search for cards": ["large.raire", f"--cards={MOST_RECORDS}"],
+        "contests": ["large.raire", "large.csv", "large_by.csv", "--seed=1", "--draws=1", "--limit=999999"],
     }
+    card = plain_audit.drawn("1", 1, MOST_RECORDS)
+    audits.write("large_by.csv", f"batch_{card},1,ballot,{1 + (card - 1) % 3 // 2}\n")
     for size in (16, 24, 32, 64, 128, 256, 1024):
         for line in runs.lines.values():
             runs.run(f"{line[0]} in {size} MB", line, {0, 9, 10}, preexec_fn=lambda: limit(size))

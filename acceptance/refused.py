@@ -15,6 +15,7 @@ import tempfile
 
 import audits
 import compare
+import contests
 import hostile
 import plain_audit
 from draws import Draws
@@ -103,6 +104,9 @@ LINES = {
     "trim, other": ["trim", "ballots.raire", "row1.json"],
     "poll": ["poll", "manifest.csv", "assertions.json", "seen.csv", "--seed=2024", "--draws=40"],
     "poll, an order stands": ["poll", "manifest.csv", "unproved.json", "seen.csv", "--seed=2024", "--draws=5"],
+    "contests of two": ["contests", "two.raire", "manifest.csv", "two_seen.csv", "--seed=2024", "--draws=5", "--workers=2"],
+    "contests, a tie": ["contests", "tied.raire", "manifest.csv", "two_seen.csv", "--seed=2024", "--draws=5"],
+    "contests, refused": ["contests", "two.raire", "manifest.csv", "seen.csv", "--seed=2024", "--draws=5"],
     "words": ["search", "row1.raire", "--floor"],
 }
 
@@ -187,6 +191,9 @@ def main():
         audits.write("unproved.json", hostile.in_json("assertions", b"[]").decode())
         for name in ("row1.raire", "row1.json", "county.raire", "tie.raire"):
             shutil.copy(os.path.join(TOP, "examples", name), name)
+        audits.write("two.raire", contests.TWO)
+        audits.write("tied.raire", contests.TWO.replace("8,b_1,2\n", ""))
+        audits.write("two_seen.csv", contests.SEEN)
         many_candidates()
         audits.write("planned.json", plain_audit.run(LINES["search for cards"])[1])
         for shows, words in lines.items():

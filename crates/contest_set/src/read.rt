@@ -54,6 +54,7 @@ pub fn read_seen_by(
 ) -> Result<Vec<SeenCards>, SeenFault>
     requires differ { IsTrue (all_differ (contest_ids list.now)) }
     ensures read { IfOk result (λ seen. seen_by m.now list.now bytes.now ≡ Ok seen.items) }
+    ensures one_each { IfOk result (λ seen. length seen.items ≡ length list.now) }
     ensures refused { IfErr result (Refuses (seen_by m.now list.now bytes.now)) }
 {
     let mut rows = Rows::of(alloc, without_mark(bytes));

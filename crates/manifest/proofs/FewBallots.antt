@@ -1,5 +1,5 @@
 -- Ballots that have their cards are at most as many.
-use Rattle.std.proofs.Common.{◌≡◌, ℕ, ◌≤◌, true, false, not, List, [], ◌∷◌, length, map, position, Option, None, Some, option_map, inl, inr, ap, subst, arith}
+use Rattle.std.proofs.Common.{◌≡◌, ℕ, ◌≤◌, true, false, not, List, [], ◌∷◌, length, map, position, Option, None, Some, option_map, inl, inr, refl, ap, subst, arith}
 use Rattle.std.specs.List.{list_any}
 use Rattle.std.proofs.lemmas.Bool.{and_parts, cases_Bool, both_ways, not-true}
 use Rattle.std.proofs.lemmas.List.{length-map}

@@ -1,5 +1,6 @@
 pub mod Named
 pub mod Entries
+pub mod Records
 pub mod Joining
 pub mod SeenEach
 pub mod EndsEach

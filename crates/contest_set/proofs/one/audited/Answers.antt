@@ -1,4 +1,5 @@
 use Rattle.std.proofs.Common.{◌≡◌, ◌∙◌, ◌≤◌, None, length, sym, ap, subst}
+use Rattle.manifest.specs.Linked.{linked_of}
 use Rattle.audit_session.specs.Refusals.{without_record}
 use Rattle.session_state.specs.Sessions.{Round}
 use Rattle.contest_search.specs.declared.found.Found.TheVariants.{Certificate}
@@ -16,8 +17,9 @@ pub returns : goal.returns
 returns c =
     let terms = c.args.terms.now in
     let seen = c.args.seen.now in
-    let linked = c.linked.view_is ∙ c.in-Ok.ensures.linked in
-    let round = c.round.view_is ∙ c.in-Ok-round_of.ensures.round ∙ ap (λ recorded. round_over terms recorded seen c.file.inside.parts) linked in
+    let linked = c.in-Ok.ensures.linked in
+    let round = c.in-Ok-round_of.ensures.round ∙ ap (λ recorded. round_over terms recorded seen c.args.file) linked
+    ∙ ap (round_over terms (linked_of c.args.m.now c.args.ballots.now) seen) (sym c.file.view_is) in
     let risks = c.in_ok-to_vec-2.ensures.items_if_clones_equal (λ x y is. is) ∙ c.risks-2.ensures in
     record {
       found = subst (λ f. Finds terms c.args.ballots.now (Certificate f)) (sym c.file.view_is) c.requires.found;

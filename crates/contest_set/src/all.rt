@@ -62,15 +62,9 @@ fn end_at<R: AllocGlobal + Threads + Sync, G: Gate + Sync>(
     requires linked { first_without_card_of_all m.now list.now ≡ None }
     ensures { HasResult m.now terms.now list.now seen.now place result }
 {
-    audit_one(
-        rt,
-        place as u32,
-        &list[place],
-        m,
-        &seen[place],
-        terms,
-        gate,
-    )
+    let ballots = &list[place];
+    let entries = &seen[place];
+    audit_one(rt, place as u32, ballots, m, entries, terms, gate)
 }
 
 // Lets each worker audit its share of the contests.
@@ -123,7 +117,10 @@ fn joined(
 {
     let mut ends = Vec::with_capacity(alloc, places.len())?;
     for place in places {
-        ends.push(place?)?;
+        match place {
+            Ok(end) => ends.push(end)?,
+            Err(fault) => return Err(fault),
+        }
     }
     Ok(ends)
 }

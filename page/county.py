@@ -32,8 +32,9 @@ class County:
     def __init__(self, page):
         self.page, self.options = page, page.options
         self.paths = [page.path(kind) for kind in KINDS]
+        self.nodes = [f"--nodes={self.options['--nodes']}"] if "--nodes" in self.options else []
         words = [f"{name}={self.options[name]}" for name in TERMS if name in self.options]
-        self.status, text = page.program.must_run("contests", self.paths, *words, *page.nodes_words())
+        self.status, text = page.program.must_run("contests", self.paths, *words, *self.nodes)
         page.judged.add("seen")
         given = {name: int(self.options.get(f"--{name}", left_out)) for name, left_out in DEFAULTS.items()}
         self.terms = {"seed": self.options["--seed"], "draws": int(self.options["--draws"]), **given}
@@ -70,7 +71,7 @@ class County:
 
     def audited(self, ballots, block, words):
         """Winner, margin and claims of a contest that is decided. The lines of the claims are read beside those of a search, since ids may have blanks."""
-        status, text = self.page.program.must_run("search", self.paths[:1], *words, "--workers=1", *self.page.nodes_words())
+        status, text = self.page.program.must_run("search", self.paths[:1], *words, "--workers=1", *self.nodes)
         if status != 0:
             raise self.page.program.is_another("contests")
         file, recorded = json.loads(text), plain_audit.linked(ballots, self.manifest)

@@ -14,7 +14,8 @@ from words import help_of, put, Words
 NAME = "release"
 PROGRAM = "crates/raire/out/raire"
 PARTS = ["README.md", "docs", "examples", "page", "hints", "office", "acceptance/plain.py", "acceptance/plain_audit.py",
-         "acceptance/plain_draws.py", "acceptance/plain_plurality.py", "acceptance/plain_poll.py", "acceptance/plain_trim.py", "acceptance/limits.py"]
+         "acceptance/plain_draws.py", "acceptance/plain_plurality.py", "acceptance/plain_poll.py", "acceptance/plain_sets.py", "acceptance/plain_trim.py",
+         "acceptance/limits.py"]
 MACHINE = "x86_64"
 
 File = collections.namedtuple("File", "data mode")

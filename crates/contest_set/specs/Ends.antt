@@ -3,6 +3,7 @@
 use Rattle.std.specs.Prelude.{◌≡◌, ◌≤◌, ◌*◌, ℕ, nat_le, Bool, List, zip, length, None}
 use Rattle.std.specs.List.{AllZip, list_all}
 use Rattle.irv_base.specs.declared.limits.TheConstants.{GREATEST_GAMMA, GREATEST_LIMIT, MOST_DRAWS, MOST_WORKERS}
+use Rattle.budget.specs.declared.budget.Budget.TheVariants.{Nodes}
 use Rattle.ballot_reader.specs.Ballots.{BallotFile}
 use Rattle.assertion_file.specs.Content.{Content}
 use Rattle.manifest.specs.Cards.{Batches}
@@ -39,7 +40,7 @@ are_confirmed limit risks = list_all (λ risk. nat_le risk (limit * MILLIONTH)) 
 
 -- what a search of a contest finds, on these terms
 abbrev pub Finds : SharedTerms → BallotFile → Found → Type 0
-Finds terms ballots found = FoundIn terms.nodes ballots found
+Finds terms ballots found = FoundIn (Nodes terms.nodes) ballots found
 
 -- the round of all draws over the claims of a file, where this is recorded of the cards, and this is seen
 abbrev pub round_over : SharedTerms → List Recorded → List Entry → Content → Round

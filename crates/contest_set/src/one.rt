@@ -14,6 +14,7 @@ use crate::terms::SharedTerms;
 use assertion_file::AssertionFile;
 use audit_session::{AdvanceFault, first_round};
 use ballot_reader::Ballots;
+use budget::Budget;
 use contest_search::{Found, Searchable, find};
 use desk::Gate;
 use km_risk::is_confirmed;
@@ -131,7 +132,7 @@ pub fn audit_one<R: AllocGlobal + Threads + Sync, G: Gate + Sync>(
 {
     let contest = Searchable::of(ballots);
     let gate = Numbered { gate, place };
-    match find(rt, &contest, ALONE, terms.nodes, &gate)? {
+    match find(rt, &contest, ALONE, Budget::Nodes(terms.nodes), &gate)? {
         Found::Certificate(file) => audited(rt.alloc(), place, ballots, m, seen, terms, file),
         Found::Tie { round, tied, votes } => Ok(ContestEnd::Tied {
             round,
@@ -147,5 +148,7 @@ pub fn audit_one<R: AllocGlobal + Threads + Sync, G: Gate + Sync>(
             order,
             margin,
         }),
+        // The budget isn't of sets.
+        Found::SpentSets { .. } => unreachable!(),
     }
 }

@@ -31,20 +31,31 @@ abbrev pub entry_with : ℕ → Option Seen → Result Entry VRule
 entry_with card None = Err V5
 entry_with card (Some seen) = Ok (card, seen)
 
--- after these entries
-abbrev pub entry_of_card : List Id → List Entry → Id → Fields → Option ℕ → Result Entry VRule
-entry_of_card candidates earlier word rest None = Err V2
-entry_of_card candidates earlier word rest (Some card) =
+-- the number of its card, or the rule that it breaks up to there
+abbrev pub placed : Option ℕ → Result ℕ VRule
+placed None = Err V2
+placed (Some card) = Ok card
+
+abbrev pub card_of : Batches → Id → Id → Fields → Result ℕ VRule
+card_of batches id word rest =
+    if is_told word rest then placed (place_of (cards_of batches) id) else Err V1
+
+-- what it tells of that card, after these entries
+abbrev pub entry_of_card : List Id → List Entry → Id → Fields → ℕ → Result Entry VRule
+entry_of_card candidates earlier word rest card =
     if is_some (seen_in earlier card) then Err V3
     else entry_with card (seen_of_record candidates word rest)
+
+abbrev pub with_card : {A : Type 0} → Result ℕ VRule → (ℕ → Result A VRule) → Result A VRule
+with_card (Ok card) more = more card
+with_card (Err rule) more = Err rule
 
 -- the entry of a record, or the first rule that the record breaks
 abbrev pub entry_of : Batches → List Id → List Entry → Fields → Result Entry VRule
 entry_of batches candidates earlier [] = Err V1
 entry_of batches candidates earlier (id ∷ []) = Err V1
 entry_of batches candidates earlier (id ∷ word ∷ rest) =
-    if is_told word rest
-    then entry_of_card candidates earlier word rest (place_of (cards_of batches) id) else Err V1
+    with_card (card_of batches id word rest) (entry_of_card candidates earlier word rest)
 
 -- ---- the file
 
@@ -53,18 +64,22 @@ pub record Refusal : Type 0 where
   pub rule : VRule
   pub at : ℕ
 
-abbrev pub and_then : Result Entry VRule → ℕ → (Entry → Result (List Entry) Refusal) →
-    Result (List Entry) Refusal
-and_then (Ok entry) at more = more entry
+abbrev pub and_then :
+    {A B : Type 0} → Result A VRule → ℕ → (A → Result B Refusal) → Result B Refusal
+and_then (Ok value) at more = more value
 and_then (Err rule) at more = Err (record { rule = rule; at = at })
 
--- after these entries come the records from number at on
-abbrev pub entries_after : Batches → List Id → List Entry → ℕ → List Fields →
-    Result (List Entry) Refusal
-entries_after batches candidates earlier at [] = Ok earlier
-entries_after batches candidates earlier at (row ∷ rows) =
-    and_then (entry_of batches candidates earlier row) at
-    (λ entry. entries_after batches candidates (earlier ++ entry ∷ []) (at + 1) rows)
+-- after these entries come the records from number at on, each judged after those before
+abbrev pub read_after : {A : Type 0} → (List A → Fields → Result A VRule) → List A → ℕ →
+    List Fields → Result (List A) Refusal
+read_after judged earlier at [] = Ok earlier
+read_after judged earlier at (row ∷ rows) =
+    and_then (judged earlier row) at
+    (λ entry. read_after judged (earlier ++ entry ∷ []) (at + 1) rows)
+
+-- what is seen by these records
+abbrev pub seen_by_records : Batches → List Id → List Fields → Result (List Entry) Refusal
+seen_by_records batches candidates rows = read_after (entry_of batches candidates) [] 1 rows
 
 abbrev pub seen_of : Batches → List Id → List ℕ → Result (List Entry) Refusal
-seen_of batches candidates bytes = entries_after batches candidates [] 1 (numbered_records bytes)
+seen_of batches candidates bytes = seen_by_records batches candidates (numbered_records bytes)

@@ -18,6 +18,8 @@ pub enum VRule {
     V3,
     /// Each preference is a candidate.
     V5,
+    /// The contest is in the ballot file, where the records are of several contests.
+    V6,
 }
 
 impl VRule {
@@ -30,6 +32,7 @@ impl VRule {
             VRule::V2 => "V2",
             VRule::V3 => "V3",
             VRule::V5 => "V5",
+            VRule::V6 => "V6",
         }
     }
 }

@@ -8,5 +8,5 @@ mod seen_cards;
 
 pub use fault::{SeenFault, VRule};
 pub use read::read_seen;
-pub use record::{is_told, seen_of_record};
+pub use record::{card_of, entry_of_card, fields_behind, is_told, seen_of_record};
 pub use seen_cards::SeenCards;

@@ -1,5 +1,5 @@
 // The records of a seen file.
-ghost use Rattle.std.specs.Prelude.{◌≡◌, ◌≤◌, drop, length, None, IfOk};
+ghost use Rattle.std.specs.Prelude.{◌≡◌, ◌≤◌, drop, length, None, IfOk, OnOk};
 ghost use Rattle.std.specs.List.{list_any};
 ghost use Rattle.csv.specs.Records.{fields_of};
 ghost use Rattle.csv_rows.specs.Fields.{trimmed_fields};
@@ -7,7 +7,7 @@ ghost use Rattle.irv_base.specs.declared.limits.TheConstants.{ROOM};
 ghost use Rattle.ballot_reader.specs.Grammar.{is_marked};
 ghost use Rattle.manifest.specs.Cards.{cards_of};
 ghost use Rattle.seen_file.specs.Seen.{seen_in};
-ghost use Rattle.seen_file.specs.Reading.{entry_of, is_missing, is_told, seen_of_record};
+ghost use Rattle.seen_file.specs.Reading.{card_of, entry_of, entry_of_card, is_missing, is_told, seen_of_record};
 
 use crate::fault::VRule;
 use crate::seen_cards::SeenCards;
@@ -36,13 +36,14 @@ fn some_is_marked(fields: Fields<'_>) -> bool
     false
 }
 
-// The fields behind a card's id and a word.
-fn behind_word(row: &ByteRecord) -> Fields<'_>
-    ensures { result ≡ drop 2 (trimmed_fields (fields_of row.now)) }
+/// The fields of a record behind its first `n`.
+pub fn fields_behind(row: &ByteRecord, n: usize) -> Fields<'_>
+    ensures { result ≡ drop n (trimmed_fields (fields_of row.now)) }
 {
     let mut fields = Fields::of(row);
-    fields.next();
-    fields.next();
+    for _ in 0..n {
+        fields.next();
+    }
     fields
 }
 
@@ -67,6 +68,50 @@ pub fn seen_of_record(candidates: &[Name], word: &[u8], rest: Fields<'_>) -> Opt
     }
 }
 
+/// The number of the card of a record with this id of a card, this word, and these fields behind it, or which rule it breaks: V1 where
+/// nothing is told of the card, V2 where the card isn't in the manifest.
+pub fn card_of(
+    manifest: &Manifest,
+    id: &[u8],
+    word: &[u8],
+    rest: Fields<'_>,
+) -> Result<u32, VRule>
+    ensures value { result ≡ card_of manifest.now id.now word.now rest.entry }
+    ensures first { IfOk result (λ card. 1 ≤ card) }
+    ensures last { IfOk result (λ card. card ≤ length (cards_of manifest.now)) }
+{
+    if !is_told(word, rest) {
+        return Err(VRule::V1);
+    }
+    match manifest.place(id) {
+        Some(card) => Ok(card),
+        None => Err(VRule::V2),
+    }
+}
+
+/// What a record of this card, with this word, and these fields behind it, tells of the card, or which rule it breaks: V3 where the card
+/// is among these earlier ones, V5 where a preference isn't one of a few candidates.
+pub fn entry_of_card(
+    candidates: &[Name],
+    earlier: &SeenCards,
+    word: &[u8],
+    rest: Fields<'_>,
+    card: u32,
+) -> Result<(u32, Seen), VRule>
+    requires { length candidates.now ≤ ROOM }
+    ensures value { result ≡ entry_of_card candidates.now earlier.now word.now rest.entry card }
+    ensures new { OnOk result (seen_in earlier.now card ≡ None) }
+    ensures same { IfOk result (λ entry. entry.0 ≡ card) }
+{
+    if earlier.get(card).is_some() {
+        return Err(VRule::V3);
+    }
+    match seen_of_record(candidates, word, rest) {
+        Some(seen) => Ok((card, seen)),
+        None => Err(VRule::V5),
+    }
+}
+
 /// The number of the record's card and what the record tells of it, or the first rule that the record breaks, after these cards.
 pub fn entry_of(
     manifest: &Manifest,
@@ -85,17 +130,6 @@ pub fn entry_of(
     let (Some(id), Some(word)) = (fields.next(), fields.next()) else {
         return Err(VRule::V1);
     };
-    if !is_told(word, behind_word(row)) {
-        return Err(VRule::V1);
-    }
-    let Some(card) = manifest.place(id) else {
-        return Err(VRule::V2);
-    };
-    if earlier.get(card).is_some() {
-        return Err(VRule::V3);
-    }
-    let Some(seen) = seen_of_record(candidates, word, behind_word(row)) else {
-        return Err(VRule::V5);
-    };
-    Ok((card, seen))
+    let card = card_of(manifest, id, word, fields_behind(row, 2))?;
+    entry_of_card(candidates, earlier, word, fields, card)
 }

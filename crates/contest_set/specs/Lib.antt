@@ -1,0 +1,3 @@
+pub mod SeenBy
+pub mod Ends
+pub mod Refusals

@@ -1,0 +1,31 @@
+// How the audit of one contest ends.
+
+use assertion_file::AssertionFile;
+use irv_base::{CandSet, Candidate, Order};
+use km_risk::Counts;
+
+/// How the audit of one contest ends.
+#[derive(Drop)]
+pub enum ContestEnd {
+    /// The contest isn't decided: in this round, from 1, the candidates in the set share the least tally, in votes.
+    Tied {
+        round: u32,
+        tied: CandSet,
+        tally: u32,
+    },
+    /// More nodes than are allowed are needed for the orders that elect `last`. Beside it the closest order so far that elects another
+    /// candidate than the winner, and its hardness.
+    Spent {
+        last: Candidate,
+        order: Order,
+        margin: u32,
+    },
+    /// The contest has a winner. Beside the assertions that confirm this there are the counts and the printed risk of each, in units of
+    /// 10^-18, over all draws, and whether each risk is within the limit.
+    Audited {
+        file: AssertionFile,
+        counts: Vec<Counts>,
+        risks: Vec<u64>,
+        signed: bool,
+    },
+}

@@ -1,0 +1,15 @@
+//! All contests of a ballot file, audited on one sample of cards: what is seen of the cards for each contest, and how each of them ends,
+//! by its own ballots and by what is seen for it alone.
+#![tactic(auto)]
+
+mod all;
+mod end;
+mod fault;
+mod read;
+mod terms;
+
+pub use all::audit_all;
+pub use end::ContestEnd;
+pub use fault::SetFault;
+pub use read::read_seen_by;
+pub use terms::SharedTerms;

@@ -20,6 +20,7 @@ mod Counting
 mod PluralOpened
 mod PluralAudited
 mod PluralsLimit
+mod ContestsAudited
 mod Undecided
 mod Rounds
 mod Clauses

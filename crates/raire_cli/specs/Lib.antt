@@ -8,6 +8,7 @@ pub mod NextRound
 pub mod Audits
 pub mod Openings
 pub mod Enough
+pub mod Contests
 pub mod Promises
 pub mod Ballots
 pub mod Pluralities

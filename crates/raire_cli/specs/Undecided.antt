@@ -6,7 +6,7 @@ use Rattle.cli_base.specs.Ends.{Writing, Took}
 use Rattle.cli_base.specs.Statuses.{IsQuiet}
 use Rattle.command_line.specs.Line.{command_of}
 use Rattle.command_line.specs.declared.commands.Command.{Command}
-use Rattle.command_line.specs.declared.commands.Command.TheVariants.{Search, Tabulate, Check, Trim, Sample, Plan, Open, Audit, Report, Trial, Poll, OpenPlurality, AuditPlurality}
+use Rattle.command_line.specs.declared.commands.Command.TheVariants.{Search, Tabulate, Check, Trim, Sample, Plan, Open, Audit, Report, Trial, Poll, OpenPlurality, AuditPlurality, Contests}
 use Rattle.bound_search.specs.Race.{work_for}
 use Rattle.contest_search.specs.Contest.{candidate_count, IsOther, IsUndecided, IsWon}
 use Rattle.search_commands.specs.Ends.{HasTie}
@@ -33,6 +33,7 @@ IsAbout files (Report task) ballots = ⊥
 IsAbout files (Poll task) ballots = ⊥
 IsAbout files (OpenPlurality task) ballots = ⊥
 IsAbout files (AuditPlurality task) ballots = ⊥
+IsAbout files (Contests task) ballots = ⊥
 
 -- the nodes of its budget; 0, which is below each budget, of a command that has none
 abbrev pub nodes_of : Command → ℕ
@@ -49,6 +50,7 @@ nodes_of (Report task) = 0
 nodes_of (Poll task) = task.nodes
 nodes_of (OpenPlurality task) = 0
 nodes_of (AuditPlurality task) = 0
+nodes_of (Contests task) = task.nodes
 
 -- the words ask who has won this contest
 pub record AsksAbout (words : List (List ℕ)) (files : List File)

@@ -1,0 +1,5 @@
+pub mod Lines
+pub mod Read
+pub mod Telling
+pub mod Audits
+pub mod OneEnd

@@ -1,0 +1,21 @@
+use Rattle.std.proofs.Common.{ℕ, List, ap, sym, ◌∙◌}
+use Rattle.manifest.specs.Manifest.{manifest_of}
+use Rattle.cli_base.specs.Due.{due}
+use Rattle.cli_base.proofs.Steps.{accounted_on}
+use Rattle.input_files.specs.Judged.{told}
+use Rattle.input_files.specs.Refusals.{refused_manifest}
+use Rattle.input_files.proofs.Going.{read_on}
+use Rattle.contests_command.specs.Contests.{after_manifest}
+use Rattle.contests_command.proofs.contests.after_ballots.Goals as goal
+
+pub returns-clause-due : goal.returns-clause-due
+returns-clause-due g c =
+    let task = c.args.task.now in
+    let list = c.args.list.now in
+    let judged = λ (bytes : List ℕ). told (refused_manifest task.manifest) (manifest_of bytes) in
+    read_on _ _ _ _ c.in_ok-bytes.bytes.items judged (λ bytes batches. after_manifest task list batches) c.in_ok-bytes.ensures.read _ _
+    c.in_ok-batches.batches (due c.after_manifest.result) c.in_ok-bytes.ensures.held c.in_ok-bytes.ensures.later c.after_manifest.ensures.later
+    (ap judged (sym c.deref.ensures.value) ∙ c.in_ok-batches.ensures) c.after_manifest.ensures.due
+
+pub returns-clause-served : goal.returns-clause-served
+returns-clause-served g c = accounted_on _ _ _ _ c.in_ok-bytes.ensures.served c.after_manifest.ensures.served

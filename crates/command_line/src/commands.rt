@@ -13,8 +13,8 @@ use crate::one_form::one_form;
 use crate::table::{ASSERTIONS, BALLOTS, CommandName, MANIFEST, OptionName, SEEN, SESSION};
 use clap::ArgMatches;
 use command::{
-    AuditPluralityTask, AuditTask, CheckTask, ContestsTask, OpenPluralityTask, OpenTask, PlanTask, PollTask,
-    ReportTask, SampleTask, SearchTask, TabulateTask, TrialTask, TrimTask,
+    AuditPluralityTask, AuditTask, CheckTask, ContestsTask, OpenPluralityTask, OpenTask, PlanTask,
+    PollTask, ReportTask, SampleTask, SearchTask, TabulateTask, TrialTask, TrimTask,
 };
 use irv_base::Memory;
 use std::alloc::{AllocError, Global};

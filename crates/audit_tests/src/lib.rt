@@ -13,6 +13,8 @@ mod audit_report_tests;
 #[cfg(test)]
 mod audit_session_tests;
 #[cfg(test)]
+mod contest_set_tests;
+#[cfg(test)]
 mod input_files_tests;
 #[cfg(test)]
 mod km_risk_tests;

@@ -14,7 +14,7 @@ use Rattle.session_state.specs.Claims.{audited}
 use Rattle.session_state.specs.Draws.{round_to}
 use Rattle.session_state.specs.Sessions.{Round}
 use Rattle.audit_session.specs.Going.{all_seen, drawn_cards}
-use Rattle.audit_session.specs.Refusals.{unseen_draw}
+use Rattle.audit_session.specs.Refusals.{without_record}
 use Rattle.seen_file.specs.Seen.{Entry}
 use Rattle.contest_search.specs.Found.{FoundIn}
 use Rattle.contest_search.specs.declared.found.Found.{Found}
@@ -37,36 +37,33 @@ pub record AreWithinLimits (terms : SharedTerms) : Type 0 where
 abbrev pub are_confirmed : ℕ → List ℕ → Bool
 are_confirmed limit risks = list_all (λ risk. nat_le risk (limit * MILLIONTH)) risks
 
+-- what a search of a contest finds, on these terms
+abbrev pub Finds : SharedTerms → BallotFile → Found → Type 0
+Finds terms ballots found = FoundIn terms.nodes ballots found
+
+-- the round of all draws over the claims of a file, where this is recorded of the cards, and this is seen
+abbrev pub round_over : SharedTerms → List Recorded → List Entry → Content → Round
+round_over terms recorded seen file =
+    let cards : ℕ = length recorded in
+    round_to terms.gamma (audited file) recorded (all_seen seen cards)
+    (drawn_cards terms.seed cards terms.draws) terms.draws
+
 module _ (batches : Batches) (terms : SharedTerms) where
-  -- what a search of a contest finds, on these terms
-  abbrev pub Finds : BallotFile → Found → Type 0
-  Finds ballots found = FoundIn terms.nodes ballots found
-
-  -- the first draw whose card has no record of what is seen, of so many cards
-  abbrev pub unseen : ℕ → List Entry → _
-  unseen cards seen = unseen_draw terms.seed cards seen terms.draws
-
-  -- the round of all draws, over the claims of a file: what is recorded of the cards are the ballots of the contest
-  abbrev pub round_over : BallotFile → List Entry → Content → Round
-  round_over ballots seen file =
-      let recorded : List Recorded = linked_of batches ballots in
-      let cards : ℕ = length recorded in
-      round_to terms.gamma (audited file) recorded (all_seen seen cards)
-      (drawn_cards terms.seed cards terms.draws) terms.draws
-
   -- the contest has a winner, each drawn card has its record, and the claims have these counts and risks
   pub record IsAudited (ballots : BallotFile) (seen : List Entry) (file : Content)
       (counts : List Counts) (risks : List ℕ) (signed : Bool) : Type 0 where
-    pub found : Finds ballots (Certificate file)
-    pub none_unseen : unseen (length (linked_of batches ballots)) seen ≡ None
-    pub counts_are : counts ≡ (round_over ballots seen file).counts
-    pub risks_are : risks ≡ (round_over ballots seen file).risks
+    pub found : Finds terms ballots (Certificate file)
+    pub none_unseen :
+        without_record terms.seed (length (linked_of batches ballots)) seen terms.draws ≡ None
+    pub counts_are : counts ≡ (round_over terms (linked_of batches ballots) seen file).counts
+    pub risks_are : risks ≡ (round_over terms (linked_of batches ballots) seen file).risks
     pub signed_off : signed ≡ are_confirmed terms.limit risks
 
   -- the audit of one contest ends so
   abbrev pub EndsAs : BallotFile → List Entry → ContestEnd → Type 0
-  EndsAs ballots seen (Tied round tied tally) = Finds ballots (FoundTie round tied tally)
-  EndsAs ballots seen (Spent last order margin) = Finds ballots (FoundSpent last order margin)
+  EndsAs ballots seen (Tied round tied tally) = Finds terms ballots (FoundTie round tied tally)
+  EndsAs ballots seen (Spent last order margin) =
+      Finds terms ballots (FoundSpent last order margin)
   EndsAs ballots seen (Audited file counts risks signed) =
       IsAudited ballots seen file counts.items risks.items signed
 

@@ -1,3 +1,4 @@
 pub mod SeenBy
 pub mod Ends
 pub mod Refusals
+pub mod Laws

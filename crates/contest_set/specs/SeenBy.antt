@@ -29,6 +29,10 @@ abbrev pub entries_for : Id → List ContestEntry → List Entry
 entries_for contest entries =
     map (λ seen. seen.entry) (filter (λ seen. is_same seen.contest contest) entries)
 
+-- for each contest
+abbrev pub seen_for_each : List BallotFile → List ContestEntry → List (List Entry)
+seen_for_each list entries = map (λ ballots. entries_for ballots.contest entries) list
+
 -- ---- a record
 
 abbrev pub for_contest : Id → Result Entry VRule → Result ContestEntry VRule
@@ -55,13 +59,12 @@ contest_entry_of batches list earlier (id ∷ contest ∷ word ∷ rest) =
 
 -- ---- the file
 
--- what is seen for each contest
 abbrev pub for_each_contest : List BallotFile → Result (List ContestEntry) Refusal →
     Result (List (List Entry)) Refusal
-for_each_contest list (Ok entries) = Ok (map (λ ballots. entries_for ballots.contest entries) list)
+for_each_contest list (Ok entries) = Ok (seen_for_each list entries)
 for_each_contest list (Err refusal) = Err refusal
 
--- by these records
+-- what is seen for each contest, by these records
 abbrev pub seen_by_rows : Batches → List BallotFile → List Fields →
     Result (List (List Entry)) Refusal
 seen_by_rows batches list rows =

@@ -1,8 +1,10 @@
 // Why the contests of a file aren't audited.
 ghost use Rattle.std.specs.Prelude.{◌≡◌};
+ghost use Rattle.contest_set.specs.Refusals.{as_set_fault};
 ghost use Rattle.contest_set.specs.declared.fault.SetFault.TheVariants.{Memory as WantOfMemory};
 
 use irv_base::Memory;
+use manifest::LinkFault;
 use std::alloc::AllocFailed;
 use std::error::Error;
 use std::fmt;
@@ -49,5 +51,16 @@ impl<T: Drop> From<AllocFailed<T>> for SetFault {
 
     fn from(_: AllocFailed<T>) -> Self {
         SetFault::Memory
+    }
+}
+
+impl From<LinkFault> for SetFault {
+    ghost from_gives = { λ fault of_set. of_set ≡ as_set_fault fault };
+
+    fn from(fault: LinkFault) -> Self {
+        match fault {
+            LinkFault::NoCard { at } => SetFault::NoCard { at },
+            LinkFault::Memory => SetFault::Memory,
+        }
     }
 }

@@ -5,7 +5,11 @@
 mod all;
 mod end;
 mod fault;
+mod gate;
+pub mod laws;
+mod one;
 mod read;
+mod record;
 mod terms;
 
 pub use all::audit_all;

@@ -1,13 +1,41 @@
 // Reading what is seen of cards for several contests.
-ghost use Rattle.std.specs.Prelude.{◌≡◌, Ok, IfOk, IfErr, IsTrue};
+ghost use Rattle.std.specs.Prelude.{◌≡◌, ◌<◌, ◌++◌, ◌∷◌, [], List, slice_get, slice_set, replicate, length, None, Some, Ok, IfOk, IfErr, OnOk, IsTrue};
 ghost use Rattle.irv_base.specs.Names.{all_differ};
 ghost use Rattle.seen_file.specs.Faults.{Refuses};
+ghost use Rattle.seen_file.specs.Seen.{Entry, seen_in};
 ghost use Rattle.contest_set.specs.SeenBy.{contest_ids, seen_by};
 
+use crate::record::{Told, told_of};
 use ballot_reader::Ballots;
+use csv::ByteRecord;
+use csv_rows::{Rows, without_mark};
+use irv_base::Memory;
 use manifest::Manifest;
 use seen_file::{SeenCards, SeenFault};
 use std::alloc::Global;
+
+// Nothing is seen for each of so many contests.
+fn nothing_seen(alloc: Global, contests: usize) -> Result<Vec<SeenCards>, Memory>
+    ensures { IfOk result (λ seen. seen.items ≡ replicate contests []) }
+{
+    let mut seen = Vec::with_capacity(alloc, contests)?;
+    for _ in 0..contests {
+        seen.push(SeenCards::new(alloc))?;
+    }
+    Ok(seen)
+}
+
+// Puts a card that is new with what is seen of it for its contest.
+fn put(seen: &mut Vec<SeenCards>, told: Told) -> Result<(), Memory>
+    requires { told.place < length seen.now.items }
+    ensures { OnOk result ((entries : List Entry)
+        → slice_get seen.old.items told.place ≡ Some entries → seen_in entries told.card ≡ None
+        → seen.new.items
+        ≡ slice_set seen.old.items told.place (entries ++ (told.card, told.seen) ∷ [])) }
+{
+    seen[told.place].put(told.card, told.seen)?;
+    Ok(())
+}
 
 /// Reads a seen file whose records are of several contests: what is seen of the cards for each contest, in their order.
 ///
@@ -26,7 +54,20 @@ pub fn read_seen_by(
 ) -> Result<Vec<SeenCards>, SeenFault>
     requires differ { IsTrue (all_differ (contest_ids list.now)) }
     ensures read { IfOk result (λ seen. seen_by m.now list.now bytes.now ≡ Ok seen.items) }
+    ensures one_each { IfOk result (λ seen. length seen.items ≡ length list.now) }
     ensures refused { IfErr result (Refuses (seen_by m.now list.now bytes.now)) }
 {
-    Err(SeenFault::Memory)
+    let mut rows = Rows::of(alloc, without_mark(bytes));
+    let mut row = ByteRecord::new(alloc);
+    let mut seen = nothing_seen(alloc, list.len())?;
+    let mut at: u32 = 1;
+    'records: while rows.read_numbered(&mut row)? {
+        let told = match told_of(m, list, &seen, &row) {
+            Ok(told) => told,
+            Err(rule) => return Err(SeenFault::Refused { rule, at }),
+        };
+        put(&mut seen, told)?;
+        at = at.checked_add(1).ok_or(SeenFault::Memory)?;
+    }
+    Ok(seen)
 }

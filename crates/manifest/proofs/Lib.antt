@@ -13,3 +13,4 @@ pub mod Placed
 pub mod Linking
 pub mod LinkLaws
 pub mod Records
+pub mod FewBallots

@@ -4,7 +4,7 @@ use Rattle.irv_base.specs.Names.{all_differ}
 use Rattle.manifest.specs.Cards.{Batches, cards_of}
 use Rattle.manifest.specs.Linked.{first_without_card}
 use Rattle.plurality.proofs.Margins.{margins_fit}
-use Rattle.session_commands.proofs.Held.{few_ballots}
+use Rattle.manifest.proofs.FewBallots.{few_ballots}
 use Rattle.ballot_reader.specs.Ballots.{BallotFile}
 use Rattle.cli_base.specs.Outcome.{outcome}
 use Rattle.cli_base.specs.Script.{Script, Agree, AreOfKind, IsOfKind, Same}

@@ -9,12 +9,12 @@ use Rattle.irv_base.proofs.Distinct.{Distinct, distinct-push, distinct-le, lengt
 use Rattle.manifest.specs.Cards.{Batches, cards_of}
 use Rattle.assorters.specs.declared.seen.Seen.{Seen}
 use Rattle.seen_file.specs.Seen.{Entry, seen_in}
-use Rattle.seen_file.specs.Reading.{entry_of, entries_after, and_then}
+use Rattle.seen_file.specs.Reading.{entry_of, read_after, and_then}
 use Rattle.seen_file.specs.declared.fault.VRule.{VRule}
 use Rattle.seen_file.proofs.Cards.{absent}
 
 pub record SeenSoFar (batches : Batches) (candidates : List Id) (rows : List Fields) (entries : List Entry) (at : ℕ) (left : List Fields) : Type 0 where
-  pub rest : entries_after batches candidates [] 1 rows ≡ entries_after batches candidates entries at left
+  pub rest : read_after (entry_of batches candidates) [] 1 rows ≡ read_after (entry_of batches candidates) entries at left
   pub numbered : at ≡ length entries + 1
   pub apart : Distinct (map (λ entry. entry.0) entries)
   pub within : (card : ℕ) → Member card (map (λ entry. entry.0) entries) → (1 ≤ card) × (card ≤ length (cards_of batches))
@@ -35,7 +35,7 @@ pub goes_on : (batches : Batches) (candidates : List Id) (rows : List Fields) (e
 goes_on batches candidates rows entries at row left card seen so_far is new first last =
     let cards = map-append (λ entry. entry.0) entries ((card, seen) ∷ []) in
     record {
-      rest = so_far.rest ∙ ap (λ said. and_then said at (λ entry. entries_after batches candidates (entries ++ entry ∷ []) (at + 1) left)) is;
+      rest = so_far.rest ∙ ap (λ said. and_then said at (λ entry. read_after (entry_of batches candidates) (entries ++ entry ∷ []) (at + 1) left)) is;
       numbered = omega (arith, so_far.numbered, length-append entries ((card, seen) ∷ []));
       apart = subst Distinct (sym cards) (distinct-push (map (λ entry. entry.0) entries) card so_far.apart (absent entries card new));
       within = λ other m. elim (member-append_cases (map (λ entry. entry.0) entries) (card ∷ []) (subst (Member other) cards m)) [
@@ -47,6 +47,6 @@ goes_on batches candidates rows entries at row left card seen so_far is new firs
 pub refused : (batches : Batches) (candidates : List Id) (rows : List Fields) (entries : List Entry) (at : ℕ) (row : Fields) (left : List Fields)
     (rule : VRule) →
     SeenSoFar batches candidates rows entries at (row ∷ left) → entry_of batches candidates entries row ≡ Err rule →
-    entries_after batches candidates [] 1 rows ≡ Err (record { rule = rule; at = at })
+    read_after (entry_of batches candidates) [] 1 rows ≡ Err (record { rule = rule; at = at })
 refused batches candidates rows entries at row left rule so_far is =
-    so_far.rest ∙ ap (λ said. and_then said at (λ entry. entries_after batches candidates (entries ++ entry ∷ []) (at + 1) left)) is
+    so_far.rest ∙ ap (λ said. and_then said at (λ entry. read_after (entry_of batches candidates) (entries ++ entry ∷ []) (at + 1) left)) is

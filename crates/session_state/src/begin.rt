@@ -11,8 +11,8 @@ use irv_base::{Memory, Name};
 use sampler::Seed;
 use std::alloc::Global;
 
-// The margin of each claim.
-fn margins_of(alloc: Global, claims: &[Claim]) -> Result<Vec<u32>, Memory>
+/// The margin of each claim.
+pub fn margins_of(alloc: Global, claims: &[Claim]) -> Result<Vec<u32>, Memory>
     ensures { IfOk result (λ margins. margins.items ≡ map (λ claim. claim.margin) claims.now) }
 {
     let margins = claims.iter().map(|claim| claim.margin).collect(alloc)?;

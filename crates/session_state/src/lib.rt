@@ -10,7 +10,7 @@ mod round;
 mod session;
 mod sign_off;
 
-pub use begin::{begin_plain, begin_session};
+pub use begin::{begin_plain, begin_session, margins_of};
 pub use digests::Digests;
 pub use inputs::{InputFault, has_facts, has_facts_of, other_digest, same_facts, same_inputs};
 pub use round::DoneRound;

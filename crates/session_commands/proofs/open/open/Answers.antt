@@ -7,7 +7,8 @@ use Rattle.cli_base.specs.Outcome.{Answered, outcome}
 use Rattle.cli_base.specs.declared.outcome.AnswerKind.TheVariants.{Done}
 use Rattle.check_command.specs.Check.{Checks}
 use Rattle.session_commands.specs.Open.{Opens, opened}
-use Rattle.session_commands.proofs.Held.{few_ballots, held, margins_fit}
+use Rattle.manifest.proofs.FewBallots.{few_ballots}
+use Rattle.session_commands.proofs.Held.{held, margins_fit}
 use Rattle.session_commands.proofs.open.open.Goals as goal
 
 pub begin_session-requires-clause-margins : goal.begin_session-requires-clause-margins

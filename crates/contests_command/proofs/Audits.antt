@@ -1,20 +1,22 @@
 -- What an audit of all contests comes to.
-use Rattle.std.proofs.Common.{◌≡◌, inl, inr, ℕ, Bool, true, false, List, Result, Ok, Err, refl, sym, ap, subst, ◌∙◌}
+use Rattle.std.proofs.Common.{◌≡◌, inl, inr, ℕ, Bool, true, false, List, Result, Ok, Err, codes, refl, sym, ap, subst, ◌∙◌}
 use Rattle.ballot_reader.specs.Ballots.{BallotFile}
 use Rattle.ballot_reader.specs.Grammar.{contests_of}
 use Rattle.manifest.specs.Cards.{Batches}
 use Rattle.manifest.specs.Manifest.{manifest_of}
 use Rattle.seen_file.specs.Seen.{Entry}
 use Rattle.contest_set.specs.SeenBy.{seen_by}
-use Rattle.cli_base.specs.Outcome.{Outcome, Verdict, Answered, Refused, outcome}
+use Rattle.cli_base.specs.Outcome.{Outcome, Verdict, Answered, Refused, broken_at, outcome}
+use Rattle.cli_base.specs.Due.{IsOneOrMemory, IsOrMemory}
 use Rattle.cli_base.specs.Script.{Script, Agree, AreOfKind, IsOfContests, IsOfKind, SameButContests}
 use Rattle.cli_base.specs.declared.outcome.AnswerKind.TheVariants.{Done, Unconfirmed}
 use Rattle.cli_base.proofs.AmongKinds.{among}
 use Rattle.cli_base.proofs.Ended.{refused-kind}
 use Rattle.command.specs.declared.contests.ContestsTask.{ContestsTask}
 use Rattle.input_files.specs.Judged.{told, go_on}
-use Rattle.input_files.specs.Refusals.{refused_ballots, refused_manifest, refused_seen}
+use Rattle.input_files.specs.Refusals.{no_record_text, refused_ballots, refused_manifest, refused_seen}
 use Rattle.input_files.proofs.Going.{go_on-kinds, told-only}
+use Rattle.contests_command.specs.Table.{all_signed, contests_table}
 use Rattle.contests_command.specs.Contests.{Audits, after_ballots, after_manifest, kind_of, kinds, script}
 
 -- ---- the kinds of its answers
@@ -25,9 +27,12 @@ all-kind false text = among kinds Unconfirmed refl
 
 module _ (task : ContestsTask) where
   audits-kind : (list : List BallotFile) (batches : Batches) (seen : List (List Entry)) (v : Verdict) → Audits task list batches seen v → IsOfKind kinds v
-  audits-kind list batches seen v (inl unplaced) = refused-kind kinds v _ _ unplaced.refused
-  audits-kind list batches seen v (inr (inl unseen)) = refused-kind kinds v _ _ unseen.refused
-  audits-kind list batches seen v (inr (inr is)) = subst (IsOfKind kinds) (sym is.told) (all-kind _ _)
+  audits-kind list batches seen v (inl unplaced) =
+      refused-kind kinds v task.ballots (broken_at (codes "M7") unplaced.at) unplaced.refused
+  audits-kind list batches seen v (inr (inl unseen)) =
+      refused-kind kinds v task.seen (no_record_text unseen.card unseen.k) unseen.refused
+  audits-kind list batches seen v (inr (inr is)) =
+      subst (IsOfKind kinds) (sym is.told) (all-kind (all_signed is.ends) (contests_table task.limit list is.ends))
 
   manifest-kinds : (list : List BallotFile) (batches : Batches) → AreOfKind kinds (after_manifest task list batches)
   manifest-kinds list batches = λ bytes. go_on-kinds kinds (told (refused_seen task.seen) (seen_by batches list bytes)) _
@@ -60,7 +65,8 @@ module _ (task : ContestsTask) where
       IsOfContests (status_after v)
   audits-status list batches seen v (inl unplaced) = subst (λ v. IsOfContests (status_after v)) (sym unplaced.refused) (inr (inl refl))
   audits-status list batches seen v (inr (inl unseen)) = subst (λ v. IsOfContests (status_after v)) (sym unseen.refused) (inr (inl refl))
-  audits-status list batches seen v (inr (inr is)) = subst (λ v. IsOfContests (status_after v)) (sym is.told) (told-status _ _)
+  audits-status list batches seen v (inr (inr is)) =
+      subst (λ v. IsOfContests (status_after v)) (sym is.told) (told-status (all_signed is.ends) (contests_table task.limit list is.ends))
 
   manifest-agrees : (list : List BallotFile) (batches : Batches) → Agree SameButContests (after_manifest task list batches)
   manifest-agrees list batches = λ bytes. go_on-agrees (told (refused_seen task.seen) (seen_by batches list bytes)) _
@@ -71,3 +77,10 @@ module _ (task : ContestsTask) where
 
   pub agrees : Agree SameButContests (script task)
   agrees = λ bytes. go_on-agrees (told (refused_ballots task.ballots) (contests_of bytes)) _ ballots-agrees
+
+-- ---- a refusal
+
+pub refused_as : (verdicts : Verdict → Type 0) (verdict : Verdict) (due : Outcome) → verdicts verdict → IsOrMemory (outcome verdict) due →
+    IsOneOrMemory verdicts due
+refused_as verdicts verdict due holds (inl is) = inl (verdict, holds, is)
+refused_as verdicts verdict due holds (inr memory) = inr memory

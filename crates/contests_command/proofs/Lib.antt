@@ -2,4 +2,4 @@ pub mod Lines
 pub mod Read
 pub mod Telling
 pub mod Audits
-pub mod OneEnd
+pub mod Moved

@@ -8,7 +8,7 @@ use Rattle.manifest.specs.Cards.{Batches}
 use Rattle.manifest.specs.Manifest.{manifest_of}
 use Rattle.seen_file.specs.Seen.{Entry}
 use Rattle.contest_set.specs.Ends.{AreEnds}
-use Rattle.contest_set.specs.Refusals.{LacksRecord, first_without_card_of_all}
+use Rattle.contest_set.specs.Refusals.{FirstLacksRecord, first_without_card_of_all}
 use Rattle.contest_set.specs.SeenBy.{contest_ids, seen_by}
 use Rattle.contest_set.specs.declared.end.ContestEnd.{ContestEnd}
 use Rattle.contest_set.specs.declared.terms.SharedTerms.{SharedTerms}
@@ -54,7 +54,7 @@ module _ (task : ContestsTask) (list : List BallotFile) (batches : Batches)
     pub contest : ℕ
     pub card : ℕ
     pub k : ℕ
-    pub lacks : LacksRecord batches (terms_of task) list seen contest card k
+    pub lacks : FirstLacksRecord batches (terms_of task) list seen contest card k
     pub refused : verdict ≡ Refused task.seen (no_record_text card k)
 
   -- each contest ends by itself, and that is told

@@ -43,14 +43,19 @@ winner_lines records winner margin =
     codes "records " ++ decimal records ++ codes "\nwinner " ++ winner ++ codes "\nmargin "
     ++ decimal margin ++ codes "\n"
 
+-- with its winner and the claims
+abbrev pub audited_lines : ℕ → Content → List Counts → List ℕ → List ℕ
+audited_lines limit file counts risks =
+    winner_lines file.records (id_of file.candidates file.winner) file.margin
+    ++ claim_lines file.candidates limit file.claims counts risks
+
 -- how it ends: with its winner and the claims, or as a search that has no certificate
 abbrev pub end_lines : ℕ → BallotFile → ContestEnd → List ℕ
 end_lines limit ballots (Tied round tied tally) = tie_text ballots.candidates round tied tally
 end_lines limit ballots (Spent last order margin) =
     spent_text ballots.candidates last order margin
 end_lines limit ballots (Audited file counts risks signed) =
-    winner_lines file.records (id_of file.candidates file.winner) file.margin
-    ++ claim_lines file.candidates limit file.claims counts.items risks.items
+    audited_lines limit file counts.items risks.items
 
 -- a contest without a winner isn't signed off
 abbrev pub is_signed : ContestEnd → Bool

@@ -105,6 +105,7 @@ fn seen_by_in(
     requires { IsTrue (all_differ (contest_ids list.now)) }
     ensures read { IfOk result (λ seen.
         told (refused_seen file.now) (seen_by batches.now list.now bytes.now) ≡ Ok seen.items) }
+    ensures one_each { IfOk result (λ seen. length seen.items ≡ length list.now) }
     ensures refused { IfErr result
         (IsStopped (told (refused_seen file.now) (seen_by batches.now list.now bytes.now))) }
 {

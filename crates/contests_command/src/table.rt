@@ -7,7 +7,7 @@ ghost use Rattle.km_risk.specs.declared.limits.TheConstants.{MILLIONTH};
 ghost use Rattle.assertions.specs.Assertions.{is_proper};
 ghost use Rattle.report.specs.Risks.{yes_or_no};
 ghost use Rattle.report.specs.Texts.{assertion_text};
-ghost use Rattle.contests_command.specs.Table.{CanBeTold, all_signed, block, blocks, claim_line, claim_lines, contest_line, contests_table, end_lines, is_signed, last_line, winner_lines};
+ghost use Rattle.contests_command.specs.Table.{CanBeTold, all_signed, audited_lines, block, blocks, claim_line, claim_lines, contest_line, contests_table, end_lines, is_signed, last_line, winner_lines};
 
 use assertion_file::{AssertionFile, id_of};
 use assertions::Claim;
@@ -45,7 +45,8 @@ fn add_line(
     add_counts(text, counts)?;
     text.push_str(" risk ")?;
     add_risk(text, risk)?;
-    add_state(text, confirmed)
+    add_state(text, confirmed)?;
+    Ok(())
 }
 
 // Adds the line of a claim.
@@ -102,12 +103,7 @@ fn add_claims(
 
 // ---- a contest
 
-fn add_winner(
-    text: &mut String,
-    records: u32,
-    winner: &str,
-    margin: u32,
-) -> Result<(), AllocError>
+fn add_winner(text: &mut String, records: u32, winner: &str, margin: u32) -> Result<(), AllocError>
     ensures { IfOk result (λ _. string_bytes text.new ≡
         string_bytes text.old ++ winner_lines records winner.now margin) }
 {
@@ -127,12 +123,12 @@ fn add_audited(
     requires risks { length risks.now ≡ length f.now.claims }
     requires limit { limit ≤ GREATEST_LIMIT }
     ensures { IfOk result (λ _. string_bytes text.new ≡ string_bytes text.old
-        ++ (winner_lines f.now.records (id_of f.now.candidates f.now.winner) f.now.margin
-        ++ claim_lines f.now.candidates limit f.now.claims counts.now risks.now)) }
+        ++ audited_lines limit f.now counts.now risks.now) }
 {
     let winner = id_of(f.candidates(), f.winner());
     add_winner(text, f.records(), winner, f.margin())?;
-    add_claims(alloc, text, f, limit, counts, risks)
+    add_claims(alloc, text, f, limit, counts, risks)?;
+    Ok(())
 }
 
 // Adds how a contest ends.

@@ -1,8 +1,7 @@
 // What a call takes, and what comes of it.
 use crate::table::{CASES, FAILING, FILES, File};
 use crate::{
-    audit_table, cards_table, contests_table, plurality_table, poll_table, session_table,
-    tie_table,
+    audit_table, cards_table, contests_table, plurality_table, poll_table, session_table, tie_table,
 };
 use desk::{Gate, MemoryDesk, MemorySink, Named, NoGate};
 use irv_base::{MOST_FILE_BYTES, Name};

@@ -3,3 +3,5 @@ pub mod Read
 pub mod Telling
 pub mod Audits
 pub mod Moved
+pub mod OneEnd
+pub mod Alone

@@ -51,11 +51,12 @@ module _ (ballots : BallotFile) (places : List ℕ) where
   found-moved nodes (FoundTie round tied votes) is = record { counted = is.counted; first = is.first; undecided = is.undecided }
   found-moved nodes (FoundSpent last order margin) is = spent-moved nodes last order margin is
 
-  pub ends_moved : (batches : Batches) (terms : SharedTerms) (seen : List Entry) (end : ContestEnd) → EndsAs batches terms moved seen end →
-      EndsAs batches terms ballots seen end
-  ends_moved batches terms seen (Tied round tied tally) is = found-moved terms.nodes (FoundTie round tied tally) is
-  ends_moved batches terms seen (Spent last order margin) is = found-moved terms.nodes (FoundSpent last order margin) is
-  ends_moved batches terms seen (Audited file counts risks signed) is = record {
+  -- nor does the number of workers
+  pub ends_moved : (batches : Batches) (terms : SharedTerms) (workers : ℕ) (seen : List Entry) (end : ContestEnd) →
+      EndsAs batches (record terms { workers = workers }) moved seen end → EndsAs batches terms ballots seen end
+  ends_moved batches terms workers seen (Tied round tied tally) is = found-moved terms.nodes (FoundTie round tied tally) is
+  ends_moved batches terms workers seen (Spent last order margin) is = found-moved terms.nodes (FoundSpent last order margin) is
+  ends_moved batches terms workers seen (Audited file counts risks signed) is = record {
     found = found-moved terms.nodes (Certificate file) is.found;
     none_unseen = is.none_unseen;
     counts_are = is.counts_are;

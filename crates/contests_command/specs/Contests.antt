@@ -1,5 +1,5 @@
 -- `contests BALLOTS MANIFEST SEEN`: all contests of a ballot file, audited on one sample of cards.
-use Rattle.std.specs.Prelude.{◌≡◌, ◌⊎◌, ◌≤◌, ℕ, Bool, true, false, List, [], ◌∷◌, length, None, Some, IsTrue}
+use Rattle.std.specs.Prelude.{◌≡◌, ◌⊎◌, ◌≤◌, ℕ, Bool, true, false, List, [], ◌∷◌, length, None, Some, IsTrue, ⊤}
 use Rattle.irv_base.specs.Names.{all_differ}
 use Rattle.ballot_reader.specs.Ballots.{BallotFile}
 use Rattle.ballot_reader.specs.Grammar.{contests_of}
@@ -7,10 +7,13 @@ use Rattle.ballot_reader.specs.declared.limits.TheConstants.{MOST_CONTESTS}
 use Rattle.manifest.specs.Cards.{Batches}
 use Rattle.manifest.specs.Manifest.{manifest_of}
 use Rattle.seen_file.specs.Seen.{Entry}
+use Rattle.contest_search.specs.Budget.{nodes_for}
+use Rattle.contest_search.specs.Contest.{IsOther, IsWon}
 use Rattle.contest_set.specs.Ends.{AreEnds}
 use Rattle.contest_set.specs.Refusals.{FirstLacksRecord, first_without_card_of_all}
 use Rattle.contest_set.specs.SeenBy.{contest_ids, seen_by}
 use Rattle.contest_set.specs.declared.end.ContestEnd.{ContestEnd}
+use Rattle.contest_set.specs.declared.end.ContestEnd.TheVariants.{Tied, Spent, Audited}
 use Rattle.contest_set.specs.declared.terms.SharedTerms.{SharedTerms}
 use Rattle.cli_base.specs.Outcome.{Verdict, Answered, Refused}
 use Rattle.cli_base.specs.Script.{Script, Read, Ends}
@@ -89,6 +92,20 @@ module _ (task : ContestsTask) where
 -- the kinds of its answers
 abbrev pub kinds : List AnswerKind
 kinds = Done ∷ Unconfirmed ∷ []
+
+-- ---- nodes that suffice
+
+-- the nodes are as many as may be needed for each candidate whom the tabulated order doesn't elect
+abbrev pub SufficeFor : ℕ → BallotFile → Type 0
+SufficeFor nodes ballots =
+    (winner c : ℕ) (won : IsWon ballots winner) → IsOther ballots winner c →
+    nodes_for ballots won.order winner c ≤ nodes
+
+-- the budget of the contest isn't spent
+abbrev pub IsUnspent : ContestEnd → Type 0
+IsUnspent (Tied round tied tally) = ⊤
+IsUnspent (Spent last order margin) = ⊥
+IsUnspent (Audited file counts risks signed) = ⊤
 
 -- ---- what is known of contests that are read
 

@@ -3,6 +3,7 @@
 
 pub mod contests;
 pub mod examples;
+pub mod laws;
 mod table;
 
 pub use table::contests_table;

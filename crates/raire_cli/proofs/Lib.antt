@@ -21,6 +21,8 @@ mod PluralOpened
 mod PluralAudited
 mod PluralsLimit
 mod ContestsAudited
+mod ContestsOnce
+mod ContestsAlone
 mod Undecided
 mod Rounds
 mod Clauses

@@ -1,5 +1,5 @@
 -- What it means that all contests of a ballot file are audited on one sample of cards.
-use Rattle.std.specs.Prelude.{◌≡◌, ◌⊎◌, ◌↔◌, ℕ, List, Option, None, Some, IfSome, Ok, IsTrue}
+use Rattle.std.specs.Prelude.{◌≡◌, ◌⊎◌, ◌↔◌, ℕ, List, All, Option, None, Some, IfSome, Ok, IsTrue}
 use Rattle.desk.specs.Desk.{File, held_bytes}
 use Rattle.ballot_reader.specs.Ballots.{BallotFile}
 use Rattle.ballot_reader.specs.Grammar.{contests_of}
@@ -14,7 +14,7 @@ use Rattle.cli_base.specs.Ends.{Writing, Took}
 use Rattle.command.specs.declared.contests.ContestsTask.{ContestsTask}
 use Rattle.command_line.specs.Line.{command_of}
 use Rattle.command_line.specs.declared.commands.Command.TheVariants.{Contests}
-use Rattle.contests_command.specs.Contests.{terms_of}
+use Rattle.contests_command.specs.Contests.{SufficeFor, terms_of}
 use Rattle.contests_command.specs.Table.{all_signed, contests_table}
 
 -- the words ask for an audit of all contests
@@ -48,6 +48,14 @@ pub record SayContests (bytes : ContestsBytes) (inputs : ContestsInputs) : Type 
   pub ballots : contests_of bytes.ballots ≡ Ok inputs.list
   pub manifest : manifest_of bytes.manifest ≡ Ok inputs.batches
   pub seen : seen_by inputs.batches inputs.list bytes.seen ≡ Ok inputs.seen
+
+-- ---- nodes that suffice
+
+-- the nodes are as many as may be needed in each contest of the ballot file
+abbrev pub HaveNodes : ContestsTask → List File → Type 0
+HaveNodes task files =
+    (bytes : List ℕ) (list : List BallotFile) → held_bytes task.ballots files ≡ Some bytes →
+    contests_of bytes ≡ Ok list → All (SufficeFor task.nodes) list
 
 -- ---- the audit
 

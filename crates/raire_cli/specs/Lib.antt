@@ -9,6 +9,7 @@ pub mod Audits
 pub mod Openings
 pub mod Enough
 pub mod Contests
+pub mod ContestsAlone
 pub mod Promises
 pub mod Ballots
 pub mod Pluralities

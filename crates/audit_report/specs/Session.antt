@@ -1,11 +1,11 @@
 -- What a session tells: its values, and its rounds with the counts and the risk of each claim.
-use Rattle.std.specs.Prelude.{ℕ, ◌+◌, Bool, true, false, List, [], ◌∷◌, ◌++◌, length, flat_map, slice_index, slice_index_or, codes}
+use Rattle.std.specs.Prelude.{ℕ, ◌+◌, Bool, List, [], ◌∷◌, ◌++◌, length, flat_map, slice_index, slice_index_or, codes}
 use Rattle.std.specs.Fmt.{decimal}
 use Rattle.std.specs.List.{range_with_len}
 use Rattle.irv_base.specs.Names.{Id}
 use Rattle.km_risk.specs.declared.draws.Counts.{Counts}
 use Rattle.km_risk.specs.Counts.{clean}
-use Rattle.report.specs.Risks.{counts_text, risk_text, state_text}
+use Rattle.report.specs.Risks.{counts_text, risk_text, signed_off_line, state_end}
 use Rattle.session_state.specs.Content.{Content}
 use Rattle.session_state.specs.Sessions.{Round, Session, is_confirmed_at, is_signed_off}
 
@@ -16,7 +16,7 @@ abbrev pub claim_line : ℕ → ℕ → Counts → ℕ → Bool → List ℕ
 claim_line j margin counts risk confirmed =
     codes "assertion " ++ decimal j ++ codes " margin " ++ decimal margin
     ++ codes " counts " ++ counts_text counts ++ codes " risk " ++ risk_text risk
-    ++ codes " " ++ state_text confirmed ++ codes "\n"
+    ++ state_end confirmed
 
 -- the claim with this index, from 0, in a round
 abbrev pub claim_in : List ℕ → Round → (ℕ → Bool) → ℕ → List ℕ
@@ -50,15 +50,8 @@ head_lines contest cards limit gamma seed =
     ++ decimal limit
     ++ codes "\ngamma " ++ decimal gamma ++ codes "\nseed " ++ seed ++ codes "\n"
 
-abbrev pub yes_or_no : Bool → List ℕ
-yes_or_no true = codes "yes"
-yes_or_no false = codes "no"
-
-abbrev pub last_line : Session → List ℕ
-last_line session = codes "signed off " ++ yes_or_no (is_signed_off session) ++ codes "\n"
-
 abbrev pub session_table : Content → List ℕ
 session_table content =
     let session = content.session in
     head_lines content.contest session.cards session.limit session.gamma content.seed
-    ++ rounds_from session 1 session.rounds ++ last_line session
+    ++ rounds_from session 1 session.rounds ++ signed_off_line (is_signed_off session)

@@ -4,12 +4,11 @@ ghost use Rattle.std.specs.Fmt.{decimal};
 ghost use Rattle.std.specs.List.{range_with_len};
 ghost use Rattle.irv_base.specs.declared.limits.TheConstants.{GREATEST_LIMIT};
 ghost use Rattle.session_state.specs.Sessions.{IsSession, meets};
-ghost use Rattle.report.specs.Risks.{state_text};
-ghost use Rattle.audit_report.specs.Session.{claim_in, claim_line, draws_line, head_lines, last_line, rounds_from, session_table, yes_or_no};
+ghost use Rattle.audit_report.specs.Session.{claim_in, claim_line, draws_line, head_lines, rounds_from, session_table};
 
 use irv_base::Memory;
 use km_risk::{Counts, is_confirmed};
-use report::{add_counts, add_risk, state_text};
+use report::{add_counts, add_risk, add_signed_off, add_state};
 use session_state::{DoneRound, Session, signed_off};
 use std::alloc::{AllocError, Global};
 
@@ -19,14 +18,6 @@ fn add_margin(text: &mut String, j: usize, margin: u32) -> Result<(), AllocError
         ++ codes " margin " ++ decimal margin ++ codes " counts ")) }
 {
     write!(text, "assertion {j} margin {margin} counts ")
-}
-
-fn add_state(text: &mut String, confirmed: bool) -> Result<(), AllocError>
-    ensures { IfOk result (λ _. string_bytes text.new ≡ string_bytes text.old
-        ++ (codes " " ++ state_text confirmed ++ codes "\n")) }
-{
-    let state = state_text(confirmed);
-    writeln!(text, " {state}")
 }
 
 // Adds the line of claim number `j`, from 1.
@@ -131,20 +122,6 @@ fn add_rounds(text: &mut String, s: &Session, confirmed: &mut [bool]) -> Result<
     Ok(())
 }
 
-fn yes_or_no(yes: bool) -> &'static str
-    ensures { result.now ≡ yes_or_no yes }
-{
-    if yes { "yes" } else { "no" }
-}
-
-fn add_last(text: &mut String, s: &Session) -> Result<(), AllocError>
-    ensures { IfOk result (λ _.
-        string_bytes text.new ≡ string_bytes text.old ++ last_line s.now.session) }
-{
-    let answer = yes_or_no(signed_off(s));
-    writeln!(text, "signed off {answer}")
-}
-
 /// The lines of a session: its contest, cards, limit, gamma and seed, each round with the counts and the risk of each claim and
 /// whether it is confirmed by then, and whether the session is signed off. Every line ends with a line feed.
 pub fn session_table(alloc: Global, s: &Session) -> Result<Vec<u8>, Memory>
@@ -161,6 +138,6 @@ pub fn session_table(alloc: Global, s: &Session) -> Result<Vec<u8>, Memory>
     )?;
     let mut confirmed = vec![in alloc; false; s.margins().len()]?;
     add_rounds(&mut text, s, &mut confirmed)?;
-    add_last(&mut text, s)?;
+    add_signed_off(&mut text, signed_off(s))?;
     Ok(text.into_bytes())
 }

@@ -3,9 +3,9 @@ use Rattle.std.proofs.Common.{◌≡◌, ◌⊎◌, inl, inr, ⊎_elim, ℕ, Lis
 use Rattle.std.specs.Io.KnownBytes.{Appends, Keeps}
 use Rattle.desk.specs.Desk.{File, held_bytes}
 use Rattle.cli_base.specs.Outcome.{Outcome, Verdict, Answered, Refused, outcome, status_of, out_of_memory, too_long, no_such_file}
-use Rattle.cli_base.specs.Script.{Asked, Nothing, Runs, Reading, Bytes, Missing, TooLong, Fault, Readings, AsHeld, AsTold, ByDesk, MayCome, IsDue, ComesToRead, ComesTo, AgreeOn, Same, SameButBudget, reading_of, stop_of, IsBudgeted, OneIsSpent, limit}
+use Rattle.cli_base.specs.Script.{Asked, Nothing, Runs, Reading, Bytes, Missing, TooLong, Fault, Readings, AsHeld, AsTold, ByDesk, MayCome, IsDue, ComesToRead, ComesTo, AgreeOn, Same, SameButBudget, reading_of, stop_of, IsBudgeted, OneIsSpent, IsOfContests, SameButContests, limit}
 use Rattle.cli_base.specs.Ends.{Writing, Took, HasNewFaults, IsWhole, IsWritten}
-use Rattle.cli_base.specs.Statuses.{IsUndone, IsQuiet, Exactly, ExactlyInBudget, TookTexts, IsDefined, IsAnswered, IsNothing, HasFile, IsRefused, HasAnswer, IsReadFault, IsWriteFault, IsForErr, IsStatus, IsExact, Statuses}
+use Rattle.cli_base.specs.Statuses.{IsUndone, IsQuiet, Exactly, ExactlyInBudget, TookTexts, IsDefined, IsAnswered, IsNothing, HasFile, IsRefused, HasAnswer, IsReadFault, IsWriteFault, IsForErr, IsStatus, IsExact, Statuses, ExactlyInContests, ContestsStatuses}
 use Rattle.cli_base.specs.Story.{Story}
 use Rattle.cli_base.specs.declared.outcome.AnswerKind.{AnswerKind}
 use Rattle.cli_base.specs.declared.outcome.AnswerKind.TheVariants.{Done, Tie, Spent, FullCount, Differs, Unconfirmed}
@@ -227,7 +227,7 @@ module _ (asked : Asked) (failed : Type 0) (status : ℕ) (out err : Writing) wh
     ]
 
 module _ {asked : Asked} {held : Option (List File)} {failed : Type 0} {status : ℕ} {out err : Writing} (story : Story asked held failed status out err) where
-  bad_words_clause : Exactly 1 status (IsNothing asked)
+  pub bad_words_clause : Exactly 1 status (IsNothing asked)
   bad_words_clause = (
     λ e. elim story.written [
       | inl whole ↦ no_line_from (ByDesk held failed) asked story.due story.is_due (sym whole.ends ∙ e)
@@ -417,5 +417,64 @@ module _ {asked : Asked} {held : Option (List File)} {failed : Type 0} {status :
       too_long = exactly 11 (λ files. HasFile asked files TooLong) (free 11 refl refl refl) (unbudgeted 11 refl refl refl refl) (λ files. too_long_from files asked)
           (λ files (name, comes, there). stop_to (AsHeld files) asked name TooLong (too_long name) comes there refl);
       missing = exactly 12 (λ files. HasFile asked files Missing) (free 12 refl refl refl) (unbudgeted 12 refl refl refl refl) (λ files. missing_from files asked)
+          (λ files (name, comes, there). stop_to (AsHeld files) asked name Missing (no_such_file name) comes there refl);
+    }
+
+  -- ---- an audit of several contests
+
+  module _ (agree : AgreeOn SameButContests asked) where
+    module _ (files : List File) (is_due : IsDue (ByDesk (Some files) failed) asked story.due) (n : ℕ) (d : Outcome) (may : MayCome (AsHeld files) asked d)
+        (is : d.status ≡ n) where
+      contests_there : IsOfContests n → IsOfContests status ⊎ IsUndone status
+      contests_there of =
+          elim (wherever asked failed status out err files story.due is_due story.written SameButContests (λ d. inl refl) agree n d may is) [
+            | inl undone ↦ inr undone
+            | inr (inl same, ends) ↦ inl (subst IsOfContests (sym (ends ∙ ap status_in same ∙ is)) of)
+            | inr (inr (own, other), ends) ↦ inl (subst IsOfContests (sym ends) own)
+          ]
+
+      beside_contests : (IsOfContests n → ⊥) → (status ≡ n) ⊎ IsUndone status
+      beside_contests not_of =
+          elim (wherever asked failed status out err files story.due is_due story.written SameButContests (λ d. inl refl) agree n d may is) [
+            | inl undone ↦ inr undone
+            | inr (inl same, ends) ↦ inl (ends ∙ ap status_in same ∙ is)
+            | inr (inr (own, other), ends) ↦ absurd (not_of (subst IsOfContests is other))
+          ]
+
+    in_contests : (n : ℕ) (cause : List File → Type 0) → (IsUndone n → ⊥) → IsOfContests n
+        → ((files : List File) (d : Outcome) → MayCome (AsHeld files) asked d → d.status ≡ n → cause files)
+        → ((files : List File) → cause files → (d : Outcome) × MayCome (AsHeld files) asked d × (d.status ≡ n))
+        → IfSome held (λ files. ExactlyInContests n status (cause files))
+    in_contests n cause is_free of from to = where_told (λ files. ExactlyInContests n status (cause files)) (λ files is_due. (
+      only_there files is_due n (cause files) is_free (from files),
+      λ so. let (d, may, is) = to files so in contests_there files is_due n d may is of,
+    ))
+
+    beside : (n : ℕ) (cause : List File → Type 0) → (IsUndone n → ⊥) → (IsOfContests n → ⊥)
+        → ((files : List File) (d : Outcome) → MayCome (AsHeld files) asked d → d.status ≡ n → cause files)
+        → ((files : List File) → cause files → (d : Outcome) × MayCome (AsHeld files) asked d × (d.status ≡ n))
+        → IfSome held (λ files. Exactly n status (cause files))
+    beside n cause is_free not_of from to = where_told (λ files. Exactly n status (cause files)) (λ files is_due. (
+      only_there files is_due n (cause files) is_free (from files),
+      λ so. let (d, may, is) = to files so in beside_contests files is_due n d may is not_of,
+    ))
+
+    pub contests_clause : ContestsStatuses asked held failed status out err
+    contests_clause = record {
+      known = known_clause;
+      done = in_contests 0 (λ files. HasAnswer asked files Done) (kind_free Done) (inl refl) (λ files. answer_from (AsHeld files) asked Done)
+          (λ files (text, comes). verdict_to (AsHeld files) asked (Answered Done text) comes);
+      refused = in_contests 2 (IsRefused asked) (free 2 refl refl refl) (inr (inl refl)) (λ files. refused_from (AsHeld files) asked)
+          (λ files (name, text, comes). verdict_to (AsHeld files) asked (Refused name text) comes);
+      unconfirmed = in_contests 10 (λ files. HasAnswer asked files Unconfirmed) (kind_free Unconfirmed) (inr (inr refl))
+          (λ files. answer_from (AsHeld files) asked Unconfirmed)
+          (λ files (text, comes). verdict_to (AsHeld files) asked (Answered Unconfirmed text) comes);
+      read_fault = read_fault_clause;
+      write_fault = write_fault_clause;
+      write_told = write_told_clause;
+      memory = memory_clause;
+      too_long = beside 11 (λ files. HasFile asked files TooLong) (free 11 refl refl refl) (λ of. omega (arith, of)) (λ files. too_long_from files asked)
+          (λ files (name, comes, there). stop_to (AsHeld files) asked name TooLong (too_long name) comes there refl);
+      missing = beside 12 (λ files. HasFile asked files Missing) (free 12 refl refl refl) (λ of. omega (arith, of)) (λ files. missing_from files asked)
           (λ files (name, comes, there). stop_to (AsHeld files) asked name Missing (no_such_file name) comes there refl);
     }

@@ -135,6 +135,15 @@ OneIsSpent due other =
 abbrev pub SameButBudget : Outcome → Outcome → Type 0
 SameButBudget due other = Same due other ⊎ OneIsSpent due other
 
+-- what an audit of several contests may end with, once its files are read
+abbrev pub IsOfContests : ℕ → Type 0
+IsOfContests status = (status ≡ 0) ⊎ (status ≡ 2) ⊎ (status ≡ 10)
+
+-- both ends are the same, but that a budget may be spent in some contest
+abbrev pub SameButContests : Outcome → Outcome → Type 0
+SameButContests due other =
+    Same due other ⊎ (IsOfContests due.status × IsOfContests other.status)
+
 -- ---- the kinds of answer that a script may conclude with
 
 abbrev pub IsOfKind : List AnswerKind → Verdict → Type 0

@@ -2,7 +2,7 @@
 use Rattle.std.specs.Prelude.{◌≡◌, ◌≢◌, ◌⊎◌, ℕ, List, Option, IfSome, ⊤}
 use Rattle.desk.specs.Desk.{File}
 use Rattle.cli_base.specs.Outcome.{Outcome, status_of, Answered, Refused, read_fault, out_of_memory}
-use Rattle.cli_base.specs.Script.{Asked, Nothing, Runs, Readings, Reading, TooLong, Missing, ByDesk, AsHeld, AsTold, MayCome, IsDue, ComesToRead, ComesTo}
+use Rattle.cli_base.specs.Script.{Asked, Nothing, Runs, Readings, Reading, TooLong, Missing, ByDesk, AsHeld, AsTold, MayCome, IsDue, ComesToRead, ComesTo, IsOfContests}
 use Rattle.cli_base.specs.Ends.{Writing, Took, TookPrefix, Failed, HasNewFaults}
 use Rattle.cli_base.specs.declared.outcome.AnswerKind.{AnswerKind}
 use Rattle.cli_base.specs.declared.outcome.AnswerKind.TheVariants.{Done, Tie, Spent, FullCount, Differs, Unconfirmed}
@@ -53,6 +53,12 @@ Exactly status result cause =
 abbrev pub ExactlyInBudget : ℕ → ℕ → Type 0 → Type 0
 ExactlyInBudget status result cause =
     (result ≡ status → cause) × (cause → (result ≡ status) ⊎ (result ≡ 4) ⊎ IsUndone result)
+
+-- The same of an audit of several contests. Where it is so, the budget of a contest may be spent, and with it each status come that such
+-- an audit may end with.
+abbrev pub ExactlyInContests : ℕ → ℕ → Type 0 → Type 0
+ExactlyInContests status result cause =
+    (result ≡ status → cause) × (cause → IsOfContests result ⊎ IsUndone result)
 
 abbrev pub IsNothing : Asked → Type 0
 IsNothing Nothing = ⊤
@@ -117,3 +123,18 @@ abbrev pub IsExact : Asked → Option (List File) → ℕ → Type 0
 IsExact asked held status =
     IfSome held (λ files. (kind : AnswerKind) →
     Exactly (status_of kind) status (HasAnswer asked files kind))
+
+-- The statuses of an audit of several contests.
+pub record ContestsStatuses (asked : Asked) (held : Option (List File)) (failed : Type 0)
+    (status : ℕ) (out err : Writing) : Type 0 where
+  pub known : IsStatus status
+  pub done : IfSome held (λ files. ExactlyInContests 0 status (HasAnswer asked files Done))
+  pub refused : IfSome held (λ files. ExactlyInContests 2 status (IsRefused asked files))
+  pub unconfirmed : IfSome held (λ files.
+      ExactlyInContests 10 status (HasAnswer asked files Unconfirmed))
+  pub read_fault : status ≡ 7 → IsReadFault asked held failed out err
+  pub write_fault : status ≡ 8 → IsWriteFault (ByDesk held failed) asked out err
+  pub write_told : HasNewFaults out ⊎ HasNewFaults err → status ≡ 8
+  pub memory : status ≡ 9 → TookTexts out_of_memory out err
+  pub too_long : IfSome held (λ files. Exactly 11 status (HasFile asked files TooLong))
+  pub missing : IfSome held (λ files. Exactly 12 status (HasFile asked files Missing))

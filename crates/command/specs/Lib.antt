@@ -14,3 +14,4 @@ pub mod OpenPlurality
 pub mod AuditPlurality
 pub mod Trial
 pub mod Trim
+pub mod Contests

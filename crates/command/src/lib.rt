@@ -4,6 +4,7 @@
 mod audit;
 mod audit_plurality;
 mod check;
+mod contests;
 mod file_name;
 pub mod laws;
 mod limits;
@@ -22,6 +23,7 @@ mod trim;
 pub use audit::AuditTask;
 pub use audit_plurality::AuditPluralityTask;
 pub use check::CheckTask;
+pub use contests::ContestsTask;
 pub use file_name::FileName;
 pub use limits::{
     DEFAULT_BALLOTS, DEFAULT_CANDIDATES, DEFAULT_FLOOR, DEFAULT_GAMMA, DEFAULT_LIMIT,

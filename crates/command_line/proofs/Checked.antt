@@ -243,6 +243,20 @@ meaning_checked command.AuditPlurality pieces line =
     let file = named command.AuditPlurality pieces line in
     let value = value_of command.AuditPlurality pieces line in
     record { session = file 0 refl; ballots = file 1 refl; manifest = file 2 refl; seen = file 3 refl; draws = value option.Draws refl }
+meaning_checked command.Contests pieces line =
+    let file = named command.Contests pieces line in
+    let value = value_of command.Contests pieces line in
+    record {
+      ballots = file 0 refl;
+      manifest = file 1 refl;
+      seen = file 2 refl;
+      seed = value option.Seed refl;
+      draws = value option.Draws refl;
+      limit = value option.Limit refl;
+      gamma = value option.Gamma refl;
+      workers = value option.Workers refl;
+      nodes = value option.Nodes refl;
+    }
 meaning_checked command.Trial pieces line =
     let value = value_of command.Trial pieces line in
     record {

@@ -10,7 +10,7 @@ use Rattle.command_line.specs.Line.{are_right, pieces_of}
 use Rattle.command_line.specs.Pieces.{Piece, File, WordSort, Dashes, Plain, Named, Valued, Unknown, named, valued, is_equals, option_named, long_sort, word_sort, begins_with_hyphen, pieces, pieces_at, pieces_from, files_in, fits}
 use Rattle.command_line.specs.Table.{form_of}
 use Rattle.command_line.specs.declared.table.CommandName.{CommandName}
-use Rattle.command_line.specs.declared.table.CommandName.TheVariants.{Search, Tabulate, Check, Trim, Sample, Plan, Open, Audit, Report, Poll, OpenPlurality, AuditPlurality, Trial}
+use Rattle.command_line.specs.declared.table.CommandName.TheVariants.{Search, Tabulate, Check, Trim, Sample, Plan, Open, Audit, Report, Poll, OpenPlurality, AuditPlurality, Contests, Trial}
 use Rattle.command_line.specs.declared.table.OptionName.{OptionName}
 use Rattle.command_line.specs.declared.table.OptionName.TheVariants.{Draws}
 use Rattle.command_line.proofs.Needed.{IsRight, parts}
@@ -126,6 +126,7 @@ one_right OpenPlurality OpenPlurality same words here there = refl
 one_right AuditPlurality AuditPlurality same words here there = refl
 one_right AuditPlurality OpenPlurality same words here there = absurd (not_both words here there)
 one_right OpenPlurality AuditPlurality same words here there = absurd (not_both words there here)
+one_right Contests Contests same words here there = refl
 one_right Trial Trial same words here there = refl
 one_right _ _ same words here there = absurd (false≢true same)
 

@@ -12,12 +12,13 @@ use Rattle.command.specs.Report as report
 use Rattle.command.specs.Poll as poll
 use Rattle.command.specs.OpenPlurality as plurality_opening
 use Rattle.command.specs.AuditPlurality as plurality_audit
+use Rattle.command.specs.Contests as contests
 use Rattle.command.specs.Trial as trial
 use Rattle.command_line.specs.Line.{is_line, is_line_of, command_of}
 use Rattle.command_line.specs.Table.{kind_of}
 use Rattle.command_line.specs.Values.{is_number, is_value}
 use Rattle.command_line.specs.declared.commands.Command.{Command}
-use Rattle.command_line.specs.declared.commands.Command.TheVariants.{Search, Tabulate, Check, Trim, Sample, Plan, Open, Audit, Report, Poll, OpenPlurality, AuditPlurality, Trial}
+use Rattle.command_line.specs.declared.commands.Command.TheVariants.{Search, Tabulate, Check, Trim, Sample, Plan, Open, Audit, Report, Poll, OpenPlurality, AuditPlurality, Contests, Trial}
 use Rattle.budget.specs.declared.budget.Budget.TheVariants as budget_of
 use Rattle.budget.specs.declared.limits.TheConstants.{DEFAULT_NODES}
 use Rattle.command.specs.declared.limits.TheConstants.{DEFAULT_WORKERS, DEFAULT_FLOOR, DEFAULT_LIMIT, DEFAULT_GAMMA, DEFAULT_CANDIDATES, DEFAULT_BALLOTS}
@@ -51,6 +52,7 @@ IsChecked (Report task) = report.IsWithinLimits task
 IsChecked (Poll task) = poll.IsWithinLimits task
 IsChecked (OpenPlurality task) = plurality_opening.IsWithinLimits task
 IsChecked (AuditPlurality task) = plurality_audit.IsWithinLimits task
+IsChecked (Contests task) = contests.IsWithinLimits task
 IsChecked (Trial task) = trial.IsWithinLimits task
 
 abbrev pub LinesAreChecked : Type 0
@@ -359,6 +361,35 @@ pub record Meanings : Type 0 where
         seen = codes "t";
         draws = 2;
       }))
+  pub contests :
+      command_of (codes "contests" ∷ codes "b" ∷ codes "m" ∷ codes "t" ∷ codes "--seed=s"
+      ∷ codes "--draws=2" ∷ codes "--limit=3" ∷ codes "--gamma=4" ∷ codes "--workers=5"
+      ∷ codes "--nodes=6" ∷ [])
+      ≡ Some (Contests (record {
+        ballots = codes "b";
+        manifest = codes "m";
+        seen = codes "t";
+        seed = codes "s";
+        draws = 2;
+        limit = 3;
+        gamma = 4;
+        workers = 5;
+        nodes = 6;
+      }))
+  pub contests_left_out :
+      command_of (codes "contests" ∷ codes "b" ∷ codes "m" ∷ codes "t" ∷ codes "--seed=s"
+      ∷ codes "--draws=2" ∷ [])
+      ≡ Some (Contests (record {
+        ballots = codes "b";
+        manifest = codes "m";
+        seen = codes "t";
+        seed = codes "s";
+        draws = 2;
+        limit = DEFAULT_LIMIT;
+        gamma = DEFAULT_GAMMA;
+        workers = DEFAULT_WORKERS;
+        nodes = DEFAULT_NODES;
+      }))
   pub trial :
       command_of (codes "trial" ∷ codes "--number=2" ∷ codes "--candidates=3"
       ∷ codes "--ballots=4" ∷ codes "--workers=5" ∷ codes "--nodes=6" ∷ [])
@@ -492,4 +523,10 @@ pub record NoLines : Type 0 where
   pub three_files :
       is_line (codes "plurality" ∷ codes "b" ∷ codes "m" ∷ codes "t" ∷ codes "--seed=s" ∷ [])
       ≡ false
+  pub contests_without_draws :
+      is_line (codes "contests" ∷ codes "b" ∷ codes "m" ∷ codes "t" ∷ codes "--seed=s" ∷ [])
+      ≡ false
+  pub contests_of_one :
+      is_line (codes "contests" ∷ codes "b" ∷ codes "m" ∷ codes "t" ∷ codes "--seed=s"
+      ∷ codes "--draws=2" ∷ codes "--contest=c" ∷ []) ≡ false
   pub no_command : is_line [] ≡ false

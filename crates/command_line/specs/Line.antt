@@ -10,7 +10,7 @@ use Rattle.budget.specs.declared.budget.Budget.{Budget}
 use Rattle.budget.specs.declared.budget.Budget.TheVariants as budget_of
 use Rattle.command.specs.declared.plan_terms.PlanTerms.{PlanTerms}
 use Rattle.command_line.specs.declared.commands.Command.{Command}
-use Rattle.command_line.specs.declared.commands.Command.TheVariants.{Search, Tabulate, Check, Trim, Sample, Plan, Open, Audit, Report, Poll, OpenPlurality, AuditPlurality, Trial}
+use Rattle.command_line.specs.declared.commands.Command.TheVariants.{Search, Tabulate, Check, Trim, Sample, Plan, Open, Audit, Report, Poll, OpenPlurality, AuditPlurality, Contests, Trial}
 use Rattle.command_line.specs.declared.table.Apart.{Apart}
 use Rattle.command_line.specs.declared.table.CommandName.{CommandName}
 use Rattle.command_line.specs.declared.table.CommandName.TheVariants as name
@@ -189,6 +189,17 @@ meaning name.AuditPlurality pieces = AuditPlurality (record {
   manifest = file 2 pieces;
   seen = file 3 pieces;
   draws = number_of Draws pieces;
+})
+meaning name.Contests pieces = Contests (record {
+  ballots = file 0 pieces;
+  manifest = file 1 pieces;
+  seen = file 2 pieces;
+  seed = seed pieces;
+  draws = number_of Draws pieces;
+  limit = number_of Limit pieces;
+  gamma = number_of Gamma pieces;
+  workers = number_of Workers pieces;
+  nodes = number_of Nodes pieces;
 })
 meaning name.Trial pieces = Trial (record {
   number = number_of Number pieces;

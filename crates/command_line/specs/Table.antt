@@ -5,7 +5,7 @@ use Rattle.budget.specs.declared.limits.TheConstants.{MOST_NODES, DEFAULT_NODES,
 use Rattle.command.specs.declared.limits.TheConstants.{MOST_FLOOR, MOST_TRIAL_NUMBER, DEFAULT_WORKERS, DEFAULT_FLOOR, DEFAULT_LIMIT, DEFAULT_GAMMA, DEFAULT_CANDIDATES, DEFAULT_BALLOTS}
 use Rattle.command_line.specs.declared.table.Apart.{Apart}
 use Rattle.command_line.specs.declared.table.CommandName.{CommandName}
-use Rattle.command_line.specs.declared.table.CommandName.TheVariants.{Search, Tabulate, Check, Trim, Sample, Plan, Open, Audit, Report, Poll, OpenPlurality, AuditPlurality, Trial}
+use Rattle.command_line.specs.declared.table.CommandName.TheVariants.{Search, Tabulate, Check, Trim, Sample, Plan, Open, Audit, Report, Poll, OpenPlurality, AuditPlurality, Contests, Trial}
 use Rattle.command_line.specs.declared.table.OptionName.{OptionName}
 use Rattle.command_line.specs.declared.table.OptionName.TheVariants as option
 use Rattle.command_line.specs.declared.table.Together.{Together}
@@ -115,6 +115,13 @@ form_of AuditPlurality = record {
   together = [];
   apart = [];
 }
+form_of Contests = record {
+  word = codes "contests";
+  files = codes "ballots" ∷ codes "manifest" ∷ codes "seen" ∷ [];
+  options =
+      option.Seed ∷ option.Draws ∷ option.Limit ∷ option.Gamma ∷ option.Workers ∷ option.Nodes ∷ [];
+  together = [];
+}
 form_of Trial = record {
   word = codes "trial";
   files = [];
@@ -128,7 +135,7 @@ form_of Trial = record {
 abbrev pub commands : List CommandName
 commands =
     Search ∷ Tabulate ∷ Check ∷ Trim ∷ Sample ∷ Plan ∷ Open ∷ Audit ∷ Report ∷ Poll
-    ∷ OpenPlurality ∷ AuditPlurality ∷ Trial ∷ []
+    ∷ OpenPlurality ∷ AuditPlurality ∷ Contests ∷ Trial ∷ []
 
 -- an option's name, without the hyphens
 abbrev pub text_of : OptionName → List ℕ

@@ -13,8 +13,8 @@ use crate::one_form::one_form;
 use crate::table::{ASSERTIONS, BALLOTS, CommandName, MANIFEST, OptionName, SEEN, SESSION};
 use clap::ArgMatches;
 use command::{
-    AuditPluralityTask, AuditTask, CheckTask, OpenPluralityTask, OpenTask, PlanTask, PollTask,
-    ReportTask, SampleTask, SearchTask, TabulateTask, TrialTask, TrimTask,
+    AuditPluralityTask, AuditTask, CheckTask, ContestsTask, OpenPluralityTask, OpenTask, PlanTask,
+    PollTask, ReportTask, SampleTask, SearchTask, TabulateTask, TrialTask, TrimTask,
 };
 use irv_base::Memory;
 use std::alloc::{AllocError, Global};
@@ -46,6 +46,8 @@ pub enum Command {
     OpenPlurality(OpenPluralityTask),
     /// The session of an audit of first preferences with a round more.
     AuditPlurality(AuditPluralityTask),
+    /// One round of an audit of each contest of a ballot file.
+    Contests(ContestsTask),
     /// What a search comes to of a contest whose records a number draws.
     Trial(TrialTask),
 }
@@ -197,6 +199,23 @@ fn audit_plurality(alloc: Global, matches: &ArgMatches<'_>) -> Result<Command, A
     }))
 }
 
+fn contests(alloc: Global, matches: &ArgMatches<'_>) -> Result<Command, AllocError>
+    requires { AreOfLine CommandName.Contests (rows_of (found_of matches.now)) }
+    ensures { IsMeant CommandName.Contests (rows_of (found_of matches.now)) result }
+{
+    Ok(Command::Contests(ContestsTask {
+        ballots: file(alloc, BALLOTS, matches)?,
+        manifest: file(alloc, MANIFEST, matches)?,
+        seen: file(alloc, SEEN, matches)?,
+        seed: seed(matches),
+        draws: number(OptionName::Draws, matches),
+        limit: number(OptionName::Limit, matches),
+        gamma: number(OptionName::Gamma, matches),
+        workers: number(OptionName::Workers, matches),
+        nodes: number(OptionName::Nodes, matches),
+    }))
+}
+
 fn trial(matches: &ArgMatches<'_>) -> Command
     ensures { IsMeant CommandName.Trial (rows_of (found_of matches.now)) (Ok result) }
 {
@@ -231,6 +250,7 @@ fn read_command(
         CommandName::Poll => poll(alloc, matches),
         CommandName::OpenPlurality => open_plurality(alloc, matches),
         CommandName::AuditPlurality => audit_plurality(alloc, matches),
+        CommandName::Contests => contests(alloc, matches),
         CommandName::Trial => Ok(trial(matches)),
     }
 }

@@ -40,6 +40,8 @@ pub enum CommandName {
     OpenPlurality,
     /// `plurality` of four files: that session with a round more.
     AuditPlurality,
+    /// `contests`: one round of an audit of each contest of a file.
+    Contests,
     /// `trial`: what a search of a drawn contest comes to.
     Trial,
 }
@@ -135,7 +137,7 @@ pub struct Form<'f> {
 }
 
 /// All commands.
-pub const COMMANDS: [CommandName; 13] = [
+pub const COMMANDS: [CommandName; 14] = [
     CommandName::Search,
     CommandName::Tabulate,
     CommandName::Check,
@@ -148,6 +150,7 @@ pub const COMMANDS: [CommandName; 13] = [
     CommandName::Poll,
     CommandName::OpenPlurality,
     CommandName::AuditPlurality,
+    CommandName::Contests,
     CommandName::Trial,
 ];
 
@@ -222,6 +225,15 @@ const OPEN_PLURALITY_OPTIONS: [OptionName; 4] = [
     OptionName::Contest,
     OptionName::Limit,
     OptionName::Gamma,
+];
+
+const CONTESTS_OPTIONS: [OptionName; 6] = [
+    OptionName::Seed,
+    OptionName::Draws,
+    OptionName::Limit,
+    OptionName::Gamma,
+    OptionName::Workers,
+    OptionName::Nodes,
 ];
 
 const TRIAL_OPTIONS: [OptionName; 6] = [
@@ -329,6 +341,9 @@ impl CommandName {
                 &[SESSION, BALLOTS, MANIFEST, SEEN],
                 &[OptionName::Draws],
             ),
+            CommandName::Contests => {
+                Form::of("contests", &[BALLOTS, MANIFEST, SEEN], &CONTESTS_OPTIONS)
+            }
             CommandName::Trial => Form::of("trial", &[], &TRIAL_OPTIONS).apart(&BUDGETS),
         }
     }

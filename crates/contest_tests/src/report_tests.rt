@@ -9,8 +9,8 @@ use irv_base::{CandSet, Name, Order};
 use irv_tabulator::{TabFault, Tabulated, tabulate};
 use km_risk::Counts;
 use report::{
-    add_risk, assertion_text, counts_text, order_text, set_text, spent_at, spent_text, state_text,
-    tabulation, tie_text,
+    add_risk, add_signed_off, add_state, assertion_text, counts_text, order_text, set_text,
+    spent_at, spent_text, state_text, tabulation, tie_text, yes_or_no,
 };
 use set_tallies::{Ahead, Bag, Tallies};
 use std::thread::Threads;
@@ -125,4 +125,16 @@ fn risk_and_counts(rt: HostRuntime) {
     assert!(rt; text.as_str() == "0 1 23 4 0 0.088518543815313162");
     assert!(rt; state_text(true) == "confirmed");
     assert!(rt; state_text(false) == "unconfirmed");
+}
+
+#[test]
+fn ends_of_an_audit(rt: HostRuntime) {
+    let mut text = String::new(rt.alloc());
+    add_state(&mut text, true).expect(&rt, "state");
+    add_state(&mut text, false).expect(&rt, "state");
+    add_signed_off(&mut text, true).expect(&rt, "signed off");
+    add_signed_off(&mut text, false).expect(&rt, "signed off");
+    assert!(rt; text.as_str() == " confirmed\n unconfirmed\nsigned off yes\nsigned off no\n");
+    assert!(rt; yes_or_no(true) == "yes");
+    assert!(rt; yes_or_no(false) == "no");
 }

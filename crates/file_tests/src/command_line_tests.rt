@@ -1,4 +1,5 @@
 // Tests of `command_line`: lines, words that are none, and what a line asks for.
+mod contests;
 mod polling;
 mod sets;
 

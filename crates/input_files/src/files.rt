@@ -1,19 +1,19 @@
 // What the bytes of a file say, one function for each kind of file.
-ghost use Rattle.std.specs.Prelude.{◌≡◌, ◌≤◌, length, option_copied};
+ghost use Rattle.std.specs.Prelude.{◌≡◌, ◌≤◌, Ok, IfOk, IfErr, length, option_copied};
 ghost use Rattle.desk.specs.Count.{Rose};
 ghost use Rattle.irv_base.specs.declared.limits.TheConstants.{ROOM};
 ghost use Rattle.assertion_file.specs.Reading.{assertion_file_of};
-ghost use Rattle.ballot_reader.specs.Grammar.{ballots_of};
+ghost use Rattle.ballot_reader.specs.Grammar.{ballots_of, contests_of};
 ghost use Rattle.manifest.specs.Manifest.{manifest_of};
 ghost use Rattle.seen_file.specs.Reading.{seen_of};
 ghost use Rattle.cli_base.specs.Accounts.{IsAccountedFor};
 ghost use Rattle.cli_base.specs.Due.{IsRead, status_so_far};
 ghost use Rattle.cli_base.specs.Script.{ByDesk};
-ghost use Rattle.input_files.specs.Judged.{IsJudged, told};
+ghost use Rattle.input_files.specs.Judged.{IsJudged, IsStopped, told};
 ghost use Rattle.input_files.specs.Refusals.{refused_assertions, refused_ballots, refused_manifest, refused_seen};
 
 use assertion_file::{AssertionFile, FileFault, read_file};
-use ballot_reader::{BallotFault, Ballots, read_ballots};
+use ballot_reader::{BallotFault, Ballots, read_ballots, read_contests};
 use cli_base::{Refusal, read_file as read_whole, refuse_at};
 use command::FileName;
 use desk::Desk;
@@ -46,6 +46,25 @@ pub fn ballots_in(
 {
     match read_ballots(alloc, bytes, contest) {
         Ok(ballots) => Ok(ballots),
+        Err(BallotFault::Refused { rule, at }) => Err(refuse_at(
+            alloc,
+            file.as_str(),
+            rule.name(),
+            u64::from(at),
+        )),
+        Err(BallotFault::Memory) => Err(Refusal::Memory),
+    }
+}
+
+/// The ballots of each contest, in their order, in the bytes of the file with this name; or the rule that refuses them.
+pub fn contests_in(alloc: Global, file: &FileName, bytes: &[u8]) -> Result<Vec<Ballots>, Refusal>
+    ensures read { IfOk result (λ list.
+        told (refused_ballots file.now) (contests_of bytes.now) ≡ Ok list.items) }
+    ensures refused { IfErr result
+        (IsStopped (told (refused_ballots file.now) (contests_of bytes.now))) }
+{
+    match read_contests(alloc, bytes) {
+        Ok(list) => Ok(list),
         Err(BallotFault::Refused { rule, at }) => Err(refuse_at(
             alloc,
             file.as_str(),

@@ -1,10 +1,10 @@
 -- What a poll tells: its numbers, the counts and the risk of each claim, and whether all claims are confirmed.
-use Rattle.std.specs.Prelude.{ℕ, Bool, true, false, List, [], ◌∷◌, ◌++◌, codes}
+use Rattle.std.specs.Prelude.{ℕ, Bool, List, [], ◌∷◌, ◌++◌, codes}
 use Rattle.std.specs.Fmt.{decimal}
 use Rattle.irv_base.specs.Names.{Id}
 use Rattle.assertions.specs.declared.assertion.Claim.{Claim}
 use Rattle.assertion_file.specs.Content.{Content}
-use Rattle.report.specs.Risks.{risk_text, state_text}
+use Rattle.report.specs.Risks.{risk_text, state_end, yes_or_no}
 use Rattle.report.specs.Texts.{assertion_text}
 use Rattle.polling.specs.Polls.{is_risk_within}
 use Rattle.polling.specs.declared.counts.PollCounts.{PollCounts}
@@ -24,7 +24,7 @@ counts_text counts =
 abbrev pub claim_line : List ℕ → PollCounts → ℕ → Bool → List ℕ
 claim_line assertion counts risk confirmed =
     assertion ++ codes " counts " ++ counts_text counts ++ codes " risk " ++ risk_text risk
-    ++ codes " " ++ state_text confirmed ++ codes "\n"
+    ++ state_end confirmed
 
 -- each claim with its counts and its risk; it is confirmed where the risk is at most limit millionths
 abbrev pub claim_lines : List Id → ℕ → List Claim → List PollCounts → List ℕ → List ℕ
@@ -36,10 +36,6 @@ claim_lines ids limit (claim ∷ claims) (n ∷ counts) (risk ∷ risks) =
     ++ claim_lines ids limit claims counts risks
 
 -- ---- all of them
-
-abbrev pub yes_or_no : Bool → List ℕ
-yes_or_no true = codes "yes"
-yes_or_no false = codes "no"
 
 abbrev pub last_line : Bool → List ℕ
 last_line confirmed = codes "confirmed " ++ yes_or_no confirmed ++ codes "\n"

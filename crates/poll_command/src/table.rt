@@ -3,16 +3,15 @@ ghost use Rattle.std.specs.Prelude.{◌≡◌, ◌≤◌, ◌++◌, length, code
 ghost use Rattle.irv_base.specs.declared.limits.TheConstants.{GREATEST_LIMIT, ROOM};
 ghost use Rattle.assertions.specs.Assertions.{is_proper};
 ghost use Rattle.polling.specs.Polls.{is_risk_within};
-ghost use Rattle.report.specs.Risks.{state_text};
 ghost use Rattle.report.specs.Texts.{assertion_text};
-ghost use Rattle.poll_command.specs.Table.{claim_line, claim_lines, counts_text, head_lines, last_line, poll_table, yes_or_no};
+ghost use Rattle.poll_command.specs.Table.{claim_line, claim_lines, counts_text, head_lines, last_line, poll_table};
 
 use assertion_file::AssertionFile;
 use assertions::Claim;
 use irv_base::{Memory, Name};
 use km_risk::is_confirmed;
 use polling::{PollCounts, PollEnd};
-use report::{add_risk, assertion_text, state_text};
+use report::{add_risk, add_state, assertion_text, yes_or_no};
 use std::alloc::{AllocError, Global};
 
 fn add_head(
@@ -38,14 +37,6 @@ fn add_counts(text: &mut String, assertion: &str, c: &PollCounts) -> Result<(), 
 {
     let PollCounts { n0, n1, n2 } = *c;
     write!(text, "{assertion} counts {n0} {n1} {n2} risk ")
-}
-
-fn add_state(text: &mut String, confirmed: bool) -> Result<(), AllocError>
-    ensures { IfOk result (λ _. string_bytes text.new ≡ string_bytes text.old
-        ++ (codes " " ++ state_text confirmed ++ codes "\n")) }
-{
-    let state = state_text(confirmed);
-    writeln!(text, " {state}")
 }
 
 fn add_line(
@@ -119,12 +110,6 @@ fn add_claims(
         )?;
     }
     Ok(())
-}
-
-fn yes_or_no(yes: bool) -> &'static str
-    ensures { result.now ≡ yes_or_no yes }
-{
-    if yes { "yes" } else { "no" }
 }
 
 fn add_last(text: &mut String, confirmed: bool) -> Result<(), AllocError>

@@ -37,7 +37,7 @@ const OF_CONTESTS: [(&str, u8, &[&str]); 10] = [
 ];
 
 // And these on an audit.
-const OF_AUDITS: [(&str, u8, &[&str]); 10] = [
+const OF_AUDITS: [(&str, u8, &[&str]); 11] = [
     ("sample three.csv --seed 2024! --draws 6", 0, &["three.csv"]),
     ("plan twelve.csv row1.json", 0, &["twelve.csv", "row1.json"]),
     (
@@ -87,6 +87,11 @@ const OF_AUDITS: [(&str, u8, &[&str]); 10] = [
         "plurality plural.json one_card.raire m.csv seen.csv --draws 4",
         10,
         &["plural.json", "one_card.raire", "m.csv", "seen.csv"],
+    ),
+    (
+        "contests two_contests.raire m.csv seen_of_two.csv --seed 2024 --draws 5",
+        10,
+        &["two_contests.raire", "m.csv", "seen_of_two.csv"],
     ),
 ];
 

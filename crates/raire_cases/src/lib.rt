@@ -17,6 +17,8 @@ mod compared;
 #[cfg(test)]
 mod contests;
 #[cfg(test)]
+mod contests_table;
+#[cfg(test)]
 mod devices;
 #[cfg(test)]
 mod plain;

@@ -8,8 +8,11 @@ use Rattle.cli_base.specs.Script.{Script, Read, Ends, AsHeld, May, MayCome, Same
 use Rattle.cli_base.proofs.Scripts.{determined, some_is}
 use Rattle.command_line.specs.Line.{command_of}
 use Rattle.command_line.specs.declared.commands.Command.{Command}
+use Rattle.command_line.specs.declared.commands.Command.TheVariants.{Contests}
 use Rattle.raire_cli.specs.Agreement.{HoldTheSame, MayBeSpent, SameFilesSameAnswer}
 use Rattle.raire_cli.specs.Answers.{script_of, asked_by, is_open}
+use Rattle.raire_cli.specs.Contests.{AsksForContests, HaveNodes}
+use Rattle.raire_cli.proofs.ContestsOnce.{contests_once}
 use Rattle.raire_cli.proofs.EachCommand.{agrees_by, agrees_exactly}
 
 -- what a script may come to, over files that hold the same
@@ -32,16 +35,21 @@ unspent_same d e first second (inr (budgeted, other, inl four)) = absurd (first 
 unspent_same d e first second (inr (budgeted, other, inr four)) = absurd (second four)
 
 module _ (words : List (List ℕ)) (files others : List File) (same : HoldTheSame files others) (d e : Outcome) (first : MayBeSpent words → d.status ≢ 4)
-    (second : MayBeSpent words → e.status ≢ 4) where
+    (second : MayBeSpent words → e.status ≢ 4) (suffice : (asks : AsksForContests words) → HaveNodes asks.task files) where
+  one_open : (command : Command) → command_of words ≡ Some command → is_open command ≡ true → May (AsHeld files) (script_of command) d →
+      May (AsHeld files) (script_of command) e → d ≡ e
+  one_open (Contests task) is searched may_d may_e = contests_once files task (suffice (record { task = task; asked = is })) d e may_d may_e
+  one_open command is searched may_d may_e =
+      let asks : MayBeSpent words = record { command = command; asked_for = is; is_open = searched } in
+      unspent_same d e (first asks) (second asks) (determined SameButBudget (λ o. inl refl) files (script_of command) d e
+      (agrees_by (Some command) refl) may_d may_e)
+
   one_command : (command : Command) → command_of words ≡ Some command → May (AsHeld files) (script_of command) d → May (AsHeld files) (script_of command) e →
       d ≡ e
   one_command command is may_d may_e = by (is_open command) refl where
     by : (b : Bool) → is_open command ≡ b → d ≡ e
     by false closed = determined Same (λ o. refl) files (script_of command) d e (agrees_exactly command closed) may_d may_e
-    by true searched =
-        let asks : MayBeSpent words = record { command = command; asked_for = is; is_open = searched } in
-        unspent_same d e (first asks) (second asks) (determined SameButBudget (λ o. inl refl) files (script_of command) d e
-        (agrees_by (Some command)) may_d may_e)
+    by true searched = one_open command is searched may_d may_e
 
   pub one_end : (command : Option Command) → command_of words ≡ command → MayCome (AsHeld files) (asked_by command) d →
       MayCome (AsHeld others) (asked_by command) e → d ≡ e
@@ -54,7 +62,7 @@ same_files_same_answer words files others first second same settled settled' =
     let (out', err', may', took_out', took_err') = settled'.answer.quiet settled'.quiet settled'.memory in
     let d : Outcome = record { status = first.status; out = out; err = err } in
     let e : Outcome = record { status = second.status; out = out'; err = err' } in
-    let is : d ≡ e = one_end words files others same d e settled.unspent settled'.unspent (command_of words) refl may may' in
+    let is : d ≡ e = one_end words files others same d e settled.unspent settled'.unspent settled.suffice (command_of words) refl may may' in
     record {
       status = ap (λ (o : Outcome). o.status) is;
       to_out = out;

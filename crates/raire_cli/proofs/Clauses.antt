@@ -8,24 +8,27 @@ use Rattle.contest_search.specs.Contest.{candidate_count}
 use Rattle.assertion_file.specs.Content.{Content}
 use Rattle.assertion_file.specs.Text.{assertion_file_text}
 use Rattle.cli_base.specs.Outcome.{Outcome, Answered}
-use Rattle.cli_base.specs.Script.{Asked, AsHeld, ByDesk, IsDue, ComesTo, AgreeOn, Same}
+use Rattle.cli_base.specs.Script.{Asked, AsHeld, ByDesk, IsDue, ComesTo, AgreeOn, Same, SameButContests}
 use Rattle.cli_base.specs.Ends.{Writing, Took, IsWritten}
-use Rattle.cli_base.specs.Statuses.{IsUndone, IsQuiet, Exactly, ExactlyInBudget, IsNothing, HasAnswer, Statuses}
+use Rattle.cli_base.specs.Statuses.{IsUndone, IsQuiet, Exactly, ExactlyInBudget, IsNothing, HasAnswer, Statuses, ContestsStatuses}
 use Rattle.cli_base.specs.Story.{Story}
 use Rattle.cli_base.specs.declared.outcome.AnswerKind.{AnswerKind}
 use Rattle.cli_base.specs.declared.outcome.AnswerKind.TheVariants.{Done, Tie, Spent, FullCount, Unconfirmed}
 use Rattle.session_commands.specs.Rounds.{kind_of}
 use Rattle.poll_command.specs.Poll as poll
+use Rattle.contests_command.specs.Contests as contests
+use Rattle.contests_command.specs.Table.{all_signed}
 use Rattle.cli_base.proofs.Statuses.{status_in}
-use Rattle.cli_base.proofs.Clauses.{statuses_clause, exact_clause, answered_with, undone_is_nine}
+use Rattle.cli_base.proofs.Clauses.{bad_words_clause, contests_clause, statuses_clause, exact_clause, answered_with, undone_is_nine}
 use Rattle.command_line.specs.Line.{command_of, is_line}
 use Rattle.command_line.specs.declared.commands.Command.{Command}
+use Rattle.command_line.specs.declared.commands.Command.TheVariants.{Contests}
 use Rattle.command_line.proofs.Checked.{have_meanings}
 use Rattle.check_command.specs.Check.{yes_text}
 use Rattle.session_state.specs.Content.{Content as SessionContent}
 use Rattle.session_state.specs.Sessions.{is_signed_off}
 use Rattle.session_file.specs.Text.{session_text}
-use Rattle.raire_cli.specs.Answers.{asked, asked_by, is_open}
+use Rattle.raire_cli.specs.Answers.{asked, asked_by, is_of_contests, is_open, of_contests}
 use Rattle.raire_cli.specs.Confirmation.{AsksForSearch, ConfirmsAsked, GivesReason, IsConfirmed, IsReasoned}
 use Rattle.raire_cli.specs.Acceptance.{AsksForCheck, HoldsAsked, IsUpheld}
 use Rattle.raire_cli.specs.Budgets.{budget_of}
@@ -39,7 +42,9 @@ use Rattle.raire_cli.specs.PluralityTies.{TellsPluralityTie}
 use Rattle.raire_cli.specs.Polls.{AsksForPoll, IsPollOf, IsPolled, is_confirmed_by, told_of}
 use Rattle.raire_cli.specs.Enough.{AreEnough, Judging, IsNeverSpent, judging_of}
 use Rattle.raire_cli.specs.Openings.{AsksForOpening, Opens, IsOpened}
+use Rattle.raire_cli.specs.Contests.{AsksForContests, AuditsContests, IsAuditedByContest, blocks_of}
 use Rattle.raire_cli.proofs.Accepted.{held_of}
+use Rattle.raire_cli.proofs.ContestsAudited.{audited_by}
 use Rattle.raire_cli.proofs.Trims.{printed_of}
 use Rattle.raire_cli.proofs.Audited.{IsKind, done_signed, goes_on, unconfirmed_not}
 use Rattle.raire_cli.proofs.Enough.{never_spent}
@@ -49,7 +54,7 @@ use Rattle.raire_cli.proofs.PluralAudited.{plural_goes_on}
 use Rattle.raire_cli.proofs.PluralOpened.{plural_is_opened}
 use Rattle.raire_cli.proofs.PluralsLimit.{plural_limited}
 use Rattle.raire_cli.proofs.Polled.{done_confirmed, polled_by, unconfirmed_never}
-use Rattle.raire_cli.proofs.EachCommand.{agrees_by, agrees_exactly, counts_in_full}
+use Rattle.raire_cli.proofs.EachCommand.{agrees_by, agrees_exactly, contests_agree, counts_in_full}
 use Rattle.raire_cli.proofs.Complete.{not_spent, has_answer, tried}
 use Rattle.raire_cli.proofs.Headline.{confirms_asked, gives_reason}
 use Rattle.raire_cli.proofs.Rounds.{has_rounds, never_stopped}
@@ -79,6 +84,17 @@ exactly_same n status P Q to from (only, wherever) = (λ e. to (only e), λ q. w
 
 asked_exact : (words : List (List ℕ)) (command : Command) → command_of words ≡ Some command → is_open command ≡ false → AgreeOn Same (asked words)
 asked_exact words command is closed = subst (λ c. AgreeOn Same (asked_by c)) (sym is) (agrees_exactly command closed)
+
+-- of another command than an audit of all contests
+without_contests : (words : List (List ℕ)) (command : Option Command) → command_of words ≡ command → (AsksForContests words → ⊥) →
+    of_contests command ≡ false
+without_contests words None is none = refl
+without_contests words (Some (Contests task)) is none = absurd (none (record { task = task; asked = is }))
+without_contests words (Some command) is none = refl
+
+about_one : (files : List File) (command : Command) (ballots : BallotFile) → IsAbout files command ballots → is_of_contests command ≡ false
+about_one files (Contests task) ballots about = absurd about
+about_one files _ ballots about = refl
 
 module _ (words : List (List ℕ)) {held : Option (List File)} {failed : Type 0} {status : ℕ} {out err : Writing}
     (story : Story (asked words) held failed status out err) where
@@ -237,26 +253,61 @@ module _ (words : List (List ℕ)) {held : Option (List File)} {failed : Type 0}
           )
     ]
 
-  pub causes : Statuses (asked words) held failed status out err
-  causes = statuses_clause story (agrees_by (command_of words))
+  -- ---- all contests of a file
+
+  -- an audit of them that ends with an answer of this kind
+  contests-of : (files : List File) (kind : AnswerKind) → AsksForContests words →
+      (text : List ℕ) × ComesTo (AsHeld files) (asked words) (Answered kind text) × Took out text →
+      (audit : AuditsContests words files) × Took out (blocks_of audit) × (kind ≡ contests.kind_of (all_signed audit.ends))
+  contests-of files kind asks (text, comes, took) =
+      let (audit, text-is, kind-is) = audited_by words files asks kind text comes in
+      (audit, subst (Took out) text-is took, kind-is)
+
+  pub audited_contests_clause : IsAuditedByContest held words status out
+  audited_contests_clause = by held (answered_with story Done) (answered_with story Unconfirmed) where
+    by : (h : Option (List File)) → IfSome h (λ files. status ≡ 0 → (text : List ℕ) × ComesTo (AsHeld files) (asked words) (Answered Done text)
+        × Took out text) →
+        IfSome h (λ files. status ≡ 10 → (text : List ℕ) × ComesTo (AsHeld files) (asked words) (Answered Unconfirmed text) × Took out text) →
+        IsAuditedByContest h words status out
+    by None done unconfirmed = tt
+    by (Some files) done unconfirmed = λ asks status-is. elim status-is [
+      | inl zero ↦
+          let (audit, took, kind-is) = contests-of files Done asks (done zero) in
+          (audit, took, (λ e. done_confirmed (all_signed audit.ends) kind-is, λ yes. zero))
+      | inr ten ↦
+          let (audit, took, kind-is) = contests-of files Unconfirmed asks (unconfirmed ten) in
+          (audit, took, (λ zero. absurd (omega (arith, zero, ten)), λ yes. absurd (unconfirmed_never (all_signed audit.ends) kind-is yes)))
+    ]
+
+  -- ---- the statuses
+
+  causes : of_contests (command_of words) ≡ false → Statuses (asked words) held failed status out err
+  causes one = statuses_clause story (agrees_by (command_of words) one)
+
+  contests_causes : AsksForContests words → ContestsStatuses (asked words) held failed status out err
+  contests_causes asks =
+      contests_clause story (subst (λ command. AgreeOn SameButContests (asked_by command)) (sym asks.asked) (contests_agree asks.task))
 
   pub status_clause : HasCause held words failed status out err
   status_clause = record {
     by_words = exactly_same 1 status (IsNothing (asked words)) (is_line words ≡ false)
         (λ nothing. have_meanings words ∙ some_nothing (command_of words) nothing)
-        (λ none. nothing_some (command_of words) (sym (have_meanings words) ∙ none)) causes.bad_words;
-    by_files = causes;
+        (λ none. nothing_some (command_of words) (sym (have_meanings words) ∙ none)) (bad_words_clause story);
+    by_files = λ none. causes (without_contests words (command_of words) refl none);
+    by_contests = contests_causes;
   }
 
   pub exact_promise : IsExactUnlessOpen held words status
   exact_promise command is closed = exact_clause story (asked_exact words command is closed)
 
   pub enough_clause : IsNeverSpent held words status
-  enough_clause = if_some held (λ files. status ≡ 4 → HasAnswer (asked words) files Spent)
+  enough_clause = if_some held (λ files. status ≡ 4 → (text : List ℕ) × ComesTo (AsHeld files) (asked words) (Answered Spent text) × Took out text)
       (λ files. (command : Command) (judging : Judging) → command_of words ≡ Some command → judging_of command ≡ Some judging → AreEnough files judging →
       status ≢ 4)
-      (λ files spent command judging line is enough four. never_spent words files command judging line is enough (spent four))
-      causes.spent
+      (λ files spent command judging line is enough four.
+      let (text, comes, took) = spent four in
+      never_spent words files command judging line is enough (text, comes))
+      (answered_with story Spent)
 
   -- ---- a number of sets
 
@@ -283,6 +334,9 @@ module _ (words : List (List ℕ)) {held : Option (List File)} {failed : Type 0}
 
   -- ---- a call that can't be spent
 
+  abbrev IsOfOne : Type 0
+  IsOfOne = of_contests (command_of words) ≡ false
+
   settled : {n : ℕ} (files : List File) → (HasAnswer (asked words) files Spent → ⊥) → IsQuiet failed out err → (status ≡ 4 → HasAnswer (asked words) files Spent) →
       (status ≡ n) ⊎ (status ≡ 4) ⊎ IsUndone status → (status ≡ n) ⊎ (status ≡ 9)
   settled files never quiet spent (inl is) = inl is
@@ -290,31 +344,39 @@ module _ (words : List (List ℕ)) {held : Option (List File)} {failed : Type 0}
   settled files never quiet spent (inr (inr undone)) = inr (undone_is_nine story quiet undone)
 
   pub complete_clause : IsComplete held words failed status out err
-  complete_clause = by held causes.done causes.full_count causes.spent
+  complete_clause = by held (λ one. (causes one).done) (λ one. (causes one).full_count) (λ one. (causes one).spent)
     where
-      by : (h : Option (List File)) → IfSome h (λ files. ExactlyInBudget 0 status (HasAnswer (asked words) files Done)) →
-          IfSome h (λ files. ExactlyInBudget 5 status (HasAnswer (asked words) files FullCount)) →
-          IfSome h (λ files. status ≡ 4 → HasAnswer (asked words) files Spent) →
+      by : (h : Option (List File)) → (IsOfOne → IfSome h (λ files. ExactlyInBudget 0 status (HasAnswer (asked words) files Done))) →
+          (IsOfOne → IfSome h (λ files. ExactlyInBudget 5 status (HasAnswer (asked words) files FullCount))) →
+          (IsOfOne → IfSome h (λ files. status ≡ 4 → HasAnswer (asked words) files Spent)) →
           IsComplete h words failed status out err
       by None done full spent = tt
-      by (Some files) done full spent = λ ok quiet. elim (has_answer words files ok) [
-        | inl answer ↦ ⊎_elim (λ zero. inl zero) (λ nine. inr (inr nine)) (settled files (not_spent words files ok) quiet spent (done.1 answer))
-        | inr count ↦ ⊎_elim (λ five. inr (inl five)) (λ nine. inr (inr nine)) (settled files (not_spent words files ok) quiet spent (full.1 count))
-      ]
+      by (Some files) done full spent = λ ok quiet.
+          let one : IsOfOne = ap of_contests ok.asks.search.asked in
+          elim (has_answer words files ok) [
+            | inl answer ↦
+                ⊎_elim (λ zero. inl zero) (λ nine. inr (inr nine)) (settled files (not_spent words files ok) quiet (spent one) ((done one).1 answer))
+            | inr count ↦
+                ⊎_elim (λ five. inr (inl five)) (λ nine. inr (inr nine)) (settled files (not_spent words files ok) quiet (spent one) ((full one).1 count))
+          ]
 
   pub complete_tie_clause : IsTieComplete held words failed status out err
-  complete_tie_clause = by held causes.tie causes.spent where
-    by : (h : Option (List File)) → IfSome h (λ files. ExactlyInBudget 3 status (HasAnswer (asked words) files Tie)) →
-        IfSome h (λ files. status ≡ 4 → HasAnswer (asked words) files Spent) → IsTieComplete h words failed status out err
+  complete_tie_clause = by held (λ one. (causes one).tie) (λ one. (causes one).spent) where
+    by : (h : Option (List File)) → (IsOfOne → IfSome h (λ files. ExactlyInBudget 3 status (HasAnswer (asked words) files Tie))) →
+        (IsOfOne → IfSome h (λ files. status ≡ 4 → HasAnswer (asked words) files Spent)) → IsTieComplete h words failed status out err
     by None tie spent = tt
-    by (Some files) tie spent = λ ok quiet. settled files (never_spent_there words files ok) quiet spent (tie.1 (has_tie words files ok))
+    by (Some files) tie spent = λ ok quiet.
+        let one : IsOfOne = ap of_contests ok.asks.asked ∙ about_one files ok.asks.command ok.ballots ok.asks.about in
+        settled files (never_spent_there words files ok) quiet (spent one) ((tie one).1 (has_tie words files ok))
 
   pub complete_tabulation_clause : IsTabulationComplete held words failed status out err
-  complete_tabulation_clause = by held causes.done causes.spent where
-    by : (h : Option (List File)) → IfSome h (λ files. ExactlyInBudget 0 status (HasAnswer (asked words) files Done)) →
-        IfSome h (λ files. status ≡ 4 → HasAnswer (asked words) files Spent) → IsTabulationComplete h words failed status out err
+  complete_tabulation_clause = by held (λ one. (causes one).done) (λ one. (causes one).spent) where
+    by : (h : Option (List File)) → (IsOfOne → IfSome h (λ files. ExactlyInBudget 0 status (HasAnswer (asked words) files Done))) →
+        (IsOfOne → IfSome h (λ files. status ≡ 4 → HasAnswer (asked words) files Spent)) → IsTabulationComplete h words failed status out err
     by None done spent = tt
-    by (Some files) done spent = λ ok quiet. settled files (never_stopped words files ok) quiet spent (done.1 (has_rounds words files ok))
+    by (Some files) done spent = λ ok quiet.
+        let one : IsOfOne = ap of_contests ok.asked in
+        settled files (never_stopped words files ok) quiet (spent one) ((done one).1 (has_rounds words files ok))
 
   -- ---- a trial that can't be spent
 

@@ -1,7 +1,8 @@
 -- What is known of every command: a row each.
-use Rattle.std.proofs.Common.{◌≡◌, inl, ℕ, List, Bool, true, false, Option, Some, None, refl, subst}
+use Rattle.std.proofs.Common.{◌≡◌, inl, ℕ, List, Bool, true, false, Option, Some, None, refl, sym, subst}
+use Rattle.std.proofs.lemmas.Bool.{false≢true}
 use Rattle.cli_base.specs.Outcome.{Outcome, Answered}
-use Rattle.cli_base.specs.Script.{Script, Readings, Agree, AgreeOn, AreOfKind, ComesTo, Concludes, Same, SameButBudget}
+use Rattle.cli_base.specs.Script.{Script, Readings, Agree, AgreeOn, AreOfKind, ComesTo, Concludes, Same, SameButBudget, SameButContests}
 use Rattle.cli_base.specs.declared.outcome.AnswerKind.{AnswerKind}
 use Rattle.cli_base.specs.declared.outcome.AnswerKind.TheVariants.{Tie, FullCount}
 use Rattle.cli_base.proofs.AmongKinds.{is_among, not_among}
@@ -12,7 +13,7 @@ use Rattle.command.specs.declared.search.SearchTask.{SearchTask}
 use Rattle.command.specs.declared.trial.TrialTask.{TrialTask}
 use Rattle.command_line.specs.Line.{command_of}
 use Rattle.command_line.specs.declared.commands.Command.{Command}
-use Rattle.command_line.specs.declared.commands.Command.TheVariants.{Search, Tabulate, Check, Trim, Sample, Plan, Open, Audit, Report, Trial, Poll, OpenPlurality, AuditPlurality}
+use Rattle.command_line.specs.declared.commands.Command.TheVariants.{Search, Tabulate, Check, Trim, Sample, Plan, Open, Audit, Report, Trial, Poll, OpenPlurality, AuditPlurality, Contests}
 use Rattle.search_commands.specs.Search as search
 use Rattle.search_commands.specs.Tabulate as tabulate
 use Rattle.search_commands.specs.Trial as trial
@@ -26,6 +27,7 @@ use Rattle.session_commands.specs.Report as report
 use Rattle.poll_command.specs.Poll as poll
 use Rattle.plurality_commands.specs.OpenPlurality as plurality_opening
 use Rattle.plurality_commands.specs.AuditPlurality as plurality_round
+use Rattle.contests_command.specs.Contests as contests
 use Rattle.search_commands.proofs.Searches as searches
 use Rattle.search_commands.proofs.Tabulations as tabulations
 use Rattle.search_commands.proofs.Tried as tried
@@ -39,14 +41,17 @@ use Rattle.session_commands.proofs.Reports as reports
 use Rattle.poll_command.proofs.Polls as polls
 use Rattle.plurality_commands.proofs.Opens as plurality_opens
 use Rattle.plurality_commands.proofs.Audits as plurality_audits
-use Rattle.raire_cli.specs.Answers.{script_of, asked_by, has_nodes, is_open}
+use Rattle.contests_command.proofs.Audits as contest_audits
+use Rattle.command.specs.declared.contests.ContestsTask.{ContestsTask}
+use Rattle.raire_cli.specs.Answers.{script_of, asked_by, has_nodes, is_of_contests, is_open, of_contests}
 use Rattle.raire_cli.specs.Confirmation.{AsksForSearch}
 use Rattle.raire_cli.proofs.EitherBudget.{search_agrees, trial_agrees}
 
 -- how far the ends of a script agree
-abbrev SameBy : Bool → Outcome → Outcome → Type 0
-SameBy true = SameButBudget
-SameBy false = Same
+abbrev SameBy : Bool → Bool → Outcome → Outcome → Type 0
+SameBy true may_be_open = SameButContests
+SameBy false true = SameButBudget
+SameBy false false = Same
 
 -- the kinds of the answers of a command
 abbrev pub kinds_of : Command → List AnswerKind
@@ -63,10 +68,11 @@ kinds_of (Trial task) = trial.kinds
 kinds_of (Poll task) = poll.kinds
 kinds_of (OpenPlurality task) = plurality_opening.kinds
 kinds_of (AuditPlurality task) = plurality_round.kinds
+kinds_of (Contests task) = contests.kinds
 
 -- the ends of its script agree, and its answers are of these kinds
-record IsKnown (may_be_open : Bool) (kinds : List AnswerKind) (script : Script) : Type 0 where
-  pub agree : Agree (SameBy may_be_open) script
+record IsKnown (of_contests may_be_open : Bool) (kinds : List AnswerKind) (script : Script) : Type 0 where
+  pub agree : Agree (SameBy of_contests may_be_open) script
   pub are : AreOfKind kinds script
 
 -- a number of sets leaves nothing open
@@ -83,7 +89,7 @@ trials_agree task = by task.budget refl where
   by (Sets sets) is = trial_agrees task sets is
 
 -- a row a command
-known : (command : Command) → IsKnown (is_open command) (kinds_of command) (script_of command)
+known : (command : Command) → IsKnown (is_of_contests command) (is_open command) (kinds_of command) (script_of command)
 known (Search task) = record { agree = searches_agree task; are = searches.kinds_are task }
 known (Tabulate task) = record { agree = tabulations.agrees task; are = tabulations.kinds_are task }
 known (Check task) = record { agree = checks.agrees task; are = checks.kinds_are task }
@@ -97,24 +103,36 @@ known (Trial task) = record { agree = trials_agree task; are = tried.kinds_are t
 known (Poll task) = record { agree = polls.agrees task; are = polls.kinds_are task }
 known (OpenPlurality task) = record { agree = plurality_opens.agrees task; are = plurality_opens.kinds_are task }
 known (AuditPlurality task) = record { agree = plurality_audits.agrees task; are = plurality_audits.kinds_are task }
+known (Contests task) = record { agree = contest_audits.agrees task; are = contest_audits.kinds_are task }
 
 -- ---- one end
 
-by_budget : (may_be_open : Bool) (script : Script) → Agree (SameBy may_be_open) script → Agree SameButBudget script
+by_budget : (may_be_open : Bool) (script : Script) → Agree (SameBy false may_be_open) script → Agree SameButBudget script
 by_budget true script agree = agree
 by_budget false script agree = agree-weaker Same SameButBudget (λ d e same. inl same) script agree
 
--- A budget alone leaves a command open.
-agrees : (command : Command) → Agree SameButBudget (script_of command)
-agrees command = by_budget (is_open command) (script_of command) (known command).agree
+-- A budget alone leaves a command on one contest open.
+agrees : (command : Command) → is_of_contests command ≡ false → Agree SameButBudget (script_of command)
+agrees command one =
+    by_budget (is_open command) (script_of command) (subst (λ b. Agree (SameBy b (is_open command)) (script_of command)) one (known command).agree)
 
-pub agrees_by : (command : Option Command) → AgreeOn SameButBudget (asked_by command)
-agrees_by None = tt
-agrees_by (Some command) = agrees command
+pub agrees_by : (command : Option Command) → of_contests command ≡ false → AgreeOn SameButBudget (asked_by command)
+agrees_by None one = tt
+agrees_by (Some command) one = agrees command one
+
+-- and the budget of some contest an audit of all of them.
+pub contests_agree : (task : ContestsTask) → AgreeOn SameButContests (asked_by (Some (Contests task)))
+contests_agree task = contest_audits.agrees task
 
 -- Those that no budget leaves open come to one end.
+closed-one : (command : Command) → is_open command ≡ false → is_of_contests command ≡ false
+closed-one (Contests task) closed = absurd (false≢true (sym closed))
+closed-one _ closed = refl
+
 pub agrees_exactly : (command : Command) → is_open command ≡ false → Agree Same (script_of command)
-agrees_exactly command closed = subst (λ b. Agree (SameBy b) (script_of command)) closed (known command).agree
+agrees_exactly command closed =
+    subst (λ b. Agree (SameBy b false) (script_of command)) (closed-one command closed)
+    (subst (λ b. Agree (SameBy (is_of_contests command) b) (script_of command)) closed (known command).agree)
 
 -- ---- kinds of answers
 

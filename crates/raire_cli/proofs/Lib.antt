@@ -21,6 +21,9 @@ mod Counting
 mod PluralOpened
 mod PluralAudited
 mod PluralsLimit
+mod ContestsAudited
+mod ContestsOnce
+mod ContestsAlone
 mod Undecided
 mod SetsSpent
 mod Rounds

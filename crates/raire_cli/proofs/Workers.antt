@@ -31,7 +31,7 @@ ask_the_same task some more words others one other held due may =
 pub come_to_the_same : WorkersComeToTheSame
 come_to_the_same task some more words others one other files d e may_d may_e =
     let search = Search task in
-    determined SameButBudget (λ d. inl refl) files (script_of search) d e (agrees_by (Some search))
+    determined SameButBudget (λ d. inl refl) files (script_of search) d e (agrees_by (Some search) refl)
     (subst (λ command. MayCome (AsHeld files) (asked_by command) d) one may_d)
     (subst (λ command. MayCome (AsHeld files) (asked_by command) e) other may_e)
 
@@ -58,7 +58,7 @@ pub trials_come_to_the_same : TrialsComeToTheSame
 trials_come_to_the_same task some more words others one other files d e may_d may_e =
     let trial = Trial (record task { workers = more }) in
     let (v, tries, is) = subst (λ command. MayCome (AsHeld files) (asked_by command) d) one may_d in
-    determined SameButBudget (λ d. inl refl) files (script_of trial) d e (agrees_by (Some trial))
+    determined SameButBudget (λ d. inl refl) files (script_of trial) d e (agrees_by (Some trial) refl)
     (v, tries_the_same task some more v tries, is)
     (subst (λ command. MayCome (AsHeld files) (asked_by command) e) other may_e)
 

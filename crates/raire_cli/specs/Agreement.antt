@@ -7,6 +7,7 @@ use Rattle.cli_base.specs.Statuses.{IsAnswered, IsQuiet}
 use Rattle.command_line.specs.Line.{command_of}
 use Rattle.command_line.specs.declared.commands.Command.{Command}
 use Rattle.raire_cli.specs.Answers.{asked, is_open}
+use Rattle.raire_cli.specs.Contests.{AsksForContests, HaveNodes}
 
 -- what is seen of a call of `run`: the desk's count of faults before and after it, its status, and what its sinks took
 pub record Call : Type 0 where
@@ -19,19 +20,22 @@ pub record Call : Type 0 where
 abbrev pub Failed : Call → Type 0
 Failed call = Rose call.faults_before call.faults_after
 
--- the words ask for a command that its budget may leave open: a search, a tabulation or a trial, and none with a number of sets
+-- the words ask for a command that its budget may leave open: a search, a tabulation, a trial or an audit of all contests, and none with a
+-- number of sets
 pub record MayBeSpent (words : List (List ℕ)) : Type 0 where
   pub command : Command
   pub asked_for : command_of words ≡ Some command
   pub is_open : is_open command ≡ true
 
 -- The call was of these words, over a desk that holds these files. Nothing failed in it, memory was found, and it is no search, no
--- tabulation and no trial whose budget of nodes was spent.
+-- tabulation and no trial whose budget of nodes was spent, and no audit of a contest whose budget might be.
 pub record IsSettled (words : List (List ℕ)) (files : List File) (call : Call) : Type 0 where
   pub answer : IsAnswered (asked words) (Some files) (Failed call) call.status call.out call.err
   pub quiet : IsQuiet (Failed call) call.out call.err
   pub memory : call.status ≢ 9
   pub unspent : MayBeSpent words → call.status ≢ 4
+  -- the nodes of an audit of all contests are as many as may be needed in each
+  pub suffice : (asks : AsksForContests words) → HaveNodes asks.task files
 
 -- each name has the same bytes in both, or is in neither
 abbrev pub HoldTheSame : List File → List File → Type 0

@@ -5,7 +5,7 @@ use Rattle.budget.specs.declared.budget.Budget.TheVariants.{Nodes, Sets}
 use Rattle.cli_base.specs.Script.{Script, Asked, Nothing, Runs}
 use Rattle.command_line.specs.Line.{command_of}
 use Rattle.command_line.specs.declared.commands.Command.{Command}
-use Rattle.command_line.specs.declared.commands.Command.TheVariants.{Search, Tabulate, Check, Trim, Sample, Plan, Open, Audit, Report, Trial, Poll, OpenPlurality, AuditPlurality}
+use Rattle.command_line.specs.declared.commands.Command.TheVariants.{Search, Tabulate, Check, Trim, Sample, Plan, Open, Audit, Report, Trial, Poll, OpenPlurality, AuditPlurality, Contests}
 use Rattle.search_commands.specs.Search as search
 use Rattle.search_commands.specs.Tabulate as tabulate
 use Rattle.search_commands.specs.Trial as trial
@@ -19,6 +19,7 @@ use Rattle.session_commands.specs.Report as report
 use Rattle.poll_command.specs.Poll as poll
 use Rattle.plurality_commands.specs.OpenPlurality as plurality_opening
 use Rattle.plurality_commands.specs.AuditPlurality as plurality_round
+use Rattle.contests_command.specs.Contests as contests
 
 abbrev pub script_of : Command → Script
 script_of (Search task) = search.script task
@@ -34,6 +35,7 @@ script_of (Trial task) = trial.script task
 script_of (Poll task) = poll.script task
 script_of (OpenPlurality task) = plurality_opening.script task
 script_of (AuditPlurality task) = plurality_round.script task
+script_of (Contests task) = contests.script task
 
 abbrev pub asked_by : Option Command → Asked
 asked_by None = Nothing
@@ -58,6 +60,7 @@ files_of (Trial task) = []
 files_of (Poll task) = task.manifest ∷ task.assertions ∷ task.seen ∷ []
 files_of (OpenPlurality task) = task.ballots ∷ task.manifest ∷ []
 files_of (AuditPlurality task) = task.session ∷ task.ballots ∷ task.manifest ∷ task.seen ∷ []
+files_of (Contests task) = task.ballots ∷ task.manifest ∷ task.seen ∷ []
 
 -- how many files the words name
 abbrev pub count_of : Option Command → ℕ
@@ -67,7 +70,7 @@ count_of (Some command) = length (files_of command)
 abbrev pub file_count : List (List ℕ) → ℕ
 file_count words = count_of (command_of words)
 
--- a budget of nodes may leave open what the command comes to: a search, a tabulation or a trial
+-- a budget of nodes may leave open what the command comes to: a search, a tabulation, a trial, or an audit of all contests
 abbrev pub has_nodes : Budget → Bool
 has_nodes (Nodes nodes) = true
 has_nodes (Sets sets) = false
@@ -76,4 +79,14 @@ abbrev pub is_open : Command → Bool
 is_open (Search task) = has_nodes task.budget
 is_open (Tabulate task) = true
 is_open (Trial task) = has_nodes task.budget
+is_open (Contests task) = true
 is_open _ = false
+
+-- it audits all contests of a file, each of which has a budget of its own
+abbrev pub is_of_contests : Command → Bool
+is_of_contests (Contests task) = true
+is_of_contests _ = false
+
+abbrev pub of_contests : Option Command → Bool
+of_contests None = false
+of_contests (Some command) = is_of_contests command

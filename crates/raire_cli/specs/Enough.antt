@@ -8,7 +8,7 @@ use Rattle.assertion_file.specs.Reading.{assertion_file_of}
 use Rattle.cover_checker.specs.Covers.{IsEnoughFor}
 use Rattle.command_line.specs.Line.{command_of}
 use Rattle.command_line.specs.declared.commands.Command.{Command}
-use Rattle.command_line.specs.declared.commands.Command.TheVariants.{Search, Tabulate, Check, Trim, Sample, Plan, Open, Audit, Report, Trial, Poll, OpenPlurality, AuditPlurality}
+use Rattle.command_line.specs.declared.commands.Command.TheVariants.{Search, Tabulate, Check, Trim, Sample, Plan, Open, Audit, Report, Trial, Poll, OpenPlurality, AuditPlurality, Contests}
 
 -- an assertion file, and the budget to judge it with
 pub record Judging : Type 0 where
@@ -30,6 +30,7 @@ judging_of (Trial task) = None
 judging_of (Poll task) = Some (record { assertions = task.assertions; budget = Nodes task.nodes })
 judging_of (OpenPlurality task) = None
 judging_of (AuditPlurality task) = None
+judging_of (Contests task) = None
 
 -- where the assertion file has n candidates, there are at least 2 * (n - 1)! nodes, or 2^n - 3 sets
 abbrev pub AreEnough : List File → Judging → Type 0

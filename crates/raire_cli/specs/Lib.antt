@@ -8,6 +8,8 @@ pub mod NextRound
 pub mod Audits
 pub mod Openings
 pub mod Enough
+pub mod Contests
+pub mod ContestsAlone
 pub mod Promises
 pub mod Ballots
 pub mod Budgets

@@ -6,7 +6,7 @@ use Rattle.bound_search.specs.Race.{work_for}
 use Rattle.ballot_reader.specs.Ballots.{BallotFile}
 use Rattle.cli_base.specs.Script.{limit}
 use Rattle.cli_base.specs.Ends.{Writing}
-use Rattle.cli_base.specs.Statuses.{IsQuiet, Exactly, IsExact, Statuses}
+use Rattle.cli_base.specs.Statuses.{ContestsStatuses, IsQuiet, Exactly, IsExact, Statuses}
 use Rattle.command.specs.declared.tabulate.TabulateTask.{TabulateTask}
 use Rattle.command.specs.declared.trial.TrialTask.{TrialTask}
 use Rattle.command_line.specs.Line.{command_of, is_line}
@@ -18,6 +18,7 @@ use Rattle.raire_cli.specs.Answers.{asked, is_open}
 use Rattle.raire_cli.specs.Ballots.{AreBallots}
 use Rattle.raire_cli.specs.Budgets.{Suffices}
 use Rattle.raire_cli.specs.Confirmation.{AsksFor}
+use Rattle.raire_cli.specs.Contests.{AsksForContests}
 
 -- The words ask for a search of a file that is held, not too long and accepted, with as many cards as ballots if they give a number.
 -- Its contest is decided: each way of breaking its ties elects the winner. The budget has as many nodes as may be needed for each
@@ -84,4 +85,7 @@ IsExactUnlessOpen held words status =
 pub record HasCause (held : Option (List File)) (words : List (List ℕ)) (failed : Type 0)
     (status : ℕ) (out err : Writing) : Type 0 where
   pub by_words : Exactly 1 status (is_line words ≡ false)
-  pub by_files : Statuses (asked words) held failed status out err
+  pub by_files : (AsksForContests words → ⊥) → Statuses (asked words) held failed status out err
+  -- in an audit of all contests the budget of each may be spent
+  pub by_contests : AsksForContests words →
+      ContestsStatuses (asked words) held failed status out err

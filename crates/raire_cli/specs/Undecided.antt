@@ -6,7 +6,7 @@ use Rattle.cli_base.specs.Ends.{Writing, Took}
 use Rattle.cli_base.specs.Statuses.{IsQuiet}
 use Rattle.command_line.specs.Line.{command_of}
 use Rattle.command_line.specs.declared.commands.Command.{Command}
-use Rattle.command_line.specs.declared.commands.Command.TheVariants.{Search, Tabulate, Check, Trim, Sample, Plan, Open, Audit, Report, Trial, Poll, OpenPlurality, AuditPlurality}
+use Rattle.command_line.specs.declared.commands.Command.TheVariants.{Search, Tabulate, Check, Trim, Sample, Plan, Open, Audit, Report, Trial, Poll, OpenPlurality, AuditPlurality, Contests}
 use Rattle.contest_search.specs.Contest.{IsUndecided}
 use Rattle.search_commands.specs.Ends.{HasTie}
 use Rattle.search_commands.specs.Search.{has_cards}
@@ -33,6 +33,7 @@ IsAbout files (Report task) ballots = ⊥
 IsAbout files (Poll task) ballots = ⊥
 IsAbout files (OpenPlurality task) ballots = ⊥
 IsAbout files (AuditPlurality task) ballots = ⊥
+IsAbout files (Contests task) ballots = ⊥
 
 -- the words ask who has won this contest
 pub record AsksAbout (words : List (List ℕ)) (files : List File)

@@ -12,6 +12,7 @@ ghost use Rattle.raire_cli.specs.Acceptance.{IsUpheld};
 ghost use Rattle.raire_cli.specs.Answers.{asked, file_count};
 ghost use Rattle.raire_cli.specs.Audits.{IsAudited};
 ghost use Rattle.raire_cli.specs.Confirmation.{IsConfirmed, IsReasoned};
+ghost use Rattle.raire_cli.specs.Contests.{IsAuditedByContest};
 ghost use Rattle.raire_cli.specs.Enough.{IsNeverSpent};
 ghost use Rattle.raire_cli.specs.Openings.{IsOpened};
 ghost use Rattle.raire_cli.specs.Pluralities.{IsPluralityAudited, IsPluralityOpened};
@@ -41,7 +42,7 @@ use std::thread::Threads;
 /// | 7 | a file could not be read | `err` |
 /// | 8 | a text could not be written | a part of it |
 /// | 9 | memory could not be had | `err` |
-/// | 10 | the audit isn't signed off yet, or the poll doesn't confirm each claim | `out` |
+/// | 10 | the audit isn't signed off yet, or one of all contests isn't, or the poll doesn't confirm each claim | `out` |
 /// | 11 | a file has more than `MOST_FILE_BYTES` bytes | `err` |
 /// | 12 | there is no such file | `err` |
 pub fn run<R: AllocGlobal + Threads + Sync, D: Desk, O: Sink, E: Sink, G: Gate + Sync>(
@@ -122,6 +123,11 @@ pub fn run<R: AllocGlobal + Threads + Sync, D: Desk, O: Sink, E: Sink, G: Gate +
     ensures audited_plurality { IsPluralityAudited (D.held desk.old) (texts words.now) result
         (writing O.Sink out.old out.new) }
 
+    // An audit of all contests tells how each of them ends, by its own ballots and what is seen for it, and is done exactly where each
+    // is signed off.
+    ensures audited_contests { IsAuditedByContest (D.held desk.old) (texts words.now) result
+        (writing O.Sink out.old out.new) }
+
     // The defined status and texts, of the files that are told, or of some that the desk may have given.
     ensures answer { IsAnswered (asked (texts words.now)) (D.held desk.old)
         (Rose (D.faults desk.old) (D.faults desk.new)) result
@@ -132,7 +138,8 @@ pub fn run<R: AllocGlobal + Threads + Sync, D: Desk, O: Sink, E: Sink, G: Gate +
         (Rose (D.faults desk.old) (D.faults desk.new)) result
         (writing O.Sink out.old out.new) (writing E.Sink err.old err.new) }
 
-    // No budget leaves open what another command than a search, a tabulation or a trial comes to, and no number of sets what any does.
+    // No budget leaves open what another command than a search, a tabulation, a trial or an audit of all contests comes to, and no number
+    // of sets what any does.
     ensures exact { IsExactUnlessOpen (D.held desk.old) (texts words.now) result }
 
     // 11 and 12 come exactly where the desk served so, told or not told what it holds. At most as many files are begun as the words

@@ -11,6 +11,7 @@ use audit_commands::{plan, sample};
 use check_command::check;
 use cli_base::{Answer, Refusal};
 use command_line::Command;
+use contests_command::contests;
 use desk::{Desk, Gate};
 use plurality_commands::{audit_plurality, open_plurality};
 use poll_command::poll;
@@ -49,5 +50,6 @@ pub(crate) fn answer_command<R: AllocGlobal + Threads + Sync, D: Desk, G: Gate +
         Command::Poll(task) => poll::answer(rt.alloc(), desk, task),
         Command::OpenPlurality(task) => open_plurality::answer(rt.alloc(), desk, task),
         Command::AuditPlurality(task) => audit_plurality::answer(rt.alloc(), desk, task),
+        Command::Contests(task) => contests::answer(rt, desk, task, gate),
     }
 }

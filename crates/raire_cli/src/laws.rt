@@ -1,5 +1,6 @@
 //! The laws of the top call: each holds of every value that it names, and has no code.
 ghost use Rattle.raire_cli.specs.Agreement.{SameFilesSameAnswer};
+ghost use Rattle.raire_cli.specs.ContestsAlone.{BlockAlone};
 ghost use Rattle.raire_cli.specs.EachStatus.{EachStatus};
 ghost use Rattle.raire_cli.specs.Laws.{WorkersAskTheSame, WorkersComeToTheSame, TrialsComeToTheSame, SetsComeToTheSame, TrialsBySetsComeToTheSame, BudgetsComeToTheSame, DefaultSuffices, MostSetsSuffice, SignedOffIsCounted};
 ghost use Rattle.raire_cli.specs.PluralLaws.{PluralSignedOffAreFew, PluralSignedOffIsCounted};
@@ -82,8 +83,14 @@ pub fn plural_signed_off_are_few()
     ensures { PluralSignedOffAreFew }
 {}
 
+/// Where no budget is spent, the block of a contest among others is what the same command tells of it where the ballot file has `1` as
+/// its first record and neither file has a record of another contest: two calls, with any number of workers each.
+pub fn block_alone()
+    ensures { BlockAlone }
+{}
+
 /// Two calls with the same words, over desks that hold the same, have the same status and write the same, where nothing failed,
-/// memory was found, and no search, no tabulation and no trial with nodes was spent.
+/// memory was found, no search, no tabulation and no trial with nodes was spent, and no audit of all contests might be.
 pub fn same_files_same_answer()
     ensures { SameFilesSameAnswer }
 {}

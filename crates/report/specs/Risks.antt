@@ -1,4 +1,4 @@
--- What is told of a claim in an audit: its risk, its counts, and whether it is confirmed.
+-- What is told of an audit: of a claim its risk, its counts and whether it is confirmed, and whether the audit is signed off.
 use Rattle.std.specs.Prelude.{ℕ, ◌-◌, ◌/◌, ◌%◌, Bool, true, false, List, ◌++◌, length, replicate, codes}
 use Rattle.std.specs.Fmt.{decimal}
 use Rattle.km_risk.specs.declared.limits.TheConstants.{ONE}
@@ -23,3 +23,15 @@ counts_text counts =
 abbrev pub state_text : Bool → List ℕ
 state_text true = codes "confirmed"
 state_text false = codes "unconfirmed"
+
+-- the end of a claim's line
+abbrev pub state_end : Bool → List ℕ
+state_end confirmed = codes " " ++ state_text confirmed ++ codes "\n"
+
+abbrev pub yes_or_no : Bool → List ℕ
+yes_or_no true = codes "yes"
+yes_or_no false = codes "no"
+
+-- whether an audit is done
+abbrev pub signed_off_line : Bool → List ℕ
+signed_off_line signed_off = codes "signed off " ++ yes_or_no signed_off ++ codes "\n"

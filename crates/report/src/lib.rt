@@ -1,5 +1,5 @@
 //! The texts that commands share: the tabulation of a contest round by round, its candidates, orders and assertions by their ids, the
-//! ends that have no certificate, and what is told of a claim in an audit.
+//! ends that have no certificate, and what is told of an audit.
 #![tactic(auto)]
 
 mod ends;
@@ -9,6 +9,8 @@ mod tabulations;
 mod text;
 
 pub use ends::{spent_at, spent_sets, spent_sets_text, spent_text, tie_text};
-pub use risks::{add_counts, add_risk, counts_text, state_text};
+pub use risks::{
+    add_counts, add_risk, add_signed_off, add_state, counts_text, state_text, yes_or_no,
+};
 pub use tabulations::tabulation;
 pub use text::{assertion_text, order_text, set_text};

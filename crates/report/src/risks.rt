@@ -1,6 +1,6 @@
-// What is told of a claim in an audit: its risk, its counts, and whether it is confirmed.
+// What is told of an audit: of a claim its risk, its counts and whether it is confirmed, and whether the audit is signed off.
 ghost use Rattle.std.specs.Prelude.{◌≡◌, ◌++◌, IfOk, string_bytes};
-ghost use Rattle.report.specs.Risks.{counts_text, risk_text, state_text};
+ghost use Rattle.report.specs.Risks.{counts_text, risk_text, signed_off_line, state_end, state_text, yes_or_no};
 
 use km_risk::{Counts, ONE};
 use std::alloc::{AllocError, Global};
@@ -41,4 +41,28 @@ pub fn state_text(confirmed: bool) -> &'static str
     } else {
         "unconfirmed"
     }
+}
+
+/// Adds whether a claim is confirmed, as the end of its line.
+pub fn add_state(text: &mut String, confirmed: bool) -> Result<(), AllocError>
+    ensures { IfOk result (λ _. string_bytes text.new ≡ string_bytes text.old ++ state_end confirmed) }
+{
+    let state = state_text(confirmed);
+    writeln!(text, " {state}")
+}
+
+/// `yes` or `no`.
+pub fn yes_or_no(yes: bool) -> &'static str
+    ensures { result.now ≡ yes_or_no yes }
+{
+    if yes { "yes" } else { "no" }
+}
+
+/// Adds the line that tells whether an audit is signed off.
+pub fn add_signed_off(text: &mut String, signed_off: bool) -> Result<(), AllocError>
+    ensures { IfOk result (λ _.
+        string_bytes text.new ≡ string_bytes text.old ++ signed_off_line signed_off) }
+{
+    let answer = yes_or_no(signed_off);
+    writeln!(text, "signed off {answer}")
 }

@@ -23,5 +23,7 @@ returns c = record {
   round_with_seed = refl;
   opening_with_draws = refl;
   three_files = refl;
+  contests_without_draws = refl;
+  contests_of_one = refl;
   no_command = refl;
 }

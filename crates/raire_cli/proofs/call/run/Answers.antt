@@ -1,7 +1,7 @@
 -- Each clause follows from the story of the call: what was due, and what the sinks took of it.
 use Rattle.cli_base.proofs.Clauses.{answered_clause, kept_clause}
 use Rattle.command_line.specs.Words.{texts}
-use Rattle.raire_cli.proofs.Clauses.{story_of, headline_clause, full_count_clause, tied_clause, complete_tie_clause, complete_clause, complete_tabulation_clause, complete_trial_clause, enough_clause, enough_sets_clause, spent_sets_clause, accepted_clause, trimmed_clause, opened_clause, audited_clause, polled_clause, opened_plurality_clause, audited_plurality_clause, status_clause, exact_promise}
+use Rattle.raire_cli.proofs.Clauses.{story_of, headline_clause, full_count_clause, tied_clause, complete_tie_clause, complete_clause, complete_tabulation_clause, complete_trial_clause, enough_clause, enough_sets_clause, spent_sets_clause, accepted_clause, trimmed_clause, opened_clause, audited_clause, polled_clause, opened_plurality_clause, audited_plurality_clause, audited_contests_clause, status_clause, exact_promise}
 use Rattle.raire_cli.proofs.call.run.Goals as goal
 
 pub returns-clause-headline : goal.returns-clause-headline
@@ -54,6 +54,9 @@ returns-clause-opened_plurality g c = opened_plurality_clause (texts c.args.word
 
 pub returns-clause-audited_plurality : goal.returns-clause-audited_plurality
 returns-clause-audited_plurality g c = audited_plurality_clause (texts c.args.words.now) (story_of c.answer-outcome.ensures.due c.deliver.ensures)
+
+pub returns-clause-audited_contests : goal.returns-clause-audited_contests
+returns-clause-audited_contests g c = audited_contests_clause (texts c.args.words.now) (story_of c.answer-outcome.ensures.due c.deliver.ensures)
 
 pub returns-clause-answer : goal.returns-clause-answer
 returns-clause-answer g c = answered_clause (story_of c.answer-outcome.ensures.due c.deliver.ensures)

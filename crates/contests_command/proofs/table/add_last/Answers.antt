@@ -1,5 +1,5 @@
 use Rattle.std.proofs.Common.{rules, append_assoc}
-use Rattle.poll_command.proofs.table.add_state.Goals as goal
+use Rattle.contests_command.proofs.table.add_last.Goals as goal
 
 pub returns : goal.returns
 returns c = search (rules, append_assoc)

@@ -1,0 +1,15 @@
+-- What an audit of all contests comes to where no budget is spent.
+use Rattle.std.specs.Prelude.{◌≡◌, List, All}
+use Rattle.ballot_reader.specs.Ballots.{BallotFile}
+use Rattle.manifest.specs.Cards.{Batches}
+use Rattle.seen_file.specs.Seen.{Entry}
+use Rattle.cli_base.specs.Outcome.{Verdict}
+use Rattle.command.specs.declared.contests.ContestsTask.{ContestsTask}
+use Rattle.contests_command.specs.Contests.{Audits, SufficeFor}
+
+-- it has one end, where the nodes suffice for each contest
+abbrev pub AuditsOnce : Type 0
+AuditsOnce =
+    (task : ContestsTask) (list : List BallotFile) (batches : Batches)
+    (seen : List (List Entry)) → All (SufficeFor task.nodes) list → (v w : Verdict) →
+    Audits task list batches seen v → Audits task list batches seen w → v ≡ w

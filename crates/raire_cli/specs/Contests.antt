@@ -1,0 +1,87 @@
+-- What it means that all contests of a ballot file are audited on one sample of cards.
+use Rattle.std.specs.Prelude.{◌≡◌, ◌⊎◌, ◌↔◌, ℕ, List, All, Option, None, Some, IfSome, Ok, IsTrue}
+use Rattle.desk.specs.Desk.{File, held_bytes}
+use Rattle.ballot_reader.specs.Ballots.{BallotFile}
+use Rattle.ballot_reader.specs.Grammar.{contests_of}
+use Rattle.manifest.specs.Cards.{Batches}
+use Rattle.manifest.specs.Manifest.{manifest_of}
+use Rattle.seen_file.specs.Seen.{Entry}
+use Rattle.contest_set.specs.Ends.{AreEnds}
+use Rattle.contest_set.specs.Refusals.{first_without_card_of_all}
+use Rattle.contest_set.specs.SeenBy.{seen_by}
+use Rattle.contest_set.specs.declared.end.ContestEnd.{ContestEnd}
+use Rattle.cli_base.specs.Ends.{Writing, Took}
+use Rattle.command.specs.declared.contests.ContestsTask.{ContestsTask}
+use Rattle.command_line.specs.Line.{command_of}
+use Rattle.command_line.specs.declared.commands.Command.TheVariants.{Contests}
+use Rattle.contests_command.specs.Contests.{SufficeFor, terms_of}
+use Rattle.contests_command.specs.Table.{all_signed, contests_table}
+
+-- the words ask for an audit of all contests
+pub record AsksForContests (words : List (List ℕ)) : Type 0 where
+  pub task : ContestsTask
+  pub asked : command_of words ≡ Some (Contests task)
+
+-- ---- its files
+
+-- the bytes of its three files
+pub record ContestsBytes : Type 0 where
+  pub ballots : List ℕ
+  pub manifest : List ℕ
+  pub seen : List ℕ
+
+-- the files of the words are held, and have these bytes
+pub record AreContestsFiles (task : ContestsTask) (files : List File)
+    (bytes : ContestsBytes) : Type 0 where
+  pub ballots : held_bytes task.ballots files ≡ Some bytes.ballots
+  pub manifest : held_bytes task.manifest files ≡ Some bytes.manifest
+  pub seen : held_bytes task.seen files ≡ Some bytes.seen
+
+-- the ballots of each contest, the cards, and what is seen of some cards for each contest
+pub record ContestsInputs : Type 0 where
+  pub list : List BallotFile
+  pub batches : Batches
+  pub seen : List (List Entry)
+
+-- the bytes say so
+pub record SayContests (bytes : ContestsBytes) (inputs : ContestsInputs) : Type 0 where
+  pub ballots : contests_of bytes.ballots ≡ Ok inputs.list
+  pub manifest : manifest_of bytes.manifest ≡ Ok inputs.batches
+  pub seen : seen_by inputs.batches inputs.list bytes.seen ≡ Ok inputs.seen
+
+-- ---- nodes that suffice
+
+-- the nodes are as many as may be needed in each contest of the ballot file
+abbrev pub HaveNodes : ContestsTask → List File → Type 0
+HaveNodes task files =
+    (bytes : List ℕ) (list : List BallotFile) → held_bytes task.ballots files ≡ Some bytes →
+    contests_of bytes ≡ Ok list → All (SufficeFor task.nodes) list
+
+-- ---- the audit
+
+-- the audit of the words
+pub record AuditsContests (words : List (List ℕ)) (files : List File) : Type 0 where
+  pub asks : AsksForContests words
+  pub bytes : ContestsBytes
+  pub held : AreContestsFiles asks.task files bytes
+  pub inputs : ContestsInputs
+  pub say : SayContests bytes inputs
+  -- each ballot of each contest has a card
+  pub placed : first_without_card_of_all inputs.batches inputs.list ≡ None
+  -- each contest ends so, by its own ballots, what is seen for it, the manifest and the terms of the words
+  pub ends : List ContestEnd
+  pub are : AreEnds inputs.batches (terms_of asks.task) inputs.list inputs.seen ends
+
+-- a block for each contest, and whether all are signed off
+abbrev pub blocks_of : {words : List (List ℕ)} {files : List File} →
+    AuditsContests words files → List ℕ
+blocks_of audit = contests_table audit.asks.task.limit audit.inputs.list audit.ends
+
+-- ---- what `run` promises
+
+-- Status 0 and 10 of an audit of all contests: `out` tells how each contest of the file ends. It is 0 exactly where each is signed off.
+abbrev pub IsAuditedByContest : Option (List File) → List (List ℕ) → ℕ → Writing → Type 0
+IsAuditedByContest held words status out =
+    IfSome held (λ files. AsksForContests words → (status ≡ 0) ⊎ (status ≡ 10) →
+    (audit : AuditsContests words files) × Took out (blocks_of audit)
+    × ((status ≡ 0) ↔ IsTrue (all_signed audit.ends)))

@@ -3,7 +3,7 @@ use Rattle.std.specs.Prelude.{◌≡◌, true}
 use Rattle.irv_base.specs.declared.limits.TheConstants.{GREATEST_GAMMA, GREATEST_LIMIT, MOST_DRAWS, MOST_WORKERS}
 use Rattle.sampler.specs.Seeds.{is_seed}
 use Rattle.command.specs.Limits.{IsNamed, IsUpTo}
-use Rattle.command.specs.declared.limits.TheConstants.{MOST_NODES}
+use Rattle.budget.specs.declared.limits.TheConstants.{MOST_NODES}
 use Rattle.command.specs.declared.contests.ContestsTask.{ContestsTask}
 
 pub record IsWithinLimits (task : ContestsTask) : Type 0 where

@@ -1,10 +1,10 @@
 -- Sets that are added, one after the other.
-use Rattle.std.proofs.Common.{◌≡◌, ◌⊎◌, inl, inr, ℕ, ◌+◌, ◌^◌, ◌<◌, ◌≤◌, false, true, List, ◌∷◌, All, Contains, refl, sym, subst, arith}
+use Rattle.std.proofs.Common.{◌≡◌, inl, inr, ℕ, ◌+◌, false, true, List, ◌∷◌, Contains, sym, subst, arith}
 use Rattle.std.specs.List.Sorted.{IsPermutation}
 use Rattle.std.proofs.lemmas.Bool.{both_ways, cases_eq}
 use Rattle.std.proofs.lemmas.List.Sorted.{Contains-permutation, IsPermutation-sym}
 use Rattle.irv_base.specs.Candidates.{has}
-use Rattle.irv_base.proofs.Members.{Member, contains-from_member, here, member-from_contains, member_cases, there}
+use Rattle.irv_base.proofs.Members.{contains-from_member, here, member-from_contains, member_cases, there}
 use Rattle.set_search.specs.Waits.{AreAddedUpTo, waiting_at}
 use Rattle.set_search.specs.declared.waiting.Waiting.{Waiting}
 

@@ -1,13 +1,13 @@
 -- What walks by the best margin, and below it, say of the certificate and of the sets that it needs.
-use Rattle.std.proofs.Common.{◌≡◌, ◌≢◌, ℕ, ◌^◌, ◌<◌, ◌≤◌, ◌⊎◌, inl, inr, max, Bool, true, false, nat_lt, nat_le, if◌then◌else◌, List, [], ◌∷◌, length, Option, Some, None, Ok, Err, refl, sym, ap, subst, arith, le_trans, ltb-true, le-ltb, ◌∙◌}
+use Rattle.std.proofs.Common.{◌≡◌, ℕ, ◌^◌, ◌-◌, ◌<◌, ◌≤◌, inl, inr, Bool, true, false, nat_lt, if◌then◌else◌, List, [], ◌∷◌, length, Option, Some, None, Ok, Err, refl, sym, ap, subst, arith, ltb-true, ◌∙◌}
 use Rattle.std.proofs.lemmas.Bool.{cases_Bool, cases_lt, both_ways, ltb-false}
 use Rattle.irv_base.specs.Candidates.{set_of}
 use Rattle.irv_base.specs.Orders.{Elects}
 use Rattle.irv_base.proofs.Distinct.{distinct-le, distinct-range}
-use Rattle.irv_base.proofs.Members.{Member, from_find, member_nil}
+use Rattle.irv_base.proofs.Members.{from_find}
 use Rattle.irv_base.proofs.Sames.{distinct-filter}
 use Rattle.assertions.specs.Certificate.{certificate_order}
-use Rattle.assertions.specs.Hardness.{low, best_margin}
+use Rattle.assertions.specs.Hardness.{low}
 use Rattle.assertions.specs.Suffixes.{alternative_orders}
 use Rattle.assertions.proofs.Alternatives.{best-le}
 use Rattle.assertions.proofs.Endings.{from_alternative}
@@ -19,6 +19,7 @@ use Rattle.set_walk.specs.declared.walk.WalkFault.TheVariants.{Spent}
 use Rattle.set_walk.proofs.Bests.{best_by_sets_is}
 use Rattle.set_walk.proofs.Counted.{counted_stand}
 use Rattle.set_walk.proofs.Enough.{least_is_best, search_counts}
+use Rattle.set_walk.proofs.Few.{standing_are_fewer}
 use Rattle.set_walk.proofs.Firsts.{first_is}
 use Rattle.set_walk.proofs.Orders.{alternative-suffix, order_by_sets_is}
 use Rattle.set_walk.proofs.Standing.{from_standing}
@@ -182,3 +183,14 @@ best-undecided n records tab sets best o zero =
     let cover = none-under n tab.winner records none in
     let few = o.within in
     record { none = none; within = λ _. omega (arith, cover, few) }
+
+-- ---- how many sets are needed at most
+pub sets_are_few : (n winner : ℕ) (records : List (List ℕ)) → winner < n → 1 < n → sets_for n records winner ≤ 2 ^ n - 3
+sets_are_few n winner records low' two =
+    let cover = standing_are_fewer n winner (within (Below (best_of n records winner)) n records) low' two in
+    let order = standing_are_fewer n winner (within (AtMost (best_of n records winner)) n records) low' two in
+    let le = (counted_stand n winner (within (AtMost (best_of n records winner)) n records)).0 in
+    omega (arith, cover, order, le)
+
+pub same_order : (a b : List ℕ) → Some a ≡ Some b → a ≡ b
+same_order a b e = cc

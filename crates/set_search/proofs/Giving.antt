@@ -1,10 +1,10 @@
 -- The claims that the steps from sets give are the certificate's.
-use Rattle.std.proofs.Common.{◌≡◌, ◌≢◌, ℕ, ◌+◌, ◌-◌, cond, ◌<◌, ◌≤◌, ◌⊎◌, inl, inr, Bool, true, false, not, ◌&&◌, ◌||◌, ◌==◌, nat_le, if◌then◌else◌, List, [], ◌∷◌, map, filter, find, Option, Some, None, refl, sym, ap, subst, arith, eq-eqb, eqb-true, ne_eqb, le-leb, leb-true, ◌∙◌}
+use Rattle.std.proofs.Common.{◌≡◌, ℕ, ◌+◌, ◌-◌, cond, ◌<◌, ◌≤◌, ◌⊎◌, inl, inr, Bool, true, false, not, ◌&&◌, ◌==◌, nat_le, if◌then◌else◌, List, [], ◌∷◌, map, filter, Option, Some, None, refl, sym, ap, subst, eq-eqb, eqb-true, le-leb, leb-true, ◌∙◌}
 use Rattle.std.specs.List.{list_any, range_with_len}
 use Rattle.std.specs.BTreeMap.{insert_entry}
-use Rattle.std.proofs.lemmas.Bool.{and_from, and_parts, cases_Bool, eqb-false, not-true, not_from_false, or_cases, or_left, or_right}
+use Rattle.std.proofs.lemmas.Bool.{and_from, and_parts, not-true, not_from_false, or_cases, or_left, or_right}
 use Rattle.irv_base.specs.Candidates.{all_but, candidates, has}
-use Rattle.irv_base.proofs.Members.{Member, candidate-member, contains-from_member, from_candidates, from_filter, from_find, from_list_any, here, list_any-member, member-filter, member-from_contains, member_cases, member_nil, there}
+use Rattle.irv_base.proofs.Members.{Member, contains-from_member, from_filter, from_find, from_list_any, here, list_any-member, member-filter, member-from_contains, member_cases, member_nil, there}
 use Rattle.assertions.specs.declared.assertion.Assertion.{Assertion}
 use Rattle.assertions.specs.declared.assertion.Assertion.TheVariants.{Neb, Nen}
 use Rattle.assertions.specs.Assertions.{assertions, true_margin}
@@ -14,7 +14,7 @@ use Rattle.assertions.proofs.Sorted.{Sorted, none, sorted-filter, sorted-same}
 use Rattle.certifier.specs.Gathered.{claim_at, with_margin}
 use Rattle.certifier.proofs.Agreement.{order, marked, keys_of, keys-sorted, from_keys, keys-keep, keys-member, all-marked, map-marked}
 use Rattle.suffix_tree.proofs.Offered.{range-next}
-use Rattle.set_walk.specs.Bests.{best_by_sets, gives_from, is_given}
+use Rattle.set_walk.specs.Bests.{gives_from, is_given}
 use Rattle.set_walk.specs.Steps.{anew, outside, step, step_refuter}
 use Rattle.set_walk.specs.Walks.{standing}
 use Rattle.set_walk.proofs.Bests.{best_by_sets_is}

@@ -1,7 +1,7 @@
 -- What is known of the sets that a search goes into by the least step first.
-use Rattle.std.proofs.Common.{◌≡◌, ◌≢◌, ◌⊎◌, inl, inr, ℕ, ◌+◌, ◌^◌, ◌<◌, ◌≤◌, max, Bool, true, false, not, ◌||◌, ◌==◌, List, [], ◌∷◌, ◌++◌, length, length-append, All, Contains, refl, sym, ap, subst, arith, eq-eqb, eqb-true, ne_eqb, le-leb, ◌∙◌}
+use Rattle.std.proofs.Common.{◌≡◌, ◌≢◌, ◌⊎◌, inl, inr, ℕ, ◌<◌, ◌≤◌, max, true, false, not, ◌==◌, List, [], ◌∷◌, ◌++◌, length, length-append, All, refl, sym, ap, subst, arith, eq-eqb, eqb-true, ne_eqb, le-leb, ◌∙◌}
 use Rattle.std.specs.List.Sorted.{IsPermutation}
-use Rattle.std.proofs.lemmas.Bool.{both_ways, cases_Bool, cases_lt, not-true, not_from_false, or_parts, or_from, eqb-false}
+use Rattle.std.proofs.lemmas.Bool.{both_ways, cases_lt, not-true, not_from_false, eqb-false}
 use Rattle.std.proofs.lemmas.List.Sorted.{Contains-permutation, IsPermutation-sym}
 use Rattle.std.proofs.lemmas.List.Elements.{All-contains}
 use Rattle.std.specs.List.{list_any}
@@ -14,7 +14,7 @@ use Rattle.irv_base.proofs.Members.{Member, candidate-member, contains-from_memb
 use Rattle.irv_base.proofs.Orders.{order_facts}
 use Rattle.irv_base.proofs.Sets.{set_of-cons}
 use Rattle.irv_base.proofs.Suffixes.{suffix-has, suffix-head, suffix-rest, suffix-short, suffix_more, suffix_whole}
-use Rattle.assertions.specs.Hardness.{low, best_margin}
+use Rattle.assertions.specs.Hardness.{low}
 use Rattle.assertions.specs.Suffixes.{alternative_orders}
 use Rattle.assertions.proofs.Alternatives.{best-le, best_is}
 use Rattle.assertions.proofs.Endings.{alternative-member, from_alternative}

@@ -1,7 +1,6 @@
 -- One candidate more in a set.
-use Rattle.std.proofs.Common.{◌≡◌, ℕ, ◌+◌, ◌^◌, ◌<◌, ◌≤◌, Bool, true, false, ◌||◌, ◌==◌, bit_or, List, length, refl, sym, ap, subst, arith, ne_eqb, ◌∙◌}
+use Rattle.std.proofs.Common.{◌≡◌, ℕ, ◌^◌, ◌<◌, ◌≤◌, true, false, ◌||◌, ◌==◌, bit_or, List, length, sym, ap, subst, arith, ne_eqb, ◌∙◌}
 use Rattle.std.proofs.Math.Pow.{pow-lt}
-use Rattle.std.proofs.lemmas.Bool.{both_ways, or_right, or_cases, not-true, eqb-false}
 use Rattle.std.proofs.lemmas.Nat.{or_lt}
 use Rattle.std.proofs.lemmas.Nat.Bits.{bit_at-zero}
 use Rattle.irv_base.specs.Candidates.{candidates, has, members, set_of}
@@ -9,7 +8,7 @@ use Rattle.irv_base.specs.Suffixes.{is_suffix}
 use Rattle.irv_base.specs.declared.limits.TheConstants.{ROOM}
 use Rattle.irv_base.proofs.Bits.{has-with, with-number}
 use Rattle.irv_base.proofs.Distinct.{below-from_test, distinct-le, distinct-range}
-use Rattle.irv_base.proofs.Members.{Member, candidate-member, from_filter, member-filter}
+use Rattle.irv_base.proofs.Members.{candidate-member, from_filter, member-filter}
 use Rattle.irv_base.proofs.Sames.{distinct-filter}
 use Rattle.irv_base.proofs.Sets.{has-member, member-from_has}
 use Rattle.irv_base.proofs.Suffixes.{suffix-below, suffix-distinct}

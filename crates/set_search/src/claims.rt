@@ -19,11 +19,7 @@ use std::collections::BTreeMap;
 use suffix_tree::Score;
 
 // Puts the assertion of a step among the claims, if the step is at least the margin.
-fn put_step(
-    claims: &mut BTreeMap<Assertion, u32>,
-    step: Score,
-    margin: u32,
-) -> Result<(), Memory>
+fn put_step(claims: &mut BTreeMap<Assertion, u32>, step: Score, margin: u32) -> Result<(), Memory>
     ensures { OnOk result (claims.new.entries
         ≡ with_step ⟦<Assertion as Ord>⟧.cmp margin claims.old.entries step) }
 {
@@ -82,13 +78,7 @@ pub(crate) fn claims_of(
 {
     let nobody = CandSet::empty();
     let mut claims = BTreeMap::new(alloc);
-    put_steps(
-        &mut claims,
-        tallies,
-        nobody,
-        nobody.with(winner),
-        margin,
-    )?;
+    put_steps(&mut claims, tallies, nobody, nobody.with(winner), margin)?;
     for set in sets {
         put_steps(&mut claims, tallies, *set, *set, margin)?;
     }

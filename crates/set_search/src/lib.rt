@@ -6,6 +6,7 @@ mod by_margin;
 mod certificate;
 mod claims;
 mod ends;
+pub mod examples;
 pub mod laws;
 mod level;
 mod steps;

@@ -1,4 +1,4 @@
-use Rattle.std.proofs.Common.{◌≡◌, ◌<◌, ◌≤◌, ◌^◌, Some, ap, arith, subst, sym, ◌∙◌}
+use Rattle.std.proofs.Common.{◌≡◌, ◌<◌, ap, arith, subst, sym, ◌∙◌}
 use Rattle.std.proofs.lemmas.Option.{MatchOption-at_some}
 use Rattle.set_tallies.specs.Bags.{IsOf, Kept, Source}
 use Rattle.bound_search.proofs.Raced.{elected_below}
@@ -6,7 +6,7 @@ use Rattle.bound_search.specs.Reached.{IsReached}
 use Rattle.set_search.specs.Answers.{IsUndecided}
 use Rattle.set_search.specs.Given.{AreCover}
 use Rattle.set_search.specs.Parts.{IsCover, IsOrder, IsOrderIn}
-use Rattle.set_search.specs.Sets.{best_of, sets_for}
+use Rattle.set_search.specs.Sets.{best_of}
 use Rattle.set_search.proofs.Deciding.{best-undecided, start-undecided}
 use Rattle.set_search.proofs.certificate.certify_by_sets.Goals as goal
 

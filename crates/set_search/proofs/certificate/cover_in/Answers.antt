@@ -1,6 +1,5 @@
-use Rattle.std.proofs.Common.{◌≡◌, ◌<◌, Ok, Err, None, Some, ap, arith, refl, subst, sym, ◌∙◌}
+use Rattle.std.proofs.Common.{◌≡◌, ◌<◌, Ok, Err, Some, arith, refl, subst}
 use Rattle.set_walk.specs.Answers.{IsWalk, first_within}
-use Rattle.set_walk.specs.Walks.{standing}
 use Rattle.set_walk.specs.declared.walk.WalkEnd.TheVariants.{Ended}
 use Rattle.set_walk.specs.declared.walk.WalkFault.TheVariants.{Spent}
 use Rattle.set_search.specs.Limits.{within}

@@ -1,6 +1,6 @@
-use Rattle.std.proofs.Common.{◌≡◌, ◌<◌, Ok, Err, None, Some, ap, arith, refl, subst, sym, ◌∙◌}
+use Rattle.std.proofs.Common.{◌<◌, Ok, Err, arith, refl, subst, sym}
 use Rattle.set_tallies.specs.Bags.{IsOf, Source}
-use Rattle.set_walk.specs.Answers.{IsWalk, first_within}
+use Rattle.set_walk.specs.Answers.{IsWalk}
 use Rattle.set_walk.specs.declared.walk.WalkEnd.TheVariants.{Found, Ended}
 use Rattle.set_walk.specs.declared.walk.WalkFault.TheVariants.{Spent}
 use Rattle.set_search.specs.Levels.{IsLevel}

@@ -13,22 +13,22 @@ loop-c-preserved c =
     let lt : c.loop-c.c < c.args.tallies.now.bag.n = omega (arith, c.loop-c-test.true, c.candidates-c-end.ensures.same) in
     elim c.if-not-has.branch [
       | then-not-has+in_ok-step+in_ok-put_step w ↦ record {
-          same = w.tallies-is ∙ w.step_of.ensures.same ∙ c.loop-c.invariant.same;
-          put = λ records of.
-              let step : w.in_ok-step.step ≡ step_score n records c.args.set c.loop-c.c =
-              w.in_ok-step.ensures.step records (subst (λ (t : Source). IsOf t.bag records) (sym c.loop-c.invariant.same) of)
-              ∙ ap (λ (t : Source). step_score t.bag.n records c.args.set c.loop-c.c) c.loop-c.invariant.same in
-              ap (λ m. with_each ghosts.cmp n records c.args.margin m.entries c.args.set (outside_from c.args.closed (c.loop-c.c + 1) n)) w.claims-is
-              ∙ ap (λ es. with_each ghosts.cmp n records c.args.margin es c.args.set (outside_from c.args.closed (c.loop-c.c + 1) n))
-              (w.in_ok-put_step.ensures ∙ ap (with_step ghosts.cmp c.args.margin c.loop-c.claims.entries) step)
-              ∙ each-taken n records c.args.margin c.loop-c.claims.entries c.args.set c.args.closed c.loop-c.c lt (sym c.has.ensures ∙ w.if-not-has.true)
-              ∙ c.loop-c.invariant.put records of;
-        }
+        same = w.tallies-is ∙ w.step_of.ensures.same ∙ c.loop-c.invariant.same;
+        put = λ records of.
+            let step : w.in_ok-step.step ≡ step_score n records c.args.set c.loop-c.c =
+            w.in_ok-step.ensures.step records (subst (λ (t : Source). IsOf t.bag records) (sym c.loop-c.invariant.same) of)
+            ∙ ap (λ (t : Source). step_score t.bag.n records c.args.set c.loop-c.c) c.loop-c.invariant.same in
+            ap (λ m. with_each ghosts.cmp n records c.args.margin m.entries c.args.set (outside_from c.args.closed (c.loop-c.c + 1) n)) w.claims-is
+            ∙ ap (λ es. with_each ghosts.cmp n records c.args.margin es c.args.set (outside_from c.args.closed (c.loop-c.c + 1) n))
+            (w.in_ok-put_step.ensures ∙ ap (with_step ghosts.cmp c.args.margin c.loop-c.claims.entries) step)
+            ∙ each-taken n records c.args.margin c.loop-c.claims.entries c.args.set c.args.closed c.loop-c.c lt (sym c.has.ensures ∙ w.if-not-has.true)
+            ∙ c.loop-c.invariant.put records of;
+      }
       | else-not-has w ↦ record {
-          same = w.tallies-is ∙ c.loop-c.invariant.same;
-          put = λ records of.
-              ap (λ m. with_each ghosts.cmp n records c.args.margin m.entries c.args.set (outside_from c.args.closed (c.loop-c.c + 1) n)) w.claims-is
-              ∙ each-left n records c.args.margin c.loop-c.claims.entries c.args.set c.args.closed c.loop-c.c lt (sym c.has.ensures ∙ w.if-not-has.false)
-              ∙ c.loop-c.invariant.put records of;
-        }
+        same = w.tallies-is ∙ c.loop-c.invariant.same;
+        put = λ records of.
+            ap (λ m. with_each ghosts.cmp n records c.args.margin m.entries c.args.set (outside_from c.args.closed (c.loop-c.c + 1) n)) w.claims-is
+            ∙ each-left n records c.args.margin c.loop-c.claims.entries c.args.set c.args.closed c.loop-c.c lt (sym c.has.ensures ∙ w.if-not-has.false)
+            ∙ c.loop-c.invariant.put records of;
+      }
     ]

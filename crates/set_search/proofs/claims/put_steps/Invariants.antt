@@ -1,4 +1,4 @@
-use Rattle.std.proofs.Common.{◌≡◌, ℕ, ◌-◌, List}
+use Rattle.std.proofs.Common.{◌≡◌, ℕ, List}
 use Rattle.assertions.specs.contracts.assertion.AssertionOrd.TheImpl.{ghosts}
 use Rattle.set_tallies.specs.Bags.{IsOf}
 use Rattle.set_search.specs.Given.{with_each}

@@ -1,4 +1,4 @@
-use Rattle.std.proofs.Common.{◌≡◌, ◌≢◌, ℕ, ◌+◌, ◌^◌, ◌<◌, ◌≤◌, ◌||◌, ◌==◌, max, true, false, if◌then◌else◌, List, [], ◌∷◌, ◌++◌, length, All, ap, arith, refl, subst, sym, ◌∙◌}
+use Rattle.std.proofs.Common.{◌≡◌, ◌≢◌, ℕ, ◌^◌, ◌<◌, ◌≤◌, ◌||◌, ◌==◌, max, false, if◌then◌else◌, [], ◌∷◌, ◌++◌, length, ap, arith, refl, subst, sym, ◌∙◌}
 use Rattle.std.specs.BinaryHeap.{heap_items, heap_len}
 use Rattle.std.specs.List.{list_any}
 use Rattle.std.proofs.lemmas.List.Elements.{All-contains, All-tail}
@@ -8,7 +8,7 @@ use Rattle.irv_base.specs.declared.limits.TheConstants.{ROOM}
 use Rattle.set_tallies.specs.Bags.{IsOf, Source}
 use Rattle.set_search.specs.Waits.{AreAdded, AreBelow}
 use Rattle.set_search.specs.declared.waiting.Waiting.{Waiting}
-use Rattle.set_search.proofs.Leveling.{Searched, Comes, starts, takes, skips, enters, whole, full, never-closed, long-is, shorter, seen-member, seen-out}
+use Rattle.set_search.proofs.Leveling.{Searched, starts, takes, skips, enters, whole, full, never-closed, long-is, shorter, seen-member, seen-out}
 use Rattle.set_search.proofs.Mores.{none-has}
 use Rattle.set_search.proofs.level.level.Goals as goal
 

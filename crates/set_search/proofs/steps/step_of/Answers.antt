@@ -1,4 +1,4 @@
-use Rattle.std.proofs.Common.{◌≡◌, ◌+◌, ◌<◌, ◌^◌, ap, arith, subst, sym, ◌∙◌}
+use Rattle.std.proofs.Common.{◌≡◌, ap, arith, subst, sym, ◌∙◌}
 use Rattle.assertions.specs.Scores.{all_offered, no_score}
 use Rattle.set_tallies.specs.Bags.{AreOf, HasTallies, IsOf, Source}
 use Rattle.set_tallies.proofs.Filled.{has-tallies}

@@ -1,4 +1,4 @@
-use Rattle.std.proofs.Common.{◌≡◌, ℕ, false, ◌+◌, ◌^◌, ◌<◌, ◌≤◌, ◌∷◌, List, All, ap, arith, subst, sym, ◌∙◌}
+use Rattle.std.proofs.Common.{◌≡◌, ℕ, false, ◌+◌, ◌^◌, ◌<◌, ◌≤◌, List, ap, arith, subst, sym, ◌∙◌}
 use Rattle.std.specs.BinaryHeap.{heap_items, heap_len, IsHeap}
 use Rattle.std.proofs.lemmas.List.Elements.{All-cons}
 use Rattle.std.proofs.lemmas.List.Sorted.{All-permutation}
@@ -9,7 +9,7 @@ use Rattle.set_walk.specs.Steps.{more, step}
 use Rattle.set_search.specs.Offers.{step_score}
 use Rattle.set_search.specs.Waits.{AreAddedUpTo, AreBelow, least_first, waiting_at}
 use Rattle.set_search.specs.declared.waiting.Waiting.{Waiting}
-use Rattle.set_search.proofs.Adding.{added-left, added-more, added-none}
+use Rattle.set_search.proofs.Adding.{added-left, added-more}
 use Rattle.set_search.proofs.Mores.{more-below}
 use Rattle.set_search.proofs.waiting.put_next.Goals as goal
 use Rattle.set_search.proofs.waiting.put_next.Goals.{then-not-has+in_ok-step+in_ok-push, else-not-has}

@@ -24,4 +24,5 @@ pub use limits::{MOST_EXPANDED, MOST_PIECES};
 pub use pieces::tails_of;
 pub use search::race;
 pub use share::work;
+pub use start::first_order;
 pub use turn::Turn;

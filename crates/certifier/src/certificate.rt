@@ -31,8 +31,8 @@ pub struct Certificate {
     pub order: Order,
 }
 
-// The claims as a list, in the fixed order.
-fn listed(alloc: Global, claims: &BTreeMap<Assertion, u32>) -> Result<Vec<Claim>, Memory>
+/// The claims as a list, in the fixed order.
+pub fn listed(alloc: Global, claims: &BTreeMap<Assertion, u32>) -> Result<Vec<Claim>, Memory>
     ensures { IfOk result (λ list. list.items ≡ map claim_at claims.now.entries) }
 {
     let mut list = Vec::new(alloc);

@@ -10,5 +10,5 @@ mod part;
 mod team;
 mod walk;
 
-pub use certificate::{Certificate, certify};
+pub use certificate::{Certificate, certify, listed};
 pub use fault::CertFault;

@@ -21,6 +21,8 @@ mod race_core_tests;
 #[cfg(test)]
 mod report_tests;
 #[cfg(test)]
+mod set_search_tests;
+#[cfg(test)]
 mod set_tallies_tests;
 #[cfg(test)]
 mod shared_witness_tests;

@@ -1,3 +1,10 @@
 pub mod Sets
 pub mod Answers
 pub mod Laws
+pub mod Offers
+pub mod Limits
+pub mod Waits
+pub mod Compared
+pub mod Levels
+pub mod Given
+pub mod Parts

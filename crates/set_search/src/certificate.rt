@@ -1,13 +1,85 @@
 // The canonical certificate by sets.
-ghost use Rattle.std.specs.Prelude.{ℕ, List, IfOk, IfErr, IsTrue};
+ghost use Rattle.std.specs.Prelude.{◌≡◌, ◌<◌, ◌≤◌, ◌^◌, ℕ, All, List, IfOk, IfErr, IfSome, IsTrue};
+ghost use Rattle.std.specs.Option.{MatchOption};
 ghost use Rattle.irv_base.specs.Orders.{is_order, Elects};
 ghost use Rattle.set_tallies.specs.Bags.{IsOf};
 ghost use Rattle.set_search.specs.Answers.{IsEnd, IsFault};
+ghost use Rattle.set_search.specs.Parts.{IsOrderIn, IsCover};
+ghost use Rattle.set_search.specs.Sets.{best_of, sets_for};
 
+use crate::by_margin::{ByMargin, Limit};
+use crate::claims::claims_of;
 use crate::ends::{SetsEnd, SetsFault};
+use crate::level::level;
+use bound_search::{Best, first_order};
+use certifier::Certificate;
+use indexmap::IndexSet;
+use irv_base::{CandSet, Candidate, Memory};
 use irv_tabulator::Tabulated;
 use set_tallies::Counted;
+use set_walk::{WalkEnd, WalkFault, walk_within};
 use std::alloc::Global;
+
+// The certificate's order with the best margin, or none where more sets are needed than the budget has.
+fn order_in(
+    alloc: Global,
+    steps: &mut ByMargin<'_>,
+    winner: Candidate,
+    sets: u32,
+) -> Result<Option<Best>, Memory>
+    requires { winner < steps.old.tallies.bag.n }
+    ensures order { (records : List (List ℕ)) → IsOf steps.old.tallies.bag records
+        → IfOk result (IsOrderIn steps.old.tallies.bag.n records winner sets) }
+    ensures same { steps.new.tallies ≡ steps.old.tallies }
+{
+    let n = steps.tallies.candidates();
+    let margin = level(alloc, &mut steps.tallies, winner, sets)?;
+    steps.limit = Limit::AtMost(margin);
+    match walk_within(alloc, steps, n, winner, sets) {
+        Ok(end) => match end {
+            WalkEnd::Found(order) => Ok(Some(Best { order, margin })),
+            // An order walks by this margin, or more sets stand than the budget has, so that the walk doesn't end.
+            WalkEnd::Ended(_seen) => Ok(None),
+        },
+        Err(fault) => match fault {
+            WalkFault::Spent => Ok(None),
+            WalkFault::Memory => Err(Memory),
+        },
+    }
+}
+
+// The sets that stand below the best margin, or none where they are more than the budget has.
+fn cover_in(
+    alloc: Global,
+    steps: &mut ByMargin<'_>,
+    winner: Candidate,
+    margin: u32,
+    sets: u32,
+) -> Result<Option<IndexSet<CandSet>>, Memory>
+    requires { winner < steps.old.tallies.bag.n }
+    ensures cover { (records : List (List ℕ)) → IsOf steps.old.tallies.bag records
+        → margin ≡ best_of steps.old.tallies.bag.n records winner
+        → IfOk result (λ cover. MatchOption cover
+        (sets < sets_for steps.old.tallies.bag.n records winner)
+        (λ seen. IsCover steps.old.tallies.bag.n records winner sets seen.keys)) }
+    ensures sets { IfOk result (λ cover. IfSome cover
+        (λ seen. All (λ set. set < 2 ^ steps.old.tallies.bag.n) seen.keys)) }
+    ensures same { steps.new.tallies ≡ steps.old.tallies }
+{
+    let n = steps.tallies.candidates();
+    steps.limit = Limit::Below(margin);
+    match walk_within(alloc, steps, n, winner, sets) {
+        Ok(end) => match end {
+            // No order walks by steps below the best margin.
+            WalkEnd::Found(_order) => Ok(None),
+            WalkEnd::Ended(seen) => Ok(Some(seen)),
+        },
+        Err(fault) => match fault {
+            WalkFault::Spent => Ok(None),
+            WalkFault::Memory => Err(Memory),
+        },
+    }
+}
 
 /// The canonical certificate of the contest with these records, of which `tab` is the tabulation, found by sets: what is put in front of
 /// a suffix depends on its set alone, so each set is gone into once.
@@ -31,5 +103,38 @@ pub fn certify_by_sets(
     ensures fault { (records : List (List ℕ)) → IsOf counted.now.bag records
         → IfErr result (IsFault counted.now.bag.n records tab.now sets) }
 {
-    Err(SetsFault::Memory)
+    let mut tallies = counted.tallies()?;
+    let start = first_order(tab, &mut tallies)?;
+    if start.margin == 0 {
+        return Ok(SetsEnd::Undecided);
+    }
+    let spent = SetsFault::Spent {
+        order: start.order,
+        margin: start.margin,
+    };
+    let mut steps = ByMargin {
+        tallies,
+        limit: Limit::AtMost(0),
+    };
+    let Some(best) = order_in(alloc, &mut steps, tab.winner, sets)? else {
+        return Err(spent);
+    };
+    if best.margin == 0 {
+        return Ok(SetsEnd::Undecided);
+    }
+    let Some(cover) = cover_in(alloc, &mut steps, tab.winner, best.margin, sets)? else {
+        return Err(spent);
+    };
+    let claims = claims_of(
+        alloc,
+        &mut steps.tallies,
+        tab.winner,
+        cover.as_slice(),
+        best.margin,
+    )?;
+    Ok(SetsEnd::Certificate(Certificate {
+        claims,
+        margin: best.margin,
+        order: best.order,
+    }))
 }

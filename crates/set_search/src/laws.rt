@@ -1,7 +1,27 @@
 //! The laws of a search by sets: each holds of every value that it names, and has no code.
-ghost use Rattle.set_search.specs.Laws.{SetsAreFew};
+ghost use Rattle.set_search.specs.Laws.{SetsAreFew, EnoughSets, CertifiedIsOne, SameByNodes, NeverBoth};
 
 /// No contest needs more sets than there are, less three.
 pub fn sets_are_few()
     ensures { SetsAreFew }
+{}
+
+/// So a budget of so many sets is never spent.
+pub fn enough_sets()
+    ensures { EnoughSets }
+{}
+
+/// The records have one certificate, at whatever budget of sets.
+pub fn certified_is_one()
+    ensures { CertifiedIsOne }
+{}
+
+/// It is the one that walks through suffixes find.
+pub fn same_by_nodes()
+    ensures { SameByNodes }
+{}
+
+/// No budget has both answers.
+pub fn never_both()
+    ensures { NeverBoth }
 {}

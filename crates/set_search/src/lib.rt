@@ -2,9 +2,15 @@
 //! certificate that the race and the walks through suffixes find; what differs is which contests the budget suffices for.
 #![tactic(auto)]
 
+mod by_margin;
 mod certificate;
+mod claims;
 mod ends;
+pub mod examples;
 pub mod laws;
+mod level;
+mod steps;
+mod waiting;
 
 pub use certificate::certify_by_sets;
 pub use ends::{SetsEnd, SetsFault};

@@ -1,5 +1,5 @@
 -- What a walk by sets answers.
-use Rattle.std.specs.Prelude.{◌≡◌, ◌↔◌, ℕ, Bool, nat_lt, if◌then◌else◌, List, length, Option, Some, None, Result, Ok, Err, Contains, ⊤}
+use Rattle.std.specs.Prelude.{◌≡◌, ◌↔◌, ℕ, ◌<◌, ◌^◌, Bool, nat_lt, if◌then◌else◌, List, length, Option, Some, None, Result, Ok, Err, All, Contains, ⊤}
 use Rattle.set_walk.specs.Walks.{counted, standing, first_by_sets}
 use Rattle.set_walk.specs.declared.walk.WalkEnd.{WalkEnd}
 use Rattle.set_walk.specs.declared.walk.WalkEnd.TheVariants.{Found, Ended}
@@ -20,3 +20,8 @@ IsWalk n winner sets goes (Ok (Ended seen)) =
     × ((set : ℕ) → (Contains seen.keys set ↔ Contains (standing n winner goes) set))
 IsWalk n winner sets goes (Err Spent) = first_within n winner sets goes ≡ Err Spent
 IsWalk n winner sets goes (Err Memory) = ⊤
+
+-- where no order walks, the walk was in sets of candidates below n
+abbrev pub AreSets : ℕ → WalkEnd → Type 0
+AreSets n (Found order) = ⊤
+AreSets n (Ended seen) = All (λ set. set < 2 ^ n) seen.keys

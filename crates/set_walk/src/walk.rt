@@ -1,9 +1,9 @@
 // The walk into each set once.
-ghost use Rattle.std.specs.Prelude.{◌≡◌, ◌≢◌, ◌<◌, ◌≤◌, ◌-◌, ℕ, Bool, length, IsTrue, OnOk, IfErr};
+ghost use Rattle.std.specs.Prelude.{◌≡◌, ◌≢◌, ◌<◌, ◌≤◌, ◌-◌, ◌^◌, ℕ, Bool, length, All, IsTrue, OnOk, IfOk, IfErr};
 ghost use Rattle.irv_base.specs.Suffixes.{is_suffix};
 ghost use Rattle.irv_base.specs.declared.limits.TheConstants.{ROOM};
 ghost use Rattle.set_walk.specs.Dives.{dive, stopped};
-ghost use Rattle.set_walk.specs.Answers.{IsWalk};
+ghost use Rattle.set_walk.specs.Answers.{IsWalk, AreSets};
 ghost use Rattle.set_walk.specs.declared.walk.Stop.TheVariants.{Memory as WantOfMemory};
 ghost use Rattle.set_walk.specs.declared.walk.WalkFault.TheVariants.{Memory as NoMemory};
 
@@ -91,7 +91,9 @@ fn dive<T: Goes>(
     requires room { n ≤ ROOM }
     requires proper { IsTrue (is_suffix n suffix.now) }
     requires some { 0 < length suffix.now }
+    requires were_sets { All (λ set. set < 2 ^ n) seen.old.keys }
     ensures same { test.new ≡ test.old }
+    ensures are_sets { OnOk result (All (λ set. set < 2 ^ n) seen.new.keys) }
     ensures ok { (may : ℕ → ℕ → Bool) → T.is_by test.old may
         → OnOk result (dive n sets may (n - length suffix.now) suffix.now seen.old.keys
         ≡ Ok seen.new.keys) }
@@ -153,6 +155,7 @@ pub fn walk_within<T: Goes>(
     ensures same { test.new ≡ test.old }
     ensures walk { (may : ℕ → ℕ → Bool) → T.is_by test.old may
         → IsWalk n winner sets may result }
+    ensures sets { IfOk result (AreSets n) }
 {
     let mut seen = IndexSet::new(alloc);
     for c in 0..n as u8 {

@@ -7,5 +7,6 @@ mod offers;
 mod scored;
 mod tail;
 
+pub use offers::{Score, neb_margin, offer};
 pub use scored::{Scored, child, expand, score};
 pub use tail::Tail;

@@ -51,7 +51,8 @@ pub fn offer(score: Score, margin: u32, a: Assertion) -> Score
     }
 }
 
-fn neb_margin(ahead: &Ahead, w: Candidate, l: Candidate) -> u32
+/// The margin of the NEB that `w` beats `l`, in votes, or 0 where it isn't true.
+pub fn neb_margin(ahead: &Ahead, w: Candidate, l: Candidate) -> u32
     requires winner { w < ahead.now.n }
     requires loser { l < ahead.now.n }
     ensures { (records : List (List ℕ)) → AreOf ahead.now records

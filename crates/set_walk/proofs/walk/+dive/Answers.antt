@@ -1,4 +1,5 @@
-use Rattle.std.proofs.Common.{◌≡◌, ◌≢◌, ◌+◌, ◌-◌, ◌^◌, ◌<◌, ◌≤◌, ◌∷◌, ◌++◌, [], false, true, Ok, Err, length, sym, ap, subst, arith, rules, if◌then◌else◌, lt-ltb, le-ltb, ◌∙◌}
+use Rattle.std.proofs.Common.{◌≡◌, ◌≢◌, ◌+◌, ◌-◌, ◌^◌, ◌<◌, ◌≤◌, ◌∷◌, ◌++◌, [], false, true, Ok, Err, All, length, sym, ap, subst, arith, rules, if◌then◌else◌, lt-ltb, le-ltb, ◌∙◌}
+use Rattle.std.proofs.lemmas.List.Elements.{All-append, All-cons, All-nil}
 use Rattle.irv_base.specs.Candidates.{is_in, set_of, has}
 use Rattle.irv_base.specs.Suffixes.{is_suffix}
 use Rattle.irv_base.proofs.Suffixes.{suffix_more, suffix-has, suffix-set}
@@ -39,6 +40,9 @@ loop-c-init g t c =
     added ∙ ap (λ b. if b then c.args.seen.now.keys else c.args.seen.now.keys ++ c.set-set.result ∷ []) free
     ∙ ap (λ s. c.args.seen.now.keys ++ s ∷ []) c.set-set.ensures in (
       λ _. c.args.test.now,
+      subst (All (λ s. s < 2 ^ c.args.n)) (sym keys)
+          (All-append (λ s. s < 2 ^ c.args.n) c.args.seen.now.keys (set_of c.args.suffix.now ∷ []) c.requires.were_sets
+          (All-cons (λ s. s < 2 ^ c.args.n) (set_of c.args.suffix.now) [] (suffix-set c.args.n c.args.suffix.now c.requires.proper) (All-nil (λ s. s < 2 ^ c.args.n)))),
       λ may by. ap (rest c.args.n c.args.sets may c.args.suffix.now 0) keys
           ∙ sym (dive-enters c.args.n c.args.sets may c.args.suffix.now c.args.seen.now.keys short out
           (lt-ltb (length c.args.seen.now.keys) c.args.sets (omega (arith, long, few)))),
@@ -46,7 +50,7 @@ loop-c-init g t c =
 
 pub goes-requires-clause-set : goal.goes-requires-clause-set
 goes-requires-clause-set g t c =
-    let (is, _) = c.loop-c.invariant in
+    let (is, were, _) = c.loop-c.invariant in
     subst (λ k. c.set-set.result < 2 ^ k) (c.requires.size ∙ sym (ap g.T.Goes.size is))
     (subst (λ s. s < 2 ^ c.args.n) (sym c.set-set.ensures) (suffix-set c.args.n c.args.suffix.now c.requires.proper))
 
@@ -60,7 +64,7 @@ dive-requires g t c κs within =
     let n = c.args.n in
     let t = c.args.suffix.now in
     let front = c.loop-c.c in
-    let (is, _) = c.loop-c.invariant in
+    let (is, were, _) = c.loop-c.invariant in
     let same : c.with.result ≡ c.loop-c.c ∷ c.args.suffix.now = c.with.ensures in
     let short : length c.args.suffix.now < c.args.n = short-from_none n t c.requires.proper (sym c.whole.ensures ∙ c.in_default.is) in
     let out : is_in c.args.suffix.now c.loop-c.c ≡ false = sym c.contains-in-loop-c.ensures ∙ c.if-not-contains.true in
@@ -76,7 +80,10 @@ dive-requires g t c κs within =
               c.requires.room,
               (
                 ap (is_suffix n) same ∙ suffix_more n front t c.loop-c-test.true out c.requires.proper,
-                omega arith,
+                (
+                  omega arith,
+                  were,
+                ),
               ),
             ),
           ),
@@ -88,7 +95,7 @@ pub returns-in_err-dive-clause-err : goal.returns-in_err-dive-clause-err
 returns-in_err-dive-clause-err g t c = λ may by.
     let n = c.args.n in
     let sets = c.args.sets in
-    let (is, same) = c.loop-c.invariant in
+    let (is, were, same) = c.loop-c.invariant in
     let out : is_in c.args.suffix.now c.loop-c.c ≡ false = sym c.contains-in-loop-c.ensures ∙ c.if-not-contains.true in
     let yes' : may (set_of c.args.suffix.now) c.loop-c.c ≡ true =
     ap (λ s. may s c.loop-c.c) (sym c.set-set.ensures) ∙ sym (c.in_ok-goes.ensures.answer may (subst (λ x. g.T.Goes.is_by x may) (sym is) by)) ∙ c.if-branch.true in
@@ -105,10 +112,11 @@ loop-c-preserved g t c =
     let n = c.args.n in
     let sets = c.args.sets in
     let t = c.args.suffix.now in
-    let (is, same) = c.loop-c.invariant in
+    let (is, were, same) = c.loop-c.invariant in
     elim c.if-not-contains.branch [
       | then-not-contains+in_ok-goes+then-branch+in_ok-dive w ↦ (
         w.test-is ∙ w.dive.ensures.same ∙ w.goes.ensures.same ∙ is,
+        subst (λ s. All (λ x. x < 2 ^ n) s.keys) (sym w.seen-is) w.in_ok-dive.ensures.are_sets,
         λ may by.
             let out : is_in c.args.suffix.now c.loop-c.c ≡ false = sym c.contains-in-loop-c.ensures ∙ w.if-not-contains.true in
             let yes' : may (set_of c.args.suffix.now) c.loop-c.c ≡ true =
@@ -122,6 +130,7 @@ loop-c-preserved g t c =
       )
       | then-not-contains+in_ok-goes+else-branch w ↦ (
         w.test-is ∙ w.goes.ensures.same ∙ is,
+        subst (λ s. All (λ x. x < 2 ^ n) s.keys) (sym w.seen-is) were,
         λ may by.
             let out : is_in c.args.suffix.now c.loop-c.c ≡ false = sym c.contains-in-loop-c.ensures ∙ w.if-not-contains.true in
             let no' : may (set_of c.args.suffix.now) c.loop-c.c ≡ false =
@@ -131,6 +140,7 @@ loop-c-preserved g t c =
       )
       | else-not-contains w ↦ (
         w.test-is ∙ is,
+        subst (λ s. All (λ x. x < 2 ^ n) s.keys) (sym w.seen-is) were,
         λ may by.
             let inside : is_in c.args.suffix.now c.loop-c.c ≡ true = sym c.contains-in-loop-c.ensures ∙ w.if-not-contains.false in
             ap (λ s. rest n sets may t (c.loop-c.c + 1) s.keys) w.seen-is
@@ -140,6 +150,6 @@ loop-c-preserved g t c =
 
 pub returns-clause-ok : goal.returns-clause-ok
 returns-clause-ok g t c = λ may by.
-    let (_, same) = c.loop-c.invariant in
+    let (_, were, same) = c.loop-c.invariant in
     sym (same may by)
     ∙ rest-end c.args.n c.args.sets may c.args.suffix.now c.loop-c.c c.loop-c.seen.keys (omega arith)

@@ -1,4 +1,4 @@
-use Rattle.std.proofs.Common.{◌≡◌, ◌≢◌, ◌+◌, ◌-◌, ◌∷◌, [], false, true, Ok, Err, length, sym, ap, subst, arith, ◌∙◌}
+use Rattle.std.proofs.Common.{◌≡◌, ◌≢◌, ◌+◌, ◌-◌, ◌<◌, ◌^◌, All, ◌∷◌, [], false, true, Ok, Err, length, sym, ap, subst, arith, ◌∙◌}
 use Rattle.set_walk.specs.Answers.{IsWalk}
 use Rattle.set_walk.specs.Dives.{dive, dives, walked}
 use Rattle.set_walk.proofs.Counted.{walk_is}
@@ -12,7 +12,7 @@ returns-in-Err-clause-walk g c = λ may by.
     let n = c.args.n in
     let sets = c.args.sets in
     let winner = c.args.winner in
-    let (is, same) = c.loop-c.invariant in
+    let (is, were, same) = c.loop-c.invariant in
     let differ : c.loop-c.c ≢ c.args.winner = differs c.loop-c.c c.args.winner c.ne.result c.ne.ensures c.if-ne.true in
     let yes' : may 0 c.loop-c.c ≡ true =
     ap (λ s. may s c.loop-c.c) (sym c.empty.ensures) ∙ sym (c.in_ok-goes.ensures.answer may (subst (λ x. g.T.Goes.is_by x may) (sym is) by)) ∙ c.if-branch.true in
@@ -29,10 +29,11 @@ loop-c-preserved g c =
     let n = c.args.n in
     let sets = c.args.sets in
     let winner = c.args.winner in
-    let (is, same) = c.loop-c.invariant in
+    let (is, were, same) = c.loop-c.invariant in
     elim c.if-ne.branch [
       | then-ne+in_ok-goes+then-branch+in-Ok w ↦ (
         w.test-is ∙ w.dive.ensures.same ∙ w.goes.ensures.same ∙ is,
+        subst (λ s. All (λ x. x < 2 ^ n) s.keys) (sym w.seen-is) w.in-Ok.ensures.are_sets,
         λ may by.
             let differ : c.loop-c.c ≢ c.args.winner = differs c.loop-c.c c.args.winner c.ne.result c.ne.ensures w.if-ne.true in
             let yes' : may 0 c.loop-c.c ≡ true =
@@ -46,6 +47,7 @@ loop-c-preserved g c =
       )
       | then-ne+in_ok-goes+else-branch w ↦ (
         w.test-is ∙ w.goes.ensures.same ∙ is,
+        subst (λ s. All (λ x. x < 2 ^ n) s.keys) (sym w.seen-is) were,
         λ may by.
             let differ : c.loop-c.c ≢ c.args.winner = differs c.loop-c.c c.args.winner c.ne.result c.ne.ensures w.if-ne.true in
             let no' : may 0 c.loop-c.c ≡ false =
@@ -55,6 +57,7 @@ loop-c-preserved g c =
       )
       | else-ne w ↦ (
         w.test-is ∙ is,
+        subst (λ s. All (λ x. x < 2 ^ n) s.keys) (sym w.seen-is) were,
         λ may by. ap (λ s. lasts n winner sets may (c.loop-c.c + 1) s.keys) w.seen-is
             ∙ sym (lasts-winner n winner sets may c.loop-c.c c.loop-c.seen.keys c.loop-c-test.true
             (agrees c.loop-c.c c.args.winner c.ne.result c.ne.ensures w.if-ne.false)) ∙ same may by,
@@ -64,7 +67,7 @@ loop-c-preserved g c =
 pub returns-clause-walk : goal.returns-clause-walk
 returns-clause-walk g c = λ may by.
     let n = c.args.n in
-    let (_, same) = c.loop-c.invariant in
+    let (_, were, same) = c.loop-c.invariant in
     let end : dives c.args.n c.args.winner c.args.sets may ≡ Ok c.loop-c.seen.keys =
     sym (same may by) ∙ lasts-end c.args.n c.args.winner c.args.sets may c.loop-c.c c.loop-c.seen.keys (omega arith) in (
       sym (walk_is n c.args.winner may c.args.sets c.requires.some) ∙ ap walked end,

@@ -1,0 +1,31 @@
+-- Sets that one may go into next.
+use Rattle.std.specs.Prelude.{◌≡◌, ◌⊎◌, ℕ, ◌<◌, ◌^◌, false, List, All, Contains}
+use Rattle.std.specs.declared.cmp.Ordering.{Ordering}
+use Rattle.std.specs.Ordering.{flip_args, nat_cmp, on}
+use Rattle.irv_base.specs.Candidates.{has}
+use Rattle.set_walk.specs.Steps.{more, step}
+use Rattle.set_search.specs.declared.waiting.Waiting.{Waiting}
+
+-- that of the least margin is the greatest
+abbrev pub least_first : Waiting → Waiting → Ordering
+least_first = flip_args (on (λ o. o.margin) nat_cmp)
+
+-- the set with c more, by its step
+abbrev pub waiting_at : ℕ → List (List ℕ) → ℕ → ℕ → Waiting
+waiting_at n records set c = record { margin = step n records set c; set = more set c }
+
+-- they are sets of candidates below n
+abbrev pub AreBelow : ℕ → List Waiting → Type 0
+AreBelow n waiting = All (λ o. o.set < 2 ^ n) waiting
+
+-- the sets that one comes to from this one, by one more candidate of those below k who aren't in `closed`, are waiting now, and besides
+-- them those that were
+pub record AreAddedUpTo (n : ℕ) (records : List (List ℕ)) (set closed k : ℕ) (old new : List Waiting)
+    : Type 0 where
+  pub kept : (o : Waiting) → Contains old o → Contains new o
+  pub each : (c : ℕ) → c < k → has closed c ≡ false → Contains new (waiting_at n records set c)
+  pub only : (o : Waiting) → Contains new o → Contains old o
+      ⊎ ((c : ℕ) × (c < k) × (has closed c ≡ false) × (o ≡ waiting_at n records set c))
+
+abbrev pub AreAdded : ℕ → List (List ℕ) → ℕ → ℕ → List Waiting → List Waiting → Type 0
+AreAdded n records set closed old new = AreAddedUpTo n records set closed n old new

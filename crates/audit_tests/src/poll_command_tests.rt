@@ -2,7 +2,7 @@
 // out in Python. The rest is worked out by hand.
 ghost use Rattle.irv_base.specs.declared.limits.TheConstants.{MOST_DRAWS};
 ghost use Rattle.command.specs.Limits.{IsUpTo};
-ghost use Rattle.command.specs.declared.limits.TheConstants.{MOST_NODES};
+ghost use Rattle.budget.specs.declared.limits.TheConstants.{MOST_NODES};
 
 use crate::one_card::{ASSERTIONS, MANIFEST};
 use crate::reading::{desk_of, named};

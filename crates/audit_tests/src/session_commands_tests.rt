@@ -5,6 +5,7 @@ ghost use Rattle.irv_base.specs.declared.limits.TheConstants.{MOST_DRAWS};
 
 use crate::one_card::{ASSERTIONS, BALLOTS, MANIFEST};
 use crate::reading::{desk_of, named};
+use budget::Budget;
 use cli_base::{Answer, Refusal};
 use command::{AuditTask, OpenTask, ReportTask};
 use desk::MemoryDesk;
@@ -84,7 +85,7 @@ fn opened<R: AllocGlobal + Threads + Sync>(rt: &R, case: &Case) -> Result<Said, 
         contest: None,
         limit: 50_000,
         gamma: 100,
-        nodes: 100_000,
+        budget: Budget::Nodes(100_000),
     };
     let mut desk = desk_for(alloc, case)?;
     Ok(told_by(alloc, open::answer(rt, &mut desk, &task)))
@@ -101,7 +102,7 @@ fn audited<R: AllocGlobal + Threads + Sync>(rt: &R, case: &Case, draws: u32) -> 
         assertions: named(alloc, "assertions")?,
         seen: named(alloc, "seen")?,
         draws,
-        nodes: 100_000,
+        budget: Budget::Nodes(100_000),
     };
     let mut desk = desk_for(alloc, case)?;
     Ok(told_by(alloc, audit::answer(rt, &mut desk, &task)))

@@ -1,12 +1,10 @@
 -- How many sets suffice for a search, and where they don't.
-use Rattle.std.proofs.Common.{◌≡◌, ◌↔◌, ℕ, zero, suc, ◌-◌, ◌^◌, ◌<◌, ◌≤◌, Bool, nat_lt, nat_le, List, sym, ap, subst, arith, ◌∙◌}
+use Rattle.std.proofs.Common.{◌≡◌, ◌↔◌, ℕ, zero, suc, ◌-◌, ◌^◌, ◌<◌, ◌≤◌, List, sym, ap, subst, arith, ◌∙◌}
 use Rattle.budget.specs.declared.budget.Budget.TheVariants.{Sets}
 use Rattle.ballot_reader.specs.Ballots.{BallotFile}
-use Rattle.assertions.specs.Hardness.{first_bound, best_margin, low as low_with}
-use Rattle.set_walk.specs.Steps.{step}
-use Rattle.set_walk.proofs.Counted.{counted_stand}
-use Rattle.set_walk.proofs.Few.{standing_are_fewer}
+use Rattle.assertions.specs.Hardness.{first_bound}
 use Rattle.set_search.specs.Sets.{sets_for}
+use Rattle.set_search.proofs.Deciding.{sets_are_few as few_sets}
 use Rattle.contest_search.specs.Budget.{sets_of}
 use Rattle.contest_search.specs.Contest.{candidate_count, IsWon}
 use Rattle.contest_search.specs.Found.{FoundIn, IsSpentFound}
@@ -19,15 +17,7 @@ sets-few : (n winner : ℕ) (records : List (List ℕ)) → winner < n → sets_
 sets-few zero winner records low = absurd (omega (arith, low))
 sets-few (suc zero) zero records low = omega arith
 sets-few (suc zero) (suc winner) records low = absurd (omega (arith, low))
-sets-few (suc (suc n)) winner records low =
-    let m = suc (suc n) in
-    let best = best_margin m winner (low_with m records) in
-    let below : ℕ → ℕ → Bool = λ set c. nat_lt (step m records set c) best in
-    let most : ℕ → ℕ → Bool = λ set c. nat_le (step m records set c) best in
-    let cover = standing_are_fewer m winner below low (omega arith) in
-    let order = standing_are_fewer m winner most low (omega arith) in
-    let counts = (counted_stand m winner most).0 in
-    omega (arith, cover, order, counts)
+sets-few (suc (suc n)) winner records low = few_sets (suc (suc n)) winner records low (omega arith)
 
 pub sets_are_few : SetsAreFew
 sets_are_few ballots winner won = sets-few (candidate_count ballots) winner ballots.rankings (winner-below ballots winner won)

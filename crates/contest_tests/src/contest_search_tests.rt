@@ -1,6 +1,7 @@
 // What a search finds of contests that were worked by hand: a certificate, a tie, a budget that is spent.
 use crate::contests::{ONE, TWO, ZERO};
 use ballot_reader::read_ballots;
+use budget::Budget;
 use contest_search::{Found, Searchable, find};
 use desk::NoGate;
 
@@ -24,7 +25,7 @@ Contest,1,3,1,2,3
 #[test]
 fn three_candidates_are_certified(rt: HostRuntime) {
     let ballots = read_ballots(rt.alloc(), THREE_CANDIDATES, None).expect(&rt, "ballots");
-    match find(&rt, &Searchable::of(&ballots), 2, 100_000, &NoGate) {
+    match find(&rt, &Searchable::of(&ballots), 2, Budget::Nodes(100_000), &NoGate) {
         Ok(Found::Certificate(file)) => {
             assert!(rt; file.winner() == ONE);
             assert!(rt; file.margin() == 1);
@@ -39,15 +40,42 @@ fn three_candidates_are_certified(rt: HostRuntime) {
 #[test]
 fn three_candidates_are_spent(rt: HostRuntime) {
     let ballots = read_ballots(rt.alloc(), THREE_CANDIDATES, None).expect(&rt, "ballots");
-    let found = find(&rt, &Searchable::of(&ballots), 1, 0, &NoGate);
+    let found = find(&rt, &Searchable::of(&ballots), 1, Budget::Nodes(0), &NoGate);
     assert!(rt; matches!(&found, Ok(Found::Spent { .. })));
+}
+
+// The sets of the order 2,1,3 are those of its suffixes and that of candidate 1 alone. One fewer is told with the order that a search
+// starts with, and its hardness.
+#[test]
+fn three_candidates_by_sets(rt: HostRuntime) {
+    let ballots = read_ballots(rt.alloc(), THREE_CANDIDATES, None).expect(&rt, "ballots");
+    match find(&rt, &Searchable::of(&ballots), 1, Budget::Sets(3), &NoGate) {
+        Ok(Found::Certificate(file)) => {
+            assert!(rt; file.margin() == 1);
+            assert!(rt; file.claims().len() == 3);
+            assert!(rt; file.order().candidates() == [ONE, ZERO, TWO].as_slice());
+        }
+        _ => assert!(rt; false),
+    }
+    match find(&rt, &Searchable::of(&ballots), 1, Budget::Sets(2), &NoGate) {
+        Ok(Found::SpentSets {
+            sets,
+            order,
+            margin,
+        }) => {
+            assert!(rt; sets == 2);
+            assert!(rt; margin == 2);
+            assert!(rt; order.candidates() == [TWO, ONE, ZERO].as_slice());
+        }
+        _ => assert!(rt; false),
+    }
 }
 
 #[test]
 fn one_against_one_is_a_tie(rt: HostRuntime) {
     let file = b"1\nContest,7,2,A,B\n7,b_1,A\n7,b_2,B\n".as_slice();
     let ballots = read_ballots(rt.alloc(), file, None).expect(&rt, "ballots");
-    let found = find(&rt, &Searchable::of(&ballots), 1, 100_000, &NoGate);
+    let found = find(&rt, &Searchable::of(&ballots), 1, Budget::Nodes(100_000), &NoGate);
     let is_first = matches!(
         &found,
         Ok(Found::Tie {

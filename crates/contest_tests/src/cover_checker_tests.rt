@@ -1,8 +1,9 @@
-// The checker of lists: budgets at the most candidates and at nine, and a certificate of three.
+// The checker of lists: budgets at the most candidates and at nine, sets of 20 and of nine, and a certificate of three.
 mod files;
 
 use crate::contests::{FOUR, ONE, THREE, TWO, ZERO};
 use assertions::Assertion;
+use budget::Budget;
 use cover_checker::{CoverFault, Verdict, covered};
 use irv_base::{CandSet, Candidate, MOST_CANDIDATES};
 
@@ -37,6 +38,7 @@ fn is_spent(answer: &Result<Verdict, CoverFault>, at: Candidate) -> bool {
     match answer {
         Ok(_verdict) => false,
         Err(CoverFault::Spent { last }) => *last == at,
+        Err(CoverFault::SpentSets { .. }) => false,
         Err(CoverFault::Memory) => false,
     }
 }
@@ -52,7 +54,7 @@ fn stands(answer: &Result<Verdict, CoverFault>, backwards: &[Candidate]) -> bool
 #[test]
 fn empty_list_spent(rt: HostRuntime) {
     let most = MOST_CANDIDATES;
-    assert!(rt; is_spent(&covered(rt.alloc(), most, ZERO, &[], most - 2), ONE));
+    assert!(rt; is_spent(&covered(rt.alloc(), most, ZERO, &[], Budget::Nodes(most - 2)), ONE));
 }
 
 #[test]
@@ -63,17 +65,17 @@ fn empty_list_stands(rt: HostRuntime) {
         backwards[usize::from(c)] = Candidate(c);
     }
     backwards[0] = ONE;
-    assert!(rt; stands(&covered(rt.alloc(), most, ZERO, &[], most - 1), &backwards));
+    assert!(rt; stands(&covered(rt.alloc(), most, ZERO, &[], Budget::Nodes(most - 1)), &backwards));
 }
 
 #[test]
 fn whole_orders_covered(rt: HostRuntime) {
-    assert!(rt; is_covered(&covered(rt.alloc(), 9, ZERO, &whole_orders(), 69_281)));
+    assert!(rt; is_covered(&covered(rt.alloc(), 9, ZERO, &whole_orders(), Budget::Nodes(69_281))));
 }
 
 #[test]
 fn whole_orders_spent(rt: HostRuntime) {
-    assert!(rt; is_spent(&covered(rt.alloc(), 9, ZERO, &whole_orders(), 69_280), ONE));
+    assert!(rt; is_spent(&covered(rt.alloc(), 9, ZERO, &whole_orders(), Budget::Nodes(69_280)), ONE));
 }
 
 #[test]
@@ -83,7 +85,7 @@ fn three_candidates_certificate(rt: HostRuntime) {
         nen(ONE, ZERO, CandSet::empty().with(ZERO).with(ONE)),
         nen(TWO, ZERO, CandSet::empty().with(ZERO).with(TWO)),
     ];
-    assert!(rt; is_covered(&covered(rt.alloc(), 3, ONE, &certificate, 1)));
+    assert!(rt; is_covered(&covered(rt.alloc(), 3, ONE, &certificate, Budget::Nodes(1))));
 }
 
 #[test]
@@ -92,5 +94,41 @@ fn certificate_without_its_neb(rt: HostRuntime) {
         nen(ONE, ZERO, CandSet::empty().with(ZERO).with(ONE)),
         nen(TWO, ZERO, CandSet::empty().with(ZERO).with(TWO)),
     ];
-    assert!(rt; stands(&covered(rt.alloc(), 3, ONE, &nens, 2), &[TWO, ZERO, ONE]));
+    assert!(rt; stands(&covered(rt.alloc(), 3, ONE, &nens, Budget::Nodes(2)), &[TWO, ZERO, ONE]));
+}
+
+fn is_spent_by_sets(answer: &Result<Verdict, CoverFault>, most: u32) -> bool {
+    match answer {
+        Err(CoverFault::SpentSets { sets }) => *sets == most,
+        _ => false,
+    }
+}
+
+// A set counts for each length below that of a whole order: the walk goes straight to the least order.
+#[test]
+fn empty_list_by_sets(rt: HostRuntime) {
+    let mut backwards = [ZERO; 20];
+    for c in 2..20 {
+        backwards[c] = Candidate(c as u8);
+    }
+    backwards[0] = ONE;
+    assert!(rt; stands(&covered(rt.alloc(), 20, ZERO, &[], Budget::Sets(19)), &backwards));
+    assert!(rt; is_spent_by_sets(&covered(rt.alloc(), 20, ZERO, &[], Budget::Sets(18)), 18));
+}
+
+// All sets but nobody's, the winner's alone and that of all: of nine candidates they are 509, for 69,281 suffixes of each.
+#[test]
+fn whole_orders_by_sets(rt: HostRuntime) {
+    assert!(rt; is_covered(&covered(rt.alloc(), 9, ZERO, &whole_orders(), Budget::Sets(509))));
+    assert!(rt; is_spent_by_sets(&covered(rt.alloc(), 9, ZERO, &whole_orders(), Budget::Sets(508)), 508));
+}
+
+#[test]
+fn nens_by_sets(rt: HostRuntime) {
+    let nens = [
+        nen(ONE, ZERO, CandSet::empty().with(ZERO).with(ONE)),
+        nen(TWO, ZERO, CandSet::empty().with(ZERO).with(TWO)),
+    ];
+    assert!(rt; stands(&covered(rt.alloc(), 3, ONE, &nens, Budget::Sets(3)), &[TWO, ZERO, ONE]));
+    assert!(rt; is_spent_by_sets(&covered(rt.alloc(), 3, ONE, &nens, Budget::Sets(2)), 2));
 }

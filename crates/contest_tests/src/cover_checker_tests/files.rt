@@ -5,6 +5,7 @@ use crate::contests::{ONE, TWO, ZERO};
 use assertion_file::read_file;
 use assertions::Assertion;
 use ballot_reader::read_ballots;
+use budget::Budget;
 use cover_checker::{CheckFault, Checked, check};
 use irv_base::{CandSet, Candidate};
 use set_tallies::{Ahead, Bag, Tallies};
@@ -23,7 +24,7 @@ fn checked<R: Abort + AllocGlobal + Threads + Sync>(
     rt: &R,
     ballots: &str,
     file: &str,
-    nodes: u32,
+    budget: Budget,
 ) -> Result<Checked, CheckFault> {
     let alloc = rt.alloc();
     let ballots = read_ballots(alloc, ballots.as_bytes(), None).expect(rt, "ballots");
@@ -32,7 +33,7 @@ fn checked<R: Abort + AllocGlobal + Threads + Sync>(
     let ahead = Ahead::fill(alloc, &bag).expect(rt, "ahead");
     let mut tallies = Tallies::new(alloc, &bag, &ahead).expect(rt, "tallies");
     let file = read_file(alloc, file.as_bytes()).expect(rt, "file");
-    check(alloc, &ballots, &mut tallies, &file, nodes)
+    check(alloc, &ballots, &mut tallies, &file, budget)
 }
 
 // The answer to the certificate with one text in place of another.
@@ -42,7 +43,7 @@ fn changed<R: Abort + AllocGlobal + Threads + Sync>(
     to: &str,
 ) -> Result<Checked, CheckFault> {
     let file = CERTIFICATE.replace(rt.alloc(), from, to).expect(rt, "text");
-    checked(rt, BALLOTS, file.as_str(), 100)
+    checked(rt, BALLOTS, file.as_str(), Budget::Nodes(100))
 }
 
 fn stands(answer: &Result<Checked, CheckFault>, candidates: &[Candidate]) -> bool {
@@ -61,17 +62,28 @@ fn is_refuted(answer: &Result<Checked, CheckFault>, by: &Assertion, by_margin: u
 
 #[test]
 fn certificate_is_accepted(rt: HostRuntime) {
-    assert!(rt; matches!(checked(&rt, BALLOTS, CERTIFICATE, 1), Ok(Checked::Accepted)));
+    assert!(rt; matches!(checked(&rt, BALLOTS, CERTIFICATE, Budget::Nodes(1)), Ok(Checked::Accepted)));
 }
 
 #[test]
 fn no_budget(rt: HostRuntime) {
     assert!(rt;
         matches!(
-            checked(&rt, BALLOTS, CERTIFICATE, 0),
+            checked(&rt, BALLOTS, CERTIFICATE, Budget::Nodes(0)),
             Err(CheckFault::Spent { last: ZERO })
         )
     );
+}
+
+// Without its NEB an order stands, and three sets count.
+#[test]
+fn certificate_by_sets(rt: HostRuntime) {
+    assert!(rt; matches!(checked(&rt, BALLOTS, CERTIFICATE, Budget::Sets(1)), Ok(Checked::Accepted)));
+    let file = CERTIFICATE.replace(rt.alloc(), NEB, "").expect(&rt, "text");
+    let answer = checked(&rt, BALLOTS, file.as_str(), Budget::Sets(3));
+    assert!(rt; stands(&answer, &[ONE, ZERO, TWO]));
+    let answer = checked(&rt, BALLOTS, file.as_str(), Budget::Sets(2));
+    assert!(rt; matches!(&answer, Err(CheckFault::SpentSets { sets: 2 })));
 }
 
 #[test]
@@ -94,7 +106,7 @@ const CERTIFICATE_TIED_BELOW: &str =
 
 #[test]
 fn tie_that_changes_nothing(rt: HostRuntime) {
-    let answer = checked(&rt, TIED_BELOW, CERTIFICATE_TIED_BELOW, 1);
+    let answer = checked(&rt, TIED_BELOW, CERTIFICATE_TIED_BELOW, Budget::Nodes(1));
     assert!(rt; matches!(answer, Ok(Checked::Accepted)));
     let file = CERTIFICATE_TIED_BELOW
         .replace(
@@ -103,9 +115,9 @@ fn tie_that_changes_nothing(rt: HostRuntime) {
             "\"version\":1,\"winner\":\"2\"",
         )
         .expect(&rt, "text");
-    let answer = checked(&rt, TIED_BELOW, file.as_str(), 1);
+    let answer = checked(&rt, TIED_BELOW, file.as_str(), Budget::Nodes(1));
     assert!(rt; matches!(answer, Ok(Checked::OtherWinner(ZERO))));
-    let answer = checked(&rt, TIED_BELOW, CERTIFICATE, 1);
+    let answer = checked(&rt, TIED_BELOW, CERTIFICATE, Budget::Nodes(1));
     assert!(rt; matches!(answer, Ok(Checked::OtherContest)));
 }
 
@@ -124,7 +136,7 @@ fn replanned<R: Abort + AllocGlobal + Threads + Sync>(
     let file = CERTIFICATE_PLANNED
         .replace(rt.alloc(), from, to)
         .expect(rt, "text");
-    checked(rt, FIVE_BALLOTS, file.as_str(), 1)
+    checked(rt, FIVE_BALLOTS, file.as_str(), Budget::Nodes(1))
 }
 
 #[test]
@@ -174,13 +186,13 @@ const CLAIM_OF_TWO: &str =
 
 #[test]
 fn tie_for_the_win(rt: HostRuntime) {
-    let answer = checked(&rt, TIED_FOR_THE_WIN, CLAIM_OF_TWO, 1);
+    let answer = checked(&rt, TIED_FOR_THE_WIN, CLAIM_OF_TWO, Budget::Nodes(1));
     assert!(rt; matches!(answer, Ok(Checked::OtherMargin { index: 1, found: 0 })));
     let claim = "{\"kind\":\"NEB\",\"loser\":\"1\",\"margin\":1,\"winner\":\"2\"}";
     let file = CLAIM_OF_TWO
         .replace(rt.alloc(), claim, "")
         .expect(&rt, "text");
-    let answer = checked(&rt, TIED_FOR_THE_WIN, file.as_str(), 1);
+    let answer = checked(&rt, TIED_FOR_THE_WIN, file.as_str(), Budget::Nodes(1));
     assert!(rt; stands(&answer, &[ONE, ZERO]));
 }
 

@@ -16,6 +16,7 @@ use sampler::Seed;
 use seen_file::{SeenFault, VRule};
 use std::alloc::Global;
 use std::sync::atomic::{AtomicU64, Ordering};
+use std::thread::Threads;
 
 // The card is for the first candidate of one contest, and for the second candidate of the other.
 const BALLOTS: &str = "2\nContest,7,2,1,2\nContest,8,2,1,2\n7,b_1,1\n8,b_1,2\n";
@@ -37,8 +38,8 @@ fn contests(alloc: Global, ballots: &str) -> Option<Vec<Ballots>>
 }
 
 // How the contests end, at five draws, a limit of 5 percent and gamma 0.1, if the files are read.
-fn ends<G: Gate + Sync>(
-    rt: &HostRuntime,
+fn ends<R: AllocGlobal + Threads + Sync, G: Gate + Sync>(
+    rt: &R,
     ballots: &str,
     seen: &str,
     workers: u32,
@@ -103,13 +104,7 @@ fn is_second(end: &ContestEnd) -> bool {
         n0: 5,
         ..Counts::default()
     };
-    is_audited(
-        end,
-        Candidate(1),
-        missing,
-        1_000_000_000_000_000_000,
-        false,
-    )
+    is_audited(end, Candidate(1), missing, 1_000_000_000_000_000_000, false)
 }
 
 #[test]
@@ -136,14 +131,18 @@ fn a_tie_hinders_no_other_contest(rt: HostRuntime) {
         panic!(rt; "a tie");
     };
     assert!(rt; *round == 1 && *tally == 0);
-    assert!(rt; tied.contains(Candidate(0)) && tied.contains(Candidate(1)));
+    assert!(rt; tied.has(Candidate(0)) && tied.has(Candidate(1)));
 }
 
 #[test]
 fn a_broken_record_is_told(rt: HostRuntime) {
     let broken = [
         ("b_1,9,missing\nb_1,7,ballot,1\n", VRule::V6, 1),
-        ("b_1,7,ballot,1\nb_1,8,missing\nb_1,7,missing\n", VRule::V3, 3),
+        (
+            "b_1,7,ballot,1\nb_1,8,missing\nb_1,7,missing\n",
+            VRule::V3,
+            3,
+        ),
         ("b_1,7,ballot,1\n\nb_1,8\n", VRule::V1, 2),
         ("b_1,7,missing,1\n", VRule::V1, 1),
         ("b_2,9,missing\n", VRule::V2, 1),
@@ -171,7 +170,14 @@ fn the_first_contest_without_a_record_is_told(rt: HostRuntime) {
         let Some(Err(fault)) = ends(&rt, BALLOTS, seen, 2, &NoGate) else {
             panic!(rt; "a fault");
         };
-        assert!(rt; fault == SetFault::NoRecord { contest, card: 1, k: 1 });
+        assert!(rt;
+            fault
+                == SetFault::NoRecord {
+                    contest,
+                    card: 1,
+                    k: 1
+                }
+        );
     }
 }
 

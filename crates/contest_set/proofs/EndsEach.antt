@@ -1,7 +1,5 @@
 -- A contest ends by itself, and in one way, but for its budget.
-use Rattle.std.proofs.Common.{◌≡◌, ◌∙◌, ℕ, zero, suc, ◌∷◌, [], List, Some, refl, sym, ap, subst}
-use Rattle.std.specs.List.{slice_get}
-use Rattle.std.specs.Prelude.{IsSomeAnd}
+use Rattle.std.proofs.Common.{◌≡◌, ◌∙◌, ℕ, zero, suc, ◌∷◌, [], List, sym, ap, subst}
 use Rattle.irv_base.proofs.Ties.{first_tie_is_one}
 use Rattle.ballot_reader.specs.Ballots.{BallotFile}
 use Rattle.assertion_file.specs.Content.{Content}
@@ -11,8 +9,8 @@ use Rattle.session_state.specs.Sessions.{Round}
 use Rattle.seen_file.specs.Seen.{Entry}
 use Rattle.contest_search.proofs.Certificates.{certificate-one}
 use Rattle.contest_search.specs.Contest.{candidate_count}
-use Rattle.contest_set.specs.Ends.{AreEnds, EndsAs, are_confirmed, round_over}
-use Rattle.contest_set.specs.Laws.{AreSame, EndsAlone, OneEnd}
+use Rattle.contest_set.specs.Ends.{EndsAs, are_confirmed, round_over}
+use Rattle.contest_set.specs.Laws.{EndsAlone, OneEnd}
 use Rattle.contest_set.specs.declared.end.ContestEnd.{ContestEnd}
 use Rattle.contest_set.specs.declared.end.ContestEnd.TheVariants.{Tied, Spent, Audited}
 use Rattle.contest_set.specs.declared.terms.SharedTerms.{SharedTerms}
@@ -36,9 +34,11 @@ ends_alone batches terms workers (b ∷ list) [] ends place ballots entries are 
 ends_alone batches terms workers (b ∷ list) (s ∷ seen) [] place ballots entries are g h = absurd are
 ends_alone batches terms workers (b ∷ list) (s ∷ seen) (end ∷ ends) zero ballots entries are g h =
     let e : b ≡ ballots = cc in
-    let f : s ≡ entries = cc in
-    (subst (λ x. EndsAs batches (record terms { workers = workers }) x entries end) e
-    (subst (λ x. EndsAs batches (record terms { workers = workers }) b x end) f (any-workers batches terms workers b s end are.0)), tt)
+    let f : s ≡ entries = cc in (
+      subst (λ x. EndsAs batches (record terms { workers = workers }) x entries end) e
+          (subst (λ x. EndsAs batches (record terms { workers = workers }) b x end) f (any-workers batches terms workers b s end are.0)),
+      tt,
+    )
 ends_alone batches terms workers (b ∷ list) (s ∷ seen) (end ∷ ends) (suc place) ballots entries are g h =
     ends_alone batches terms workers list seen ends place ballots entries are.1 g h
 

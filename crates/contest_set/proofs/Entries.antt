@@ -1,6 +1,6 @@
 -- What is seen for each contest, after one entry more.
 use Rattle.std.proofs.Common.{◌≡◌, ◌∙◌, ℕ, zero, suc, ◌+◌, ◌++◌, ◌∷◌, [], true, false, List, Some, Ok, map, set, refl, sym, ap, replicate, length}
-use Rattle.std.specs.Prelude.{if◌then◌else◌, filter, slice_set}
+use Rattle.std.specs.Prelude.{if◌then◌else◌, filter}
 use Rattle.std.specs.List.{slice_get}
 use Rattle.std.proofs.lemmas.List.{append-nil, map-append}
 use Rattle.std.proofs.lemmas.List.Elements.{filter-append}

@@ -1,5 +1,5 @@
 -- The contests that are read of a ballot file have different ids, and aren't too many.
-use Rattle.std.proofs.Common.{◌≡◌, ◌∙◌, ℕ, ◌+◌, ◌≤◌, ◌&&◌, Bool, true, false, ◌∷◌, [], List, Option, Some, None, Result, Ok, Err, drop, length, map, nat_le, refl, sym, ap, subst, arith, leb-true}
+use Rattle.std.proofs.Common.{◌≡◌, ◌∙◌, ℕ, ◌+◌, ◌≤◌, ◌&&◌, Bool, true, false, ◌∷◌, [], List, Option, Some, None, Result, Ok, Err, drop, length, map, nat_le, refl, ap, subst, arith, leb-true}
 use Rattle.std.specs.Prelude.{find, if◌then◌else◌, not, option_and_then}
 use Rattle.std.proofs.lemmas.Bool.{and_parts}
 use Rattle.std.proofs.lemmas.List.{length-map}
@@ -8,7 +8,7 @@ use Rattle.csv_rows.specs.Numbers.{number_of}
 use Rattle.csv_rows.specs.Rows.{Fields}
 use Rattle.irv_base.specs.Names.{all_differ}
 use Rattle.ballot_reader.specs.Ballots.{BallotFile}
-use Rattle.ballot_reader.specs.Grammar.{Ballot, Contest, Refusal, all_audited, ballots_after, contest_count, contests_behind, contests_from, contests_in, contests_of, file_of, has_audited_size, number_up_to, then_on, unless_unsized}
+use Rattle.ballot_reader.specs.Grammar.{Ballot, Contest, Refusal, all_audited, ballots_after, contest_count, contests_behind, contests_from, contests_in, contests_of, file_of, has_audited_size, then_on, unless_unsized}
 use Rattle.ballot_reader.specs.Kept.{contest_ids as ids_listed}
 use Rattle.ballot_reader.specs.declared.limits.TheConstants.{MOST_CONTESTS}
 use Rattle.ballot_reader.proofs.Contests.{all_listed, none_listed}

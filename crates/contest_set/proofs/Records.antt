@@ -1,5 +1,5 @@
 -- What a record tells, by its parts.
-use Rattle.std.proofs.Common.{◌≡◌, ◌∙◌, ℕ, ◌∷◌, drop, length, List, Some, None, Ok, Err, Result, sym, ap, subst}
+use Rattle.std.proofs.Common.{◌≡◌, ◌∙◌, ℕ, ◌∷◌, drop, List, Some, None, Ok, Err, Result, sym, ap}
 use Rattle.std.specs.List.{slice_get}
 use Rattle.csv_rows.specs.Rows.{Fields}
 use Rattle.irv_base.specs.Names.{Id}

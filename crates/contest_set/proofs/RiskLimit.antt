@@ -1,6 +1,6 @@
 -- The risk limit of each contest by itself.
-use Rattle.std.proofs.Common.{◌≡◌, ◌∙◌, ℕ, zero, suc, ◌≤◌, ◌+◌, ◌*◌, ◌&&◌, ◌||◌, true, Bool, false, ◌∷◌, [], List, Some, length, map, nat_le, refl, sym, ap, subst, arith, take}
-use Rattle.std.specs.List.{list_all, list_any, range_with_len, slice_get}
+use Rattle.std.proofs.Common.{◌≡◌, ◌∙◌, ℕ, suc, ◌≤◌, ◌+◌, ◌*◌, ◌&&◌, ◌||◌, true, Bool, false, ◌∷◌, [], List, length, map, nat_le, refl, sym, ap, arith}
+use Rattle.std.specs.List.{list_all, range_with_len, slice_get}
 use Rattle.std.proofs.lemmas.Bool.{and_parts}
 use Rattle.std.proofs.lemmas.List.{length-map}
 use Rattle.std.proofs.lemmas.List.Elements.{All-nil, All-cons}
@@ -15,7 +15,7 @@ use Rattle.km_risk.specs.declared.limits.TheConstants.{MILLIONTH}
 use Rattle.sampler.specs.Draws.{drawn_card}
 use Rattle.session_state.specs.Claims.{audited}
 use Rattle.session_state.specs.Draws.{Audited, IsSessionOf, risk_after, session_to}
-use Rattle.session_state.specs.Sessions.{is_at_most, is_signed_off, meets}
+use Rattle.session_state.specs.Sessions.{is_at_most, is_signed_off}
 use Rattle.audit_session.specs.Going.{all_seen, drawn_cards}
 use Rattle.audit_session.proofs.IsCounted.{advanced_is_counted}
 use Rattle.audit_laws.proofs.Published.{risk_limit}

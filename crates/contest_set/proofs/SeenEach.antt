@@ -1,9 +1,8 @@
 -- What is seen for each contest is what its own records say.
-use Rattle.std.proofs.Common.{◌≡◌, ◌∙◌, ℕ, zero, suc, ◌+◌, ◌++◌, ◌∷◌, [], Bool, true, false, cond, List, Option, Some, None, Result, Ok, Err, map, refl, sym, ap, subst}
-use Rattle.std.specs.Prelude.{filter}
+use Rattle.std.proofs.Common.{◌≡◌, ◌∙◌, ℕ, suc, ◌+◌, ◌++◌, ◌∷◌, [], Bool, true, false, cond, List, Option, Some, None, Result, Ok, Err, map, refl, sym, ap, subst}
 use Rattle.std.specs.List.{slice_get}
 use Rattle.csv_rows.specs.Rows.{Fields}
-use Rattle.irv_base.specs.Names.{Id, is_same, all_differ}
+use Rattle.irv_base.specs.Names.{Id, is_same}
 use Rattle.irv_base.proofs.Members.{from_find}
 use Rattle.ballot_reader.specs.Ballots.{BallotFile}
 use Rattle.ballot_reader.proofs.Adding.{same-comm, same-refl}
@@ -13,7 +12,7 @@ use Rattle.seen_file.specs.Reading.{Refusal, and_then, card_of, entry_of, entry_
 use Rattle.seen_file.specs.Seen.{Entry}
 use Rattle.seen_file.specs.declared.fault.VRule.{VRule}
 use Rattle.contest_set.specs.Laws.{SeenAlone, SeenIsEach, is_about, records_about, without_contest}
-use Rattle.contest_set.specs.SeenBy.{ContestEntry, contest_entry_of, contest_ids, contest_named, entries_for, entry_for, for_contest, for_each_contest, seen_by_rows, seen_for_each}
+use Rattle.contest_set.specs.SeenBy.{ContestEntry, contest_entry_of, contest_named, entries_for, entry_for, for_contest, for_each_contest, seen_for_each}
 use Rattle.contest_set.proofs.Named.{named-itself}
 use Rattle.contest_set.proofs.Entries.{entries-other, entries-own, seen-at}
 
@@ -92,18 +91,18 @@ module _ (batches : Batches) (list : List BallotFile) (b : BallotFile) (itself :
       let about : one.contest ≡ b.contest = is.about ∙ ap (λ (x : BallotFile). x.contest) s in (
         about,
         λ mine same.
-        let entry : entry_of_card b.candidates (entries_for b.contest mine) is.word is.rest is.card ≡ Ok one.entry =
-        ap (λ entries. entry_of_card b.candidates entries is.word is.rest is.card) same
-        ∙ subst (λ (x : BallotFile). entry_of_card x.candidates (entries_for x.contest earlier) is.word is.rest is.card ≡ Ok one.entry) s is.entry_is in
-        let again : contest_named (b ∷ []) is.contest ≡ Some b =
-        ap (λ t. cond t (Some b) None) (same-comm b.contest is.contest ∙ sym (ap (is_about b.contest) is.row_is) ∙ t) in
-        let whole : record { contest = b.contest; entry = one.entry } ≡ one = λ i. record { contest = (sym about) i; entry = one.entry } in (
-          ap (λ r. entry_of batches b.candidates (entries_for b.contest mine) (without_contest r)) is.row_is
-          ∙ ap (λ r. with_card r (entry_of_card b.candidates (entries_for b.contest mine) is.word is.rest)) is.card_is ∙ entry,
-          ap (contest_entry_of batches (b ∷ []) mine) is.row_is
-          ∙ ap (λ r. with_card r (λ card. entry_for mine is.word is.rest card (contest_named (b ∷ []) is.contest))) is.card_is
-          ∙ ap (entry_for mine is.word is.rest is.card) again ∙ ap (for_contest b.contest) entry ∙ ap Ok whole,
-        ),
+            let entry : entry_of_card b.candidates (entries_for b.contest mine) is.word is.rest is.card ≡ Ok one.entry =
+            ap (λ entries. entry_of_card b.candidates entries is.word is.rest is.card) same
+            ∙ subst (λ (x : BallotFile). entry_of_card x.candidates (entries_for x.contest earlier) is.word is.rest is.card ≡ Ok one.entry) s is.entry_is in
+            let again : contest_named (b ∷ []) is.contest ≡ Some b =
+            ap (λ t. cond t (Some b) None) (same-comm b.contest is.contest ∙ sym (ap (is_about b.contest) is.row_is) ∙ t) in
+            let whole : record { contest = b.contest; entry = one.entry } ≡ one = λ i. record { contest = (sym about) i; entry = one.entry } in (
+              ap (λ r. entry_of batches b.candidates (entries_for b.contest mine) (without_contest r)) is.row_is
+                  ∙ ap (λ r. with_card r (entry_of_card b.candidates (entries_for b.contest mine) is.word is.rest)) is.card_is ∙ entry,
+              ap (contest_entry_of batches (b ∷ []) mine) is.row_is
+                  ∙ ap (λ r. with_card r (λ card. entry_for mine is.word is.rest card (contest_named (b ∷ []) is.contest))) is.card_is
+                  ∙ ap (entry_for mine is.word is.rest is.card) again ∙ ap (for_contest b.contest) entry ∙ ap Ok whole,
+            ),
       )
 
   -- a record about another contest

@@ -18,7 +18,7 @@ use budget::Budget;
 use contest_search::{Found, Searchable, find};
 use desk::Gate;
 use km_risk::is_confirmed;
-use manifest::{Linked, LinkFault, Manifest, link};
+use manifest::{LinkFault, Linked, Manifest, link};
 use seen_file::SeenCards;
 use session_state::{DoneRound, margins_of};
 use std::alloc::Global;

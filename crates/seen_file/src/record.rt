@@ -70,12 +70,7 @@ pub fn seen_of_record(candidates: &[Name], word: &[u8], rest: Fields<'_>) -> Opt
 
 /// The number of the card of a record with this id of a card, this word, and these fields behind it, or which rule it breaks: V1 where
 /// nothing is told of the card, V2 where the card isn't in the manifest.
-pub fn card_of(
-    manifest: &Manifest,
-    id: &[u8],
-    word: &[u8],
-    rest: Fields<'_>,
-) -> Result<u32, VRule>
+pub fn card_of(manifest: &Manifest, id: &[u8], word: &[u8], rest: Fields<'_>) -> Result<u32, VRule>
     ensures value { result ≡ card_of manifest.now id.now word.now rest.entry }
     ensures first { IfOk result (λ card. 1 ≤ card) }
     ensures last { IfOk result (λ card. card ≤ length (cards_of manifest.now)) }

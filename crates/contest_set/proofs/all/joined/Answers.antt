@@ -1,4 +1,4 @@
-use Rattle.std.proofs.Common.{◌≡◌, ◌<◌, ◌++◌, ◌∷◌, ◌+◌, suc, [], List, length, length-append, take, Result, Ok, Err, sym, ap, subst, append_assoc, arith, ◌∙◌}
+use Rattle.std.proofs.Common.{◌≡◌, ◌<◌, ◌++◌, ◌∷◌, suc, [], List, length, length-append, take, Result, sym, ap, subst, append_assoc, arith, ◌∙◌}
 use Rattle.std.specs.Vec.Iter.{into_iter_items}
 use Rattle.std.proofs.lemmas.List.{nil_from_length, append-nil, length_push, take_all}
 use Rattle.contest_set.specs.Ends.{AreEnds}

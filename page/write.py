@@ -510,8 +510,11 @@ def filled_county(page, made):
     for contest in all_of.contests:
         drawn = contest["tabulation"].get("rounds")
         contest["scale"] = rounds.scale_of(drawn) if drawn else None
-        for row in contest.get("claims", []):
+        claims = contest.get("claims", [])
+        for row in claims:
             row["words"] = in_words(row["claim"], drawn[0]["votes"] if drawn else None, False)
+        highest = sorted(claims, key=lambda row: (-row["state"]["risk"], row["margin"]))[:MOST_LISTED]
+        contest["listed"] = sorted(highest, key=lambda row: row["number"])
     return made.get_template("county.html").render(
         county=all_of, states=state.of_county(all_of), files=page.files, judged=page.judged, asked=page.program.asked, program=page.program.told(),
         title=f"{plural(len(all_of.contests), 'contest')} on one sample",

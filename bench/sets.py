@@ -99,7 +99,7 @@ def time_contest(name, folder, beside, *most):
     write_pool(ballots, *CONTESTS[name], BALLOTS)
     search = [PROGRAM, "search", ballots, f"--sets={MOST_SETS}"]
     one = least([*search, "--workers=1"], printed, *most)
-    told = f"{'':>8} {'':>7} {'':>6}" if one.status else checked(ballots, printed, *most)
+    told = checked(ballots, printed, *most) if one.status == 0 else f"{'':>8} {'':>7} {'':>6}"
     number, size = (assertions_in(printed), os.path.getsize(printed) / 1e6) if one.status == 0 else (0, 0)
     four = least([*search, "--workers=4"], os.devnull, *most)
     nodes = least([PROGRAM, "search", ballots], os.devnull, *most)

@@ -1,9 +1,10 @@
 -- A contest ends by itself, and in one way, but for its budget.
-use Rattle.std.proofs.Common.{◌≡◌, ◌∙◌, ℕ, zero, suc, ◌∷◌, [], List, Some, refl, sym, ap}
+use Rattle.std.proofs.Common.{◌≡◌, ◌∙◌, ℕ, zero, suc, ◌∷◌, [], List, Some, refl, sym, ap, subst}
 use Rattle.std.specs.List.{slice_get}
 use Rattle.std.specs.Prelude.{IsSomeAnd}
 use Rattle.irv_base.proofs.Ties.{first_tie_is_one}
 use Rattle.ballot_reader.specs.Ballots.{BallotFile}
+use Rattle.assertion_file.specs.Content.{Content}
 use Rattle.manifest.specs.Cards.{Batches}
 use Rattle.manifest.specs.Linked.{linked_of}
 use Rattle.session_state.specs.Sessions.{Round}
@@ -51,7 +52,7 @@ one_end batches terms ballots seen (Audited file counts risks signed) (Spent las
 one_end batches terms ballots seen (Audited file counts risks signed) (Tied round tied tally) a b = b.undecided (a.found.is.winner, a.found.is.decided)
 one_end batches terms ballots seen (Audited file counts risks signed) (Audited file' counts' risks' signed') a b =
     let same = certificate-one ballots file file' a.found.is b.found.is in
-    let round = λ f. round_over terms (linked_of batches ballots) seen f in
+    let round : Content → Round = λ f. round_over terms (linked_of batches ballots) seen f in
     let same_risks = a.risks_are ∙ ap (λ f. (round f).risks) same ∙ sym b.risks_are in (
       same,
       a.counts_are ∙ ap (λ f. (round f).counts) same ∙ sym b.counts_are,

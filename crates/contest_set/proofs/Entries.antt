@@ -1,5 +1,5 @@
 -- What is seen for each contest, after one entry more.
-use Rattle.std.proofs.Common.{◌≡◌, ◌∙◌, ℕ, zero, suc, ◌+◌, ◌++◌, ◌∷◌, [], true, false, List, Some, Ok, Err, map, set, refl, sym, ap, replicate, length}
+use Rattle.std.proofs.Common.{◌≡◌, ◌∙◌, ℕ, zero, suc, ◌+◌, ◌++◌, ◌∷◌, [], true, false, List, Some, Ok, map, set, refl, sym, ap, replicate, length}
 use Rattle.std.specs.Prelude.{if◌then◌else◌, filter, slice_set}
 use Rattle.std.specs.List.{slice_get}
 use Rattle.std.proofs.lemmas.List.{append-nil, map-append}
@@ -12,7 +12,6 @@ use Rattle.ballot_reader.proofs.Differing.{or-false}
 use Rattle.manifest.specs.Cards.{Batches}
 use Rattle.seen_file.specs.Reading.{and_then, read_after}
 use Rattle.seen_file.specs.Seen.{Entry}
-use Rattle.seen_file.specs.declared.fault.VRule.{VRule}
 use Rattle.contest_set.specs.SeenBy.{ContestEntry, contest_entry_of, contest_ids, entries_for, seen_for_each}
 use Rattle.contest_set.proofs.Named.{apart, elsewhere}
 
@@ -81,3 +80,16 @@ pub record SeenSoFar (batches : Batches) (list : List BallotFile) (rows : List F
   pub entries : List ContestEntry
   pub are : seen ≡ seen_for_each list entries
   pub rest : read_after (contest_entry_of batches list) [] 1 rows ≡ read_after (contest_entry_of batches list) entries at left
+
+pub goes-on : (batches : Batches) (list : List BallotFile) (rows : List Fields) (seen : List (List Entry)) (at : ℕ) (row : Fields) (left : List Fields)
+    (so_far : SeenSoFar batches list rows seen at (row ∷ left)) (place : ℕ) (ballots : BallotFile) (entry : Entry) → all_differ (contest_ids list) ≡ true →
+    slice_get list place ≡ Some ballots →
+    contest_entry_of batches list so_far.entries row ≡ Ok (record { contest = ballots.contest; entry = entry }) →
+    SeenSoFar batches list rows (set seen place (entries_for ballots.contest so_far.entries ++ entry ∷ [])) (at + 1) left
+goes-on batches list rows seen at row left so_far place ballots entry differ there is = record {
+  entries = so_far.entries ++ record { contest = ballots.contest; entry = entry } ∷ [];
+  are = ap (λ x. set x place (entries_for ballots.contest so_far.entries ++ entry ∷ [])) so_far.are
+      ∙ each-more list place ballots so_far.entries entry differ there;
+  rest = so_far.rest
+      ∙ ap (λ said. and_then said at (λ one. read_after (contest_entry_of batches list) (so_far.entries ++ one ∷ []) (at + 1) left)) is;
+}

@@ -1,5 +1,7 @@
 pub mod Named
 pub mod Entries
+pub mod Records
+pub mod Rounds
 pub mod Joining
 pub mod SeenEach
 pub mod EndsEach

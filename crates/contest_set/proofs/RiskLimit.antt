@@ -32,9 +32,10 @@ at-place : (limit : ℕ) (risks : List ℕ) (from : ℕ) (found : ℕ → Bool) 
 at-place limit [] from found is h = refl
 at-place limit (risk ∷ risks) from found is h =
     let (first, rest) = and_parts (nat_le risk (limit * MILLIONTH)) (are_confirmed limit risks) h in
-    let here : found from ≡ true = ap found (omega arith) ∙ is 0 ∙ first in
-    ap (λ b. b && list_all found (range_with_len (suc from) (length risks))) here
-    ∙ at-place limit risks (suc from) found (λ i. ap found (omega arith) ∙ is (suc i)) rest
+    let start : from ≡ from + 0 = omega arith in
+    let here : found from ≡ true = ap found start ∙ is 0 ∙ first in
+    ap (λ b. b && list_all found (range_with_len (from + 1) (length risks))) here
+    ∙ at-place limit risks (from + 1) found (λ i. let next : (from + 1) + i ≡ from + suc i = omega arith in ap found next ∙ is (suc i)) rest
 
 module _ (limit gamma : ℕ) (claims : List Audited) (recorded : List Recorded) (seen : List Seen) (draws : List ℕ) (end : ℕ) where
   -- the session of one round is signed off
@@ -46,7 +47,7 @@ module _ (limit gamma : ℕ) (claims : List Audited) (recorded : List Recorded) 
       let long : length (map (λ (claim : Audited). claim.margin) claims) ≡ length risks =
       length-map claims (λ (claim : Audited). claim.margin) ∙ sym (length-map claims (risk_after gamma claims recorded seen draws end)) in
       ap (λ n. list_all found (range_with_len 0 n)) long
-      ∙ at-place limit risks 0 found (λ i. or_false (is_at_most limit (slice_get risks i))) h
+      ∙ at-place limit risks 0 found (λ i. let same : 0 + i ≡ i = omega arith in ap found same ∙ or_false (is_at_most limit (slice_get risks i))) h
     where
       or_false : (b : Bool) → (b || false) ≡ b
       or_false true = refl

@@ -1,5 +1,5 @@
 -- Why the contests of a file aren't audited.
-use Rattle.std.specs.Prelude.{◌≡◌, ◌<◌, ℕ, List, [], ◌∷◌, length, slice_get, slice_index_or, take, Option, Some, None, Result, Ok, Err, ⊥}
+use Rattle.std.specs.Prelude.{◌≡◌, ◌<◌, ℕ, List, [], ◌∷◌, length, slice_get, slice_index_or, take, Option, Some, None, Result, Ok, Err}
 use Rattle.std.specs.Option.{option_or}
 use Rattle.ballot_reader.specs.Ballots.{BallotFile}
 use Rattle.assertion_file.specs.Content.{Content}
@@ -90,11 +90,8 @@ module _ (batches : Batches) (terms : SharedTerms) (list : List BallotFile)
       (i : ℕ) (d : Result ContestEnd SetFault) → i < length results →
       HasResult i (slice_index_or results i d)
 
+  -- so that none lacks a card
   abbrev pub IsJoinFault : SetFault → Type 0
   IsJoinFault (NoCard at) = ⊥
   IsJoinFault (NoRecord contest card k) = FirstLacksRecord contest card k
   IsJoinFault Memory = Unit {0}
-
-  abbrev pub MayBeJoined : Result (List ContestEnd) SetFault → Type 0
-  MayBeJoined (Ok ends) = AreEnds batches terms list seen ends
-  MayBeJoined (Err fault) = IsJoinFault fault

@@ -1,11 +1,11 @@
 // The audit of all contests.
-ghost use Rattle.std.specs.Prelude.{◌≡◌, ◌≤◌, ◌<◌, ◌×◌, List, length, None, IfOk, IfErr, OnOk};
+ghost use Rattle.std.specs.Prelude.{◌≡◌, ◌≤◌, ◌<◌, List, length, None, IfOk, IfErr, OnOk};
 ghost use Rattle.ballot_reader.specs.Ballots.{BallotFile};
 ghost use Rattle.ballot_reader.specs.declared.limits.TheConstants.{MOST_CONTESTS};
 ghost use Rattle.manifest.specs.Cards.{Batches};
 ghost use Rattle.seen_file.specs.Seen.{Entry};
 ghost use Rattle.contest_set.specs.Ends.{AreEnds, AreWithinLimits};
-ghost use Rattle.contest_set.specs.Refusals.{AreResults, HasResult, IsSetFault, LacksCard, MayBeJoined, first_without_card_of_all};
+ghost use Rattle.contest_set.specs.Refusals.{AreResults, HasResult, IsSetFault, LacksCard, IsJoinFault, first_without_card_of_all};
 ghost use Rattle.contest_set.specs.declared.terms.SharedTerms.{SharedTerms as TheTerms};
 
 use crate::end::ContestEnd;
@@ -27,7 +27,9 @@ fn see_cards(alloc: Global, m: &Manifest, list: &[Ballots]) -> Result<(), SetFau
     ensures refused { IfErr result (LacksCard (first_without_card_of_all m.now list.now)) }
 {
     for ballots in list {
-        link(alloc, m, ballots)?;
+        if let Err(fault) = link(alloc, m, ballots) {
+            return Err(SetFault::from(fault));
+        }
     }
     Ok(())
 }
@@ -60,15 +62,9 @@ fn end_at<R: AllocGlobal + Threads + Sync, G: Gate + Sync>(
     requires linked { first_without_card_of_all m.now list.now ≡ None }
     ensures { HasResult m.now terms.now list.now seen.now place result }
 {
-    audit_one(
-        rt,
-        place as u32,
-        &list[place],
-        m,
-        &seen[place],
-        terms,
-        gate,
-    )
+    let ballots = &list[place];
+    let entries = &seen[place];
+    audit_one(rt, place as u32, ballots, m, entries, terms, gate)
 }
 
 // Lets each worker audit its share of the contests.
@@ -108,15 +104,23 @@ fn joined(
     alloc: Global,
     places: Vec<Result<ContestEnd, SetFault>>,
 ) -> Result<Vec<ContestEnd>, SetFault>
-    ensures { (batches : Batches) (terms : TheTerms) (list : List BallotFile)
-        (seen : List (List Entry))
+    ensures ends { IfOk result (λ ends. (batches : Batches) (terms : TheTerms)
+        (list : List BallotFile) (seen : List (List Entry))
         → length places.items ≡ length list → length seen ≡ length list
         → AreResults batches terms list seen places.items
-        → MayBeJoined batches terms list seen result }
+        → AreEnds batches terms list seen ends.items) }
+    ensures fault { IfErr result (λ fault. (batches : Batches) (terms : TheTerms)
+        (list : List BallotFile) (seen : List (List Entry))
+        → length places.items ≡ length list → length seen ≡ length list
+        → AreResults batches terms list seen places.items
+        → IsJoinFault batches terms list seen fault) }
 {
     let mut ends = Vec::with_capacity(alloc, places.len())?;
     for place in places {
-        ends.push(place?)?;
+        match place {
+            Ok(end) => ends.push(end)?,
+            Err(fault) => return Err(fault),
+        }
     }
     Ok(ends)
 }

@@ -5,7 +5,7 @@ ghost use Rattle.contest_set.specs.declared.fault.SetFault.TheVariants.{Memory a
 
 use irv_base::Memory;
 use manifest::LinkFault;
-use std::alloc::AllocFailed;
+use std::alloc::{AllocError, AllocFailed};
 use std::error::Error;
 use std::fmt;
 
@@ -42,6 +42,14 @@ impl From<Memory> for SetFault {
     ghost from_gives = { λ _ fault. fault ≡ WantOfMemory };
 
     fn from(_: Memory) -> Self {
+        SetFault::Memory
+    }
+}
+
+impl From<AllocError> for SetFault {
+    ghost from_gives = { λ _ fault. fault ≡ WantOfMemory };
+
+    fn from(_: AllocError) -> Self {
         SetFault::Memory
     }
 }

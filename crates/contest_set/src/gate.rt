@@ -3,6 +3,7 @@
 use desk::Gate;
 
 /// The gate of a search that one worker does: it is called with the place of the contest in place of the worker's number.
+#[derive(Drop)]
 pub struct Numbered<'g, G: Gate> {
     pub gate: &'g G,
     pub place: u32,

@@ -60,14 +60,17 @@ pub fn read_seen_by(
     let mut rows = Rows::of(alloc, without_mark(bytes));
     let mut row = ByteRecord::new(alloc);
     let mut seen = nothing_seen(alloc, list.len())?;
-    let mut at: u32 = 1;
+    let mut at = 1;
     'records: while rows.read_numbered(&mut row)? {
         let told = match told_of(m, list, &seen, &row) {
             Ok(told) => told,
             Err(rule) => return Err(SeenFault::Refused { rule, at }),
         };
         put(&mut seen, told)?;
-        at = at.checked_add(1).ok_or(SeenFault::Memory)?;
+        if at == u32::MAX {
+            return Err(SeenFault::Memory);
+        }
+        at += 1;
     }
     Ok(seen)
 }

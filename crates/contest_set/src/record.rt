@@ -1,10 +1,11 @@
 // The records of a seen file of several contests.
-ghost use Rattle.std.specs.Prelude.{◌≡◌, ◌<◌, ◌≤◌, ◌×◌, List, slice_get, length, None, Some, Ok, Err, IfOk, IfErr, IfSome, IfNone};
+ghost use Rattle.std.specs.Prelude.{◌≡◌, ◌<◌, ◌≤◌, List, slice_get, length, None, Some, Ok, Err, IfOk, IfErr, IfSome, position};
 ghost use Rattle.csv.specs.Records.{fields_of};
 ghost use Rattle.csv_rows.specs.Fields.{trimmed_fields};
+ghost use Rattle.irv_base.specs.Names.{is_same};
 ghost use Rattle.ballot_reader.specs.Ballots.{BallotFile};
 ghost use Rattle.seen_file.specs.Seen.{seen_in};
-ghost use Rattle.contest_set.specs.SeenBy.{ContestEntry, contest_entry_of, contest_named, seen_for_each};
+ghost use Rattle.contest_set.specs.SeenBy.{ContestEntry, contest_entry_of, seen_for_each};
 
 use assorters::Seen;
 use ballot_reader::Ballots;
@@ -23,9 +24,8 @@ pub struct Told {
 
 // The place of the contest with this id, from 0.
 fn contest_place(list: &[Ballots], id: &[u8]) -> Option<usize>
-    ensures named { IfSome result (λ k. contest_named list.now id.now ≡ slice_get list.now k) }
+    ensures place { result ≡ position (λ ballots. is_same ballots.contest id.now) list.now }
     ensures within { IfSome result (λ k. k < length list.now) }
-    ensures none { IfNone result (contest_named list.now id.now ≡ None) }
 {
     list.iter()
         .position(|ballots| ballots.contest().bytes() == id)
@@ -60,6 +60,8 @@ pub fn told_of(
         return Err(VRule::V6);
     };
     let candidates = list[place].candidates();
-    let (card, seen) = entry_of_card(candidates, &earlier[place], word, fields, card)?;
-    Ok(Told { place, card, seen })
+    match entry_of_card(candidates, &earlier[place], word, fields, card) {
+        Ok((card, seen)) => Ok(Told { place, card, seen }),
+        Err(rule) => Err(rule),
+    }
 }

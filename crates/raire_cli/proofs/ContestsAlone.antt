@@ -76,7 +76,7 @@ one-block limit ballots end = λ i. append-nil (block limit ballots end) i ++ la
 
 -- ---- its end
 
-end-of : (batches : Batches) (terms : SharedTerms) (list : List BallotFile) (seen : List (List Entry)) (ends : List ContestEnd) (place : ℕ)
+pub end-of : (batches : Batches) (terms : SharedTerms) (list : List BallotFile) (seen : List (List Entry)) (ends : List ContestEnd) (place : ℕ)
     (ballots : BallotFile) (end : ContestEnd) → AreEnds batches terms list seen ends → slice_get list place ≡ Some ballots → slice_get ends place ≡ Some end →
     (entries : List Entry) × (slice_get seen place ≡ Some entries) × EndsAs batches terms ballots entries end
 end-of batches terms [] seen ends place ballots end are g h = absurd (cc g)

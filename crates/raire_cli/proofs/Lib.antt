@@ -23,6 +23,7 @@ mod PluralsLimit
 mod ContestsAudited
 mod ContestsOnce
 mod ContestsAlone
+mod ContestsLimit
 mod Undecided
 mod Rounds
 mod Clauses

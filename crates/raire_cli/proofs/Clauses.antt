@@ -44,7 +44,7 @@ use Rattle.raire_cli.specs.Enough.{AreEnough, Judging, IsNeverSpent, judging_of}
 use Rattle.raire_cli.specs.Openings.{AsksForOpening, Opens, IsOpened}
 use Rattle.raire_cli.specs.Contests.{AsksForContests, AuditsContests, IsAuditedByContest, blocks_of}
 use Rattle.raire_cli.proofs.Accepted.{held_of}
-use Rattle.raire_cli.proofs.ContestsAudited.{audited_by}
+use Rattle.raire_cli.proofs.ContestsAudited.{audited_by, done_all, unconfirmed_not_all}
 use Rattle.raire_cli.proofs.Trims.{printed_of}
 use Rattle.raire_cli.proofs.Audited.{IsKind, done_signed, goes_on, unconfirmed_not}
 use Rattle.raire_cli.proofs.Enough.{never_spent}
@@ -273,10 +273,10 @@ module _ (words : List (List ℕ)) {held : Option (List File)} {failed : Type 0}
     by (Some files) done unconfirmed = λ asks status-is. elim status-is [
       | inl zero ↦
           let (audit, took, kind-is) = contests-of files Done asks (done zero) in
-          (audit, took, (λ e. done_confirmed (all_signed audit.ends) kind-is, λ yes. zero))
+          (audit, took, (λ e. done_all (all_signed audit.ends) kind-is, λ yes. zero))
       | inr ten ↦
           let (audit, took, kind-is) = contests-of files Unconfirmed asks (unconfirmed ten) in
-          (audit, took, (λ zero. absurd (omega (arith, zero, ten)), λ yes. absurd (unconfirmed_never (all_signed audit.ends) kind-is yes)))
+          (audit, took, (λ zero. absurd (omega (arith, zero, ten)), λ yes. absurd (unconfirmed_not_all (all_signed audit.ends) kind-is yes)))
     ]
 
   -- ---- the statuses

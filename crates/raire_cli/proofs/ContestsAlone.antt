@@ -1,5 +1,5 @@
 -- A contest among others tells what it tells by itself.
-use Rattle.std.proofs.Common.{◌≡◌, ◌∙◌, ◌&&◌, ◌++◌, ◌∷◌, [], ℕ, zero, suc, Bool, true, false, cond, List, All, Option, Some, None, Result, Ok, append-nil, refl, sym, ap, subst}
+use Rattle.std.proofs.Common.{◌≡◌, ◌∙◌, ◌&&◌, ◌++◌, ◌∷◌, [], ℕ, zero, suc, Bool, true, false, cond, List, All, Option, Some, None, Result, Ok, Err, append-nil, refl, sym, ap, subst}
 use Rattle.std.specs.List.{slice_get}
 use Rattle.std.proofs.lemmas.List.Elements.{All-head}
 use Rattle.csv_rows.specs.Fields.{numbered_records}
@@ -10,7 +10,7 @@ use Rattle.ballot_reader.specs.Ballots.{BallotFile}
 use Rattle.ballot_reader.specs.Grammar.{contests_from}
 use Rattle.manifest.specs.Cards.{Batches}
 use Rattle.manifest.specs.Manifest.{manifest_of}
-use Rattle.seen_file.specs.Reading.{card_of, read_after, with_card}
+use Rattle.seen_file.specs.Reading.{Refusal, card_of, read_after, with_card}
 use Rattle.seen_file.specs.Seen.{Entry}
 use Rattle.seen_file.specs.declared.fault.VRule.{VRule}
 use Rattle.contest_set.specs.Ends.{AreEnds, EndsAs}
@@ -36,9 +36,6 @@ use Rattle.raire_cli.proofs.Said.{only}
 -- ---- what is seen for a contest doesn't depend on where its ballots stand
 
 module _ (ballots : BallotFile) (places : List ℕ) (batches : Batches) where
-  one : Bool → BallotFile → Option BallotFile
-  one b x = cond b (Some x) None
-
   entry-moved : (earlier : List ContestEntry) (word : Id) (rest : Fields) (card : ℕ) (b : Bool) →
       entry_for earlier word rest card (cond b (Some (moved ballots places)) None) ≡ entry_for earlier word rest card (cond b (Some ballots) None)
   entry-moved earlier word rest card true = refl
@@ -52,8 +49,14 @@ module _ (ballots : BallotFile) (places : List ℕ) (batches : Batches) where
   row-moved earlier (id ∷ contest ∷ word ∷ rest) =
       ap (with_card (card_of batches id word rest)) (λ i card. entry-moved earlier word rest card (is_same ballots.contest contest) i)
 
+  each-moved : (read : Result (List ContestEntry) Refusal) → for_each_contest (moved ballots places ∷ []) read ≡ for_each_contest (ballots ∷ []) read
+  each-moved (Ok entries) = refl
+  each-moved (Err refusal) = refl
+
   seen-moved : (rows : List Fields) → seen_by_rows batches (moved ballots places ∷ []) rows ≡ seen_by_rows batches (ballots ∷ []) rows
-  seen-moved rows = λ i. for_each_contest (ballots ∷ []) (read_after (λ earlier row. row-moved earlier row i) [] 1 rows)
+  seen-moved rows =
+      (λ i. for_each_contest (moved ballots places ∷ []) (read_after (λ earlier row. row-moved earlier row i) [] 1 rows))
+      ∙ each-moved (read_after (contest_entry_of batches (ballots ∷ [])) [] 1 rows)
 
 -- ---- what is told of a contest doesn't either
 
@@ -73,7 +76,7 @@ one-block limit ballots end = λ i. append-nil (block limit ballots end) i ++ la
 
 -- ---- its end
 
-end-of : (batches : Batches) (terms : SharedTerms) (list : List BallotFile) (seen : List (List Entry)) (ends : List ContestEnd) (place : ℕ)
+pub end-of : (batches : Batches) (terms : SharedTerms) (list : List BallotFile) (seen : List (List Entry)) (ends : List ContestEnd) (place : ℕ)
     (ballots : BallotFile) (end : ContestEnd) → AreEnds batches terms list seen ends → slice_get list place ≡ Some ballots → slice_get ends place ≡ Some end →
     (entries : List Entry) × (slice_get seen place ≡ Some entries) × EndsAs batches terms ballots entries end
 end-of batches terms [] seen ends place ballots end are g h = absurd (cc g)

@@ -1,5 +1,6 @@
 -- Status 0 and 10 of an audit of all contests come with the end of each contest.
-use Rattle.std.proofs.Common.{◌≡◌, inl, inr, ℕ, List, subst}
+use Rattle.std.proofs.Common.{◌≡◌, inl, inr, ℕ, List, Bool, true, false, IsTrue, refl, subst}
+use Rattle.std.proofs.lemmas.Bool.{false≢true}
 use Rattle.desk.specs.Desk.{File}
 use Rattle.ballot_reader.specs.Ballots.{BallotFile}
 use Rattle.ballot_reader.specs.Grammar.{contests_of}
@@ -10,6 +11,7 @@ use Rattle.contest_set.specs.SeenBy.{seen_by}
 use Rattle.cli_base.specs.Outcome.{Answered}
 use Rattle.cli_base.specs.Script.{Ends, AsHeld, ComesTo}
 use Rattle.cli_base.specs.declared.outcome.AnswerKind.{AnswerKind}
+use Rattle.cli_base.specs.declared.outcome.AnswerKind.TheVariants.{Done, Unconfirmed}
 use Rattle.command.specs.declared.contests.ContestsTask.{ContestsTask}
 use Rattle.input_files.specs.Refusals.{refused_ballots, refused_manifest, refused_seen}
 use Rattle.contests_command.specs.Contests.{Audits, IsTold, after_ballots, after_manifest, kind_of}
@@ -51,3 +53,13 @@ module _ (words : List (List ℕ)) (files : List File) (asks : AsksForContests w
         text-is,
         kind-is,
       )
+
+-- ---- 0 where each contest is signed off, and else 10
+
+pub done_all : (all : Bool) → Done ≡ kind_of all → IsTrue all
+done_all true is = refl
+done_all false is = absurd (cc is)
+
+pub unconfirmed_not_all : (all : Bool) → Unconfirmed ≡ kind_of all → IsTrue all → ⊥
+unconfirmed_not_all true is yes = cc is
+unconfirmed_not_all false is yes = false≢true yes

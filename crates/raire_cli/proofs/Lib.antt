@@ -24,6 +24,7 @@ mod PluralsLimit
 mod ContestsAudited
 mod ContestsOnce
 mod ContestsAlone
+mod ContestsLimit
 mod Undecided
 mod SetsSpent
 mod Rounds

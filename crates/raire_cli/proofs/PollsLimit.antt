@@ -42,7 +42,7 @@ some_count (id ∷ ids) (n ∷ counts) same some each =
     let first = leb-true 1 n (and_parts (nat_le 1 n) _ (and_parts (is_count n) (list_all is_count counts) each).0).0 in
     omega (arith, first, sum-cons n counts)
 
-some_card : (bytes : List ℕ) (batches : Batches) → manifest_of bytes ≡ Ok batches → 1 ≤ length (cards_of batches)
+pub some_card : (bytes : List ℕ) (batches : Batches) → manifest_of bytes ≡ Ok batches → 1 ≤ length (cards_of batches)
 some_card bytes batches read =
     let spelled = (records_spell_batches (numbered_records bytes) batches).0 read in
     let all = length-cards batches.ids batches.counts spelled.sound.a_count_each in

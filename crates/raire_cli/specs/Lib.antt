@@ -10,6 +10,7 @@ pub mod Openings
 pub mod Enough
 pub mod Contests
 pub mod ContestsAlone
+pub mod ContestsLimit
 pub mod Promises
 pub mod Ballots
 pub mod Budgets

@@ -1,6 +1,7 @@
 //! The laws of the top call: each holds of every value that it names, and has no code.
 ghost use Rattle.raire_cli.specs.Agreement.{SameFilesSameAnswer};
 ghost use Rattle.raire_cli.specs.ContestsAlone.{BlockAlone};
+ghost use Rattle.raire_cli.specs.ContestsLimit.{ContestIsCounted};
 ghost use Rattle.raire_cli.specs.EachStatus.{EachStatus};
 ghost use Rattle.raire_cli.specs.Laws.{WorkersAskTheSame, WorkersComeToTheSame, TrialsComeToTheSame, SetsComeToTheSame, TrialsBySetsComeToTheSame, BudgetsComeToTheSame, DefaultSuffices, MostSetsSuffice, SignedOffIsCounted};
 ghost use Rattle.raire_cli.specs.PluralLaws.{PluralSignedOffAreFew, PluralSignedOffIsCounted};
@@ -87,6 +88,12 @@ pub fn plural_signed_off_are_few()
 /// its first record and neither file has a record of another contest: two calls, with any number of workers each.
 pub fn block_alone()
     ensures { BlockAlone }
+{}
+
+/// A contest that an audit of all contests signs off is among those that its own risk limit counts, if the cards that were seen were
+/// read as they are.
+pub fn contest_is_counted()
+    ensures { ContestIsCounted }
 {}
 
 /// Two calls with the same words, over desks that hold the same, have the same status and write the same, where nothing failed,

@@ -121,6 +121,7 @@ form_of Contests = record {
   options =
       option.Seed ∷ option.Draws ∷ option.Limit ∷ option.Gamma ∷ option.Workers ∷ option.Nodes ∷ [];
   together = [];
+  apart = [];
 }
 form_of Trial = record {
   word = codes "trial";

@@ -1,9 +1,9 @@
 // Certificates by sets of candidates, of contests that were worked by hand, and budgets that are spent.
-ghost use Rattle.std.specs.Prelude.{◌≡◌, ◌≢◌, ◌<◌, ◌≤◌, ◌∷◌, [], length, All};
+ghost use Rattle.std.specs.Prelude.{◌<◌, ◌≤◌, length, All};
 ghost use Rattle.irv_base.specs.declared.limits.TheConstants.{FEWEST_CANDIDATES, ROOM, MOST_RECORDS};
 
 use crate::contests::{
-    ONE, THREE, TWO, ZERO, ballots_of_three, both, county_ballots, only, tie_for_the_win,
+    FOUR, ONE, THREE, TWO, ZERO, ballots_of_three, both, county_ballots, only, tie_for_the_win,
 };
 use assertions::{Assertion, Claim};
 use irv_base::{CandSet, Candidate, Ranking};
@@ -11,6 +11,8 @@ use irv_tabulator::tabulate;
 use set_search::{SetsEnd, SetsFault, certify_by_sets};
 use set_tallies::Counted;
 use std::thread::Threads;
+
+const FIVE: Candidate = Candidate(5);
 
 // What a search by sets comes to.
 fn answer<R: AllocGlobal + Threads + Sync>(
@@ -32,10 +34,10 @@ fn answer<R: AllocGlobal + Threads + Sync>(
     }
 }
 
-// A landslide: of 48 ballots 0 has twenty, 1 has eight, and ten others have two each, one of which goes to the next of these ten then,
-// and one to 0.
-fn landslide() -> [Ranking; 48]
-    ensures { All (λ ranking. All (λ c. c < 12) ranking) result }
+// Of fifteen ballots 0 has four, 1 has three, and four others have two each, one of which goes to the next of these four then, and one
+// to 0.
+fn near_equals() -> [Ranking; 15]
+    ensures { All (λ ranking. All (λ c. c < 6) ranking) result }
 {
     let zero = only(ZERO);
     let one = only(ONE);
@@ -44,50 +46,17 @@ fn landslide() -> [Ranking; 48]
         zero,
         zero,
         zero,
-        zero,
-        zero,
-        zero,
-        zero,
-        zero,
-        zero,
-        zero,
-        zero,
-        zero,
-        zero,
-        zero,
-        zero,
-        zero,
-        zero,
-        zero,
-        zero,
         one,
         one,
         one,
-        one,
-        one,
-        one,
-        one,
-        one,
-        both(Candidate(2), Candidate(3)),
-        both(Candidate(2), ZERO),
-        both(Candidate(3), Candidate(4)),
-        both(Candidate(3), ZERO),
-        both(Candidate(4), Candidate(5)),
-        both(Candidate(4), ZERO),
-        both(Candidate(5), Candidate(6)),
-        both(Candidate(5), ZERO),
-        both(Candidate(6), Candidate(7)),
-        both(Candidate(6), ZERO),
-        both(Candidate(7), Candidate(8)),
-        both(Candidate(7), ZERO),
-        both(Candidate(8), Candidate(9)),
-        both(Candidate(8), ZERO),
-        both(Candidate(9), Candidate(10)),
-        both(Candidate(9), ZERO),
-        both(Candidate(10), Candidate(11)),
-        both(Candidate(10), ZERO),
-        both(Candidate(11), Candidate(2)),
-        both(Candidate(11), ZERO),
+        both(TWO, THREE),
+        both(TWO, ZERO),
+        both(THREE, FOUR),
+        both(THREE, ZERO),
+        both(FOUR, FIVE),
+        both(FOUR, ZERO),
+        both(FIVE, TWO),
+        both(FIVE, ZERO),
     ]
 }
 
@@ -123,13 +92,13 @@ fn three_candidates_need_three_sets(rt: HostRuntime) {
         }
         _ => assert!(rt; false),
     }
-    match answer(&rt, 3, ballots_of_three().as_slice(), 2) {
-        Err(SetsFault::Spent { order, margin }) => {
-            assert!(rt; order.candidates() == [TWO, ONE, ZERO].as_slice());
-            assert!(rt; margin == 2);
-        }
-        _ => assert!(rt; false),
-    }
+}
+
+// The order 2,1,0 has hardness 2, and is the first that is tried.
+#[test]
+fn three_candidates_are_spent_at_two(rt: HostRuntime) {
+    let end = answer(&rt, 3, ballots_of_three().as_slice(), 2);
+    assert!(rt; matches!(&end, Err(SetsFault::Spent { margin: 2, .. })));
 }
 
 #[test]
@@ -150,13 +119,13 @@ fn tie_for_the_win_is_undecided(rt: HostRuntime) {
     assert!(rt; matches!(&end, Ok(SetsEnd::Undecided)));
 }
 
-// Each set of candidates but 0 stands below the best margin, 18: those are 2,047, with a hundred million suffixes.
+// Each set of candidates but 0 stands below the best margin, 2: those are 31, with 325 suffixes.
 #[test]
-fn landslide_of_twelve_needs_its_sets(rt: HostRuntime) {
-    match answer(&rt, 12, landslide().as_slice(), 2_047) {
-        Ok(SetsEnd::Certificate(certificate)) => assert!(rt; certificate.margin == 18),
+fn near_equals_need_each_of_their_sets(rt: HostRuntime) {
+    match answer(&rt, 6, near_equals().as_slice(), 31) {
+        Ok(SetsEnd::Certificate(certificate)) => assert!(rt; certificate.margin == 2),
         _ => assert!(rt; false),
     }
-    let end = answer(&rt, 12, landslide().as_slice(), 2_046);
+    let end = answer(&rt, 6, near_equals().as_slice(), 30);
     assert!(rt; matches!(&end, Err(SetsFault::Spent { .. })));
 }

@@ -54,7 +54,8 @@ is_some (Some b) a h = ap Some (is_the_same b a h)
 abbrev pub outside_from : ℕ → ℕ → ℕ → List ℕ
 outside_from closed c n = filter (λ d. not (has closed d)) (range_with_len c (n - c))
 
-outside-next : (closed c n : ℕ) → c < n → outside_from closed c n ≡ cond (not (has closed c)) (c ∷ outside_from closed (c + 1) n) (outside_from closed (c + 1) n)
+outside-next : (closed c n : ℕ) → c < n → outside_from closed c n ≡ cond (not (has closed c)) (c ∷ outside_from closed (c + 1) n)
+    (outside_from closed (c + 1) n)
 outside-next closed c n l = ap (filter (λ d. not (has closed d))) (range-next c n l)
 
 module _ (n : ℕ) (records : List (List ℕ)) (margin : ℕ) (entries : List (Assertion × ℕ)) (set closed c : ℕ) (l : c < n) where

@@ -66,7 +66,8 @@ module _ (n winner : ℕ) (records : List (List ℕ)) where
   S level seen waiting = Searched n winner records level seen waiting
 
   next-by : (seen seen' : List ℕ) (waiting more_waiting : List Waiting) (set c : ℕ) → ((s : ℕ) → Member s seen → Member s seen') →
-      ((o : Waiting) → Member o waiting → Member o more_waiting ⊎ Member o.set seen') → IsNext n records seen waiting set c → IsNext n records seen' more_waiting set c
+      ((o : Waiting) → Member o waiting → Member o more_waiting ⊎ Member o.set seen') → IsNext n records seen waiting set c →
+      IsNext n records seen' more_waiting set c
   next-by seen seen' waiting more_waiting set c f g (inl m) = inl (f (more set c) m)
   next-by seen seen' waiting more_waiting set c f g (inr m) = elim (g (waiting_at n records set c) m) [ inl k ↦ inr k | inr k ↦ inl k ]
 
@@ -184,10 +185,12 @@ module _ (n winner : ℕ) (records : List (List ℕ)) where
             | inr ge ↦ omega (arith, le, ge)
           ]
 
-  pub permuted : (level : ℕ) (seen : List ℕ) (waiting more_waiting : List Waiting) → S level seen waiting → IsPermutation waiting more_waiting → S level seen more_waiting
+  pub permuted : (level : ℕ) (seen : List ℕ) (waiting more_waiting : List Waiting) → S level seen waiting → IsPermutation waiting more_waiting →
+      S level seen more_waiting
   permuted level seen waiting more_waiting s p = record {
     sound = s.sound;
-    waits = λ o m. s.waits o (member-from_contains o waiting (Contains-permutation more_waiting waiting o (IsPermutation-sym waiting more_waiting p) (contains-from_member m)));
+    waits = λ o m. s.waits o
+        (member-from_contains o waiting (Contains-permutation more_waiting waiting o (IsPermutation-sym waiting more_waiting p) (contains-from_member m)));
     first = λ c m. next-by seen seen waiting more_waiting 0 c (λ s m. m) there' (s.first c m);
     next = λ set c m k. next-by seen seen waiting more_waiting set c (λ s m. m) there' (s.next set c m k);
     apart = s.apart;

@@ -14,7 +14,8 @@ use Rattle.set_search.proofs.Mores.{has-more}
 use Rattle.std.proofs.lemmas.Bool.{or_left, or_right, eq-eqb}
 
 -- the NEN over one in the set, from the tallies of the set with c
-pub nen-offered : (records : List (List ℕ)) (row : List ℕ) (n set c d rest margin : ℕ) (score result : Score) → has set c ≡ false → has set d ≡ true → c < n → d < n →
+pub nen-offered : (records : List (List ℕ)) (row : List ℕ) (n set c d rest margin : ℕ) (score result : Score) → has set c ≡ false → has set d ≡ true → c < n →
+    d < n →
     rest ≡ set + 2 ^ c → HasTallies records n (more set c) row → margin ≡ get_or row c 0 - get_or row d 0 → result ≡ offered score margin (Nen c d rest) →
     result ≡ offered score (true_margin records (offer_of set c d)) (offer_of set c d)
 nen-offered records row n set c d rest margin score result out inside below other sum tallied value is =
@@ -29,7 +30,8 @@ nen-offered records row n set c d rest margin score result out inside below othe
 abbrev pub offers_from : ℕ → ℕ → ℕ → ℕ → List Assertion
 offers_from set c d n = map (offer_of set c) (filter (λ e. not (e == c)) (range_with_len d (n - d)))
 
-offers-next : (set c d n : ℕ) → d < n → offers_from set c d n ≡ cond (not (d == c)) (offer_of set c d ∷ offers_from set c (d + 1) n) (offers_from set c (d + 1) n)
+offers-next : (set c d n : ℕ) → d < n → offers_from set c d n ≡ cond (not (d == c)) (offer_of set c d ∷ offers_from set c (d + 1) n)
+    (offers_from set c (d + 1) n)
 offers-next set c d n l = ap (λ s. map (offer_of set c) (filter (λ e. not (e == c)) s)) (range-next d n l) ∙ go (not (d == c)) where
   rest : List ℕ
   rest = filter (λ e. not (e == c)) (range_with_len (d + 1) (n - (d + 1)))

@@ -77,7 +77,8 @@ module _ (n : ℕ) (records : List (List ℕ)) (set c : ℕ) where
 
   module _ (small : set < 2 ^ n) (below : c < n) (out : has set c ≡ false) where
     among : (d : ℕ) → d < n → (d ≡ c → ⊥) → Member (offer_of set c d) (offers n set c)
-    among d l ne = member-map (offer_of set c) (member-filter (λ d. not (d == c)) (candidates n) (candidate-member d n l) (not_from_false (d == c) (ne_eqb d c ne)))
+    among d l ne = member-map (offer_of set c) (member-filter (λ d. not (d == c)) (candidates n) (candidate-member d n l)
+        (not_from_false (d == c) (ne_eqb d c ne)))
 
     forth : (a : Assertion) → Anew a → ⊥ ⊎ Member a (offers n set c)
     forth (Neb w l) s =

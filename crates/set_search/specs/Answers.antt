@@ -10,7 +10,8 @@ use Rattle.set_search.specs.declared.ends.SetsEnd.TheVariants.{Certificate as Ce
 use Rattle.set_search.specs.declared.ends.SetsFault.{SetsFault}
 use Rattle.set_search.specs.declared.ends.SetsFault.TheVariants.{Spent, Memory}
 
--- x is the canonical certificate of the records, with a margin above 0, and the budget has the sets that are needed
+-- x is the canonical certificate of the records, with a margin above 0, and the budget has the sets
+-- that are needed
 pub record IsCertified (n : ℕ) (records : List (List ℕ)) (winner sets : ℕ) (x : Certificate)
     : Type 0 where
   pub claims : x.claims.items ≡ certificate_claims n records winner
@@ -19,13 +20,15 @@ pub record IsCertified (n : ℕ) (records : List (List ℕ)) (winner sets : ℕ)
   pub some : 1 ≤ x.margin
   pub within : sets_for n records winner ≤ sets
 
--- the best margin is 0, and the budget has the sets that are needed, if the start order doesn't tell it
+-- the best margin is 0, and the budget has the sets that are needed, if the start order doesn't
+-- tell it
 pub record IsUndecided (n : ℕ) (records : List (List ℕ)) (tab : Tabulated) (sets : ℕ)
     : Type 0 where
   pub none : best_of n records tab.winner ≡ 0
   pub within : 1 ≤ first_bound n records tab.order → sets_for n records tab.winner ≤ sets
 
--- more sets are needed than the budget has; beside it the start order with its hardness, which is above 0
+-- more sets are needed than the budget has; beside it the start order with its hardness, which is
+-- above 0
 pub record IsSpent (n : ℕ) (records : List (List ℕ)) (tab : Tabulated) (sets : ℕ)
     (order : List ℕ) (margin : ℕ) : Type 0 where
   pub above : sets < sets_for n records tab.winner

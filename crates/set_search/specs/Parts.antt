@@ -19,6 +19,7 @@ IsOrderIn n records winner sets None = sets < sets_for n records winner
 IsOrderIn n records winner sets (Some best) = IsOrder n records winner sets best
 
 -- the sets that stand below the best margin
-pub record IsCover (n : ℕ) (records : List (List ℕ)) (winner sets : ℕ) (seen : List ℕ) : Type 0 where
+pub record IsCover (n : ℕ) (records : List (List ℕ)) (winner sets : ℕ) (seen : List ℕ)
+    : Type 0 where
   pub cover : AreCover n records winner (best_of n records winner) seen
   pub within : cover_sets n records winner ≤ sets

@@ -18,10 +18,10 @@ waiting_at n records set c = record { margin = step n records set c; set = more 
 abbrev pub AreBelow : ℕ → List Waiting → Type 0
 AreBelow n waiting = All (λ o. o.set < 2 ^ n) waiting
 
--- the sets that one comes to from this one, by one more candidate of those below k who aren't in `closed`, are waiting now, and besides
--- them those that were
-pub record AreAddedUpTo (n : ℕ) (records : List (List ℕ)) (set closed k : ℕ) (old new : List Waiting)
-    : Type 0 where
+-- the sets that one comes to from this one, by one more candidate of those below k who aren't in
+-- `closed`, wait now, and besides them those that did
+pub record AreAddedUpTo (n : ℕ) (records : List (List ℕ)) (set closed k : ℕ)
+    (old new : List Waiting) : Type 0 where
   pub kept : (o : Waiting) → Contains old o → Contains new o
   pub each : (c : ℕ) → c < k → has closed c ≡ false → Contains new (waiting_at n records set c)
   pub only : (o : Waiting) → Contains new o → Contains old o

@@ -45,8 +45,8 @@ fn put_steps(
     requires inside { (c : ℕ) → has closed c ≡ false → has set c ≡ false }
     ensures put { (records : List (List ℕ)) → IsOf tallies.old.bag records
         → OnOk result (claims.new.entries
-        ≡ with_steps ⟦<Assertion as Ord>⟧.cmp tallies.old.bag.n records margin claims.old.entries set
-        closed) }
+        ≡ with_steps ⟦<Assertion as Ord>⟧.cmp tallies.old.bag.n records margin claims.old.entries
+        set closed) }
     ensures same { tallies.new ≡ tallies.old }
 {
     for c in 0..tallies.candidates() {

@@ -29,7 +29,8 @@ fn offer_one(
     requires outside { has set c ≡ false }
     ensures { (records : List (List ℕ)) → AreOf ahead.now records
         → HasTallies records ahead.now.n (more set c) row.now
-        → result ≡ offered score (true_margin records (offer_of set c other)) (offer_of set c other) }
+        → result
+        ≡ offered score (true_margin records (offer_of set c other)) (offer_of set c other) }
 {
     if set.has(other) {
         let rest = set.with(c);

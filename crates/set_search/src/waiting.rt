@@ -67,7 +67,8 @@ impl PartialOrd for Waiting {
 pub(crate) fn take_least(waiting: &mut BinaryHeap<Waiting>) -> Option<Waiting>
     requires heap { IsHeap least_first (heap_items waiting.old) }
     ensures heap { IsHeap least_first (heap_items waiting.new) }
-    ensures rest { IfSome result (λ x. IsPermutation (heap_items waiting.old) (x ∷ heap_items waiting.new)) }
+    ensures rest { IfSome result (λ x. IsPermutation (heap_items waiting.old)
+        (x ∷ heap_items waiting.new)) }
     ensures least { IfSome result (λ x. All (λ (y : WaitingSet). x.margin ≤ y.margin)
         (heap_items waiting.new)) }
     ensures fewer { OnSome result (heap_len waiting.new + 1 ≡ heap_len waiting.old) }

@@ -58,7 +58,8 @@ returns-clause-end c = λ records of.
     let order : IsOrder n records winner sets c.in-Some.best = subst (λ (b : Kept). IsOrder b.n records winner sets c.in-Some.best) bag at in
     let margin' = subst (λ (b : Kept). c.in-Some.best.margin ≡ best_of b.n records winner) (sym bag') order.margin in
     let covered = c.in_ok-cover.ensures.cover records (subst (λ b. IsOf b records) (sym bag') of) margin' in
-    let in-cover = MatchOption-at_some _ (λ seen. IsCover c.order_in.new.steps.tallies.bag.n records winner sets seen.keys) c.in-Some-2.cover c.in-Some-2.is covered in
+    let in-cover = MatchOption-at_some _
+    (λ seen. IsCover c.order_in.new.steps.tallies.bag.n records winner sets seen.keys) c.in-Some-2.cover c.in-Some-2.is covered in
     let cover : IsCover n records winner sets c.in-Some-2.cover.keys =
     subst (λ (b : Kept). IsCover b.n records winner sets c.in-Some-2.cover.keys) bag' in-cover in
     let standing = subst (AreCover n records winner c.in-Some.best.margin) (sym c.as_slice.ensures.keys)

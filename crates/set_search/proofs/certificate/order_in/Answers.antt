@@ -19,7 +19,8 @@ returns-in-Found-clause-order c = λ records of.
     let of' = subst (λ (t : Source). IsOf t.bag records) (sym c.level.ensures.same) of in
     let walk = c.in-Ok.ensures.walk (within (AtMost margin) c.level.new.tallies.bag.n records) (records, of', refl) in
     let at = subst (λ e. IsWalk c.candidates-n.result winner sets (within (AtMost margin) c.level.new.tallies.bag.n records) (Ok e)) c.in-Found.is walk in
-    let same = subst (λ k. IsWalk k winner sets (within (AtMost margin) c.level.new.tallies.bag.n records) (Ok (Found c.in-Found.order))) c.candidates-n.ensures.same at in
+    let same = subst (λ k. IsWalk k winner sets (within (AtMost margin) c.level.new.tallies.bag.n records)
+    (Ok (Found c.in-Found.order))) c.candidates-n.ensures.same at in
     let found = subst (λ (t : Source). IsWalk n winner sets (within (AtMost margin) t.bag.n records) (Ok (Found c.in-Found.order))) c.level.ensures.same same in
     let level : IsLevel n records winner sets margin = c.in_ok-margin.ensures.level records of in
     let (best, order, few) = found-order n winner sets records c.requires two margin c.in-Found.order level.most found in
@@ -35,7 +36,8 @@ returns-in-Ended-clause-order c = λ records of.
     let of' = subst (λ (t : Source). IsOf t.bag records) (sym c.level.ensures.same) of in
     let walk = c.in-Ok.ensures.walk (within (AtMost margin) c.level.new.tallies.bag.n records) (records, of', refl) in
     let at = subst (λ e. IsWalk c.candidates-n.result winner sets (within (AtMost margin) c.level.new.tallies.bag.n records) (Ok e)) c.in-Ended.is walk in
-    let same = subst (λ k. IsWalk k winner sets (within (AtMost margin) c.level.new.tallies.bag.n records) (Ok (Ended c.in-Ended._seen))) c.candidates-n.ensures.same at in
+    let same = subst (λ k. IsWalk k winner sets (within (AtMost margin) c.level.new.tallies.bag.n records)
+    (Ok (Ended c.in-Ended._seen))) c.candidates-n.ensures.same at in
     let ended = subst (λ (t : Source). IsWalk n winner sets (within (AtMost margin) t.bag.n records) (Ok (Ended c.in-Ended._seen))) c.level.ensures.same same in
     let level : IsLevel n records winner sets margin = c.in_ok-margin.ensures.level records of in
     absurd (never-ended n winner sets records c.requires two margin level ended.0)

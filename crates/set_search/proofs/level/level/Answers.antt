@@ -88,10 +88,12 @@ loop-next-preserved-in-Continue-branch-3 c = record {
       let s = takes n c.args.winner records c.requires two c.loop-next.level c.max-level.result c.loop-next.seen.keys x (heap_items c.loop-next.waiting)
       (heap_items c.take_least.new.waiting) (c.loop-next.invariant.searched records of) c.in-Some.ensures.rest c.in-Some.ensures.least higher in
       let free : list_any (λ other. c.in-Some.next.set == other) c.loop-next.seen.keys ≡ false = sym c.contains.ensures ∙ c.if-not-contains.true in
-      let keys : c.insert.new.self.keys ≡ (if list_any (λ other. c.in-Some.next.set == other) c.loop-next.seen.keys then c.loop-next.seen.keys else c.loop-next.seen.keys
+      let keys : c.insert.new.self.keys ≡
+      (if list_any (λ other. c.in-Some.next.set == other) c.loop-next.seen.keys then c.loop-next.seen.keys else c.loop-next.seen.keys
       ++ c.in-Some.next.set ∷ []) = c.in_ok-insert.ensures.keys in
       let keys' = keys ∙ ap (λ b. if b then c.loop-next.seen.keys else c.loop-next.seen.keys ++ c.in-Some.next.set ∷ []) free in
-      let added = subst (λ (t : Source). AreAdded t.bag.n records x.set x.set (heap_items c.take_least.new.waiting) (heap_items c.put_next-then-not-contains.new.waiting))
+      let added = subst (λ (t : Source). AreAdded t.bag.n records x.set x.set (heap_items c.take_least.new.waiting)
+      (heap_items c.put_next-then-not-contains.new.waiting))
       c.loop-next.invariant.same (c.in_ok-put_next-2.ensures.added records (subst (λ (t : Source). IsOf t.bag records) (sym c.loop-next.invariant.same) of)) in
       subst (λ ks. Searched n c.args.winner records c.max-level.result ks (heap_items c.put_next-then-not-contains.new.waiting)) (sym keys')
       (enters n c.args.winner records c.max-level.result c.loop-next.seen.keys x (heap_items c.take_least.new.waiting)

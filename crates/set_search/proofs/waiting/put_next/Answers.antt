@@ -46,7 +46,8 @@ loop-c-preserved c =
                 let is = waiting-is n records c.args.set c.loop-c.c w.step.inside.low w.with.result low with in
                 subst (λ h. AreAddedUpTo n records c.args.set c.args.closed (c.loop-c.c + 1) (heap_items c.args.waiting.now) (heap_items h))
                 (sym w.waiting-is)
-                (added-more n records c.args.set c.args.closed (heap_items c.args.waiting.now) c.loop-c.c (heap_items c.loop-c.waiting) (heap_items w.push.new.self) _ out is
+                (added-more n records c.args.set c.args.closed (heap_items c.args.waiting.now) c.loop-c.c (heap_items c.loop-c.waiting)
+                (heap_items w.push.new.self) _ out is
                 w.in_ok-push.ensures.permutation (c.loop-c.invariant.added records of));
           }
       | else-not-has w ↦

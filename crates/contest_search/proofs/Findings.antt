@@ -321,15 +321,17 @@ module _ (ballots : BallotFile) (bag : Kept) (t : Tabulated) (counted : IsCounte
     pub spent_by_sets : (order : List ℕ) (margin : ℕ) → ((records : List (List ℕ)) → IsOf bag records → AreSpent bag.n records t sets order margin) →
         IsSpentBySetsIn (Sets sets) ballots sets order margin
     spent_by_sets order margin h =
-        let s = of_ballots (λ n records. AreSpent n records t sets order margin) h in
-        (refl, record {
-          winner = t.winner;
-          won = won_by ballots t tabulated_there;
-          above = s.above;
-          start = s.start;
-          hardness = s.hardness;
-          some = s.some;
-        })
+        let s = of_ballots (λ n records. AreSpent n records t sets order margin) h in (
+          refl,
+          record {
+            winner = t.winner;
+            won = won_by ballots t tabulated_there;
+            above = s.above;
+            start = s.start;
+            hardness = s.hardness;
+            some = s.some;
+          },
+        )
 
 -- ---- the ties of a tabulation
 

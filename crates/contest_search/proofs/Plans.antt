@@ -1,5 +1,5 @@
 -- The draws of a clean audit, as an assertion file carries them.
-use Rattle.std.proofs.Common.{◌≡◌, ◌≤◌, ◌*◌, ℕ, zero, suc, List, length, map, Option, Some, None, All, IfSome, MatchOption, subst, arith}
+use Rattle.std.proofs.Common.{◌≤◌, ◌*◌, ℕ, zero, suc, List, length, Option, Some, None, All, IfSome, MatchOption, subst, arith}
 use Rattle.std.proofs.lemmas.List.{length-map}
 use Rattle.irv_base.specs.declared.limits.TheConstants.{GREATEST_LIMIT}
 use Rattle.irv_base.proofs.Members.{from_map}

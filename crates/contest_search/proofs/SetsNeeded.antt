@@ -1,15 +1,12 @@
 -- How many sets suffice for a search, and where they don't.
-use Rattle.std.proofs.Common.{◌≡◌, ◌↔◌, ℕ, zero, suc, ◌-◌, ◌^◌, ◌<◌, ◌≤◌, List, sym, ap, subst, arith, ◌∙◌}
-use Rattle.budget.specs.declared.budget.Budget.TheVariants.{Sets}
+use Rattle.std.proofs.Common.{◌≡◌, ℕ, zero, suc, ◌-◌, ◌^◌, ◌<◌, ◌≤◌, List, ap, arith}
 use Rattle.ballot_reader.specs.Ballots.{BallotFile}
 use Rattle.assertions.specs.Hardness.{first_bound}
 use Rattle.set_search.specs.Sets.{sets_for}
 use Rattle.set_search.proofs.Deciding.{sets_are_few as few_sets}
 use Rattle.contest_search.specs.Budget.{sets_of}
 use Rattle.contest_search.specs.Contest.{candidate_count, IsWon}
-use Rattle.contest_search.specs.Found.{FoundIn, IsSpentFound}
 use Rattle.contest_search.specs.Laws.{SetsAreFew, SpentBySetsExactly}
-use Rattle.contest_search.specs.declared.found.Found.{Found}
 use Rattle.contest_search.specs.declared.found.Found.TheVariants.{Certificate, Tie, Spent, SpentSets}
 use Rattle.contest_search.proofs.Contests.{winner-one, winner-below, same_tabulated}
 
@@ -30,14 +27,18 @@ module _ (ballots : BallotFile) (w v : ℕ) (a : IsWon ballots w) (b : IsWon bal
   sets-same = ap (sets_of ballots) (winner-one ballots w v a b)
 
 pub spent_by_sets_exactly : SpentBySetsExactly
-spent_by_sets_exactly sets ballots (Certificate file) winner won found =
-    (λ none. absurd none, λ (some, above).
-    let same = sets-same ballots winner found.is.winner won found.is.won in omega (arith, above, found.within, same))
-spent_by_sets_exactly sets ballots (Tie round tied votes) winner won (is, told) =
-    (λ none. absurd none, λ (some, above).
-    let same = sets-same ballots winner told.winner won told.won in
-    let bound = bound-same ballots winner told.winner won told.won in
-    let within = told.within (omega (arith, some, bound)) in omega (arith, above, within, same))
+spent_by_sets_exactly sets ballots (Certificate file) winner won found = (
+  λ none. absurd none,
+  λ (some, above).
+      let same = sets-same ballots winner found.is.winner won found.is.won in omega (arith, above, found.within, same),
+)
+spent_by_sets_exactly sets ballots (Tie round tied votes) winner won (is, told) = (
+  λ none. absurd none,
+  λ (some, above).
+      let same = sets-same ballots winner told.winner won told.won in
+      let bound = bound-same ballots winner told.winner won told.won in
+      let within = told.within (omega (arith, some, bound)) in omega (arith, above, within, same),
+)
 spent_by_sets_exactly sets ballots (Spent last order margin) winner won found = absurd found
 spent_by_sets_exactly sets ballots (SpentSets told order margin) winner won (its, is) =
     let same = sets-same ballots winner is.winner won is.won in

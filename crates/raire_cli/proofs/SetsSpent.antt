@@ -48,7 +48,7 @@ use Rattle.raire_cli.proofs.Undecided.{comes_of, ends_there, said_of, tried_spen
 -- with a number of sets nothing is left open
 pub closed_by : (command : Command) (sets : ℕ) → budget_of command ≡ Sets sets → is_open command ≡ false
 closed_by (Search task) sets is = ap has_nodes is
-closed_by (Tabulate task) sets is = cc is
+closed_by (Tabulate task) sets is = absurd (cc is)
 closed_by (Trial task) sets is = ap has_nodes is
 closed_by _ sets is = refl
 
@@ -239,4 +239,4 @@ never_by_sets files (Tabulate task) ballots sets text are is enough comes = cc i
 never_by_sets files _ ballots sets text about is enough comes = absurd about
 
 pub most_sets_suffice : MostSetsSuffice
-most_sets_suffice n few = let less : 2 ^ n ≤ 2 ^ 20 = pow_mono few in omega (arith, less)
+most_sets_suffice n few = let less : 2 ^ n ≤ 1048576 = pow_mono few in omega (arith, less)

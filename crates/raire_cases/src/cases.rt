@@ -1,7 +1,8 @@
 // What a call takes, and what comes of it.
 use crate::table::{CASES, FAILING, FILES, File};
 use crate::{
-    audit_table, cards_table, contests_table, plurality_table, poll_table, session_table, tie_table,
+    audit_table, cards_table, contests_table, plurality_table, poll_table, session_table,
+    sets_table, tie_table,
 };
 use desk::{Gate, MemoryDesk, MemorySink, Named, NoGate};
 use irv_base::{MOST_FILE_BYTES, Name};
@@ -68,6 +69,7 @@ pub(crate) fn held(alloc: Global) -> Result<Vec<Named>, AllocError> {
     hold_all(alloc, &mut files, &session_table::FILES)?;
     hold_all(alloc, &mut files, &plurality_table::FILES)?;
     hold_all(alloc, &mut files, &contests_table::FILES)?;
+    hold_all(alloc, &mut files, &sets_table::FILES)?;
     Ok(files)
 }
 
@@ -207,6 +209,15 @@ fn each_case_of_a_plurality_comes_to_its_status_and_text(rt: HostRuntime) -> Res
 #[test]
 fn each_case_of_all_contests_comes_to_its_status_and_text(rt: HostRuntime) -> Result<(), Fail> {
     for (line, status, text) in contests_table::CASES {
+        let ran = case_ran(&rt, line, &[], &[])?;
+        assert!(rt; is_as_wanted(&ran, status, text), "{line}");
+    }
+    Ok(())
+}
+
+#[test]
+fn each_case_by_sets_comes_to_its_status_and_text(rt: HostRuntime) -> Result<(), Fail> {
+    for (line, status, text) in sets_table::CASES {
         let ran = case_ran(&rt, line, &[], &[])?;
         assert!(rt; is_as_wanted(&ran, status, text), "{line}");
     }

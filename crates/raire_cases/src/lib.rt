@@ -21,6 +21,8 @@ mod contests_table;
 #[cfg(test)]
 mod devices;
 #[cfg(test)]
+mod landslide;
+#[cfg(test)]
 mod plain;
 #[cfg(test)]
 mod plurality_table;
@@ -28,6 +30,8 @@ mod plurality_table;
 mod poll_table;
 #[cfg(test)]
 mod session_table;
+#[cfg(test)]
+mod sets_table;
 #[cfg(test)]
 mod table;
 #[cfg(test)]

@@ -198,7 +198,8 @@ const SIX_PRINTED: &str = "\
     \"3\",\"4\",\"5\",\"6\"],\"contest\":\"6\",\"margin\":1,\"order\":[\"6\",\"5\",\"4\",\"3\",\"1\",\"2\"],\"records\":26,\"version\":1,\
     \"winner\":\"1\"}\n";
 
-const TRIAL_7: &str =
+/// What a trial prints of the number 7, with four candidates and thirty ballots.
+pub const TRIAL_7: &str =
     "number 7\ncandidates 4\nrecords 30\nwinner 1\nmargin 5\nassertions 3\norder 4,3,1,2\n";
 
 const SPENT: &str = "spent\ncandidate 3\norder 2,1,3\nmargin 1\n";

@@ -22,7 +22,7 @@ struct Row<'a> {
     err: &'static str,
 }
 
-const ROWS: [Row<'static>; 7] = [
+const ROWS: [Row<'static>; 9] = [
     Row {
         shows: "an assertion that can go",
         file: PRINTED,
@@ -51,6 +51,22 @@ const ROWS: [Row<'static>; 7] = [
         shows: "nodes that suffice, trimmed again",
         file: TRIMMED,
         words: &["trim", "row1.raire", "f.json", "--nodes=3"],
+        status: 0,
+        out: TRIMMED,
+        err: "",
+    },
+    Row {
+        shows: "sets that suffice",
+        file: PRINTED,
+        words: &["trim", "row1.raire", "f.json", "--sets", "2"],
+        status: 0,
+        out: TRIMMED,
+        err: "",
+    },
+    Row {
+        shows: "sets that suffice, trimmed again",
+        file: TRIMMED,
+        words: &["trim", "row1.raire", "f.json", "--sets=2"],
         status: 0,
         out: TRIMMED,
         err: "",

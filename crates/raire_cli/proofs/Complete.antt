@@ -56,7 +56,7 @@ suffices_spent (Sets sets) ballots winner won text suffices spent =
 -- and the certificate is within it
 in_budget : (budget : Budget) (ballots : BallotFile) (winner : ℕ) (won : IsWon ballots winner) → Suffices budget ballots won.order winner →
     (other : ℕ) → IsWon ballots other → IsInBudget ballots other budget
-in_budget (Nodes nodes) ballots winner won suffices v its c other =
+in_budget (Nodes nodes) ballots winner won suffices v its = λ c other.
     let w : v ≡ winner = winner-one ballots v winner its won in
     let enough : nodes_for ballots won.order winner c ≤ nodes = suffices c (subst (λ v. IsOther ballots v c) w other) in
     let same : certificate_nodes ballots v c ≡ certificate_nodes ballots winner c = ap (λ v. certificate_nodes ballots v c) w in

@@ -114,12 +114,14 @@ module _ (sets : ℕ) (ballots : BallotFile) where
         let (other, its, e) = (exactly w found).1 ((exactly v (inr (inr (inl (text, has, is))))).0 (text, has, is)) in
         ap outcome (is ∙ ap (Answered Spent) (spent-one text other has its) ∙ sym e)
 
+    by_status : (v w : Verdict) → Finds (Sets sets) least plan ballots v → Finds (Sets sets) least plan ballots w → SameButBudget (outcome v) (outcome w) →
+        outcome v ≡ outcome w
+    by_status v w a b (inl same) = same
+    by_status v w a b (inr (budgeted, other, inl four)) = with-spent v w (is_spent v a four) b
+    by_status v w a b (inr (budgeted, other, inr four)) = sym (with-spent w v (is_spent w b four) a)
+
     found-one : (v w : Verdict) → Finds (Sets sets) least plan ballots v → Finds (Sets sets) least plan ballots w → outcome v ≡ outcome w
-    found-one v w a b = elim (found-either (Sets sets) (Sets sets) least plan ballots v w a b) [
-      | inl same ↦ same
-      | inr (budgeted, other, inl four) ↦ with-spent v w (is_spent v a four) b
-      | inr (budgeted, other, inr four) ↦ sym (with-spent w v (is_spent w b four) a)
-    ]
+    found-one v w a b = by_status v w a b (found-either (Sets sets) (Sets sets) least plan ballots v w a b)
 
 searched-one : (task : SearchTask) (sets : ℕ) → task.budget ≡ Sets sets → (ballots : BallotFile) (v w : Verdict) → Searches task ballots v →
     Searches task ballots w → outcome v ≡ outcome w
@@ -167,9 +169,10 @@ module _ (task : TrialTask) (sets : ℕ) (is : task.budget ≡ Sets sets) where
       let (other, its, j) = spent_where_more has.is.winner has.is.won (omega (arith, some, hard)) has.is.above w tries in
       ap outcome (e ∙ ap (Answered Spent) (spent-one sets contest text other has its) ∙ sym j)
 
+  either_spent : (v w : Verdict) → Tries task v → Tries task w → SameButBudget (outcome v) (outcome w) → outcome v ≡ outcome w
+  either_spent v w a b (inl same) = same
+  either_spent v w a b (inr (budgeted, other, inl four)) = other_spent v w (tried_spent v a four) b
+  either_spent v w a b (inr (budgeted, other, inr four)) = sym (other_spent w v (tried_spent w b four) a)
+
   pub trial_agrees : Agree Same (trial.script task)
-  trial_agrees v w a b = elim (agrees task v w a b) [
-    | inl same ↦ same
-    | inr (budgeted, other, inl four) ↦ other_spent v w (tried_spent v a four) b
-    | inr (budgeted, other, inr four) ↦ sym (other_spent w v (tried_spent w b four) a)
-  ]
+  trial_agrees v w a b = either_spent v w a b (agrees task v w a b)

@@ -1,5 +1,5 @@
 -- A command that judges an assertion file isn't spent where its budget is enough.
-use Rattle.std.proofs.Common.{◌≡◌, ℕ, ◌≤◌, ◌-◌, ◌*◌, List, Bool, true, false, if◌then◌else◌, Option, None, Some, Result, Ok, Err, MatchBool, refl, sym, ap, subst, arith}
+use Rattle.std.proofs.Common.{◌≡◌, ℕ, ◌≤◌, ◌-◌, ◌*◌, List, Bool, true, false, if◌then◌else◌, Option, None, Some, Result, Ok, Err, MatchBool, map, refl, sym, ap, subst, arith}
 use Rattle.std.specs.Prelude.{option_map, unwrap_or}
 use Rattle.std.specs.Option.{option_or}
 use Rattle.sha2.specs.Sha256.{sha256}

@@ -21,7 +21,7 @@ use Rattle.cover_checker.proofs.Answered.{from_answer, judged}
 use Rattle.cover_checker.proofs.Existing.{answer_never_fault, margins-never}
 use Rattle.check_command.specs.Check.{Checks, after_ballots}
 use Rattle.cli_base.specs.Outcome.{Answered}
-use Rattle.cli_base.specs.Script.{Ends, AsHeld, Concludes}
+use Rattle.cli_base.specs.Script.{Script, Ends, AsHeld, Concludes}
 use Rattle.cli_base.specs.declared.outcome.AnswerKind.TheVariants.{Spent}
 use Rattle.command.specs.declared.check.CheckTask.{CheckTask}
 use Rattle.command_line.specs.declared.commands.Command.{Command}
@@ -48,7 +48,7 @@ use Rattle.raire_cli.proofs.Undecided.{comes_of, ends_there, said_of, tried_spen
 -- with a number of sets nothing is left open
 pub closed_by : (command : Command) (sets : ℕ) → budget_of command ≡ Sets sets → is_open command ≡ false
 closed_by (Search task) sets is = ap has_nodes is
-closed_by (Tabulate task) sets is = cc is
+closed_by (Tabulate task) sets is = absurd (cc is)
 closed_by (Trial task) sets is = ap has_nodes is
 closed_by _ sets is = refl
 
@@ -161,7 +161,7 @@ module _ (files : List File) (task : CheckTask) (sets : ℕ) (is : task.budget �
         ballots,
         file,
         record {
-          ballots = record { bytes = first.bytes; held = first.held; is_short = first.is_short; accepted = first.is };
+          of_ballots = record { bytes = first.bytes; held = first.held; is_short = first.is_short; accepted = first.is };
           bytes = second.bytes;
           held = second.held;
           is_short = second.is_short;
@@ -178,8 +178,8 @@ module _ (files : List File) (task : CheckTask) (sets : ℕ) (is : task.budget �
       let checks : Checks task.budget ballots file (Answered Spent text) = (Err (SpentSets sets), fails, refl) in (
         text,
         saying files task.ballots (refused_ballots task.ballots) (λ bytes. ballots_of bytes task.contest)
-            (λ bytes ballots. after_ballots task.assertions task.budget ballots) are.ballots.bytes are.ballots.held are.ballots.is_short ballots
-            are.ballots.accepted (Answered Spent text)
+            (λ bytes ballots. after_ballots task.assertions task.budget ballots) are.of_ballots.bytes are.of_ballots.held are.of_ballots.is_short ballots
+            are.of_ballots.accepted (Answered Spent text)
             (saying files task.assertions (refused_assertions task.assertions) assertion_file_of (λ bytes file. judging bytes ballots file) are.bytes are.held
             are.is_short file are.accepted (Answered Spent text) checks),
       )
@@ -239,4 +239,4 @@ never_by_sets files (Tabulate task) ballots sets text are is enough comes = cc i
 never_by_sets files _ ballots sets text about is enough comes = absurd about
 
 pub most_sets_suffice : MostSetsSuffice
-most_sets_suffice n few = let less : 2 ^ n ≤ 2 ^ 20 = pow_mono few in omega (arith, less)
+most_sets_suffice n few = let less : 2 ^ n ≤ 1048576 = pow_mono few in omega (arith, less)

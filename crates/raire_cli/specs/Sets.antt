@@ -32,7 +32,7 @@ pub record NeedsMore (sets : ℕ) (ballots : BallotFile) : Type 0 where
 -- the files of a check are held, not too long and accepted, and say this
 pub record AreChecked (files : List File) (task : CheckTask) (ballots : BallotFile)
     (file : Content) : Type 0 where
-  pub ballots : AreBallots files task.ballots task.contest ballots
+  pub of_ballots : AreBallots files task.ballots task.contest ballots
   pub bytes : List ℕ
   pub held : held_bytes task.assertions files ≡ Some bytes
   pub is_short : length bytes ≤ limit

@@ -375,6 +375,7 @@ def audit(runs, draws):
     seed = one_of(draws, ["2024", 'a "seed"', "a, b\\c"])
     options = ["--gamma", str(1 + draws.below(500))] if draws.below(3) == 0 else []
     limits = options + (["--limit", str(1 + draws.below(400_000))] if draws.below(2) else [])
+    budget = [f"--sets={1 + draws.below(one_of(draws, [4, 40, 5000]))}"] if draws.below(3) == 0 else []
     at = draws.below(8)
 
     def step(number, *words):
@@ -383,13 +384,13 @@ def audit(runs, draws):
         return runs.run(list(words))
 
     planned = [f"--cards={20 + draws.below(one_of(draws, [20, 2000]))}", *limits] if draws.below(3) == 0 else []
-    status, text, _ = runs.run(["search", "ballots.raire", *contest, *planned])
+    status, text, _ = runs.run(["search", "ballots.raire", *contest, *planned, *(budget if draws.below(2) else [])])
     if status != 0:
         return
     write("assertions.json", text)
-    step(0, "check", "ballots.raire", "assertions.json", *contest)
+    step(0, "check", "ballots.raire", "assertions.json", *contest, *budget)
     step(1, "plan", "manifest.csv", "assertions.json", *limits)
-    status, text, _ = step(2, "open", "ballots.raire", "manifest.csv", "assertions.json", "--seed", seed, *contest, *limits)
+    status, text, _ = step(2, "open", "ballots.raire", "manifest.csv", "assertions.json", "--seed", seed, *contest, *limits, *budget)
     if status != 0:
         return
     write("session.json", text)
@@ -397,7 +398,7 @@ def audit(runs, draws):
     files, had = ["session.json", "ballots.raire", "manifest.csv", "assertions.json", "seen.csv"], 0
     for number in range(3, 7):
         had += 1 + draws.below(12 if number < 5 else 60) - (draws.below(10) == 0)
-        status, text, _ = step(number, "audit", *files, "--draws", str(max(had, 1)))
+        status, text, _ = step(number, "audit", *files, "--draws", str(max(had, 1)), *budget)
         if status in (0, 10):
             write("session.json", text)
     step(7, "report", "session.json")

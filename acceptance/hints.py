@@ -150,14 +150,18 @@ OF_WORDS = [
     (["x"], '"x" is no command; they are audit, check, contests, open, plan, plurality, poll, report, sample, search, tabulate, trial, trim'),
     *[([script, "x"], f'"{script}" is no command; it is a script of its own: ./{script}') for script in SCRIPTS],
     (["audit", "--draw", "5"], '"--draw" is no option of audit; nearly right is "--draws"'),
-    (["search", "-x", "b"], '"-x" is no option of search; it has --contest, --workers, --nodes, --floor, --cards, --limit, --gamma'),
+    (["search", "-x", "b"], '"-x" is no option of search; it has --contest, --workers, --nodes, --sets, --floor, --cards, --limit, --gamma'),
     (["search", "b", "--gamma=100"], "search takes --gamma only together with --cards"),
     (["search", "b", "--cards=9", "--limit", "0.05"], '"0.05" is no value of --limit, which is 1 to 999999 millionths, such as 50000 for 5 percent'),
     (["search", "b", "--cards=9", "--gamma", "501"], '"501" is no value of --gamma, which is 1 to 500 thousandths'),
-    (["check", "--workers=5", "b"], '"--workers=5" is no option of check; it has --contest, --nodes'),
+    (["check", "--workers=5", "b"], '"--workers=5" is no option of check; it has --contest, --nodes, --sets'),
     (["report", "--nodes=5", "b"], '"--nodes=5" is no option of report; it has none'),
     (["search", "b", "--nodes", "1", "--nodes", "1"], "--nodes stands twice"),
     (["search", "b", "--nodes"], "--nodes has no value"),
+    (["search", "b", "--nodes", "1", "--sets", "1"], "--sets stands in place of --nodes, and both are given"),
+    (["check", "b", "a", "--sets", "1048577"], '"1048577" is no value of --sets, which is 1 to 1048576'),
+    (["audit", "s", "b", "m", "a", "c", "--draws=1", "--set=5"], '"--set=5" is no option of audit; nearly right is "--sets"'),
+    (["tabulate", "b", "--sets=5"], '"--sets=5" is no option of tabulate; it has --contest, --nodes'),
     (["sample", "b", "--seed", "-1", "--draws", "1"], '--seed has no value; "-1" begins with -, so it is written behind --seed='),
     (["search", "b", "--workers", "0"], '"0" is no value of --workers, which is 1 to 8'),
     (["sample", "b", "--seed", "2", "6", "1", "--draws", "1"],
@@ -308,6 +312,22 @@ def words_are_told(tried):
         tried.says(["tabulate", path], f'read fault: {table.causes()["read fault"]}. "ballots.raire" is a file, and no folder. {END}')
 
 
+def budgets_are_told(tried):
+    """Behind a budget that is spent the one that goes further is told, by the words alone."""
+    most = f"--sets {limits.MOST_SETS}"
+    further = f"spent: give it {most}; it counts sets of candidates, in place of --nodes, and up to 20 candidates it is never spent. {END}"
+    row1, town = (os.path.join(TOP, "examples", name) for name in ("row1", "town"))
+    for words in (["search", f"{row1}.raire", "--nodes=1"], ["search", f"{row1}.raire", "--sets=1"], ["trial", "--number=7", "--nodes=1"]):
+        tried.says(words, further)
+    files = [f"{town}/{name}" for name in ("ballots.raire", "manifest.csv", "assertions.json")]
+    for words in (["check", files[0], files[2]], ["trim", files[0], files[2]], ["open", *files, "--seed=1"]):
+        tried.says([*words, "--nodes=1"], further)
+        tried.says([*words, "--sets=1"], further)
+    nothing = os.path.join(TOP, "acceptance", "cases", "check_spent", "assertions.json")
+    tried.says(["poll", "manifest.csv", nothing, "seen.csv", "--seed=10", "--draws=1", "--nodes=1"],
+               f"spent: give it --nodes {limits.MOST_NODES}; it is the most there may be. {END}")
+
+
 def answers_are_left(tried):
     """Where nothing is refused, nothing is added and nothing is started."""
     path = os.path.join(os.getcwd(), "bin")
@@ -374,7 +394,7 @@ def main():
     folder = tempfile.mkdtemp()
     os.chdir(folder)
     tried = Tried(program, folder)
-    for cases in (rules_are_told, files_are_told, audits_are_told, contests_are_told, pluralities_are_told, words_are_told, answers_are_left, cards_are_counted):
+    for cases in (rules_are_told, files_are_told, audits_are_told, contests_are_told, pluralities_are_told, words_are_told, budgets_are_told, answers_are_left, cards_are_counted):
         cases(tried)
     os.chdir("/")
     shutil.rmtree(folder)

@@ -17,7 +17,7 @@ import time
 
 import audits
 import plain_audit
-from limits import MOST_CANDIDATES, MOST_CONTESTS, MOST_FILE_BYTES as LARGEST, MOST_LISTED, MOST_RECORDS
+from limits import MOST_CANDIDATES, MOST_CONTESTS, MOST_FILE_BYTES as LARGEST, MOST_LISTED, MOST_RECORDS, MOST_SETS
 
 MOST_SECONDS = 10
 MIB = 2**20
@@ -40,6 +40,8 @@ LINES = {
     "report": ["report", "session.json"],
     "poll": ["poll", "manifest.csv", "assertions.json", "seen.csv", "--seed=2024", "--draws=5"],
     "trial": ["trial", "--number=0", "--candidates=2", "--ballots=1"],
+    "search by sets": ["search", "ballots.raire", "--sets=1"],
+    "check by sets": ["check", "ballots.raire", "assertions.json", "--sets=1"],
     "plurality": ["plurality", "ballots.raire", "manifest.csv", "--seed=2024"],
     "plurality, a round": ["plurality", "plural.json", "ballots.raire", "manifest.csv", "seen.csv", "--draws=5"],
     "contests": ["contests", "ballots.raire", "manifest.csv", "seen_by.csv", "--seed=2024", "--draws=5"],
@@ -288,6 +290,7 @@ def malicious(runs):
                     runs.run(f"{command}: {shows}", words, statuses | (more if 11 not in statuses else set()))
     if "check of draws" in runs.lines:
         doubtful(runs)
+    many_sets(runs)
     if "contests" in runs.lines:
         many_contests(runs)
 
@@ -322,6 +325,27 @@ def doubtful(runs):
     with open("doubtful.json", "wb") as file:
         file.write(data.replace(b'"margin":1,"order"', b'"margin":%d,"order"' % margin).replace(b'"records":1', b'"records":%d' % margin))
     runs.run("check of draws that bounds leave open", ["check", "doubtful.raire", "doubtful.json"], {0})
+
+
+# ---- words and contests of the budget of sets
+
+MANY_SETS = 100_000
+
+
+def many_sets(runs):
+    """Words that are none; and as many candidates as may be, of whom one leads: each set of the others may come last, and no assertion of
+    less than the best margin refutes that, so more sets count than any budget has."""
+    for words in (["--sets=1", "--nodes=1"], ["--sets=0"], [f"--sets={MOST_SETS + 1}"], ["--sets=-1"], ["--sets="], ["--sets=1", "--sets=1"]):
+        for line in (["search", "ballots.raire"], ["check", "ballots.raire", "assertions.json"], ["trial", "--number=0"]):
+            runs.run(f"{line[0]} {words}", [*line, *words], {1})
+    for command in ("tabulate", "poll", "plan", "sample", "report", "plurality"):
+        runs.run(f"{command} has no sets", [*runs.lines[command], "--sets=1"], {1})
+    others = [str(c) for c in range(1, MOST_CANDIDATES)]
+    rankings = ["0"] * 40 + [f"{c},{after},0" for c, after in zip(others, others[1:] + others[:1])]
+    audits.write("wide.raire", f"1\nContest,9,{MOST_CANDIDATES},0,{','.join(others)}\n" + "".join(f"9,b_{k},{each}\n" for k, each in enumerate(rankings, 1)))
+    runs.run("search of 32 candidates, of whom too many sets count", ["search", "wide.raire", f"--sets={MANY_SETS}"], {4})
+    for size in (16, 24, 32):
+        runs.run(f"the same in {size} MB", ["search", "wide.raire", f"--sets={MANY_SETS}"], {4, 9}, preexec_fn=lambda: limit(size))
 
 
 # ---- little memory

@@ -20,9 +20,12 @@ import subprocess
 import sys
 import tempfile
 import threading
+import time
 from multiprocessing.pool import ThreadPool
 
 import audits
+import compare
+import plain
 import plain_audit
 import walk
 from draws import Draws
@@ -30,6 +33,10 @@ from limits import MOST_CANDIDATES
 
 HERE = os.path.dirname(os.path.abspath(__file__))
 TOP = os.path.dirname(HERE)
+sys.path.append(os.path.join(TOP, "page"))
+
+import orders  # noqa: E402
+
 SHOW = os.path.join(TOP, "show")
 BROWSERS = ("chromium-headless-shell", "chromium", "google-chrome")
 FLAGS = ["--headless", "--no-sandbox", "--disable-gpu", "--hide-scrollbars"]
@@ -274,15 +281,88 @@ def promises(shows, tried):
     write("part.json", re.sub(r'"assertions":\[({[^}]*}).*?],"candidates"', r'"assertions":[\1],"candidates"', found[0]))
     write("mayor.json", found[1])
     write("large.json", found[2])
+    shutil.copy(os.path.join(HERE, "cases", "check_assembly_spent", "assertions.json"), "none.json")
     for files, follows, said in [
         (["whole.json"], True, "refute every order that elects another candidate than 2"), (["whole.json", row1], True, "The assertions hold"),
         (["winner.json", row1], False, "no: winner is 2"), (["winner.json"], False, "standing"), (["part.json"], False, "standing"),
         (["part.json", row1], False, "isn’t accepted"), (["mayor.json", mayor, "--nodes", "2"], False, "The check was spent"),
-        (["large.json"], False, "A check by the program goes through all of them"), (["large.json", assembly], True, "The program’s check goes through all of them"),
+        (["large.json"], True, "refute every order that elects another candidate than 56"), (["large.json", assembly], True, "The assertions hold"),
+        (["none.json"], False, "A check by the program goes through all of them"), (["none.json", assembly], False, "The program’s check goes through all of them"),
     ]:
         status, page, err = shows.run(*files)
         text = text_of(page) if status == 0 else err
         tried.see(f"what follows from {files}", status == 0 and ("of the ballots on paper, then" in text) == follows and said in text, text[:300])
+
+
+def trees(shows, tried, draws):
+    """What the tree counts set by set, and what it draws, is what all suffixes tell, one by one; also where assertions are missing."""
+    n = 2 + draws.below(5)
+    ids = [f"C{c}" for c in range(n)]
+    while True:
+        contest = plain.Contest("9", ids, compare.contest_of(draws, n, 10 + draws.below(60)))
+        try:
+            value = json.loads(plain.certificate_by_bound(contest))
+            break
+        except plain.Tie:
+            continue
+    claims = [claim for claim in value["assertions"] if draws.below(6)]
+    tree = orders.Tree(ids, value["winner"], claims)
+    assertions = [plain.claim_of(claim, value, 0)[0] for claim in claims]
+    cuts_of, sets, standing = [0] * len(claims), set(), 0
+    stack = [(c,) for c in range(n) if ids[c] != value["winner"]]
+    while stack:
+        suffix = stack.pop()
+        by = next((j for j, assertion in enumerate(assertions) if plain.refutes(assertion, suffix)), None)
+        if by is not None:
+            cuts_of[by] += 1
+        elif len(suffix) == n:
+            standing += 1
+        else:
+            sets.add(frozenset(suffix))
+            stack += [(c, *suffix) for c in range(n) if c not in suffix]
+    counted = (tree.cuts_of, tree.cuts, tree.standing, tree.sets, tree.is_whole)
+    tried.see("a tree is counted", counted == (cuts_of, sum(cuts_of), standing, len(sets), True), (counted, cuts_of, standing, len(sets)))
+    drawn = list(branches_of(tree.branches))
+    shown = [branch for branch in drawn if branch.is_shown]
+    if tree.is_by_sets:
+        gone_on = [branch.here for branch in drawn if branch.children]
+        tried.see("each set is drawn once", len(set(gone_on)) == len(gone_on) and len(shown) <= orders.MOST_SHOWN, len(shown))
+        tried.see("others name it", all(sorted(branch.like) == sorted(branch.path) for branch in drawn if branch.like))
+    else:
+        held = sum(branch.by is not None for branch in shown), sum(branch.stands for branch in shown)
+        tried.see("a small tree is drawn whole", held == (tree.cuts, tree.standing), held)
+
+
+def branches_of(level):
+    for branch in level:
+        yield branch
+        yield from branches_of(branch.children)
+
+
+def by_sets(shows, tried):
+    """A landslide over small candidates, whose orders are too many to draw: its page is small, and quickly made."""
+    ballots, assertions = landslide(".")
+    began = time.monotonic()
+    status, page, err = shows.run(ballots, assertions, "--sets=4096")
+    seconds, text = time.monotonic() - began, text_of(page)
+    tried.see("a contest by sets is shown", status == 0 and "The assertions hold" in text, (err, text[:300]))
+    tried.see("its sets are counted", "There are 2,047 such sets that no assertion cuts." in text and ", 0 orders standing" in text)
+    tried.see("its page is small and quickly made", len(page) < 250_000 and seconds < 20, (len(page), seconds))
+    status, page, err = shows.run(ballots, assertions, "--sets=2046")
+    tried.see("a budget that is spent is told", status == 0 and "The check was spent (spent, sets 2046)" in text_of(page) and "--sets 1048576" in page, err)
+    for words, told in [
+        (["--sets=1", "--nodes=1"], "--sets stands in place of --nodes"), (["--sets=0"], "--sets wants a number from 1 to 1048576"),
+        (["--sets=1048577"], "--sets wants a number from 1 to 1048576"), (["--sets"], "--sets wants a value"),
+    ]:
+        got = shows.run(ballots, assertions, *words)
+        tried.see(f"{words} are refused", got[:2] == (1, "") and got[2].startswith(f"show: {told}"), got)
+    got = shows.run(assertions, "--sets=1")
+    tried.see("sets without ballots are refused", got[:2] == (1, "") and got[2].startswith("show: --sets is the budget of a check"), got)
+    got = shows.run(*harbor(), f"--seed={SEED}", "--draws=100", "--sets=1")
+    tried.see("a poll has no sets", got[:2] == (1, "") and got[2].startswith("show: a poll has no --sets"), got)
+    town = example("town")
+    status, page, err = shows.run(*town, "--sets=32")
+    tried.see("a whole audit by sets", status == 0 and "ended with the same bytes" in page and "--sets=32" in page, err)
 
 
 def belonging(shows, tried):
@@ -1082,6 +1162,8 @@ def looks(shows, tried, folder, keep):
         "names": shows.run(*names_that_are_none(folder)),
         "many": shows.run(*many_candidates(folder)),
         "most": shows.run(*most_candidates(shows, folder)),
+        "sets": shows.run(*landslide(folder), "--sets=4096"),
+        "uncounted": shows.run(os.path.join(HERE, "cases", "check_assembly_spent", "assertions.json")),
         "tie": shows.run(os.path.join(TOP, "examples", "tie.raire")),
         "village": shows.run(*example("village")),
         "session": shows.run(os.path.join(town, "session.json")),
@@ -1221,14 +1303,21 @@ def many_candidates(folder):
     return ballots, assertions
 
 
+def landslide(folder):
+    """A contest of 12 candidates that one of them leads by far. Each set of the others may come last: 2,047 of them."""
+    ballots, assertions = os.path.join(HERE, "cases", "sets_landslide", "ballots.raire"), os.path.join(folder, "landslide.json")
+    write(assertions, plain_audit.run(["search", ballots, "--sets=4096"])[1])
+    return ballots, assertions
+
+
 def main():
     program, count = sys.argv[1], int(sys.argv[2]) if len(sys.argv) > 2 else 40
     keep = os.path.abspath(sys.argv[3]) if len(sys.argv) > 3 else None
     tried, draws, here = Tried(), Draws(23), os.getcwd()
-    made = (numbers, plurality_numbers, poll_numbers)
+    made = (trees, numbers, plurality_numbers, poll_numbers)
     with tempfile.TemporaryDirectory() as tools:
         shows = Shows(program, tools)
-        cases = (refusals, words, programs, sessions, promises, belonging, seen_alone, kinds, states, later, bytes_of_sessions, clean_draws, counts, pluralities, polls, counties, cards, names, ties)
+        cases = (refusals, words, programs, sessions, promises, by_sets, belonging, seen_alone, kinds, states, later, bytes_of_sessions, clean_draws, counts, pluralities, polls, counties, cards, names, ties)
         makers = [lambda case=case: case(shows, tried) for case in cases] + [lambda case=case: case(shows, tried, draws) for case in made] * count
         makers += [lambda: without_browser(tried), lambda: bars(shows, tried, draws, count), lambda: looks(shows, tried, os.getcwd(), keep)]
         for maker in makers:

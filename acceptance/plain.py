@@ -5,7 +5,7 @@ Rankings are tuples of candidate numbers, orders and suffixes are tuples with th
 searched by walking all suffixes in full (`certificate`) or, for larger ones, from the end under a bound
 (`certificate_by_bound`); both give the text that `raire search` prints. `tabulation` gives that of `raire tabulate`.
 `judge` reads an assertion file and walks all orders, of more than `MOST_LISTED_WHOLE` candidates those that nothing refutes; it gives
-the status and the text of `raire check`, or the rule that the file breaks and its place. A search with a `Plan` prints version 2 of
+the status and the text of `raire check`, or the rule that the file breaks and its place. Its budget is one of nodes, or of `Sets`. A search with a `Plan` prints version 2 of
 the file, with the clean draws of each margin.
 
     acceptance/plain.py search BALLOTS      acceptance/plain.py tabulate BALLOTS
@@ -441,28 +441,43 @@ def least_standing(contest, winner, claims):
     return min(standing, key=lambda order: order[::-1], default=None)
 
 
-def standing_count(contest, last, claims, before):
+def standing_suffixes(contest, last, claims, before):
     """The suffixes that end in the candidate, aren't whole, and that no claim refutes; just those before this order."""
     others = [c for c in range(contest.n) if c != last]
-    suffixes = [front + (last,) for size in range(contest.n - 1) for front in itertools.permutations(others, size)]
-    return sum(
-        (before is None or suffix[::-1] < before[::-1]) and not any(refutes(assertion, suffix) for assertion, _ in claims)
-        for suffix in suffixes
-    )
+    for size in range(contest.n - 1):
+        for front in itertools.permutations(others, size):
+            suffix = front + (last,)
+            if (before is None or suffix[::-1] < before[::-1]) and not any(refutes(assertion, suffix) for assertion, _ in claims):
+                yield suffix
 
 
-def unproved(contest, winner, claims, nodes):
+class Sets(int):
+    """A budget of so many sets of candidates for all orders together, in place of one of nodes for each candidate who didn't win."""
+
+
+def unproved(contest, winner, claims, budget):
     """The status and the text where an order stands, or the budget ends before that is known; None where the claims prove the winner."""
-    return (unproved_by_list if contest.n <= MOST_LISTED_WHOLE else unproved_by_walk)(contest, winner, claims, nodes)
+    is_listed = contest.n <= MOST_LISTED_WHOLE
+    if isinstance(budget, Sets):
+        return (unproved_by_list_of_sets if is_listed else unproved_by_walk_of_sets)(contest, winner, claims, budget)
+    return (unproved_by_list if is_listed else unproved_by_walk)(contest, winner, claims, budget)
+
+
+def stands(contest, order):
+    return 6, f"no: order {','.join(contest.ids[c] for c in order)} stands\n"
+
+
+def spent_sets(sets):
+    return 4, f"spent\nsets {sets}\n"
 
 
 def unproved_by_list(contest, winner, claims, nodes):
     """By the definition alone: every order, every suffix."""
     standing = least_standing(contest, winner, claims)
     for last in range(contest.n):
-        if last != winner and standing_count(contest, last, claims, standing) > nodes:
+        if last != winner and sum(1 for _ in standing_suffixes(contest, last, claims, standing)) > nodes:
             return 4, f"spent\ncandidate {contest.ids[last]}\n"
-    return (6, f"no: order {','.join(contest.ids[c] for c in standing)} stands\n") if standing else None
+    return stands(contest, standing) if standing else None
 
 
 def unproved_by_walk(contest, winner, claims, nodes):
@@ -475,7 +490,7 @@ def unproved_by_walk(contest, winner, claims, nodes):
             if any(refutes(assertion, suffix) for assertion in assertions):
                 continue
             if len(suffix) == contest.n:
-                return 6, f"no: order {','.join(contest.ids[c] for c in suffix)} stands\n"
+                return stands(contest, suffix)
             count += 1
             if count > nodes:
                 return 4, f"spent\ncandidate {contest.ids[last]}\n"
@@ -483,7 +498,41 @@ def unproved_by_walk(contest, winner, claims, nodes):
     return None
 
 
-def difference(contest, file, nodes):
+def unproved_by_list_of_sets(contest, winner, claims, sets):
+    """By the definition alone: every order, and the set of each suffix that counts."""
+    standing = least_standing(contest, winner, claims)
+    others = [last for last in range(contest.n) if last != winner]
+    found = {frozenset(suffix) for last in others for suffix in standing_suffixes(contest, last, claims, standing)}
+    if len(found) > sets:
+        return spent_sets(sets)
+    return stands(contest, standing) if standing else None
+
+
+def unproved_by_walk_of_sets(contest, winner, claims, sets):
+    """The same from the end, into each set once: what refutes by one more candidate in front hangs on the set behind alone."""
+    rivals, nexts = {}, set()
+    for kind, w, l, *rest in (assertion for assertion, _ in claims):
+        if kind == "NEB":
+            rivals.setdefault(l, set()).add(w)
+        else:
+            nexts.add((w, rest[0]))
+    seen, stack = set(), [(last,) for last in reversed(range(contest.n)) if last != winner]
+    while stack:
+        suffix = stack.pop()
+        front, here = suffix[0], frozenset(suffix)
+        if (front, here) in nexts or rivals.get(front, set()) - here:
+            continue
+        if len(suffix) == contest.n:
+            return stands(contest, suffix)
+        if here not in seen:
+            seen.add(here)
+            if len(seen) > sets:
+                return spent_sets(sets)
+            stack += [(c,) + suffix for c in reversed(range(contest.n)) if c not in here]
+    return None
+
+
+def difference(contest, file, budget):
     """The status and the text of the first difference, or None."""
     if (file["contest"], file["candidates"], file["records"]) != (contest.name, contest.ids, contest.records):
         return 6, "no: contest differs\n"
@@ -494,7 +543,7 @@ def difference(contest, file, nodes):
     for number, (assertion, claimed) in enumerate(claims, 1):
         if contest.margin(assertion) != claimed:
             return 6, f"no: assertion {number} has margin {contest.margin(assertion)}\n"
-    told = unproved(contest, winner, claims, nodes)
+    told = unproved(contest, winner, claims, budget)
     if told:
         return told
     smallest = min(margin for _, margin in claims)
@@ -518,11 +567,11 @@ def other_draws(file):
     return None
 
 
-def judge(contest, data, nodes=DEFAULT_NODES):
+def judge(contest, data, budget=DEFAULT_NODES):
     """The status and the text of a check of the assertion file with these bytes. It may be Refused."""
     file = read_assertions(data)
     accepted = 0, f"yes\nassertions {len(file['assertions'])}\nmargin {file['margin']}\n"
-    return difference(contest, file, nodes) or accepted
+    return difference(contest, file, budget) or accepted
 
 
 # ---- the command

@@ -3,8 +3,8 @@
 
 It follows docs/formats.md and docs/rules.md with hashlib and whole numbers alone, and takes from plain.py how contests
 are searched and assertion files judged. `run` gives the status and the two texts of a line of words, as `raire` does,
-save that it never lacks memory and that no search is ever spent. A check walks all orders, so it is for contests of up
-to seven candidates or so.
+save that it never lacks memory and that no search by nodes is ever spent. A check walks all orders, so it is for contests of up
+to seven candidates or so; with sets both are for up to sixteen.
 
     acceptance/plain_audit.py COMMAND FILES.. OPTIONS..
 """
@@ -18,13 +18,14 @@ import plain
 import plain_contests
 import plain_plurality
 import plain_poll
+import plain_sets
 import plain_trim
 from plain_draws import clean_draws, UNIT  # noqa: F401
 from plain_risk import discrepancy, drawn, MISSING, risk, risk_text, value
 from limits import (
     DEFAULT_NODES, FEWEST_CANDIDATES, GREATEST_GAMMA, GREATEST_LIMIT, MOST_BATCH_BYTES, MOST_BATCH_CARDS, MOST_CANDIDATES, MOST_CARDS,
     MOST_CONTESTS, MOST_DRAWS, MOST_FILE_BYTES, MOST_FLOOR, MOST_LISTED, MOST_NODES, MOST_NUMBER, MOST_RECORDS, MOST_SEED_BYTES,
-    MOST_WORKERS,
+    MOST_SETS, MOST_WORKERS,
 )
 
 MARK = b"\xef\xbb\xbf"
@@ -407,6 +408,8 @@ def search(options, ballots):
     plan = plan_of(options) if "cards" in options else None
     if plan and contest.records > plan.cards:
         raise refused(ballots, "B11 at 0")
+    if "sets" in options:
+        return plain_sets.searched(contest, options["sets"], options.get("floor", 1), plan)
     return certified(contest, options.get("floor", 1), plan)
 
 
@@ -414,16 +417,20 @@ def plan_of(options):
     return plain.Plan(options["cards"], options.get("limit", 50_000), options.get("gamma", 100))
 
 
+def budget_of(options):
+    return plain.Sets(options["sets"]) if "sets" in options else options.get("nodes", DEFAULT_NODES)
+
+
 def check(options, ballots, assertions):
     contest = judged(ballots, ballots_of, read(ballots), options.get("contest"))
-    return judged(assertions, plain.judge, contest, read(assertions), options.get("nodes", DEFAULT_NODES))
+    return judged(assertions, plain.judge, contest, read(assertions), budget_of(options))
 
 
 def trim(options, ballots, assertions):
     contest = judged(ballots, ballots_of, read(ballots), options.get("contest"))
-    data, nodes = read(assertions), options.get("nodes", DEFAULT_NODES)
-    accepted(contest, assertions, data, nodes)
-    return plain_trim.printed(data, nodes)
+    data, budget = read(assertions), budget_of(options)
+    accepted(contest, assertions, data, budget)
+    return plain_trim.printed(data, budget)
 
 
 def sample(options, path):
@@ -463,9 +470,9 @@ def poll(options, manifest_path, path, seen_path):
     return plain_poll.printed(names, values, manifest.cards, options["draws"], options.get("limit", 50_000), options.get("gamma", 100))
 
 
-def accepted(contest, path, data, nodes):
+def accepted(contest, path, data, budget):
     """The assertion file, or the end of the call with what a check of it finds first."""
-    status, text = judged(path, plain.judge, contest, data, nodes)
+    status, text = judged(path, plain.judge, contest, data, budget)
     if status:
         raise End(status, out=text)
     return plain.read_assertions(data)
@@ -491,7 +498,7 @@ def open_session(options, ballots, manifest, assertions):
     cards = judged(manifest, manifest_of, bytes_of_manifest)
     judged(ballots, linked, contest, cards)
     bytes_of_assertions = read(assertions)
-    file = accepted(contest, assertions, bytes_of_assertions, options.get("nodes", DEFAULT_NODES))
+    file = accepted(contest, assertions, bytes_of_assertions, budget_of(options))
     margins = [margin for _, margin in file["assertions"]]
     return 0, session_text(opened(options, contest, cards, margins, bytes_of_ballots, bytes_of_manifest, bytes_of_assertions))
 
@@ -567,7 +574,7 @@ def audit(options, session_path, ballots, manifest, assertions, seen):
     session = to_go_on(session_path, options["draws"])
     contest, cards, recorded = placed(session, ballots, manifest)
     data = same(assertions, read(assertions), session["assertions"])
-    claims = accepted(contest, assertions, data, options.get("nodes", DEFAULT_NODES))["assertions"]
+    claims = accepted(contest, assertions, data, budget_of(options))["assertions"]
     return further_round(session, session_path, contest, cards, recorded, claims, seen, options["draws"])
 
 
@@ -621,7 +628,10 @@ def trial_rankings(number, n, ballots):
 def trial(options):
     n, number = options.get("candidates", 6), options["number"]
     contest = plain.Contest("trial", [str(c + 1) for c in range(n)], trial_rankings(number, n, options.get("ballots", 10_000)))
-    file = json.loads(plain.certificate_by_bound(contest))
+    status, text = plain_sets.searched(contest, options["sets"]) if "sets" in options else certified(contest, 1, None)
+    if status:
+        return status, text
+    file = json.loads(text)
     lines = {
         "number": number, "candidates": n, "records": file["records"], "winner": file["winner"], "margin": file["margin"],
         "assertions": len(file["assertions"]), "order": ",".join(file["order"]),
@@ -659,7 +669,7 @@ def as_number(low, high):
 
 KINDS = {
     "contest": lambda text: text if plain.is_id(text) else None, "seed": lambda text: text if is_seed(text) else None,
-    "workers": as_number(1, MOST_WORKERS), "nodes": as_number(1, MOST_NODES), "floor": as_number(1, MOST_FLOOR),
+    "workers": as_number(1, MOST_WORKERS), "nodes": as_number(1, MOST_NODES), "sets": as_number(1, MOST_SETS), "floor": as_number(1, MOST_FLOOR),
     "limit": as_number(1, GREATEST_LIMIT), "gamma": as_number(1, GREATEST_GAMMA), "draws": as_number(1, MOST_DRAWS),
     "cards": as_number(1, MOST_CARDS), "number": as_number(0, MOST_NUMBER), "candidates": as_number(FEWEST_CANDIDATES, MOST_CANDIDATES), "ballots": as_number(1, MOST_RECORDS),
 }
@@ -667,22 +677,22 @@ KINDS = {
 # the call, the number of its files, the options that must be given, those that may be
 COMMANDS = {
     "tabulate": (tabulate, 1, "", "contest nodes"),
-    "search": (search, 1, "", "contest workers nodes floor"),
-    "check": (check, 2, "", "contest nodes"),
-    "trim": (trim, 2, "", "contest nodes"),
+    "search": (search, 1, "", "contest workers nodes sets floor"),
+    "check": (check, 2, "", "contest nodes sets"),
+    "trim": (trim, 2, "", "contest nodes sets"),
     "sample": (sample, 1, "seed draws", ""),
     "plan": (plan, 2, "", "limit gamma"),
-    "open": (open_session, 3, "seed", "contest limit gamma nodes"),
-    "audit": (audit, 5, "draws", "nodes"),
+    "open": (open_session, 3, "seed", "contest limit gamma nodes sets"),
+    "audit": (audit, 5, "draws", "nodes sets"),
     "report": (report, 1, "", ""),
     "poll": (poll, 3, "seed draws", "limit gamma nodes"),
-    "trial": (trial, 0, "number", "candidates ballots workers nodes"),
+    "trial": (trial, 0, "number", "candidates ballots workers nodes sets"),
     "plurality": (open_plurality, 2, "seed", "contest limit gamma"),
     "contests": (contests, 3, "seed draws", "limit gamma workers nodes"),
 }
 
 # a word's second line: of another number of files, or with an option that others want
-SECOND = {"plurality": (audit_plurality, 4, "draws", ""), "search": (search, 1, "cards", "contest workers nodes floor limit gamma")}
+SECOND = {"plurality": (audit_plurality, 4, "draws", ""), "search": (search, 1, "cards", "contest workers nodes sets floor limit gamma")}
 
 
 def line_of(words):
@@ -710,7 +720,7 @@ def line_in(form, words):
             options[name] = KINDS[name](text) if text else None
             if options[name] is None:
                 return None
-    is_line = len(files) == count and all(files) and set(must.split()) <= set(options)
+    is_line = len(files) == count and all(files) and set(must.split()) <= set(options) and not {"nodes", "sets"} <= set(options)
     return (call, options, files) if is_line else None
 
 

@@ -1,7 +1,7 @@
 """The trimmed file by its definition alone: every order, every suffix, no index.
 
 From the last claim to the first each is left out, and goes exactly where the others still refute every order that elects another
-candidate. The nodes of a trial are those of `check`, of the claims that are left without the one that is tried.
+candidate. The nodes or sets of a trial are those of `check`, of the claims that are left without the one that is tried.
 """
 import itertools
 import json
@@ -13,7 +13,7 @@ ENTRY = ("kind", "loser", "margin", "winner")
 
 
 class Spent(Exception):
-    """The nodes don't suffice for a trial: of this claim, counted from 1, at this candidate."""
+    """The budget doesn't suffice for a trial: of this claim, counted from 1, at this candidate."""
 
     def __init__(self, claim, last):
         super().__init__(claim, last)
@@ -37,41 +37,43 @@ class Walked:
     def refuters(suffix, claims):
         return sum(1 << at for at, (assertion, _) in enumerate(claims) if plain.refutes(assertion, suffix))
 
-    def covers(self, left, nodes):
-        """Whether the claims with these bits refute every order; or the candidate for whom more suffixes count than there are nodes."""
+    def covers(self, left, budget):
+        """Whether the claims with these bits refute every order; or the candidate at whom more suffixes or sets count than the budget has."""
+        of_sets, counted = isinstance(budget, plain.Sets), set()
         for last, suffixes in self.suffixes.items():
-            count = 0
+            if not of_sets:
+                counted = set()
             for suffix, by in suffixes:
                 if by & left:
                     continue
                 if len(suffix) == self.n:
                     return False
-                count += 1
-                if count > nodes:
+                counted.add(frozenset(suffix) if of_sets else suffix)
+                if len(counted) > budget:
                     raise LookupError(last)
         return True
 
 
-def trimmed(n, winner, claims, nodes):
+def trimmed(n, winner, claims, budget):
     """The places of the claims that are left."""
     walked, left = Walked(n, winner, claims), (1 << len(claims)) - 1
     for at in reversed(range(len(claims))):
         try:
-            if walked.covers(left & ~(1 << at), nodes):
+            if walked.covers(left & ~(1 << at), budget):
                 left &= ~(1 << at)
         except LookupError as over:
             raise Spent(at + 1, over.args[0]) from None
     return [at for at in range(len(claims)) if left >> at & 1]
 
 
-def printed(data, nodes):
+def printed(data, budget):
     """Status and text of `raire trim`, of an assertion file that a check accepts."""
     file = plain.read_assertions(data)
     ids = file["candidates"]
     try:
-        left = trimmed(len(ids), ids.index(file["winner"]), file["assertions"], nodes)
+        left = trimmed(len(ids), ids.index(file["winner"]), file["assertions"], budget)
     except Spent as spent:
-        return 4, f"spent\ncandidate {ids[spent.last]}\n"
+        return plain.spent_sets(budget) if isinstance(budget, plain.Sets) else (4, f"spent\ncandidate {ids[spent.last]}\n")
     value = json.loads(data)
     is_2 = value["version"] == 2
     kept = {name: value[name] for name in HEADING + plain.Plan._fields * is_2}

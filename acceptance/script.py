@@ -206,11 +206,17 @@ def options_are_told(program):
             if command == "raire" or script != "./raire":
                 continue
             values = {"ID": "1", "N": "2", "SEED": "1"}
-            words = [values.get(word, word if word == command or word.startswith("-") else "no_such_file") for word in head]
-            ran = subprocess.run([program, *words], capture_output=True, text=True)
-            yield f"the line {' '.join(head)} of {page} is one", ran.returncode != 1
+            words = [values.get(word, word if word == command or word.startswith("-") else "no_such_file") for word in head if word != "|"]
+            lines = [words]
+            if "--sets" in head:  # it stands in place of --nodes
+                ran = subprocess.run([program, *words], capture_output=True, text=True)
+                yield f"the line {' '.join(words)} isn't one: it has both budgets", ran.returncode == 1
+                lines = [words[:at] + words[at + 2:] for at in map(words.index, ("--nodes", "--sets"))]
+            for line in lines:
+                ran = subprocess.run([program, *line], capture_output=True, text=True)
+                yield f"the line {' '.join(line)} of {page} is one", ran.returncode != 1
             for option in {"--floor"} - set(head):
-                ran = subprocess.run([program, *words, option, "1"], capture_output=True, text=True)
+                ran = subprocess.run([program, *lines[-1], option, "1"], capture_output=True, text=True)
                 yield f"{command} has no {option}", ran.returncode == 1
 
 

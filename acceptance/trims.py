@@ -2,7 +2,7 @@
 """Compares trims of the built program with the plain trimmer.
 
 acceptance/trims.py PROGRAM [CONTESTS] makes so many contests of 2 to 7 candidates, 1,000 if no number is given. Each that is decided is searched, its file
-trimmed and trimmed again, with many nodes and with few. What is printed has to be accepted by `check`, and refused with
+trimmed and trimmed again, with many nodes or sets and with few. What is printed has to be accepted by `check`, and refused with
 `no: order .. stands` where any one claim is left out of it.
 """
 import json
@@ -12,6 +12,7 @@ import sys
 import tempfile
 
 import compare
+import plain
 from draws import Draws
 from limits import DEFAULT_NODES
 from plain_trim import printed
@@ -27,12 +28,14 @@ def faults(program, ballots, found, folder, draws):
     path, again = os.path.join(folder, "found.json"), os.path.join(folder, "trimmed.json")
     with open(path, "w") as file:
         file.write(found)
-    for nodes in (DEFAULT_NODES, 1 + draws.below(40)):
-        checked, words = ran(program, "check", ballots, path, f"--nodes={nodes}"), (f"--nodes={nodes}",)
-        wanted = (checked if checked[0] else (*printed(found.encode(), nodes), ""))
+    budgets = [(f"--nodes={number}", number) for number in (DEFAULT_NODES, 1 + draws.below(40))]
+    budgets += [(f"--sets={number}", plain.Sets(number)) for number in (128, 1 + draws.below(40))]
+    for words, budget in budgets:
+        checked, words = ran(program, "check", ballots, path, words), (words,)
+        wanted = (checked if checked[0] else (*printed(found.encode(), budget), ""))
         got = ran(program, "trim", ballots, path, *words)
         if got != wanted:
-            yield f"trim at {nodes} nodes: wanted {wanted}, got {got}"
+            yield f"trim with {words}: wanted {wanted}, got {got}"
         elif got[0] == 0:
             yield from faults_of_trimmed(program, ballots, got[1], again, words)
 

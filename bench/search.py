@@ -55,8 +55,14 @@ def weights_of(candidates, kind):
 
 
 def write_ballots(path, candidates, ballots, kind=""):
+    write_pool(path, weights_of(candidates, kind), candidates if kind == "near-equal" else 5, ballots)
+
+
+def write_pool(path, weights, most, ballots):
+    """Candidates who are ranked as often as these weights say, up to so many on a ballot."""
+    candidates = len(weights)
     draws = Draws(candidates)
-    rankings = pool(draws, weights_of(candidates, kind), 50_000, candidates if kind == "near-equal" else 5)
+    rankings = pool(draws, weights, 50_000, most)
     with open(path, "w") as file:
         file.write(f"1\nContest,339,{candidates},{','.join(str(15 + c) for c in range(candidates))}\n")
         for number in range(ballots):

@@ -1,7 +1,8 @@
 #!/usr/bin/env python3
 """Says in one line what a refusal of the program means, which record it is about, and what is nearly right.
 
-hints/hint.py PROGRAM STATUS WORDS.. is what ./raire asks behind a refusal. It runs the program once more, for the line that the refusal
+hints/hint.py PROGRAM STATUS WORDS.. is what ./raire asks behind a refusal, and behind a budget that is spent, of which the words alone tell
+which one goes further. It runs the program once more, for the line that the refusal
 had, and looks into the files that the words name. It prints nothing where the program answers otherwise now, or where a file is none that
 can be read twice. What a rule means stands in docs/faults.md.
 """
@@ -121,8 +122,19 @@ def candidates_of(call):
 FOUND = {"no such file": rules.no_such_file, "too long": rules.size, "read fault": rules.unreadable}
 
 
+def spent(call):
+    """Which budget goes further, by the words alone: that of sets, where the command has it."""
+    options = next(form.options for form in words.forms()[call.command] if "nodes" in form.options)
+    name = "sets" if "sets" in options else "nodes"
+    most = options[name].high
+    if int(call.options.get(name, "0")) == most:
+        return [f"spent: --{name} {most} is the most there may be", "What to do: docs/faults.md"]
+    told = "it counts sets of candidates, in place of --nodes, and up to 20 candidates it is never spent" if name == "sets" else "it is the most there may be"
+    return [f"spent: give it --{name} {most}; {told}", "What to do: docs/faults.md"]
+
+
 def sentences(program, status, line):
-    """What is said of a refusal, a sentence each; none where nothing can be."""
+    """What is said of a refusal or of a spent budget, a sentence each; none where nothing can be."""
     if status == 1:
         try:
             words.call_of(line)
@@ -130,6 +142,8 @@ def sentences(program, status, line):
             return [str(wrong), POINTER]
         return [POINTER]
     call = words.call_of(line)
+    if status == 4:
+        return spent(call)
     if not all(map(is_read_again, call.files.values())):
         return []
     path, said = refusal_in(told_by(program, line, status) or "", call)

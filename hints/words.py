@@ -17,6 +17,7 @@ class Option(NamedTuple):
     low: int
     high: int
     stands_with: str  # the option without which this one is none, or nothing
+    in_place_of: str  # the option beside which it is none, or nothing
 
 
 class Form(NamedTuple):
@@ -56,12 +57,12 @@ def scripts():
 
 
 def options_of(head, text):
-    for bracket, name in re.findall(r"(\[?)--(\w+) [A-Z]+", head):
+    for may_be, name in re.findall(r"(\[|\| )?--(\w+) [A-Z]+", head):
         told = re.search(rf"^  --{name} .*\n(?: {{8,}}.*\n)*", text, re.MULTILINE)
         span = re.search("([0-9]+) to ([0-9]+)", told[0] if told else "")
         low, high = map(int, span.groups()) if span else (1, 64)
-        other = re.search(r"only with --(\w+)", told[0] if told else "")
-        yield name, Option(not bracket, low, high, other[1] if other else "")
+        others = [re.search(rf"{words} --(\w+)", told[0] if told else "") for words in ("only with", "in place of")]
+        yield name, Option(not may_be, low, high, *(other[1] if other else "" for other in others))
 
 
 def is_value(name, option, text):
@@ -122,6 +123,8 @@ def call_by(form, command, words):
             raise Wrong(f"{command} wants --{name}")
         if name in options and option.stands_with not in ("", *options):
             raise Wrong(f"{command} takes --{name} only together with --{option.stands_with}")
+        if name in options and option.in_place_of in options:
+            raise Wrong(f"--{name} stands in place of --{option.in_place_of}, and both are given")
     return Call(command, dict(zip(form.files, files)), options)
 
 

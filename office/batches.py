@@ -14,7 +14,7 @@ PREMISE = "A batch that is left out can't have the contest, whatever its records
 def words_of(words):
     parser = Words(NAME)
     parser.add_argument("files", nargs="+")
-    parser.option("--contest", "--also", "--limit", "--gamma", "--nodes")
+    parser.option("--contest", "--also", "--limit", "--gamma", "--nodes", "--sets")
     given = parser.parse_intermixed_args(words)
     if len(given.files) not in (2, 3):
         parser.error("give a ballot file, a manifest, and an assertion file where there is one")
@@ -32,7 +32,7 @@ def assertions_of(given, folder):
         return given.files[2]
     path = os.path.join(folder, "assertions.json")
     with open(path, "w") as file:
-        file.write(ask(NAME, "search", given.files[:1], *options_of(given, "contest", "nodes")))
+        file.write(ask(NAME, "search", given.files[:1], *options_of(given, "contest", "nodes", "sets")))
     return path
 
 
@@ -83,7 +83,7 @@ def answer(words):
     see_output(NAME, given.files)
     with tempfile.TemporaryDirectory() as folder:
         assertions = assertions_of(given, folder)
-        ask(NAME, "open", [*given.files[:2], assertions], STANDS_IN, *options_of(given, "contest", "nodes"))
+        ask(NAME, "open", [*given.files[:2], assertions], STANDS_IN, *options_of(given, "contest", "nodes", "sets"))
         own, sizes, named, ballots = own_batches(given)
         text = records.text_of([["batch", "cards"], *own.items()])
         path = os.path.join(folder, "own.csv")

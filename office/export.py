@@ -13,13 +13,13 @@ def words_of(words):
     parser.add_argument("form", choices=FORMS)
     parser.add_argument("ballots")
     parser.add_argument("assertions")
-    parser.option("--contest", "--nodes")
+    parser.option("--contest", "--nodes", "--sets")
     return parser.parse_args(words)
 
 
 def accepted(given):
     """The assertion file, of which the program has said that it holds of the ballots."""
-    options = [f"--{name}={value}" for name, value in (("contest", given.contest), ("nodes", given.nodes)) if value is not None]
+    options = [f"--{name}={value}" for name, value in (("contest", given.contest), ("nodes", given.nodes), ("sets", given.sets)) if value is not None]
     ask(NAME, "check", [given.ballots, given.assertions], *options)
     return json.loads(read(NAME, given.assertions))
 

@@ -15,7 +15,7 @@ NAME = "release"
 PROGRAM = "crates/raire/out/raire"
 PARTS = ["README.md", "docs", "examples", "page", "hints", "office", "acceptance/plain.py", "acceptance/plain_audit.py",
          "acceptance/plain_contests.py", "acceptance/plain_draws.py", "acceptance/plain_plurality.py", "acceptance/plain_poll.py",
-         "acceptance/plain_risk.py", "acceptance/plain_trim.py", "acceptance/limits.py"]
+         "acceptance/plain_risk.py", "acceptance/plain_sets.py", "acceptance/plain_trim.py", "acceptance/limits.py"]
 MACHINE = "x86_64"
 
 File = collections.namedtuple("File", "data mode")

@@ -1,45 +1,102 @@
 """The tree of elimination orders that elect another candidate, and what cuts each of its branches.
 
 A branch is a suffix of orders: who wins, who is eliminated last, and so on, towards the first. It is cut by the first
-assertion of the file that refutes it.
+assertion of the file that refutes it. What cuts it where one more candidate is put in front hangs on who that is and on the set of those
+behind, not on their order. So branches of one set go on alike, and all are counted set by set, also where they are millions. Where the
+page hasn't room for all of them, each set is drawn once.
 """
 from math import factorial
 
-MOST_COUNTED = 100_000
+MOST_COUNTED = 100_000  # sets
 MOST_SHOWN = 400
 MOST_OPEN = 40
 
 
 class Cutting:
-    """The assertions by what they cut: a NEB by its loser, a NEN by its winner and its set."""
+    """The assertions by what they cut: a NEB by its loser, a NEN by its winner and its set. Sets are bits, by the places of the ids."""
 
     def __init__(self, ids, claims):
-        self.ids, self.nebs, self.nens = ids, {}, {}
+        at, self.nebs, self.nens = {c: place for place, c in enumerate(ids)}, [[] for _ in ids], {}
         for number, claim in enumerate(claims):
+            winner = at[claim["winner"]]
             if claim["kind"] == "NEB":
-                self.nebs.setdefault(claim["loser"], []).append((number, claim["winner"]))
+                self.nebs[at[claim["loser"]]].append((number, 1 << winner))
             else:
-                self.nens.setdefault((claim["winner"], frozenset(claim["rest"])), number)
+                self.nens.setdefault((winner, sum(1 << at[c] for c in claim["rest"])), number)
 
     def of(self, front, behind):
-        """The first assertion that refutes a suffix by the candidate who stands in front of it, or None."""
-        among = [number for number, winner in self.nebs.get(front, []) if winner not in behind]
-        nen = self.nens.get((front, frozenset(behind) | {front}))
-        if nen is not None and behind:
-            among.append(nen)
-        return min(among, default=None)
+        """The first assertion that refutes a suffix by the candidate who stands in front of these, or None."""
+        nen = self.nens.get((front, behind | 1 << front))
+        for number, winner in self.nebs[front]:
+            if not winner & behind:
+                return number if nen is None else min(number, nen)
+        return nen
+
+
+class Counted:
+    """Of each set: how many branches have it that nothing cuts, and how many branches further on are cut or stand."""
+
+    def __init__(self, n, winner, claims, cutting):
+        self.full, self.winner, self.cutting = (1 << n) - 1, winner, cutting
+        self.cuts_of, self.branches = [0] * claims, 0
+        self.cuts, self.standing, self.after = {}, {}, {}
+        levels, self.is_whole = self.forward(n), True
+        if levels[-1] and self.full not in levels[-1]:
+            self.is_whole = False
+        self.sets = sum(map(len, levels[1:])) - (self.full in levels[-1])
+        for level in reversed(levels):
+            for here in level:
+                self.back(here)
+
+    def outside(self, behind):
+        """Who may be put in front of a set, in the contest's order; the last one of an order isn't the winner."""
+        return [c for c in range(self.full.bit_length()) if not behind >> c & 1 and (behind or c != self.winner)]
+
+    def forward(self, n):
+        """The sets of each size that a branch has which nothing cuts, as far as they are counted."""
+        levels, counted = [{0: 1}], 0
+        for _ in range(n):
+            counted += len(levels[-1])
+            if counted > MOST_COUNTED or not levels[-1]:
+                break
+            levels.append(self.next_level(levels[-1]))
+            self.branches += sum(levels[-1].values())
+        return levels
+
+    def next_level(self, level):
+        found = {}
+        for here, ways in level.items():
+            own_cuts, after = 0, []
+            for c in self.outside(here):
+                by = self.cutting.of(c, here)
+                if by is None:
+                    further = here | 1 << c
+                    found[further] = found.get(further, 0) + ways
+                    after.append(further)
+                else:
+                    own_cuts += 1
+                    self.cuts_of[by] += ways
+                    self.branches += ways
+            self.after[here] = own_cuts, after
+        return found
+
+    def back(self, here):
+        own_cuts, after = self.after.get(here, (0, []))
+        self.cuts[here] = own_cuts + sum(self.cuts[further] for further in after)
+        self.standing[here] = int(here == self.full) + sum(self.standing[further] for further in after)
 
 
 class Branch:
     """A suffix, winner first: what cuts it, and how many of its branches are cut or stand."""
 
-    def __init__(self, path, by, n):
-        self.path, self.by = path, by
-        self.orders = factorial(n - len(path))
-        self.stands = by is None and len(path) == n
-        self.cuts = 0 if by is None else 1
-        self.standing = 1 if self.stands else 0
-        self.children, self.is_shown = [], False
+    def __init__(self, path, here, by, counted):
+        self.path, self.here, self.by = path, here, by
+        self.orders = factorial(counted.full.bit_length() - len(path))
+        self.stands = by is None and here == counted.full
+        self.cuts = counted.cuts[here] if by is None else 1
+        self.standing = counted.standing[here] if by is None else 0
+        self.is_counted = by is not None or self.stands or here in counted.after
+        self.children, self.is_shown, self.like = [], False, None
 
     @property
     def place(self):
@@ -52,41 +109,35 @@ class Branch:
 
 class Tree:
     def __init__(self, ids, winner, claims):
-        self.ids, self.winner, self.counted, self.is_whole = ids, winner, 0, True
-        self.cutting = Cutting(ids, claims)
-        self.cuts_of = [0] * len(claims)
-        self.orders_of = [0] * len(claims)
-        self.branches = [self.grown((c,)) for c in ids if c != winner]
-        self.cuts = sum(branch.cuts for branch in self.branches)
-        self.standing = sum(branch.standing for branch in self.branches)
-        self.orders = factorial(len(ids)) - factorial(len(ids) - 1)
+        self.ids, self.winner, n = ids, winner, len(ids)
+        self.counted = Counted(n, ids.index(winner), len(claims), Cutting(ids, claims))
+        self.is_whole, self.cuts_of, self.sets = self.counted.is_whole, self.counted.cuts_of, self.counted.sets
+        self.cuts, self.standing = self.counted.cuts[0], self.counted.standing[0]
+        self.orders = factorial(n) - factorial(n - 1)
+        self.is_by_sets = not self.is_whole or self.counted.branches > MOST_SHOWN
+        self.branches = self.grown((), 0)
         self.show()
 
-    def grown(self, path):
-        branch = Branch(path, self.cutting.of(path[-1], path[:-1]), len(self.ids))
-        self.counted += 1
-        if branch.by is not None:
-            self.cuts_of[branch.by] += 1
-            self.orders_of[branch.by] += branch.orders
-        elif not branch.stands:
-            for c in self.ids:
-                if c in path:
-                    continue
-                if self.counted >= MOST_COUNTED:
-                    self.is_whole = False
-                    break
-                branch.children.append(self.grown(path + (c,)))
-            branch.cuts = sum(child.cuts for child in branch.children)
-            branch.standing = sum(child.standing for child in branch.children)
-        return branch
+    def grown(self, path, here):
+        """The branches with one more candidate."""
+        of = self.counted.cutting.of
+        return [Branch((*path, self.ids[c]), here | 1 << c, of(c, here), self.counted) for c in self.counted.outside(here)]
 
     def show(self):
-        """Level by level, as many branches as a page has room for; those in which an order stands come first."""
-        level, shown = self.branches, 0
+        """Level by level, as many branches as a page has room for; those in which an order stands come first. Of a set the first one goes on."""
+        level, shown, drawn = self.branches, 0, {}
         while level:
             level = sorted(level, key=lambda branch: -branch.standing)
+            further = []
             for branch in level:
                 branch.is_shown = shown < MOST_SHOWN
                 shown += branch.is_shown
-            level = [child for branch in level if branch.is_shown for child in branch.children]
+                if branch.is_shown and branch.by is None and branch.is_counted and not branch.stands:
+                    first = drawn.setdefault(branch.here, branch.path) if self.is_by_sets else branch.path
+                    if first == branch.path:
+                        branch.children = self.grown(branch.path, branch.here)
+                        further += branch.children
+                    else:
+                        branch.like = first
+            level = further
         self.is_open = shown <= MOST_OPEN

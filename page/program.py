@@ -48,7 +48,7 @@ class Program:
             return None
         self.was_asked = True
         out, err = ran.stdout.decode(errors="replace"), ran.stderr.decode(errors="replace")
-        if err or ran.returncode not in (0, 3, 4, 5, 6, 10):
+        if ran.returncode not in (0, 3, 4, 5, 6, 10) or (err and ran.returncode != 4):  # a spent budget has a line of ./raire's own
             raise Refusal(ran.returncode or 1, err or f"show: {self.name} ended with status {ran.returncode}\n")
         if not out:
             raise self.is_another(command)

@@ -17,15 +17,16 @@ import polled
 import rounds
 import state
 from files import broken_to_page, Refusal, told
-from limits import GREATEST_GAMMA, GREATEST_LIMIT, MOST_DRAWS, MOST_NODES
+from limits import GREATEST_GAMMA, GREATEST_LIMIT, MOST_DRAWS, MOST_NODES, MOST_SETS
 from names import Names
 from program import TOP, Program
 from texts import listed, millionths, ordinal, plural, shown
 
 HELP = os.path.join(TOP, "docs", "help", "show.txt")
-NUMBERS = {"--nodes": MOST_NODES, "--draws": MOST_DRAWS, "--limit": GREATEST_LIMIT, "--gamma": GREATEST_GAMMA}
+BUDGETS = {"--nodes": MOST_NODES, "--sets": MOST_SETS}
+NUMBERS = {**BUDGETS, "--draws": MOST_DRAWS, "--limit": GREATEST_LIMIT, "--gamma": GREATEST_GAMMA}
 POLL = ("--seed", "--draws", "--limit", "--gamma")
-OPTIONS = ("--contest", "--nodes", *POLL)
+OPTIONS = ("--contest", *BUDGETS, *POLL)
 UNWRITTEN = Refusal(8, "show: the page could not be written\n")
 MOST_LISTED = 100
 POLLED = ("manifest", "assertions", "seen")
@@ -69,6 +70,8 @@ def see_values(options):
     for name, most in NUMBERS.items():
         if plain_audit.number_in(options.get(name, "1"), 1, most) is None:
             raise told(f"{name} wants a number from 1 to {most}")
+    if BUDGETS.keys() <= options.keys():
+        raise told("--sets stands in place of --nodes: give one of them")
 
 
 def see_output(paths):
@@ -195,7 +198,7 @@ class Page:
         """Whether the assertion file holds of the ballots, in the program's words."""
         if not self.has("ballots", "assertions"):
             return
-        words = [*self.contest_words(), *self.nodes_words()]
+        words = [*self.contest_words(), *self.budget_words()]
         status, text = self.program.must_run("check", [self.path("ballots"), self.path("assertions")], *words)
         if text.startswith("no: contest differs"):
             raise told(f"{self.path('assertions')} isn't about the contest of {self.path('ballots')}: {text.strip()}")
@@ -281,7 +284,7 @@ class Page:
         if not self.is_poll():
             return
         words = [f"{name}={self.options[name]}" for name in POLL if name in self.options]
-        status, text = self.program.must_run("poll", [self.path(kind) for kind in POLLED], *words, *self.nodes_words())
+        status, text = self.program.must_run("poll", [self.path(kind) for kind in POLLED], *words, *self.budget_words())
         poll = {**polled.poll_of(status, text), "seed": self.options["--seed"]}
         if status in polled.COUNTED:
             self.judged.add("seen")
@@ -289,8 +292,8 @@ class Page:
             poll["shown"] = [self.names.in_line(line, self.candidates()) for line in poll["lines"]]
         self.parts["poll"] = poll
 
-    def nodes_words(self):
-        return [f"--nodes={self.options['--nodes']}"] if "--nodes" in self.options else []
+    def budget_words(self):
+        return [f"{name}={self.options[name]}" for name in BUDGETS if name in self.options]
 
     def audit_kinds(self):
         """The files with which an audit is opened."""
@@ -309,7 +312,7 @@ class Page:
             raise told(f"{self.path('session')} is no audit of {self.path('assertions')}: a check says {', '.join(self.parts['verdict']['lines'])}")
         paths = [self.path(kind) for kind in kinds]
         terms = [f"--{name}={session[name]}" for name in ("limit", "gamma", "seed")]
-        _, text = self.program.must_run(self.audit_commands()[0], paths, *terms, *self.contest_words(), *self.nodes_words())
+        _, text = self.program.must_run(self.audit_commands()[0], paths, *terms, *self.contest_words(), *self.budget_words())
         if text != plain_audit.session_text({**session, "rounds": [], "signed_off": False}):
             raise told(f"{self.path('session')} isn't the session that these files open")
         self.parts["is_opened"] = True
@@ -322,7 +325,7 @@ class Page:
             for done in session["rounds"]:
                 scratch.write(text)
                 words = [scratch.path, *paths, self.path("seen")]
-                _, text = self.program.must_run(self.audit_commands()[1], words, f"--draws={done['draws']}", *self.nodes_words(), is_shown=False)
+                _, text = self.program.must_run(self.audit_commands()[1], words, f"--draws={done['draws']}", *self.budget_words(), is_shown=False)
         if text != plain_audit.session_text(session):
             raise told(f"{self.path('seen')} doesn't give the rounds of {self.path('session')}")
         if session["rounds"]:
@@ -402,7 +405,7 @@ class Page:
         self.list_claims([
             {
                 "claim": claim, "words": in_words(claim, first, self.is_poll()), "margin": claim["margin"], "cuts": tree.cuts_of[j],
-                "orders": tree.orders_of[j], "state": states[j] if states else None,
+                "state": states[j] if states else None,
                 "draws": [draws[name][j] for name in ("first", "second") if draws.get(name)],
             }
             for j, claim in enumerate(file["assertions"])
@@ -427,8 +430,9 @@ class Page:
             county.see_files(self)
         elif self.is_poll():
             self.see_poll()
-        elif "--nodes" in self.options and not self.has("ballots", "assertions"):
-            raise told("--nodes is the budget of a check: give a ballot file and an assertion file")
+        elif self.budget_words() and not self.has("ballots", "assertions"):
+            name = next(name for name in BUDGETS if name in self.options)
+            raise told(f"{name} is the budget of a check: give a ballot file and an assertion file")
         if "--contest" in self.options and not {"ballots", "assertions", "session"} & set(self.files):
             raise told("--contest wants a file that is about a contest")
         if self.has("names") and not {"ballots", "assertions"} & set(self.files):
@@ -442,6 +446,8 @@ class Page:
                 f"{listed(POLL)} are of a poll or of all contests on one sample: give --seed, --draws, a manifest, a seen file, either an assertion file "
                 "or a ballot file, and no session"
             )
+        if "--sets" in self.options:
+            raise told("a poll has no --sets: give it --nodes")
 
     def has_terms(self):
         return {"--seed", "--draws"} <= set(self.options)
@@ -493,7 +499,7 @@ def filled(page):
     drawn = rounds_drawn(page.parts)
     return made.get_template("page.html").render(
         page.parts, files=page.files, judged=page.judged, notes=page.notes, asked=page.program.asked, program=page.program.told(),
-        chart=audit.chart(session, [row["number"] for row in page.parts["listed"]]) if session else None, title=title(page), most_counted=orders.MOST_COUNTED, most_draws=MOST_DRAWS,
+        chart=audit.chart(session, [row["number"] for row in page.parts["listed"]]) if session else None, title=title(page), most_counted=orders.MOST_COUNTED, most_draws=MOST_DRAWS, most_sets=MOST_SETS,
         states=state.states(page.parts), scale=rounds.scale_of(drawn) if drawn else None, names=page.names.by_id,
     )
 

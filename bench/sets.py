@@ -4,7 +4,8 @@
 For each contest it prints the seconds of a search with `--sets 1048576` at one worker and at four, how many assertions there are and how
 many MB they take, the peak memory of the search at one worker, its status; then seconds, memory and status of a check of what was printed
 (`too long` where the file has more bytes than are read), and seconds and status of a search by the default of `--nodes`. The least of
-three runs counts, of one run where it took more than ten seconds. A run of more than SECONDS, 300 if none are given, is ended and told.
+three runs counts, of one run where it took more than ten seconds. A run of more than SECONDS, 300 if none are given, is ended and told; one
+that wants more than MEGABYTES, 8,000 if none are given, gets no more (status 9): 20 nearly equal candidates have millions of assertions.
 
     bench/sets.py                                    all contests
     bench/sets.py "landslide 12" "near-equal 15"     those of these names
@@ -13,6 +14,7 @@ three runs counts, of one run where it took more than ten seconds. A run of more
 """
 import argparse
 import os
+import resource
 import shlex
 import signal
 import sys
@@ -44,21 +46,22 @@ CONTESTS = {
 class Ran:
     """One run: seconds, peak memory in bytes and status, which is None where it was ended."""
 
-    def __init__(self, words, output, most):
+    def __init__(self, words, output, most, memory):
         began = time.monotonic()
         pid = os.fork()
         if pid == 0:
-            self.become(words, output, most)
+            self.become(words, output, most, memory)
         _, status, usage = os.wait4(pid, 0)
         self.seconds, self.memory = time.monotonic() - began, usage.ru_maxrss * 1024
         self.status = os.waitstatus_to_exitcode(status) if not os.WIFSIGNALED(status) else None
 
     @staticmethod
-    def become(words, output, most):
+    def become(words, output, most, memory):
         try:
             os.dup2(os.open(output, os.O_WRONLY | os.O_CREAT | os.O_TRUNC, 0o644), 1)
             os.dup2(os.open(os.devnull, os.O_WRONLY), 2)
             signal.alarm(most)  # the command has it too
+            resource.setrlimit(resource.RLIMIT_AS, (memory, memory))
             os.execvp(words[0], words)
         finally:
             os._exit(127)
@@ -70,17 +73,17 @@ class Ran:
         return "ended" if self.status is None else str(self.status)
 
 
-def least(words, output, most):
-    runs = [Ran(words, output, most)]
+def least(words, output, *most):
+    runs = [Ran(words, output, *most)]
     while len(runs) < 3 and runs[0].seconds < LONG:
-        runs.append(Ran(words, output, most))
+        runs.append(Ran(words, output, *most))
     return min(runs, key=lambda ran: ran.seconds)
 
 
-def checked(ballots, printed, most):
+def checked(ballots, printed, *most):
     if os.path.getsize(printed) > MOST_FILE_BYTES:
         return f"{'too long':>8} {'':>7} {'':>6}"
-    ran = least([PROGRAM, "check", ballots, printed, f"--sets={MOST_SETS}"], os.devnull, most)
+    ran = least([PROGRAM, "check", ballots, printed, f"--sets={MOST_SETS}"], os.devnull, *most)
     return f"{ran.told()} {ran.memory / 1e6:>7.0f} {ran.status_told():>6}"
 
 
@@ -91,16 +94,16 @@ def assertions_in(path):
     return text.count(b'"kind"')
 
 
-def time_contest(name, folder, beside, most):
+def time_contest(name, folder, beside, *most):
     ballots, printed = os.path.join(folder, "ballots.raire"), os.path.join(folder, "printed.json")
     write_pool(ballots, *CONTESTS[name], BALLOTS)
     search = [PROGRAM, "search", ballots, f"--sets={MOST_SETS}"]
-    one = least([*search, "--workers=1"], printed, most)
-    told = f"{'':>8} {'':>7} {'':>6}" if one.status else checked(ballots, printed, most)
+    one = least([*search, "--workers=1"], printed, *most)
+    told = checked(ballots, printed, *most) if one.status == 0 else f"{'':>8} {'':>7} {'':>6}"
     number, size = (assertions_in(printed), os.path.getsize(printed) / 1e6) if one.status == 0 else (0, 0)
-    four = least([*search, "--workers=4"], os.devnull, most)
-    nodes = least([PROGRAM, "search", ballots], os.devnull, most)
-    others = [least(shlex.split(command.replace("{}", shlex.quote(ballots))), os.devnull, most) for command in beside]
+    four = least([*search, "--workers=4"], os.devnull, *most)
+    nodes = least([PROGRAM, "search", ballots], os.devnull, *most)
+    others = [least(shlex.split(command.replace("{}", shlex.quote(ballots))), os.devnull, *most) for command in beside]
     print(
         f"{name:<22} {one.told()} {four.told()} {number:>10} {size:>8.1f} {one.memory / 1e6:>7.0f} {one.status_told():>6} | {told} |"
         f" {nodes.told()} {nodes.status_told():>6}" + "".join(f" | {ran.told()} {ran.memory / 1e6:>7.0f} {ran.status_told():>6}" for ran in others),
@@ -113,6 +116,7 @@ def main():
     parser.add_argument("names", nargs="*", metavar="CONTEST")
     parser.add_argument("--beside", action="append", default=[], metavar="COMMAND")
     parser.add_argument("--seconds", type=int, default=300)
+    parser.add_argument("--megabytes", type=int, default=8_000)
     given = parser.parse_args()
     if set(given.names) - set(CONTESTS):
         parser.error("the contests are " + ", ".join(CONTESTS))
@@ -122,7 +126,7 @@ def main():
     print(f"{'contest':<22} {'search':>8} {'of four':>8} {'assertions':>10} {'MB':>8} {'peak MB':>7} {'status':>6} | {'check':>8} {'peak MB':>7} {'status':>6} | {'by nodes':>8} {'status':>6}{others}")
     for name in given.names or CONTESTS:
         with tempfile.TemporaryDirectory() as folder:
-            time_contest(name, folder, given.beside, given.seconds)
+            time_contest(name, folder, given.beside, given.seconds, given.megabytes * 1_000_000)
 
 
 if __name__ == "__main__":

@@ -859,7 +859,7 @@ def refused_counties(shows, tried, files, terms):
     for words, status, told in [
         ([ballots, manifest, "other.csv", *terms], 2, "raire: other.csv: V6 at "), (["far.raire", manifest, seen, *terms], 2, "raire: far.raire: M7 at "),
         ([ballots, town, seen, *terms], 2, f"raire: {seen}: V2 at 1\n"), ([*files, terms[0], "--draws=100"], 2, f"raire: {seen}: V4 card "),
-        ([*files, *terms, "--contest=Mayor"], 1, "show: --contest is of one contest"), ([*files, "names.csv", *terms], 1, "show: names.csv names the candidates of one contest"),
+        ([*files, *terms, "--contest=Mayor"], 1, "show: --contest is of one contest"), ([*files, *terms, "--sets=5"], 1, "show: all contests on one sample have no --sets"), ([*files, "names.csv", *terms], 1, "show: names.csv names the candidates of one contest"),
         ([*files, "counted.raire", *terms], 1, "show: counted.raire is a full count of one contest"), ([*files, terms[0]], 1, tells), ([*files, terms[1]], 1, tells),
         ([ballots, manifest, *terms], 1, tells), ([ballots, seen, *terms], 1, tells), ([*files, *terms, "--draws=0"], 1, "show: --draws stands twice"),
         ([*files, os.path.join(TOP, "examples", "town", "session.json"), *terms], 1, tells), (files, 2, f"raire: {ballots}: B5 at 1\n"),

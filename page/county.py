@@ -123,6 +123,8 @@ def see_files(page):
     """All contests on one sample have seed and draws, and neither one contest nor names, which are of one."""
     if "--contest" in page.options:
         raise told("--contest is of one contest, and these files and options are of all: leave it away, or give a session or an assertion file")
+    if "--sets" in page.options:
+        raise told("all contests on one sample have no --sets: give --nodes")
     if page.has("names"):
         raise told(f"{page.path('names')} names the candidates of one contest, and these files and options are of all")
     if page.has("counted"):

@@ -25,7 +25,13 @@ Contest,1,3,1,2,3
 #[test]
 fn three_candidates_are_certified(rt: HostRuntime) {
     let ballots = read_ballots(rt.alloc(), THREE_CANDIDATES, None).expect(&rt, "ballots");
-    match find(&rt, &Searchable::of(&ballots), 2, Budget::Nodes(100_000), &NoGate) {
+    match find(
+        &rt,
+        &Searchable::of(&ballots),
+        2,
+        Budget::Nodes(100_000),
+        &NoGate,
+    ) {
         Ok(Found::Certificate(file)) => {
             assert!(rt; file.winner() == ONE);
             assert!(rt; file.margin() == 1);
@@ -58,11 +64,13 @@ fn three_candidates_by_sets(rt: HostRuntime) {
         _ => assert!(rt; false),
     }
     match find(&rt, &Searchable::of(&ballots), 1, Budget::Sets(2), &NoGate) {
-        Ok(Found::SpentSets {
-            sets,
-            order,
-            margin,
-        }) => {
+        Ok(
+            Found::SpentSets {
+                sets,
+                order,
+                margin,
+            },
+        ) => {
             assert!(rt; sets == 2);
             assert!(rt; margin == 2);
             assert!(rt; order.candidates() == [TWO, ONE, ZERO].as_slice());
@@ -75,7 +83,13 @@ fn three_candidates_by_sets(rt: HostRuntime) {
 fn one_against_one_is_a_tie(rt: HostRuntime) {
     let file = b"1\nContest,7,2,A,B\n7,b_1,A\n7,b_2,B\n".as_slice();
     let ballots = read_ballots(rt.alloc(), file, None).expect(&rt, "ballots");
-    let found = find(&rt, &Searchable::of(&ballots), 1, Budget::Nodes(100_000), &NoGate);
+    let found = find(
+        &rt,
+        &Searchable::of(&ballots),
+        1,
+        Budget::Nodes(100_000),
+        &NoGate,
+    );
     let is_first = matches!(
         &found,
         Ok(Found::Tie {

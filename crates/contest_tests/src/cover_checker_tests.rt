@@ -54,7 +54,12 @@ fn stands(answer: &Result<Verdict, CoverFault>, backwards: &[Candidate]) -> bool
 #[test]
 fn empty_list_spent(rt: HostRuntime) {
     let most = MOST_CANDIDATES;
-    assert!(rt; is_spent(&covered(rt.alloc(), most, ZERO, &[], Budget::Nodes(most - 2)), ONE));
+    assert!(rt;
+        is_spent(
+            &covered(rt.alloc(), most, ZERO, &[], Budget::Nodes(most - 2)),
+            ONE
+        )
+    );
 }
 
 #[test]
@@ -65,7 +70,12 @@ fn empty_list_stands(rt: HostRuntime) {
         backwards[usize::from(c)] = Candidate(c);
     }
     backwards[0] = ONE;
-    assert!(rt; stands(&covered(rt.alloc(), most, ZERO, &[], Budget::Nodes(most - 1)), &backwards));
+    assert!(rt;
+        stands(
+            &covered(rt.alloc(), most, ZERO, &[], Budget::Nodes(most - 1)),
+            &backwards
+        )
+    );
 }
 
 #[test]
@@ -75,7 +85,12 @@ fn whole_orders_covered(rt: HostRuntime) {
 
 #[test]
 fn whole_orders_spent(rt: HostRuntime) {
-    assert!(rt; is_spent(&covered(rt.alloc(), 9, ZERO, &whole_orders(), Budget::Nodes(69_280)), ONE));
+    assert!(rt;
+        is_spent(
+            &covered(rt.alloc(), 9, ZERO, &whole_orders(), Budget::Nodes(69_280)),
+            ONE
+        )
+    );
 }
 
 #[test]
@@ -94,7 +109,12 @@ fn certificate_without_its_neb(rt: HostRuntime) {
         nen(ONE, ZERO, CandSet::empty().with(ZERO).with(ONE)),
         nen(TWO, ZERO, CandSet::empty().with(ZERO).with(TWO)),
     ];
-    assert!(rt; stands(&covered(rt.alloc(), 3, ONE, &nens, Budget::Nodes(2)), &[TWO, ZERO, ONE]));
+    assert!(rt;
+        stands(
+            &covered(rt.alloc(), 3, ONE, &nens, Budget::Nodes(2)),
+            &[TWO, ZERO, ONE]
+        )
+    );
 }
 
 fn is_spent_by_sets(answer: &Result<Verdict, CoverFault>, most: u32) -> bool {
@@ -112,7 +132,12 @@ fn empty_list_by_sets(rt: HostRuntime) {
         backwards[c] = Candidate(c as u8);
     }
     backwards[0] = ONE;
-    assert!(rt; stands(&covered(rt.alloc(), 20, ZERO, &[], Budget::Sets(19)), &backwards));
+    assert!(rt;
+        stands(
+            &covered(rt.alloc(), 20, ZERO, &[], Budget::Sets(19)),
+            &backwards
+        )
+    );
     assert!(rt; is_spent_by_sets(&covered(rt.alloc(), 20, ZERO, &[], Budget::Sets(18)), 18));
 }
 
@@ -120,7 +145,12 @@ fn empty_list_by_sets(rt: HostRuntime) {
 #[test]
 fn whole_orders_by_sets(rt: HostRuntime) {
     assert!(rt; is_covered(&covered(rt.alloc(), 9, ZERO, &whole_orders(), Budget::Sets(509))));
-    assert!(rt; is_spent_by_sets(&covered(rt.alloc(), 9, ZERO, &whole_orders(), Budget::Sets(508)), 508));
+    assert!(rt;
+        is_spent_by_sets(
+            &covered(rt.alloc(), 9, ZERO, &whole_orders(), Budget::Sets(508)),
+            508
+        )
+    );
 }
 
 #[test]
@@ -129,6 +159,11 @@ fn nens_by_sets(rt: HostRuntime) {
         nen(ONE, ZERO, CandSet::empty().with(ZERO).with(ONE)),
         nen(TWO, ZERO, CandSet::empty().with(ZERO).with(TWO)),
     ];
-    assert!(rt; stands(&covered(rt.alloc(), 3, ONE, &nens, Budget::Sets(3)), &[TWO, ZERO, ONE]));
+    assert!(rt;
+        stands(
+            &covered(rt.alloc(), 3, ONE, &nens, Budget::Sets(3)),
+            &[TWO, ZERO, ONE]
+        )
+    );
     assert!(rt; is_spent_by_sets(&covered(rt.alloc(), 3, ONE, &nens, Budget::Sets(2)), 2));
 }

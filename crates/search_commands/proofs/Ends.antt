@@ -122,7 +122,6 @@ module _ (nodes : ℕ) (ballots : BallotFile) (winner : ℕ) where
         },
       )
 
-
 -- ---- the order that a search starts with
 first-hard : (ballots : BallotFile) (winner : ℕ) (won : IsWon ballots winner) → 1 < candidate_count ballots → IsElected ballots winner →
     1 ≤ first_bound (candidate_count ballots) ballots.rankings won.order

@@ -83,7 +83,13 @@ fn search<R: AllocGlobal + Threads + Sync, G: Gate + Sync>(
 {
     let alloc = rt.alloc();
     let names = ballots.candidates();
-    let found = find(rt, &Searchable::of(ballots), task.workers, task.budget, gate)?;
+    let found = find(
+        rt,
+        &Searchable::of(ballots),
+        task.workers,
+        task.budget,
+        gate,
+    )?;
     match found {
         Found::Certificate(file) => certificate(alloc, ballots, file, task),
         Found::Tie { round, tied, votes } => first_tie(alloc, names, round, tied, votes),

@@ -62,7 +62,12 @@ fn is_refuted(answer: &Result<Checked, CheckFault>, by: &Assertion, by_margin: u
 
 #[test]
 fn certificate_is_accepted(rt: HostRuntime) {
-    assert!(rt; matches!(checked(&rt, BALLOTS, CERTIFICATE, Budget::Nodes(1)), Ok(Checked::Accepted)));
+    assert!(rt;
+        matches!(
+            checked(&rt, BALLOTS, CERTIFICATE, Budget::Nodes(1)),
+            Ok(Checked::Accepted)
+        )
+    );
 }
 
 #[test]
@@ -78,7 +83,12 @@ fn no_budget(rt: HostRuntime) {
 // Without its NEB an order stands, and three sets count.
 #[test]
 fn certificate_by_sets(rt: HostRuntime) {
-    assert!(rt; matches!(checked(&rt, BALLOTS, CERTIFICATE, Budget::Sets(1)), Ok(Checked::Accepted)));
+    assert!(rt;
+        matches!(
+            checked(&rt, BALLOTS, CERTIFICATE, Budget::Sets(1)),
+            Ok(Checked::Accepted)
+        )
+    );
     let file = CERTIFICATE.replace(rt.alloc(), NEB, "").expect(&rt, "text");
     let answer = checked(&rt, BALLOTS, file.as_str(), Budget::Sets(3));
     assert!(rt; stands(&answer, &[ONE, ZERO, TWO]));

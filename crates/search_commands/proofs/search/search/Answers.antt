@@ -1,8 +1,7 @@
-use Rattle.std.proofs.Common.{◌≡◌, inl, inr, refl, true, length, sym, ap, subst, arith, ◌∙◌}
+use Rattle.std.proofs.Common.{inl, inr, refl, length, ap, arith, ◌∙◌}
 use Rattle.irv_base.specs.Orders.{is_order}
 use Rattle.cli_base.specs.Due.{due}
 use Rattle.cli_base.proofs.Ended.{told_as}
-use Rattle.contest_search.specs.Contest.{candidate_count}
 use Rattle.contest_search.proofs.FoundThere.{found_of}
 use Rattle.search_commands.specs.Search.{Finds}
 use Rattle.search_commands.proofs.Spent.{sets_order, sets_told, spent_named, spent_order, spent_told}

@@ -1,4 +1,4 @@
-use Rattle.std.proofs.Common.{◌≡◌, ◌<◌, inl, inr, refl, true, ap, subst, arith, length, ◌∙◌}
+use Rattle.std.proofs.Common.{◌<◌, inl, inr, refl, ap, subst, arith, length, ◌∙◌}
 use Rattle.irv_base.specs.Orders.{is_order}
 use Rattle.cli_base.specs.Outcome.{Answered}
 use Rattle.cli_base.specs.Due.{due}

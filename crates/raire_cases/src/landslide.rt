@@ -70,7 +70,14 @@ fn ran<R: AllocGlobal + Threads + Sync>(
 
 #[test]
 fn no_number_of_nodes_suffices(rt: HostRuntime) -> Result<(), Fail> {
-    let words = ["search", "landslide.raire", "--nodes", "200000", "--workers", "1"];
+    let words = [
+        "search",
+        "landslide.raire",
+        "--nodes",
+        "200000",
+        "--workers",
+        "1",
+    ];
     let ran = ran(&rt, &words, "")?;
     assert_eq!(rt; ran.status, 4);
     Ok(())
@@ -92,17 +99,31 @@ fn all_sets_suffice_and_a_check_agrees(rt: HostRuntime) -> Result<(), Fail> {
 
 #[test]
 fn its_sets_suffice_and_one_fewer_do_not(rt: HostRuntime) -> Result<(), Fail> {
-    let enough = ["search", "landslide.raire", "--sets=2047", "--floor=1000000"];
-    assert!(rt; is_as_wanted(
-        &ran(&rt, &enough, "")?,
-        5,
-        "full count\norder 11,22,21,20,19,18,17,16,15,14,13,12\nmargin 99\nfloor 1000000\n",
-    ));
-    let few = ["search", "landslide.raire", "--sets=2046", "--floor=1000000"];
-    assert!(rt; is_as_wanted(
-        &ran(&rt, &few, "")?,
-        4,
-        "spent\nsets 2046\norder 19,20,22,18,13,16,17,14,21,15,11,12\nmargin 110\n",
-    ));
+    let enough = [
+        "search",
+        "landslide.raire",
+        "--sets=2047",
+        "--floor=1000000",
+    ];
+    assert!(rt;
+        is_as_wanted(
+            &ran(&rt, &enough, "")?,
+            5,
+            "full count\norder 11,22,21,20,19,18,17,16,15,14,13,12\nmargin 99\nfloor 1000000\n",
+        )
+    );
+    let few = [
+        "search",
+        "landslide.raire",
+        "--sets=2046",
+        "--floor=1000000",
+    ];
+    assert!(rt;
+        is_as_wanted(
+            &ran(&rt, &few, "")?,
+            4,
+            "spent\nsets 2046\norder 19,20,22,18,13,16,17,14,21,15,11,12\nmargin 110\n",
+        )
+    );
     Ok(())
 }

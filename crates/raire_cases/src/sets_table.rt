@@ -19,6 +19,7 @@ pub const FILES: [File; 2] = [
 
 // More sets count than the two of the words, and more than the one.
 const SPENT_AT_2: &str = "spent\nsets 2\norder 3,2,1\nmargin 2\n";
+
 const SPENT_AT_1: &str = "spent\nsets 1\n";
 
 /// The lines, the statuses and the texts.
@@ -36,7 +37,11 @@ pub const CASES: [(&str, u8, &str); 34] = [
         5,
         "full count\norder 2,1,3\nmargin 1\nfloor 2\n",
     ),
-    ("search tie.raire --sets 1", 3, "tie\nround 1\ntied a b,c\\d\ntally 1\n"),
+    (
+        "search tie.raire --sets 1",
+        3,
+        "tie\nround 1\ntied a b,c\\d\ntally 1\n",
+    ),
     (
         "check row1.raire row1.json --sets 1",
         0,
@@ -47,7 +52,11 @@ pub const CASES: [(&str, u8, &str); 34] = [
         6,
         "no: order 2,1,3 stands\n",
     ),
-    ("check row1.raire no_neb.json --sets 2", 4, "spent\nsets 2\n"),
+    (
+        "check row1.raire no_neb.json --sets 2",
+        4,
+        "spent\nsets 2\n",
+    ),
     (
         "check row1.raire empty.json --sets 2",
         6,
@@ -97,7 +106,11 @@ pub const CASES: [(&str, u8, &str); 34] = [
     ),
     ("search row1.raire --nodes 1 --sets 1", 1, BAD_WORDS),
     ("search row1.raire --sets 1 --nodes 1", 1, BAD_WORDS),
-    ("check row1.raire row1.json --nodes 1 --sets 1", 1, BAD_WORDS),
+    (
+        "check row1.raire row1.json --nodes 1 --sets 1",
+        1,
+        BAD_WORDS,
+    ),
     ("search row1.raire --sets 0", 1, BAD_WORDS),
     ("search row1.raire --sets 1048577", 1, BAD_WORDS),
     ("search row1.raire --sets", 1, BAD_WORDS),

@@ -12,7 +12,7 @@ use std::test::Fail;
 use std::thread::Threads;
 
 // Bytes that a sink has room for.
-const SINK_ROOM: u32 = 20_000;
+const SINK_ROOM: u32 = 200_000;
 
 /// What a call came to.
 #[derive(Drop)]

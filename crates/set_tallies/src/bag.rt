@@ -19,7 +19,7 @@ use std::thread::Threads;
 pub const ALWAYS_SUMMED: u32 = 14;
 
 /// So have more candidates where no more rows than this are counted from entries in the time in which the sums are made.
-pub const FEWEST_ROWS: u64 = 128;
+pub const FEWEST_ROWS: u64 = 32;
 
 /// What is kept of the records: the sums over all sets, or of each candidate the different sets of those who stand before it on
 /// a ballot, each with the number of such ballots.

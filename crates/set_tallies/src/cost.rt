@@ -4,8 +4,9 @@ ghost use Rattle.set_tallies.specs.declared.sums.TheConstants.{MOST_SUMMED};
 
 use crate::entry::Entry;
 
-/// So many entries are gone through in the time in which one number of the sums over all sets is made.
-pub const ENTRIES_A_NUMBER: u64 = 8;
+/// So many entries are gone through for each number of the sums over all sets before these are made. A number takes as long as eight
+/// entries and more, so that rows cost a part of the sums that come after all.
+pub const ENTRIES_A_NUMBER: u64 = 2;
 
 // How many entries there are of all candidates.
 fn count_of(lists: &[Vec<Entry>]) -> u64 {
@@ -16,7 +17,7 @@ fn count_of(lists: &[Vec<Entry>]) -> u64 {
     count
 }
 
-/// How many rows of tallies are counted from these entries in the time in which the sums over all sets are made.
+/// How many rows of tallies are counted from these entries before the sums over all sets are made.
 pub fn rows_in_time(n: u32, lists: &[Vec<Entry>]) -> u64
     requires { n ≤ MOST_SUMMED }
 {

@@ -18,7 +18,7 @@ pub fn limits()
     ensures first_places { FIRST_PLACES ≡ 1023 }
     ensures summed { MOST_SUMMED ≡ 20 }
     ensures always_summed { ALWAYS_SUMMED ≡ 14 }
-    ensures fewest_rows { FEWEST_ROWS ≡ 128 }
-    ensures entries_a_number { ENTRIES_A_NUMBER ≡ 8 }
+    ensures fewest_rows { FEWEST_ROWS ≡ 32 }
+    ensures entries_a_number { ENTRIES_A_NUMBER ≡ 2 }
     ensures fewest_in_a_share { FEWEST_IN_A_SHARE ≡ 4096 }
 {}

@@ -46,10 +46,10 @@ pub one_end : OneEnd
 one_end batches terms ballots seen (Spent last order margin) other a b = tt
 one_end batches terms ballots seen (Tied round tied tally) (Spent last order margin) a b = tt
 one_end batches terms ballots seen (Tied round tied tally) (Tied round' tied' tally') a b =
-    first_tie_is_one (candidate_count ballots) ballots.rankings round tied tally round' tied' tally' a.counted b.counted a.first b.first
-one_end batches terms ballots seen (Tied round tied tally) (Audited file counts risks signed) a b = a.undecided (b.found.is.winner, b.found.is.decided)
+    first_tie_is_one (candidate_count ballots) ballots.rankings round tied tally round' tied' tally' a.0.counted b.0.counted a.0.first b.0.first
+one_end batches terms ballots seen (Tied round tied tally) (Audited file counts risks signed) a b = a.0.undecided (b.found.is.winner, b.found.is.decided)
 one_end batches terms ballots seen (Audited file counts risks signed) (Spent last order margin) a b = tt
-one_end batches terms ballots seen (Audited file counts risks signed) (Tied round tied tally) a b = b.undecided (a.found.is.winner, a.found.is.decided)
+one_end batches terms ballots seen (Audited file counts risks signed) (Tied round tied tally) a b = b.0.undecided (a.found.is.winner, a.found.is.decided)
 one_end batches terms ballots seen (Audited file counts risks signed) (Audited file' counts' risks' signed') a b =
     let same = certificate-one ballots file file' a.found.is b.found.is in
     let round : Content → Round = λ f. round_over terms (linked_of batches ballots) seen f in

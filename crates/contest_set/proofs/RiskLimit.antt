@@ -5,6 +5,7 @@ use Rattle.std.proofs.lemmas.Bool.{and_parts}
 use Rattle.std.proofs.lemmas.List.{length-map}
 use Rattle.std.proofs.lemmas.List.Elements.{All-nil, All-cons}
 use Rattle.std.proofs.lemmas.List.FromFn.{length-map-range_with_len}
+use Rattle.budget.specs.declared.budget.Budget.TheVariants.{Nodes}
 use Rattle.assertion_file.proofs.SoundFiles.{read_is_sound}
 use Rattle.assertion_file.specs.Text.{assertion_file_text}
 use Rattle.manifest.specs.Cards.{cards_of}
@@ -82,8 +83,8 @@ end_is_counted batches terms ballots seen file counts risks actual limits some l
 
 pub each_risk_limit : EachRiskLimit
 each_risk_limit terms n bytes asked batches ballots file actual signed sound are_sound read linked found at wrong off =
-    let (certificate, back, accepted) = found_is_accepted terms.nodes bytes asked ballots file read found in
-    risk_limit terms.nodes terms.limit terms.gamma n batches ballots file actual signed (record {
+    let (certificate, back, accepted) = found_is_accepted (Nodes terms.nodes) bytes asked ballots file read found in
+    risk_limit (Nodes terms.nodes) terms.limit terms.gamma n batches ballots file actual signed (record {
       manifest_sound = sound;
       ballots_sound = are_sound;
       file_sound = read_is_sound (assertion_file_text file) file back;

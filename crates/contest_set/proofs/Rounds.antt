@@ -2,6 +2,7 @@
 use Rattle.std.proofs.Common.{◌≡◌, ℕ, ◌≤◌, true, All, None, length, ap, arith}
 use Rattle.std.proofs.lemmas.List.{length-map}
 use Rattle.std.proofs.lemmas.List.Elements.{All-map}
+use Rattle.budget.specs.declared.budget.Budget.{Budget}
 use Rattle.irv_base.specs.Names.{all_differ}
 use Rattle.irv_base.specs.declared.limits.TheConstants.{GREATEST_GAMMA, MOST_CARDS}
 use Rattle.assertion_file.specs.Content.{Content, IsSoundClaim}
@@ -29,9 +30,9 @@ settings-of cards gamma n file records most some within sound =
     })
 
 -- there are at least as many cards as records
-pub records-fit : (nodes : ℕ) (batches : Batches) (ballots : BallotFile) (file : Content) → all_differ ballots.ids ≡ true →
-    length ballots.ids ≡ length ballots.rankings → first_without_card batches ballots ≡ None → IsFoundIn nodes ballots file →
+pub records-fit : (budget : Budget) (batches : Batches) (ballots : BallotFile) (file : Content) → all_differ ballots.ids ≡ true →
+    length ballots.ids ≡ length ballots.rankings → first_without_card batches ballots ≡ None → IsFoundIn budget ballots file →
     file.records ≤ length (linked_of batches ballots)
-records-fit nodes batches ballots file differ long placed found =
+records-fit budget batches ballots file differ long placed found =
     let few = few_ballots batches ballots differ long placed in
     omega (arith, few, ap (λ (f : Content). f.records) found.is.is, length-map (cards_of batches) (recorded_of ballots))

@@ -1,4 +1,5 @@
 use Rattle.std.proofs.Common.{◌≡◌, ◌∙◌, ◌≤◌, None, length, sym, ap, subst}
+use Rattle.budget.specs.declared.budget.Budget.TheVariants.{Nodes}
 use Rattle.manifest.specs.Linked.{linked_of}
 use Rattle.audit_session.specs.Refusals.{without_record}
 use Rattle.session_state.specs.Sessions.{Round}
@@ -10,7 +11,7 @@ use Rattle.contest_set.proofs.one.audited.Goals as goal
 pub round_of-requires-clause-records : goal.round_of-requires-clause-records
 round_of-requires-clause-records c =
     subst (λ recorded. c.args.file.records ≤ length recorded) (sym c.in-Ok.ensures.linked)
-    (records-fit c.args.terms.now.nodes c.args.m.now c.args.ballots.now c.args.file c.ids-ids.ensures.differ c.ids-ids.ensures.one_each c.requires.linked
+    (records-fit (Nodes c.args.terms.now.nodes) c.args.m.now c.args.ballots.now c.args.file c.ids-ids.ensures.differ c.ids-ids.ensures.one_each c.requires.linked
     c.requires.found)
 
 pub returns : goal.returns

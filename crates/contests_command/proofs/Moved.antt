@@ -1,5 +1,6 @@
 -- Where the ballots of a contest stand in a file doesn't matter to its end.
 use Rattle.std.proofs.Common.{◌≡◌, ◌⊎◌, inl, inr, ℕ, List}
+use Rattle.budget.specs.declared.budget.Budget.TheVariants.{Nodes}
 use Rattle.ballot_reader.specs.Ballots.{BallotFile}
 use Rattle.assertion_file.specs.Content.{Content}
 use Rattle.manifest.specs.Cards.{Batches}
@@ -9,7 +10,7 @@ use Rattle.contest_search.specs.Certificate.{IsCertificateOfDecided}
 use Rattle.contest_search.specs.Contest.{IsOther}
 use Rattle.contest_search.specs.Found.{FoundIn}
 use Rattle.contest_search.specs.declared.found.Found.{Found}
-use Rattle.contest_search.specs.declared.found.Found.TheVariants.{Certificate, Tie as FoundTie, Spent as FoundSpent}
+use Rattle.contest_search.specs.declared.found.Found.TheVariants.{Certificate, Tie as FoundTie, Spent as FoundSpent, SpentSets}
 use Rattle.contest_set.specs.Ends.{EndsAs}
 use Rattle.contest_set.specs.declared.end.ContestEnd.{ContestEnd}
 use Rattle.contest_set.specs.declared.end.ContestEnd.TheVariants.{Tied, Spent, Audited}
@@ -44,12 +45,13 @@ module _ (ballots : BallotFile) (places : List ℕ) where
     some = is.some;
   }
 
-  found-moved : (nodes : ℕ) (found : Found) → FoundIn nodes moved found → FoundIn nodes ballots found
+  found-moved : (nodes : ℕ) (found : Found) → FoundIn (Nodes nodes) moved found → FoundIn (Nodes nodes) ballots found
   unfolding certificate-moved
   found-moved nodes (Certificate file) found =
-      record { is = certificate-moved file found.is; budget = λ c other. found.budget c (other-moved found.is.winner c other) }
-  found-moved nodes (FoundTie round tied votes) is = record { counted = is.counted; first = is.first; undecided = is.undecided }
+      record { is = certificate-moved file found.is; within = λ c other. found.within c (other-moved found.is.winner c other) }
+  found-moved nodes (FoundTie round tied votes) (is, told) = (record { counted = is.counted; first = is.first; undecided = is.undecided }, told)
   found-moved nodes (FoundSpent last order margin) is = spent-moved nodes last order margin is
+  found-moved nodes (SpentSets sets order margin) is = absurd is
 
   -- nor does the number of workers
   pub ends_moved : (batches : Batches) (terms : SharedTerms) (workers : ℕ) (seen : List Entry) (end : ContestEnd) →

@@ -62,7 +62,7 @@ module _ (batches : Batches) (terms : SharedTerms) where
   -- a contest that has an end lacks no record
   lacks-none : (ballots : BallotFile) (seen : List Entry) (end : ContestEnd) (card k : ℕ) → SufficeFor terms.nodes ballots →
       EndsAs batches terms ballots seen end → LacksRecord batches terms ballots seen card k → ⊥
-  lacks-none ballots seen (Tied round tied tally) card k suffice is lacks = is.undecided (lacks.found.is.winner, lacks.found.is.decided)
+  lacks-none ballots seen (Tied round tied tally) card k suffice is lacks = is.0.undecided (lacks.found.is.winner, lacks.found.is.decided)
   lacks-none ballots seen (Spent last order margin) card k suffice is lacks = unspent ballots seen (Spent last order margin) suffice is
   lacks-none ballots seen (Audited file counts risks signed) card k suffice is lacks =
       let none : None ≡ Some (NoRecord card k) = sym is.none_unseen ∙ lacks.first in

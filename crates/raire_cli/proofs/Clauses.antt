@@ -323,14 +323,14 @@ module _ (words : List (List ℕ)) {held : Option (List File)} {failed : Type 0}
         (exact command line (closed_by command sets is) Spent)
 
   pub enough_sets_clause : IsNeverSpentBySets held words status
-  enough_sets_clause = if_some held (λ files. status ≡ 4 → HasAnswer (asked words) files Spent)
+  enough_sets_clause = if_some held (λ files. status ≡ 4 → (text : List ℕ) × ComesTo (AsHeld files) (asked words) (Answered Spent text) × Took out text)
       (λ files. (command : Command) (ballots : BallotFile) (sets : ℕ) → command_of words ≡ Some command → IsAbout files command ballots →
       budget_of command ≡ Sets sets → 2 ^ candidate_count ballots - 3 ≤ sets → status ≢ 4)
       (λ files spent command ballots sets line about is enough four.
-      let (text, comes) = spent four in
+      let (text, comes, took) = spent four in
       never_by_sets files command ballots sets text about is enough
       (subst (λ c. ComesTo (AsHeld files) (asked_by c) (Answered Spent text)) line comes))
-      causes.spent
+      (answered_with story Spent)
 
   -- ---- a call that can't be spent
 

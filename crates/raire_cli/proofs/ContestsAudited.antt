@@ -61,5 +61,5 @@ done_all true is = refl
 done_all false is = absurd (cc is)
 
 pub unconfirmed_not_all : (all : Bool) → Unconfirmed ≡ kind_of all → IsTrue all → ⊥
-unconfirmed_not_all true is yes = cc is
-unconfirmed_not_all false is yes = false≢true yes
+unconfirmed_not_all true is signed = cc is
+unconfirmed_not_all false is signed = false≢true signed

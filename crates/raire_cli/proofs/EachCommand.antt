@@ -76,15 +76,15 @@ record IsKnown (of_contests may_be_open : Bool) (kinds : List AnswerKind) (scrip
   pub are : AreOfKind kinds script
 
 -- a number of sets leaves nothing open
-searches_agree : (task : SearchTask) → Agree (SameBy (has_nodes task.budget)) (search.script task)
+searches_agree : (task : SearchTask) → Agree (SameBy false (has_nodes task.budget)) (search.script task)
 searches_agree task = by task.budget refl where
-  by : (budget : Budget) → task.budget ≡ budget → Agree (SameBy (has_nodes budget)) (search.script task)
+  by : (budget : Budget) → task.budget ≡ budget → Agree (SameBy false (has_nodes budget)) (search.script task)
   by (Nodes nodes) is = searches.agrees task
   by (Sets sets) is = search_agrees task sets is
 
-trials_agree : (task : TrialTask) → Agree (SameBy (has_nodes task.budget)) (trial.script task)
+trials_agree : (task : TrialTask) → Agree (SameBy false (has_nodes task.budget)) (trial.script task)
 trials_agree task = by task.budget refl where
-  by : (budget : Budget) → task.budget ≡ budget → Agree (SameBy (has_nodes budget)) (trial.script task)
+  by : (budget : Budget) → task.budget ≡ budget → Agree (SameBy false (has_nodes budget)) (trial.script task)
   by (Nodes nodes) is = tried.agrees task
   by (Sets sets) is = trial_agrees task sets is
 

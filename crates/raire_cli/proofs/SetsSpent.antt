@@ -25,7 +25,7 @@ use Rattle.cli_base.specs.Script.{Script, Ends, AsHeld, Concludes}
 use Rattle.cli_base.specs.declared.outcome.AnswerKind.TheVariants.{Spent}
 use Rattle.command.specs.declared.check.CheckTask.{CheckTask}
 use Rattle.command_line.specs.declared.commands.Command.{Command}
-use Rattle.command_line.specs.declared.commands.Command.TheVariants.{Search, Tabulate, Check, Trial}
+use Rattle.command_line.specs.declared.commands.Command.TheVariants.{Search, Tabulate, Check, Contests, Trial}
 use Rattle.contest_search.specs.Budget.{sets_of}
 use Rattle.contest_search.specs.Contest.{candidate_count, IsWon}
 use Rattle.contest_search.proofs.SetsNeeded.{sets_are_few}
@@ -50,6 +50,7 @@ pub closed_by : (command : Command) (sets : ℕ) → budget_of command ≡ Sets 
 closed_by (Search task) sets is = ap has_nodes is
 closed_by (Tabulate task) sets is = absurd (cc is)
 closed_by (Trial task) sets is = ap has_nodes is
+closed_by (Contests task) sets is = absurd (cc is)
 closed_by _ sets is = refl
 
 -- ---- a search and a trial

@@ -66,7 +66,7 @@ module _ (limit gamma : ℕ) (claims : List Audited) (recorded : List Recorded) 
   }
 
 pub end_is_counted : EndIsCounted
-end_is_counted batches terms ballots seen file counts risks actual limits some long is true-entries =
+end_is_counted batches terms most ballots seen file counts risks actual limits few some long is true-entries =
     let recorded = linked_of batches ballots in
     let cards = length-map (cards_of batches) (recorded_of ballots) in
     let claims = audited file in
@@ -76,9 +76,9 @@ end_is_counted batches terms ballots seen file counts risks actual limits some l
     let confirmed = sym is.signed_off in
     let off = signed terms.limit terms.gamma claims recorded every drawn end (ap (are_confirmed terms.limit) (sym is.risks_are) ∙ confirmed) in
     let all = length-map-range_with_len (λ k. drawn_card terms.seed k (length recorded)) 1 terms.draws in
-    rw (← cards) (advanced_is_counted terms.limit terms.gamma terms.draws terms.draws terms.seed claims recorded seen actual
+    rw (← cards) (advanced_is_counted terms.limit terms.gamma terms.draws most terms.seed claims recorded seen actual
     (session_to terms.limit terms.gamma claims recorded every drawn (end ∷ []))
-    (omega (arith, some, cards)) (omega arith) (long ∙ sym cards) (rw cards true-entries)
+    (omega (arith, some, cards)) few (long ∙ sym cards) (rw cards true-entries)
     (of-one terms.limit terms.gamma claims recorded every drawn end limits.some_draws (omega (arith, all))) off)
 
 pub each_risk_limit : EachRiskLimit

@@ -95,18 +95,20 @@ OneEnd =
 
 -- ---- the risk limit of each contest by itself
 
--- a contest that is signed off is counted, where what is seen for it of the drawn cards is true of their actual rankings
+-- a contest that is signed off is counted, at any number of draws up to the most, where what is seen for it of the drawn cards is true of
+-- their actual rankings
 abbrev pub EndIsCounted : Type 0
 EndIsCounted =
-    (batches : Batches) (terms : SharedTerms) (ballots : BallotFile) (seen : List Entry)
+    (batches : Batches) (terms : SharedTerms) (most : ℕ) (ballots : BallotFile) (seen : List Entry)
     (file : Content) (counts : List Counts) (risks : List ℕ) (actual : List (List ℕ)) →
-    AreWithinLimits terms → 1 ≤ length (cards_of batches) →
+    AreWithinLimits terms → terms.draws ≤ most → 1 ≤ length (cards_of batches) →
     length actual ≡ length (cards_of batches) →
     IsAudited batches terms ballots seen file counts risks true →
-    let drawn : List ℕ = drawn_cards terms.seed (length (cards_of batches)) terms.draws in
-    AreTrueEntries actual seen drawn →
-    IsSequence (length (cards_of batches)) terms.draws drawn
-    × MayBeSignedOff terms.limit terms.gamma (audited file) (linked_of batches ballots) actual drawn
+    let drawn : ℕ → List ℕ = drawn_cards terms.seed (length (cards_of batches)) in
+    AreTrueEntries actual seen (drawn terms.draws) →
+    IsSequence (length (cards_of batches)) most (drawn most)
+    × MayBeSignedOff terms.limit terms.gamma (audited file) (linked_of batches ballots) actual
+    (drawn most)
 
 -- of all sequences of n cards, those are at most limit millionths on which the audit of a contest that was read may be signed off, where
 -- the actual rankings of the cards may elect another candidate

@@ -5,7 +5,17 @@ use Rattle.manifest.specs.Cards.{Batches}
 use Rattle.seen_file.specs.Seen.{Entry}
 use Rattle.cli_base.specs.Outcome.{Verdict}
 use Rattle.command.specs.declared.contests.ContestsTask.{ContestsTask}
-use Rattle.contests_command.specs.Contests.{Audits, SufficeFor}
+use Rattle.contest_set.specs.Ends.{EndsAs}
+use Rattle.contest_set.specs.declared.end.ContestEnd.{ContestEnd}
+use Rattle.contest_set.specs.declared.terms.SharedTerms.{SharedTerms}
+use Rattle.contests_command.specs.Contests.{Audits, IsUnspent, SufficeFor}
+
+-- the nodes of a contest aren't spent, where they suffice for it
+abbrev pub EnoughNodes : Type 0
+EnoughNodes =
+    (batches : Batches) (terms : SharedTerms) (ballots : BallotFile) (seen : List Entry)
+    (end : ContestEnd) →
+    SufficeFor terms.nodes ballots → EndsAs batches terms ballots seen end → IsUnspent end
 
 -- it has one end, where the nodes suffice for each contest
 abbrev pub AuditsOnce : Type 0

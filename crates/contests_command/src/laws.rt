@@ -1,10 +1,15 @@
 //! The laws of a contest among others: each holds of every value that it names, and has no code.
 ghost use Rattle.contests_command.specs.Alone.{SaidAlone};
-ghost use Rattle.contests_command.specs.Laws.{AuditsOnce};
+ghost use Rattle.contests_command.specs.Laws.{AuditsOnce, EnoughNodes};
 
 /// What a ballot file says of a contest, its records say without those of all other contests, but for the places of the ballots.
 pub fn said_alone()
     ensures { SaidAlone }
+{}
+
+/// Where the nodes suffice for a contest, its budget isn't spent.
+pub fn enough_nodes()
+    ensures { EnoughNodes }
 {}
 
 /// Where the nodes suffice for each contest, an audit of all contests comes to one end.

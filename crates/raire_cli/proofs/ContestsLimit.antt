@@ -12,7 +12,7 @@ use Rattle.raire_cli.proofs.ContestsAlone.{end-of}
 use Rattle.raire_cli.proofs.PollsLimit.{some_card}
 
 pub contest_is_counted : ContestIsCounted
-contest_is_counted words files audit place ballots entries file counts risks actual listed seen ended long true-entries =
+contest_is_counted words files audit place ballots entries file counts risks actual most few listed seen ended long true-entries =
     let task = audit.asks.task in
     let batches = audit.inputs.batches in
     let checked : IsWithinLimits task = are_checked words (Contests task) audit.asks.asked in
@@ -31,5 +31,5 @@ contest_is_counted words files audit place ballots entries file counts risks act
     let both : Some own ≡ Some entries = sym at ∙ seen in
     let same : own ≡ entries = cc both in
     let its = subst (λ s. IsAudited batches (terms_of task) ballots s file counts.items risks.items true) same is in
-    (end_is_counted batches (terms_of task) ballots entries file counts.items risks.items actual limits
+    (end_is_counted batches (terms_of task) most ballots entries file counts.items risks.items actual limits few
     (some_card audit.bytes.manifest batches audit.say.manifest) long its true-entries).1

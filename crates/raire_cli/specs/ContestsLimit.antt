@@ -1,5 +1,5 @@
 -- A contest that an audit of all contests signs off is one that its own risk limit counts.
-use Rattle.std.specs.Prelude.{◌≡◌, ℕ, true, List, length, Some, Vec}
+use Rattle.std.specs.Prelude.{◌≡◌, ◌≤◌, ℕ, true, List, length, Some, Vec}
 use Rattle.std.specs.List.{slice_get}
 use Rattle.std.specs.declared.alloc.Global.{Global}
 use Rattle.desk.specs.Desk.{File}
@@ -20,19 +20,21 @@ module _ {words : List (List ℕ)} {files : List File} (audit : AuditsContests w
   abbrev pub cards : ℕ
   cards = length (cards_of audit.inputs.batches)
 
-  -- the cards that are drawn for all contests
-  abbrev pub drawn : List ℕ
-  drawn = drawn_cards audit.asks.task.seed cards audit.asks.task.draws
+  -- the first of the cards that are drawn for all contests
+  abbrev pub drawn : ℕ → List ℕ
+  drawn = drawn_cards audit.asks.task.seed cards
 
--- It is so of each contest by itself, where the cards that were drawn were read as they are for this contest.
+-- It is so of each contest by itself, at any number of draws up to the most, where the cards that were drawn were read as they are for
+-- this contest.
 abbrev pub ContestIsCounted : Type 0
 ContestIsCounted =
     (words : List (List ℕ)) (files : List File) (audit : AuditsContests words files) (place : ℕ)
     (ballots : BallotFile) (entries : List Entry) (file : Content) (counts : Vec Counts Global)
-    (risks : Vec ℕ Global) (actual : List (List ℕ)) →
-    slice_get audit.inputs.list place ≡ Some ballots →
+    (risks : Vec ℕ Global) (actual : List (List ℕ)) (most : ℕ) →
+    audit.asks.task.draws ≤ most → slice_get audit.inputs.list place ≡ Some ballots →
     slice_get audit.inputs.seen place ≡ Some entries →
     slice_get audit.ends place ≡ Some (Audited file counts risks true) →
-    length actual ≡ cards audit → AreTrueEntries actual entries (drawn audit) →
+    length actual ≡ cards audit →
+    AreTrueEntries actual entries (drawn audit audit.asks.task.draws) →
     MayBeSignedOff audit.asks.task.limit audit.asks.task.gamma (audited file)
-    (linked_of audit.inputs.batches ballots) actual (drawn audit)
+    (linked_of audit.inputs.batches ballots) actual (drawn audit most)

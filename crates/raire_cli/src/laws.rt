@@ -44,7 +44,7 @@ pub fn default_suffices()
     ensures { DefaultSuffices }
 {}
 
-/// With the most sets no search, no trial and no check of up to twenty candidates is spent.
+/// The most sets are as many as are never spent with up to twenty candidates, in a search, a trial or a check.
 pub fn most_sets_suffice()
     ensures { MostSetsSuffice }
 {}
@@ -90,8 +90,8 @@ pub fn block_alone()
     ensures { BlockAlone }
 {}
 
-/// A contest that an audit of all contests signs off is among those that its own risk limit counts, if the cards that were seen were
-/// read as they are.
+/// A contest that an audit of all contests signs off is among those that its own risk limit counts, up to any number of draws, if the
+/// cards that were seen were read as they are.
 pub fn contest_is_counted()
     ensures { ContestIsCounted }
 {}

@@ -107,15 +107,21 @@ fn is_second(end: &ContestEnd) -> bool {
     is_audited(end, Candidate(1), missing, 1_000_000_000_000_000_000, false)
 }
 
+// Both end so.
+fn are_both(ends: &[ContestEnd]) -> bool {
+    match ends {
+        [first, second] => is_first(first) && is_second(second),
+        _ => false,
+    }
+}
+
 #[test]
 fn each_contest_ends_by_itself(rt: HostRuntime) {
     for workers in [1, 2, 8] {
         let Some(Ok(both)) = ends(&rt, BALLOTS, SEEN, workers, &NoGate) else {
             panic!(rt; "the ends");
         };
-        assert!(rt; both.len() == 2);
-        assert!(rt; is_first(&both[0]));
-        assert!(rt; is_second(&both[1]));
+        assert!(rt; are_both(&both));
     }
 }
 
@@ -228,7 +234,7 @@ fn two_contests_run_side_by_side(rt: HostRuntime) {
     let Some(Ok(both)) = ends(&rt, BALLOTS, SEEN, 2, &held) else {
         panic!(rt; "the ends");
     };
-    assert!(rt; is_first(&both[0]) && is_second(&both[1]));
+    assert!(rt; are_both(&both));
     assert!(rt; held.was_in_time());
 }
 
@@ -238,6 +244,6 @@ fn one_worker_audits_one_contest_after_the_other(rt: HostRuntime) {
     let Some(Ok(both)) = ends(&rt, BALLOTS, SEEN, 1, &held) else {
         panic!(rt; "the ends");
     };
-    assert!(rt; is_first(&both[0]) && is_second(&both[1]));
+    assert!(rt; are_both(&both));
     assert!(rt; !held.was_in_time());
 }

@@ -10,7 +10,7 @@ fn margins_have_a_sign(rt: HostRuntime) {
     let rankings = one_against_two();
     let bag = Bag::of(&rt, 2, rankings.as_slice(), 1).expect(&rt, "bag");
     let ahead = Ahead::fill(rt.alloc(), &bag).expect(&rt, "ahead");
-    let mut tallies = Tallies::new(rt.alloc(), &bag, &ahead, u64::MAX).expect(&rt, "tallies");
+    let mut tallies = Tallies::new(rt.alloc(), &bag, &ahead, true).expect(&rt, "tallies");
     let neb = Assertion::Neb { w: ZERO, l: ONE };
     assert!(rt; margin(&neb, &mut tallies) == Ok(-1));
     let nen = Assertion::Nen {

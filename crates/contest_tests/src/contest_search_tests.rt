@@ -63,16 +63,22 @@ fn three_candidates_by_sets(rt: HostRuntime) {
         }
         _ => assert!(rt; false),
     }
-    match find(&rt, &Searchable::of(&ballots), 1, Budget::Sets(2), &NoGate) {
-        Ok(
-            Found::SpentSets {
-                sets,
-                order,
-                margin,
-            },
-        ) => {
-            assert!(rt; sets == 2);
-            assert!(rt; margin == 2);
+}
+
+#[test]
+fn three_candidates_are_spent_by_sets(rt: HostRuntime) {
+    let ballots = read_ballots(rt.alloc(), THREE_CANDIDATES, None).expect(&rt, "ballots");
+    let found = find(&rt, &Searchable::of(&ballots), 1, Budget::Sets(2), &NoGate).expect(
+        &rt, "found",
+    );
+    match &found {
+        Found::SpentSets {
+            sets,
+            order,
+            margin,
+        } => {
+            assert!(rt; *sets == 2);
+            assert!(rt; *margin == 2);
             assert!(rt; order.candidates() == [TWO, ONE, ZERO].as_slice());
         }
         _ => assert!(rt; false),

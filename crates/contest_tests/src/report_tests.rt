@@ -25,7 +25,7 @@ fn tabulated<R: AllocGlobal + Threads + Sync>(
     let alloc = rt.alloc();
     let bag = Bag::of(rt, n, ballots.rankings(), 1)?;
     let ahead = Ahead::fill(alloc, &bag)?;
-    let mut tallies = Tallies::new(alloc, &bag, &ahead, u64::MAX)?;
+    let mut tallies = Tallies::new(alloc, &bag, &ahead, true)?;
     tabulate(alloc, &mut tallies)
 }
 

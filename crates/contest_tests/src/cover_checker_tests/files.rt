@@ -31,7 +31,7 @@ fn checked<R: Abort + AllocGlobal + Threads + Sync>(
     let n = ballots.candidates().len() as u32;
     let bag = Bag::of(rt, n, ballots.rankings(), 1).expect(rt, "bag");
     let ahead = Ahead::fill(alloc, &bag).expect(rt, "ahead");
-    let mut tallies = Tallies::new(alloc, &bag, &ahead, u64::MAX).expect(rt, "tallies");
+    let mut tallies = Tallies::new(alloc, &bag, &ahead, true).expect(rt, "tallies");
     let file = read_file(alloc, file.as_bytes()).expect(rt, "file");
     check(alloc, &ballots, &mut tallies, &file, budget)
 }

@@ -18,6 +18,8 @@ LEAST_SECONDS = 0.05
 BATCHES = 65_536
 CARD_BATCHES = 5
 MEMBERS = 1_000_000
+# The last bytes of an id of a ballot, which no digest is taken of.
+COUNTED_BYTES = 5
 
 # ---- the hash: that of the kit's `FoldHasher`
 
@@ -126,9 +128,9 @@ class Runs:
 # ---- the cases
 
 def ballots(runs):
-    front = alike_front()
-    honest = [f"{'batch_':>024}{number:08}x" for number in range(MOST_RECORDS)]
-    colliding = [f"{front}{number:08}x" for number in range(MOST_RECORDS)]
+    front, counted = alike_front(), "x" * COUNTED_BYTES
+    honest = [f"{'batch_':>024}{counted}{number:08}" for number in range(MOST_RECORDS)]
+    colliding = [f"{front}{number:08}{counted}" for number in range(MOST_RECORDS)]
     write_ballots("honest", honest)
     write_ballots("colliding", colliding)
     runs.pair("ids of ballots", ["tabulate", "honest"], ["tabulate", "colliding"])

@@ -14,3 +14,5 @@ pub mod Missed
 pub mod Rereads
 pub mod IdBytes
 pub mod SortedIds
+pub mod Halves
+pub mod Eight

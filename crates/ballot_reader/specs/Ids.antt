@@ -1,10 +1,9 @@
 -- Ids that are kept one behind the other in a list of bytes, and the pages on which those that were met are marked.
-use Rattle.std.specs.Prelude.{◌≡◌, ◌≤◌, ◌-◌, ◌+◌, ◌*◌, ◌/◌, ◌%◌, ◌^◌, ℕ, Bool, false, List, [], ◌∷◌, length, take, drop, slice_index_or, Option, None, Some, if◌then◌else◌, ◌==◌}
+use Rattle.std.specs.Prelude.{◌≡◌, ◌≤◌, ◌-◌, ◌+◌, ◌*◌, ◌/◌, ◌%◌, ◌^◌, ℕ, Bool, false, List, [], ◌∷◌, length, take, drop, Option, None, Some, if◌then◌else◌, ◌==◌}
 use Rattle.std.specs.Hash.FoldHasher.{initial, write, finish}
 use Rattle.std.specs.BTreeMap.{get}
 use Rattle.std.specs.Ordering.{nat_cmp}
 use Rattle.irv_base.specs.Names.{Id}
-use Rattle.ballot_reader.specs.declared.page.TheConstants.{PAGE_BITS}
 use Rattle.ballot_reader.specs.declared.pages.TheConstants.{COUNTED_BYTES}
 use Rattle.ballot_reader.specs.declared.pages.Pages.{Pages}
 
@@ -24,9 +23,9 @@ AreEnds a (end ∷ ends) n = (a ≤ end) × AreEnds end ends n
 abbrev pub has_bit : ℕ → ℕ → Bool
 has_bit page bit = (page / 2 ^ bit) % 2 == 1
 
--- Ids that are alike up to the last byte's place in its row of `PAGE_BITS` have a bit each on one page, and those that differ in their
--- last bytes alone have pages with numbers near each other. So ids that were counted up, as those of ballots are, need few pages,
--- and the next is found beside the last. Ids with other pages or bits differ; two that differ may share both.
+-- Of what the last bytes of an id count, four bits of the last and two of the one before it are its bit on a page, and the rest is added
+-- to the digest of the other bytes to be the number of the page. So ids that were counted up in decimal digits, as those of ballots are,
+-- stand forty on a page, and the next page is found beside the last. Ids with other pages or bits differ; two that differ may share both.
 
 abbrev pub digest : Id → ℕ
 digest id = finish (write initial id)
@@ -36,17 +35,18 @@ abbrev pub number_behind : ℕ → List ℕ → ℕ
 number_behind n [] = n
 number_behind n (b ∷ bytes) = number_behind ((n * 2 ^ 8 % 2 ^ 64 + b) % 2 ^ 64) bytes
 
-abbrev pub last_byte : Id → ℕ
-last_byte id = slice_index_or id (length id - 1) 0
+-- what the last bytes of an id count
+abbrev pub counted : Id → ℕ
+counted id = number_behind 0 (drop (length id - COUNTED_BYTES) id)
 
--- the digest of all but the last bytes, and as much more as the number of these counts in rows of PAGE_BITS
 abbrev pub page_number : Id → ℕ
 page_number id =
-    let front = length id - COUNTED_BYTES in
-    (digest (take front id) + number_behind 0 (drop front id) / PAGE_BITS) % 2 ^ 64
+    let front = take (length id - COUNTED_BYTES) id in
+    (digest front + (counted id / 1024 * 16 + counted id / 16 % 16)) % 2 ^ 64
 
-abbrev pub bit : Id → ℕ
-bit id = last_byte id % PAGE_BITS
+-- the bit where the last bytes count so much
+abbrev pub bit_of : ℕ → ℕ
+bit_of count = count % 16 + count / 256 % 4 * 16
 
 abbrev pub is_on : Option ℕ → ℕ → Bool
 is_on None bit = false
@@ -59,4 +59,4 @@ is_marked_on pages number bit =
     else is_on (get nat_cmp pages.closed number) bit
 
 abbrev pub is_paged : Pages → Id → Bool
-is_paged pages id = is_marked_on pages (page_number id) (bit id)
+is_paged pages id = is_marked_on pages (page_number id) (bit_of (counted id))

@@ -1,17 +1,19 @@
 // What is kept of the ballots that are read.
 ghost use Rattle.std.specs.Prelude.{ℕ, ◌≡◌, ◌<◌, ◌++◌, ◌∷◌, [], List, Ok, Err, Some, None, IfOk, IfErr, IfSome, IsTrue, length, position, replicate, slice_get, slice_set, not, true, if◌then◌else◌};
-ghost use Rattle.irv_base.specs.Names.{Id, all_differ, is_among, is_name};
+ghost use Rattle.irv_base.specs.Names.{Id, all_differ, is_among};
 ghost use Rattle.ballot_reader.specs.Grammar.{Ballot, ballot_for, ballot_in, ballot_of, has_id};
 ghost use Rattle.ballot_reader.specs.Kept.{IsKept, KeepsAudited, RefusesRecord, WantsAudited, contest_ids, is_wanted, parts_from};
 ghost use Rattle.ballot_reader.specs.declared.wanted.Wanted.{Wanted as WantedContests};
 
 use crate::contest::Contest;
 use crate::fault::{BRule, BallotFault};
+use crate::name_test::is_name;
 use crate::noted::Noted;
 use crate::part::{Part, keep};
+use crate::same::is_same;
 use crate::wanted::Wanted;
 use csv_rows::Fields;
-use irv_base::{MOST_RECORDS, Memory, Name};
+use irv_base::{MOST_RECORDS, Memory};
 use std::alloc::Global;
 use std::marker::Model;
 
@@ -28,13 +30,9 @@ pub fn contest_place(contests: &[Contest], id: &[u8]) -> Option<usize>
     ensures place { result ≡ position (has_id id.now) contests.now }
     ensures within { IfSome result (λ k. k < length contests.now) }
 {
-    contests.iter().position(|contest| contest.id.bytes() == id)
-}
-
-fn is_id(bytes: &[u8]) -> bool
-    ensures { result ≡ is_name bytes.now }
-{
-    Name::read(bytes).is_some()
+    contests
+        .iter()
+        .position(|contest| is_same(contest.id.bytes(), id))
 }
 
 // The head of a ballot's record, or the first of the rules B6, B4 and B7 that it breaks.
@@ -50,7 +48,7 @@ fn head_of<'r>(contests: &[Contest], mut fields: Fields<'r>) -> Result<Head<'r>,
     let (Some(of), Some(id)) = (fields.next(), fields.next()) else {
         return Err(BRule::B6);
     };
-    if !is_id(id) {
+    if !is_name(id) {
         return Err(BRule::B4);
     }
     let Some(contest) = contest_place(contests, of) else {

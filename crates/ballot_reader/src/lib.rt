@@ -11,12 +11,14 @@ mod ids;
 mod kept;
 pub mod laws;
 mod limits;
+mod name_test;
 mod noted;
 mod page;
 mod pages;
 mod part;
 mod preferences;
 mod read;
+mod same;
 mod sorted;
 mod wanted;
 

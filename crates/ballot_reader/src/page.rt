@@ -6,13 +6,13 @@ ghost use Rattle.ballot_reader.specs.declared.page.TheConstants.{PAGE_BITS};
 use std::marker::Model;
 
 /// How many bits a page has.
-pub const PAGE_BITS: u8 = 32;
+pub const PAGE_BITS: u8 = 64;
 
 /// The bits that are set on a page.
 ///
 /// To a contract it is the sum of `2 ^ bit` over these.
 #[derive(Clone, Copy)]
-pub struct Page(u32);
+pub struct Page(u64);
 
 impl Model for Page {
     ghost use Rattle.std.specs.Prelude.{ℕ};
@@ -25,7 +25,7 @@ impl Model for Page {
 }
 
 // The page on which this bit alone is set, as a number.
-fn only(bit: u8) -> u32
+fn only(bit: u8) -> u64
     requires { bit < PAGE_BITS }
     ensures { result ≡ 2 ^ bit }
 {

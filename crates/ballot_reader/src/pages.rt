@@ -1,7 +1,7 @@
 // Ids on pages, that can be told from many others without a comparison.
 ghost use Rattle.std.specs.Prelude.{◌≡◌, ◌<◌, ℕ, IfOk, OnOk, IsTrue, false, not};
 ghost use Rattle.irv_base.specs.Names.{Id};
-ghost use Rattle.ballot_reader.specs.Ids.{bit, digest, is_marked_on, is_paged, last_byte, number_behind, page_number};
+ghost use Rattle.ballot_reader.specs.Ids.{bit_of, counted, digest, is_marked_on, is_paged, number_behind, page_number};
 ghost use Rattle.ballot_reader.specs.declared.page.TheConstants.{PAGE_BITS};
 
 use crate::page::{PAGE_BITS, Page};
@@ -13,7 +13,7 @@ use std::hash::{FoldHasher, Hasher};
 // So many bytes at the end of an id are counted, and the others digested.
 const COUNTED_BYTES: usize = 5;
 
-/// The bits of last bytes on each page. One page lies open: ids that were counted up stand on the page of the one before. The others
+/// The bits of ids on each page. One page lies open: ids that were counted up stand on the page of the one before. The others
 /// are in order, so that no choice of ids makes them slow to find.
 #[derive(Drop)]
 pub struct Pages {
@@ -34,15 +34,6 @@ pub fn digest(id: &[u8]) -> u64
     hasher.finish()
 }
 
-fn last_byte(id: &[u8]) -> u8
-    ensures { result ≡ last_byte id.now }
-{
-    if id.is_empty() {
-        return 0;
-    }
-    id[id.len() - 1]
-}
-
 // The number that these bytes are, the first of them most significant.
 fn number_of(bytes: &[u8]) -> u64
     ensures { result ≡ number_behind 0 bytes.now }
@@ -54,20 +45,28 @@ fn number_of(bytes: &[u8]) -> u64
     n
 }
 
-// The number of an id's page.
-fn page_number(id: &[u8]) -> u64
-    ensures { result ≡ page_number id.now }
+// What the last bytes of an id count.
+fn counted(id: &[u8]) -> u64
+    ensures { result ≡ counted id.now }
 {
-    let front = id.len().saturating_sub(COUNTED_BYTES);
-    digest(&id[..front]).wrapping_add(number_of(&id[front..]) / u64::from(PAGE_BITS))
+    number_of(&id[id.len().saturating_sub(COUNTED_BYTES)..])
 }
 
-// The bit of an id on its page.
-fn bit(id: &[u8]) -> u8
-    ensures same { result ≡ bit id.now }
+// The number of the page of an id whose last bytes count so much.
+fn page_number(id: &[u8], count: u64) -> u64
+    requires { count ≡ counted id.now }
+    ensures { result ≡ page_number id.now }
+{
+    let front = &id[..id.len().saturating_sub(COUNTED_BYTES)];
+    digest(front).wrapping_add(count / 1024 * 16 + count / 16 % 16)
+}
+
+// The bit of an id whose last bytes count so much.
+fn bit(count: u64) -> u8
+    ensures same { result ≡ bit_of count }
     ensures below { result < PAGE_BITS }
 {
-    last_byte(id) % PAGE_BITS
+    (count % 16 + count / 256 % 4 * 16) as u8
 }
 
 impl Pages {
@@ -107,8 +106,9 @@ impl Pages {
         ensures kept { (other : Id) → IsTrue (is_paged self.old other)
             → IsTrue (is_paged self.new other) }
     {
-        self.turn_to(page_number(id))?;
-        let bit = bit(id);
+        let count = counted(id);
+        self.turn_to(page_number(id, count))?;
+        let bit = bit(count);
         if self.page.has(bit) {
             return Ok(false);
         }

@@ -5,6 +5,7 @@ ghost use Rattle.irv_base.specs.Names.{all_differ, candidate_named};
 ghost use Rattle.ballot_reader.specs.Grammar.{are_names, ranking_of};
 
 use crate::guesses::Guesses;
+use crate::same::is_same;
 use csv_rows::Fields;
 use indexmap::IndexSet;
 use irv_base::{Candidate, Name, Ranking, candidate_named};
@@ -17,7 +18,7 @@ fn candidate_of(candidates: &[Name], guesses: Option<&Guesses>, id: &[u8]) -> Op
 {
     if let Some(guesses) = guesses {
         let guess = guesses.place(id);
-        if guess < candidates.len() && candidates[guess].bytes() == id {
+        if guess < candidates.len() && is_same(candidates[guess].bytes(), id) {
             return Some(Candidate(guess as u8));
         }
     }

@@ -6,3 +6,4 @@ pub mod Ends
 pub mod Numbers
 pub mod Plain
 pub mod Single
+pub mod Marks

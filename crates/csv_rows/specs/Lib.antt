@@ -5,3 +5,4 @@ pub mod Lines
 pub mod Places
 pub mod Sources
 pub mod Numbers
+pub mod Lanes

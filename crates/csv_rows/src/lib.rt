@@ -4,6 +4,7 @@
 
 pub mod examples;
 mod fields;
+mod lanes;
 mod line_fields;
 mod lines;
 mod mark;

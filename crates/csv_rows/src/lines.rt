@@ -1,17 +1,18 @@
 // The lines of a plain text. Nothing of them is copied.
-ghost use Rattle.std.specs.Prelude.{◌≡◌, ◌∷◌, length};
-ghost use Rattle.memchr.specs.Find.{IsFirstByte, is_byte2, is_byte3};
+ghost use Rattle.std.specs.Prelude.{◌≡◌, ◌≤◌, ◌∷◌, length};
+ghost use Rattle.memchr.specs.Find.{IsFirstByte, Nowhere, Passes, is_byte2, is_byte3};
 ghost use Rattle.csv_rows.specs.Fields.{is_blank_record, trimmed_fields};
 ghost use Rattle.csv_rows.specs.Lines.{behind_line, fields_behind, fields_in, is_line_end, is_plain};
 
+use crate::lanes::{FIELD_LANES, LINE_LANES, bytes_in_field, bytes_in_line};
 use crate::trim::is_blank;
 use memchr::memchr2_iter;
 
-const COMMA: u8 = b',';
+pub const COMMA: u8 = b',';
 
-const CARRIAGE_RETURN: u8 = b'\r';
+pub const CARRIAGE_RETURN: u8 = b'\r';
 
-const LINE_FEED: u8 = b'\n';
+pub const LINE_FEED: u8 = b'\n';
 
 const DOUBLE_QUOTE: u8 = b'"';
 
@@ -33,12 +34,43 @@ fn ends_field(b: u8) -> bool
     b == COMMA || b == CARRIAGE_RETURN || b == LINE_FEED
 }
 
-// The place of the first comma or line end. A field is short: a walk is through it before a search in lanes has begun.
+// The place of the first comma or line end, where none stands before `from`.
+fn field_end_from(text: &[u8], from: usize) -> Option<usize>
+    requires within { from ≤ length text.now }
+    requires before { Nowhere (Passes (is_byte3 0x2C 0x0D 0x0A) text.now) 0 from }
+    ensures { IsFirstByte (is_byte3 0x2C 0x0D 0x0A) text.now result }
+{
+    for i in from..text.len() {
+        if ends_field(text[i]) {
+            return Some(i);
+        }
+    }
+    None
+}
+
+// The place of the first comma or line end. Most fields end within one look.
+#[inline(always)]
 fn first_field_end(text: &[u8]) -> Option<usize>
     ensures { IsFirstByte (is_byte3 0x2C 0x0D 0x0A) text.now result }
 {
-    for i in 0..text.len() {
-        if ends_field(text[i]) {
+    if text.len() < FIELD_LANES {
+        return field_end_from(text, 0);
+    }
+    let end = bytes_in_field(text, 0);
+    if end < FIELD_LANES {
+        return Some(end);
+    }
+    field_end_from(text, FIELD_LANES)
+}
+
+// The place of the first line end, where none stands before `from`.
+fn line_end_from(text: &[u8], from: usize) -> Option<usize>
+    requires within { from ≤ length text.now }
+    requires before { Nowhere (Passes (is_byte2 0x0D 0x0A) text.now) 0 from }
+    ensures { IsFirstByte (is_byte2 0x0D 0x0A) text.now result }
+{
+    for i in from..text.len() {
+        if is_line_end(text[i]) {
             return Some(i);
         }
     }
@@ -49,7 +81,15 @@ fn first_field_end(text: &[u8]) -> Option<usize>
 fn first_line_end(text: &[u8]) -> Option<usize>
     ensures { IsFirstByte (is_byte2 0x0D 0x0A) text.now result }
 {
-    memchr2_iter(CARRIAGE_RETURN, LINE_FEED, text).next()
+    let mut from = 0;
+    while text.len() - from >= LINE_LANES {
+        let more = bytes_in_line(text, from);
+        if more < LINE_LANES {
+            return Some(from + more);
+        }
+        from += LINE_LANES;
+    }
+    line_end_from(text, from)
 }
 
 /// What stands behind the end of the first line.

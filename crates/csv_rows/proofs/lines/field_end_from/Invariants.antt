@@ -1,5 +1,5 @@
 use Rattle.memchr.specs.Find.{Nowhere, Passes, is_byte3}
-use Rattle.csv_rows.proofs.lines.first_field_end.Given as goal
+use Rattle.csv_rows.proofs.lines.field_end_from.Given as goal
 
 -- no field ends before
 abbrev pub invariant-loop-i : goal.invariant-loop-i

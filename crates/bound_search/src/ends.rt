@@ -3,6 +3,7 @@ ghost use Rattle.std.specs.Prelude.{◌≡◌};
 ghost use Rattle.bound_search.specs.declared.ends.RaceFault.TheVariants.{Memory as WantOfMemory};
 
 use irv_base::{Candidate, Memory, Order};
+use set_tallies::Counted;
 use std::alloc::AllocFailed;
 use std::error::Error;
 use std::fmt;
@@ -67,6 +68,8 @@ pub struct RaceEnd {
     pub pieces: Vec<PieceEnd>,
     /// What each worker did.
     pub workers: Vec<Report>,
+    /// The records with the sums over all sets, where the race made these.
+    pub summed: Option<Counted>,
 }
 
 /// Why a race has no best margin.

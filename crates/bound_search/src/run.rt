@@ -1,5 +1,5 @@
 // A race over given pieces, run to its end.
-ghost use Rattle.std.specs.Prelude.{◌≡◌, ◌≤◌, All, IfOk, length};
+ghost use Rattle.std.specs.Prelude.{◌≡◌, ◌≤◌, All, IfOk, IfSome, length};
 ghost use Rattle.bound_search.specs.Raced.{IsRaced, spent_above};
 ghost use Rattle.irv_base.specs.declared.limits.TheConstants.{MOST_WORKERS};
 ghost use Rattle.bound_search.specs.declared.limits.TheConstants.{MOST_PIECES};
@@ -25,6 +25,15 @@ pub(crate) struct Raced {
     pub best: Best,
     /// The number of a piece whose work is above the budget. With an order of hardness 0 there is none.
     pub spent: Option<u32>,
+}
+
+/// What a race came to, and the records that it was over, with the sums over all sets, where it made these.
+#[derive(Drop)]
+pub(crate) struct Run {
+    /// What it came to.
+    pub raced: Raced,
+    /// The records with sums.
+    pub summed: Option<Counted>,
 }
 
 // The spent piece, unless an order of hardness 0 was found: then the best margin is 0, whatever was spent.
@@ -90,18 +99,29 @@ pub(crate) fn run_race<R: AllocGlobal + Threads + Sync, G: Gate + Sync>(
     workers: u32,
     nodes: u32,
     gate: &G,
-) -> Result<Raced, Memory>
+) -> Result<Run, Memory>
     requires workers { (1 ≤ workers) × (workers ≤ MOST_WORKERS) }
     requires some { 1 ≤ length tails.now }
     requires few { length tails.now ≤ MOST_PIECES }
     requires contest { All (λ tail. tail.n ≡ counted.now.bag.n) tails.now }
-    ensures { IfOk result (IsRaced counted.now.bag nodes tails.now workers first) }
+    ensures raced { IfOk result (λ run.
+        IsRaced counted.now.bag nodes tails.now workers first run.raced) }
+    ensures summed { IfOk result (λ run. IfSome run.summed (λ own. own.bag ≡ counted.now.bag)) }
 {
     if let Ok(raced) = run_once(rt, counted, tails, &first, workers, nodes, gate) {
-        return Ok(raced);
+        return Ok(Run {
+            raced,
+            summed: None,
+        });
     }
     match counted.summed()? {
-        Some(summed) => run_once(rt, &summed, tails, &first, workers, nodes, gate),
+        Some(summed) => {
+            let raced = run_once(rt, &summed, tails, &first, workers, nodes, gate)?;
+            Ok(Run {
+                raced,
+                summed: Some(summed),
+            })
+        }
         None => Err(Memory),
     }
 }

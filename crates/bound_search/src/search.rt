@@ -1,5 +1,5 @@
 // The race for the best margin.
-ghost use Rattle.std.specs.Prelude.{◌≡◌, ◌≤◌, ◌<◌, ◌∷◌, [], ℕ, All, IfOk, IfErr, IsTrue, length};
+ghost use Rattle.std.specs.Prelude.{◌≡◌, ◌≤◌, ◌<◌, ◌∷◌, [], ℕ, All, IfOk, IfErr, IfSome, IsTrue, length};
 ghost use Rattle.irv_base.specs.Orders.{is_order, Elects};
 ghost use Rattle.bound_search.specs.Race.{IsBestOver, ArePiecesOver, AreReportsOf, IsSpentOver, IsPaced};
 ghost use Rattle.bound_search.specs.declared.ends.RaceFault.TheVariants.{Spent};
@@ -7,7 +7,7 @@ ghost use Rattle.irv_base.specs.declared.limits.TheConstants.{MOST_WORKERS};
 
 use crate::ends::{Best, RaceEnd, RaceFault};
 use crate::join::in_order;
-use crate::run::{Raced, run_race};
+use crate::run::{Raced, Run, run_race};
 use crate::start::{Start, start_of};
 use desk::Gate;
 use irv_tabulator::Tabulated;
@@ -35,6 +35,8 @@ fn spent_on(tail: &Tail, best: Best) -> RaceFault
 /// Each has tallies of its own, and all search under one bound. Each piece has the whole budget of `nodes` suffixes. Where
 /// that of some piece is spent, the answer is its last candidate and the least order found, but where that is of hardness 0: then the
 /// best margin is 0, whatever was spent. The other error is want of memory.
+///
+/// Where rows of tallies take long, the race makes the sums over all sets, and hands them on.
 pub fn race<R: AllocGlobal + Threads + Sync, G: Gate + Sync>(
     rt: &R,
     counted: &Counted,
@@ -53,16 +55,18 @@ pub fn race<R: AllocGlobal + Threads + Sync, G: Gate + Sync>(
     ensures reports { IfOk result (λ end. length end.workers.items ≡ workers) }
     ensures told { IfOk result (λ end. AreReportsOf end.pieces.items end.workers.items) }
     ensures paced { IfOk result (λ end. All IsPaced end.workers.items) }
+    ensures summed { IfOk result (λ end. IfSome end.summed (λ own. own.bag ≡ counted.now.bag)) }
     ensures spent { IfErr result (IsSpentOver counted.now.bag tab.now nodes) }
 {
     let alloc = rt.alloc();
     let Start { first, tails } = start_of(alloc, counted, tab)?;
+    let Run { raced, summed } = run_race(rt, counted, &tails, first, workers, nodes, gate)?;
     let Raced {
         ends,
         reports,
         best,
         spent,
-    } = run_race(rt, counted, &tails, first, workers, nodes, gate)?;
+    } = raced;
     if let Some(piece) = spent {
         return Err(spent_on(&tails[piece as usize], best));
     }
@@ -72,5 +76,6 @@ pub fn race<R: AllocGlobal + Threads + Sync, G: Gate + Sync>(
         order: best.order,
         pieces,
         workers: reports,
+        summed,
     })
 }

@@ -1,5 +1,5 @@
 // What a search finds: tabulation, the race for the best margin, and the certificate of that margin.
-ghost use Rattle.std.specs.Prelude.{◌≡◌, ◌≤◌, ℕ, IfOk};
+ghost use Rattle.std.specs.Prelude.{◌≡◌, ◌≤◌, ℕ, IfOk, IfSome};
 ghost use Rattle.irv_tabulator.specs.Results.{IsTabulation};
 ghost use Rattle.contest_search.specs.Contest.{candidate_count, IsUndecided};
 ghost use Rattle.irv_base.specs.declared.limits.TheConstants.{MOST_WORKERS};
@@ -174,7 +174,18 @@ fn tie_of(contest: &Searchable<'_>, tabulated: &Tabulated) -> Found
     }
 }
 
-// The certificate of the best margin.
+// The records with the sums over all sets that a race made, if it made some.
+fn with_sums<'c>(counted: &'c Counted, summed: &'c Option<Counted>) -> &'c Counted
+    requires { IfSome summed.now (λ own. own.bag ≡ counted.now.bag) }
+    ensures { result.now.bag ≡ counted.now.bag }
+{
+    match summed {
+        Some(own) => own,
+        None => counted,
+    }
+}
+
+// The certificate of the best margin. It reads its rows from sums that the race made.
 fn certificate_of<R: AllocGlobal + Threads + Sync>(
     rt: &R,
     contest: &Searchable<'_>,
@@ -187,10 +198,17 @@ fn certificate_of<R: AllocGlobal + Threads + Sync>(
     requires workers { (1 ≤ workers) × (workers ≤ MOST_WORKERS) }
     requires counted { IsCounted contest.now counted.now.bag tabulated.now }
     requires best { IsBestOf counted.now.bag tabulated.now end }
+    requires summed { IfSome end.summed (λ own. own.bag ≡ counted.now.bag) }
     requires some { 1 ≤ end.margin }
     ensures { IfOk result (FoundIn (Budget.Nodes nodes) contest.now) }
 {
-    let RaceEnd { margin, order, .. } = end;
+    let RaceEnd {
+        margin,
+        order,
+        summed,
+        ..
+    } = end;
+    let counted = with_sums(counted, &summed);
     match certify(rt, counted, tabulated, margin, workers, nodes) {
         Ok(certificate) => {
             let file = file_of(rt.alloc(), contest, tabulated.winner, certificate)?;

@@ -11,14 +11,14 @@ use Rattle.bound_search.specs.declared.ends.PieceEnd.{PieceEnd}
 use Rattle.bound_search.proofs.Cutting.{tail_facts}
 use Rattle.bound_search.proofs.Raced.{closed_where, costly_where, spent_where, elected_below, some_pieces, of_contest, joined_reached, taken_entry, best_race, pieces_race, within_race, named_race, told_race, spent_race}
 use Rattle.bound_search.proofs.search.race.Goals as goal
-use Rattle.bound_search.proofs.search.race.Goals.{In_ok-ends}
+use Rattle.bound_search.proofs.search.race.Goals.{In_ok-raced}
 
 -- what the race came to, over the tails that it was run on
-raced-is : (g : _) (c : In_ok-ends g) → IsRaced c.args.counted.now.bag c.args.nodes c.in_ok-first.field-0.tails.items c.args.workers
-    c.in_ok-first.field-0.first c.in_ok-ends.field-0
+raced-is : (g : _) (c : In_ok-raced g) → IsRaced c.args.counted.now.bag c.args.nodes c.in_ok-first.field-0.tails.items c.args.workers
+    c.in_ok-first.field-0.first c.in_ok-raced.field-0.raced
 raced-is g c =
-    subst (λ ts. IsRaced c.args.counted.now.bag c.args.nodes ts c.args.workers c.in_ok-first.field-0.first c.in_ok-ends.field-0) c.deref.ensures.value
-    c.in_ok-ends.ensures
+    subst (λ ts. IsRaced c.args.counted.now.bag c.args.nodes ts c.args.workers c.in_ok-first.field-0.first c.in_ok-raced.field-0.raced) c.deref.ensures.value
+    c.in_ok-raced.ensures.raced
 
 pub run_race-requires-clause-some : goal.run_race-requires-clause-some
 run_race-requires-clause-some g c κs within =
@@ -46,8 +46,8 @@ index-requires g c =
     let first = c.in_ok-first.field-0.first in
     let tails = c.in_ok-first.field-0.tails.items in
     let start = c.in_ok-first.ensures.start in
-    let r = c.in_ok-ends.field-0 in
-    let raced = raced-is g (goal.at.index-requires g c).In_ok-ends in
+    let r = c.in_ok-raced.field-0.raced in
+    let raced = raced-is g (goal.at.index-requires g c).In_ok-raced in
     let costly = costly_where bag c.args.nodes tails c.args.workers first r raced c.in-Some.piece c.in-Some.is in
     let inside = slice_get_within tails c.in-Some.piece costly.0 costly.1 in
     omega (arith, inside, c.in_ok-first.field-0.tails.ok)
@@ -59,8 +59,8 @@ spent_on-requires g c =
     let first = c.in_ok-first.field-0.first in
     let tails = c.in_ok-first.field-0.tails.items in
     let start = c.in_ok-first.ensures.start in
-    let r = c.in_ok-ends.field-0 in
-    let raced = raced-is g (goal.at.spent_on-requires g c).In_ok-ends in
+    let r = c.in_ok-raced.field-0.raced in
+    let raced = raced-is g (goal.at.spent_on-requires g c).In_ok-raced in
     let costly = costly_where bag c.args.nodes tails c.args.workers first r raced c.in-Some.piece c.in-Some.is in
     let at' = subst (λ ts. slice_get ts c.in-Some.piece ≡ Some costly.0) start.tails costly.1 in
     let got : c.index.result.now ≡ costly.0 = c.index.ensures ∙ get_or_from_slice_get tails c.in-Some.piece costly.0 c.index.result.now costly.1 in
@@ -73,8 +73,8 @@ returns-in-Some-clause-spent g c =
     let first = c.in_ok-first.field-0.first in
     let tails = c.in_ok-first.field-0.tails.items in
     let start = c.in_ok-first.ensures.start in
-    let r = c.in_ok-ends.field-0 in
-    let raced = raced-is g (goal.at.returns-in-Some-clause-spent g c).In_ok-ends in
+    let r = c.in_ok-raced.field-0.raced in
+    let raced = raced-is g (goal.at.returns-in-Some-clause-spent g c).In_ok-raced in
     let costly = costly_where bag c.args.nodes tails c.args.workers first r raced c.in-Some.piece c.in-Some.is in
     let at' = subst (λ ts. slice_get ts c.in-Some.piece ≡ Some costly.0) start.tails costly.1 in
     let got : c.index.result.now ≡ costly.0 = c.index.ensures ∙ get_or_from_slice_get tails c.in-Some.piece costly.0 c.index.result.now costly.1 in
@@ -92,8 +92,8 @@ in_order-requires g c p within =
     let first = c.in_ok-first.field-0.first in
     let tails = c.in_ok-first.field-0.tails.items in
     let start = c.in_ok-first.ensures.start in
-    let r = c.in_ok-ends.field-0 in
-    let raced = raced-is g (goal.at.in_order-requires g c).In_ok-ends in
+    let r = c.in_ok-raced.field-0.raced in
+    let raced = raced-is g (goal.at.in_order-requires g c).In_ok-raced in
     let (e, m, number) = taken_entry bag c.args.nodes winner c.args.workers tails first r start.tails start.two raced p
     (omega (arith, within, c.len.ensures, c.in_ok-first.field-0.tails.ok)) in
     subst (λ k. is_in (map (λ (x : PieceEnd). x.piece) c.deref-2.result.now) k ≡ true) number
@@ -107,8 +107,8 @@ returns-clause-best g c =
     let first = c.in_ok-first.field-0.first in
     let tails = c.in_ok-first.field-0.tails.items in
     let start = c.in_ok-first.ensures.start in
-    let r = c.in_ok-ends.field-0 in
-    let raced = raced-is g (goal.at.returns-clause-best g c).In_ok-ends in
+    let r = c.in_ok-raced.field-0.raced in
+    let raced = raced-is g (goal.at.returns-clause-best g c).In_ok-raced in
     let closed = closed_where bag c.args.nodes tails c.args.workers first r raced c.in_default.is in
     best_race bag c.args.nodes winner c.args.workers tails first r start.tails start.two raced closed _ refl refl
     (elected_below bag.n winner c.args.tab.now.order c.requires.order c.requires.winner)
@@ -121,8 +121,8 @@ returns-clause-within g c =
     let first = c.in_ok-first.field-0.first in
     let tails = c.in_ok-first.field-0.tails.items in
     let start = c.in_ok-first.ensures.start in
-    let r = c.in_ok-ends.field-0 in
-    let raced = raced-is g (goal.at.returns-clause-within g c).In_ok-ends in
+    let r = c.in_ok-raced.field-0.raced in
+    let raced = raced-is g (goal.at.returns-clause-within g c).In_ok-raced in
     let each = subst (λ es. All (Contains es) c.in_ok-pieces.pieces.items) c.deref-2.ensures.value c.in_ok-pieces.ensures.each in
     within_race bag c.args.nodes winner c.args.workers tails first r start.tails start.two raced c.in_ok-pieces.pieces.items each
 
@@ -133,8 +133,8 @@ returns-clause-pieces g c =
     let first = c.in_ok-first.field-0.first in
     let tails = c.in_ok-first.field-0.tails.items in
     let start = c.in_ok-first.ensures.start in
-    let r = c.in_ok-ends.field-0 in
-    let raced = raced-is g (goal.at.returns-clause-pieces g c).In_ok-ends in
+    let r = c.in_ok-raced.field-0.raced in
+    let raced = raced-is g (goal.at.returns-clause-pieces g c).In_ok-raced in
     let closed = closed_where bag c.args.nodes tails c.args.workers first r raced c.in_default.is in
     let each = subst (λ es. All (Contains es) c.in_ok-pieces.pieces.items) c.deref-2.ensures.value c.in_ok-pieces.ensures.each in
     let sizes : c.len.result ≡ length tails = omega (arith, c.len.ensures, c.in_ok-first.field-0.tails.ok) in
@@ -149,8 +149,8 @@ returns-clause-named g c =
     let first = c.in_ok-first.field-0.first in
     let tails = c.in_ok-first.field-0.tails.items in
     let start = c.in_ok-first.ensures.start in
-    let r = c.in_ok-ends.field-0 in
-    let raced = raced-is g (goal.at.returns-clause-named g c).In_ok-ends in
+    let r = c.in_ok-raced.field-0.raced in
+    let raced = raced-is g (goal.at.returns-clause-named g c).In_ok-raced in
     let each = subst (λ es. All (Contains es) c.in_ok-pieces.pieces.items) c.deref-2.ensures.value c.in_ok-pieces.ensures.each in
     named_race bag c.args.nodes winner c.args.workers tails first r start.tails start.two raced c.in_ok-pieces.pieces.items each
 
@@ -161,8 +161,8 @@ returns-clause-told g c =
     let first = c.in_ok-first.field-0.first in
     let tails = c.in_ok-first.field-0.tails.items in
     let start = c.in_ok-first.ensures.start in
-    let r = c.in_ok-ends.field-0 in
-    let raced = raced-is g (goal.at.returns-clause-told g c).In_ok-ends in
+    let r = c.in_ok-raced.field-0.raced in
+    let raced = raced-is g (goal.at.returns-clause-told g c).In_ok-raced in
     let each = subst (λ es. All (Contains es) c.in_ok-pieces.pieces.items) c.deref-2.ensures.value c.in_ok-pieces.ensures.each in
     let sizes : c.len.result ≡ length tails = omega (arith, c.len.ensures, c.in_ok-first.field-0.tails.ok) in
     told_race bag c.args.nodes winner c.args.workers tails first r start.tails start.two raced c.in_ok-pieces.pieces.items (c.in_ok-pieces.ensures.numbers

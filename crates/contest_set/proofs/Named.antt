@@ -6,7 +6,7 @@ use Rattle.irv_base.specs.Names.{Id, is_among, is_same, all_differ}
 use Rattle.ballot_reader.specs.Ballots.{BallotFile}
 use Rattle.ballot_reader.proofs.Adding.{same-comm, same-refl}
 use Rattle.ballot_reader.proofs.Differing.{or-false}
-use Rattle.contest_set.specs.SeenBy.{contest_ids, contest_named}
+use Rattle.contest_set.specs.SeenBy.{contest_ids, ballots_for}
 
 -- a contest at a place among contests that lack an id
 pub elsewhere : (list : List BallotFile) (id : Id) (k : ℕ) (ballots : BallotFile) → is_among (contest_ids list) id ≡ false →
@@ -25,11 +25,11 @@ apart b list h =
 
 -- a contest is found by its id
 pub named-itself : (list : List BallotFile) (k : ℕ) (ballots : BallotFile) → all_differ (contest_ids list) ≡ true → slice_get list k ≡ Some ballots →
-    contest_named list ballots.contest ≡ Some ballots
+    ballots_for list ballots.contest ≡ Some ballots
 named-itself [] k ballots d g = absurd cc
 named-itself (b ∷ list) zero ballots d g =
     let e : b ≡ ballots = cc in
-    ap (λ (x : BallotFile). contest_named (b ∷ list) x.contest) (sym e) ∙ ap (λ t. cond t (Some b) (contest_named list b.contest)) (same-refl b.contest) ∙ ap Some e
+    ap (λ (x : BallotFile). ballots_for (b ∷ list) x.contest) (sym e) ∙ ap (λ t. cond t (Some b) (ballots_for list b.contest)) (same-refl b.contest) ∙ ap Some e
 named-itself (b ∷ list) (suc k) ballots d g =
     let other = same-comm b.contest ballots.contest ∙ elsewhere list b.contest k ballots (apart b list d).0 g in
-    ap (λ t. cond t (Some b) (contest_named list ballots.contest)) other ∙ named-itself list k ballots (apart b list d).1 g
+    ap (λ t. cond t (Some b) (ballots_for list ballots.contest)) other ∙ named-itself list k ballots (apart b list d).1 g

@@ -9,7 +9,7 @@ use Rattle.seen_file.specs.Reading.{card_of, entry_of_card, with_card}
 use Rattle.seen_file.specs.Seen.{Entry}
 use Rattle.seen_file.specs.declared.fault.VRule.{VRule}
 use Rattle.seen_file.specs.declared.fault.VRule.TheVariants.{V6}
-use Rattle.contest_set.specs.SeenBy.{ContestEntry, contest_entry_of, contest_named, entries_for, entry_for, for_contest, seen_for_each}
+use Rattle.contest_set.specs.SeenBy.{ContestEntry, contest_entry_of, ballots_for, entries_for, entry_for, for_contest, seen_for_each}
 use Rattle.contest_set.proofs.Entries.{seen-at}
 
 -- a record of a card that is in the manifest
@@ -19,20 +19,20 @@ pub record IsPlaced (batches : Batches) (row : Fields) (id contest word : Id) (r
 
 behind-card : (batches : Batches) (list : List BallotFile) (entries : List ContestEntry) (row : Fields) (id contest word : Id) (rest : Fields) (card : ℕ) →
     IsPlaced batches row id contest word rest card →
-    contest_entry_of batches list entries row ≡ entry_for entries word rest card (contest_named list contest)
+    contest_entry_of batches list entries row ≡ entry_for entries word rest card (ballots_for list contest)
 behind-card batches list entries row id contest word rest card is =
     ap (contest_entry_of batches list entries) is.row_is
-    ∙ ap (λ r. with_card r (λ card. entry_for entries word rest card (contest_named list contest)))
+    ∙ ap (λ r. with_card r (λ card. entry_for entries word rest card (ballots_for list contest)))
     (ap (card_of batches id word) (sym (ap (drop 3) is.row_is)) ∙ is.card_is)
 
 pub not-named : (batches : Batches) (list : List BallotFile) (entries : List ContestEntry) (row : Fields) (id contest word : Id) (rest : Fields) (card : ℕ) →
-    IsPlaced batches row id contest word rest card → contest_named list contest ≡ None → contest_entry_of batches list entries row ≡ Err V6
+    IsPlaced batches row id contest word rest card → ballots_for list contest ≡ None → contest_entry_of batches list entries row ≡ Err V6
 not-named batches list entries row id contest word rest card is none =
     behind-card batches list entries row id contest word rest card is ∙ ap (entry_for entries word rest card) none
 
 -- of a contest at a place, for which this was seen so far
 pub is-told : (batches : Batches) (list : List BallotFile) (entries : List ContestEntry) (row : Fields) (id contest word : Id) (rest : Fields) (card : ℕ) →
-    IsPlaced batches row id contest word rest card → (place : ℕ) (ballots : BallotFile) (stood : List Entry) → contest_named list contest ≡ slice_get list place →
+    IsPlaced batches row id contest word rest card → (place : ℕ) (ballots : BallotFile) (stood : List Entry) → ballots_for list contest ≡ slice_get list place →
     slice_get list place ≡ Some ballots → slice_get (seen_for_each list entries) place ≡ Some stood → (names : List Id) → names ≡ ballots.candidates →
     (told : Result Entry VRule) → told ≡ entry_of_card names stood word rest card →
     contest_entry_of batches list entries row ≡ for_contest ballots.contest told

@@ -12,7 +12,7 @@ use Rattle.seen_file.specs.Reading.{Refusal, and_then, card_of, entry_of, entry_
 use Rattle.seen_file.specs.Seen.{Entry}
 use Rattle.seen_file.specs.declared.fault.VRule.{VRule}
 use Rattle.contest_set.specs.Laws.{SeenAlone, SeenIsEach, is_about, records_about, without_contest}
-use Rattle.contest_set.specs.SeenBy.{ContestEntry, contest_entry_of, contest_named, entries_for, entry_for, for_contest, for_each_contest, seen_for_each}
+use Rattle.contest_set.specs.SeenBy.{ContestEntry, contest_entry_of, ballots_for, entries_for, entry_for, for_contest, for_each_contest, seen_for_each}
 use Rattle.contest_set.proofs.Named.{named-itself}
 use Rattle.contest_set.proofs.Entries.{entries-other, entries-own, seen-at}
 
@@ -32,7 +32,7 @@ record IsRead (batches : Batches) (list : List BallotFile) (earlier : List Conte
   pub ballots : BallotFile
   pub row_is : row ≡ id ∷ contest ∷ word ∷ rest
   pub card_is : card_of batches id word rest ≡ Ok card
-  pub named : contest_named list contest ≡ Some ballots
+  pub named : ballots_for list contest ≡ Some ballots
   pub entry_is : entry_of_card ballots.candidates (entries_for ballots.contest earlier) word rest card ≡ Ok one.entry
   pub about : one.contest ≡ ballots.contest
 
@@ -42,7 +42,7 @@ is-read batches list earlier [] one h = absurd cc
 is-read batches list earlier (id ∷ []) one h = absurd cc
 is-read batches list earlier (id ∷ contest ∷ []) one h = absurd cc
 is-read batches list earlier (id ∷ contest ∷ word ∷ rest) one h = by (card_of batches id word rest) refl h where
-  last : (card : ℕ) → card_of batches id word rest ≡ Ok card → (ballots : BallotFile) → contest_named list contest ≡ Some ballots →
+  last : (card : ℕ) → card_of batches id word rest ≡ Ok card → (ballots : BallotFile) → ballots_for list contest ≡ Some ballots →
       (r : Result Entry VRule) → entry_of_card ballots.candidates (entries_for ballots.contest earlier) word rest card ≡ r →
       for_contest ballots.contest r ≡ Ok one → IsRead batches list earlier (id ∷ contest ∷ word ∷ rest) one
   last card e ballots n (Err rule) p h = absurd cc
@@ -62,22 +62,22 @@ is-read batches list earlier (id ∷ contest ∷ word ∷ rest) one h = by (card
         about = sym (ap (λ (x : ContestEntry). x.contest) s);
       }
 
-  found : (card : ℕ) → card_of batches id word rest ≡ Ok card → (o : Option BallotFile) → contest_named list contest ≡ o →
+  found : (card : ℕ) → card_of batches id word rest ≡ Ok card → (o : Option BallotFile) → ballots_for list contest ≡ o →
       entry_for earlier word rest card o ≡ Ok one → IsRead batches list earlier (id ∷ contest ∷ word ∷ rest) one
   found card e None n h = absurd cc
   found card e (Some ballots) n h =
       last card e ballots n (entry_of_card ballots.candidates (entries_for ballots.contest earlier) word rest card) refl h
 
   by : (r : Result ℕ VRule) → card_of batches id word rest ≡ r →
-      with_card r (λ card. entry_for earlier word rest card (contest_named list contest)) ≡ Ok one →
+      with_card r (λ card. entry_for earlier word rest card (ballots_for list contest)) ≡ Ok one →
       IsRead batches list earlier (id ∷ contest ∷ word ∷ rest) one
   by (Err rule) e h = absurd cc
-  by (Ok card) e h = found card e (contest_named list contest) refl h
+  by (Ok card) e h = found card e (ballots_for list contest) refl h
 
-has-id : (list : List BallotFile) (id : Id) (ballots : BallotFile) → contest_named list id ≡ Some ballots → ballots.contest ≡ id
+has-id : (list : List BallotFile) (id : Id) (ballots : BallotFile) → ballots_for list id ≡ Some ballots → ballots.contest ≡ id
 has-id list id ballots h = same-equal ballots.contest id (from_find (λ (b : BallotFile). is_same b.contest id) ballots list h).1
 
-module _ (batches : Batches) (list : List BallotFile) (b : BallotFile) (itself : contest_named list b.contest ≡ Some b) where
+module _ (batches : Batches) (list : List BallotFile) (b : BallotFile) (itself : ballots_for list b.contest ≡ Some b) where
   -- a record about the contest
   own-row : (earlier : List ContestEntry) (row : Fields) (one : ContestEntry) → IsRead batches list earlier row one → is_about b.contest row ≡ true →
       (one.contest ≡ b.contest)
@@ -86,7 +86,7 @@ module _ (batches : Batches) (list : List BallotFile) (b : BallotFile) (itself :
       × (contest_entry_of batches (b ∷ []) mine row ≡ Ok one))
   own-row earlier row one is t =
       let of : is.contest ≡ b.contest = same-equal is.contest b.contest (sym (ap (is_about b.contest) is.row_is) ∙ t) in
-      let both : Some is.ballots ≡ Some b = sym is.named ∙ ap (contest_named list) of ∙ itself in
+      let both : Some is.ballots ≡ Some b = sym is.named ∙ ap (ballots_for list) of ∙ itself in
       let s : is.ballots ≡ b = cc in
       let about : one.contest ≡ b.contest = is.about ∙ ap (λ (x : BallotFile). x.contest) s in (
         about,
@@ -94,13 +94,13 @@ module _ (batches : Batches) (list : List BallotFile) (b : BallotFile) (itself :
             let entry : entry_of_card b.candidates (entries_for b.contest mine) is.word is.rest is.card ≡ Ok one.entry =
             ap (λ entries. entry_of_card b.candidates entries is.word is.rest is.card) same
             ∙ subst (λ (x : BallotFile). entry_of_card x.candidates (entries_for x.contest earlier) is.word is.rest is.card ≡ Ok one.entry) s is.entry_is in
-            let again : contest_named (b ∷ []) is.contest ≡ Some b =
+            let again : ballots_for (b ∷ []) is.contest ≡ Some b =
             ap (λ t. cond t (Some b) None) (same-comm b.contest is.contest ∙ sym (ap (is_about b.contest) is.row_is) ∙ t) in
             let whole : record { contest = b.contest; entry = one.entry } ≡ one = λ i. record { contest = (sym about) i; entry = one.entry } in (
               ap (λ r. entry_of batches b.candidates (entries_for b.contest mine) (without_contest r)) is.row_is
                   ∙ ap (λ r. with_card r (entry_of_card b.candidates (entries_for b.contest mine) is.word is.rest)) is.card_is ∙ entry,
               ap (contest_entry_of batches (b ∷ []) mine) is.row_is
-                  ∙ ap (λ r. with_card r (λ card. entry_for mine is.word is.rest card (contest_named (b ∷ []) is.contest))) is.card_is
+                  ∙ ap (λ r. with_card r (λ card. entry_for mine is.word is.rest card (ballots_for (b ∷ []) is.contest))) is.card_is
                   ∙ ap (entry_for mine is.word is.rest is.card) again ∙ ap (for_contest b.contest) entry ∙ ap Ok whole,
             ),
       )
@@ -198,7 +198,7 @@ seen_is_each batches list rows each differ e =
     let (all, read, same) = each-read list (read_after (contest_entry_of batches list) [] 1 rows) each e in
     go list (λ k b at. named-itself list k b differ at) all read ∙ ap (map Ok) same
   where
-    go : (some : List BallotFile) → ((k : ℕ) (b : BallotFile) → slice_get some k ≡ Some b → contest_named list b.contest ≡ Some b) →
+    go : (some : List BallotFile) → ((k : ℕ) (b : BallotFile) → slice_get some k ≡ Some b → ballots_for list b.contest ≡ Some b) →
         (all : List ContestEntry) → read_after (contest_entry_of batches list) [] 1 rows ≡ Ok all →
         map (λ (ballots : BallotFile). seen_by_records batches ballots.candidates (map without_contest (records_about ballots.contest rows))) some
         ≡ map Ok (seen_for_each some all)

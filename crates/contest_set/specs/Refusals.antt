@@ -1,5 +1,5 @@
 -- Why the contests of a file aren't audited.
-use Rattle.std.specs.Prelude.{◌≡◌, ◌<◌, ℕ, List, [], ◌∷◌, length, slice_get, slice_index_or, take, Option, Some, None, Result, Ok, Err}
+use Rattle.std.specs.Prelude.{◌≡◌, ◌<◌, ℕ, List, [], ◌∷◌, length, slice_get, slice_index_or, take, Option, Some, None, Result, Ok, Err, ⊤}
 use Rattle.std.specs.Option.{option_or}
 use Rattle.ballot_reader.specs.Ballots.{BallotFile}
 use Rattle.assertion_file.specs.Content.{Content}
@@ -33,7 +33,7 @@ as_set_fault MemoryOf = Memory
 abbrev pub LacksCard : Option ℕ → SetFault → Type 0
 LacksCard first (NoCard at) = first ≡ Some at
 LacksCard first (NoRecord contest card k) = ⊥
-LacksCard first Memory = Unit {0}
+LacksCard first Memory = ⊤
 
 -- ---- a drawn card without a record
 
@@ -50,7 +50,7 @@ module _ (batches : Batches) (terms : SharedTerms) (ballots : BallotFile)
   abbrev pub IsOneFault : ℕ → SetFault → Type 0
   IsOneFault place (NoCard at) = ⊥
   IsOneFault place (NoRecord contest card k) = (contest ≡ place) × LacksRecord card k
-  IsOneFault place Memory = Unit {0}
+  IsOneFault place Memory = ⊤
 
   abbrev pub IsOne : ℕ → Result ContestEnd SetFault → Type 0
   IsOne place (Ok end) = EndsAs batches terms ballots seen end
@@ -75,7 +75,7 @@ module _ (batches : Batches) (terms : SharedTerms) (list : List BallotFile)
   IsSetFault (NoCard at) = first_without_card_of_all batches list ≡ Some at
   IsSetFault (NoRecord contest card k) =
       (first_without_card_of_all batches list ≡ None) × FirstLacksRecord contest card k
-  IsSetFault Memory = Unit {0}
+  IsSetFault Memory = ⊤
 
   -- ---- on the way, where each ballot has a card
 
@@ -94,4 +94,4 @@ module _ (batches : Batches) (terms : SharedTerms) (list : List BallotFile)
   abbrev pub IsJoinFault : SetFault → Type 0
   IsJoinFault (NoCard at) = ⊥
   IsJoinFault (NoRecord contest card k) = FirstLacksRecord contest card k
-  IsJoinFault Memory = Unit {0}
+  IsJoinFault Memory = ⊤

@@ -14,9 +14,9 @@ use Rattle.seen_file.specs.declared.fault.VRule.TheVariants.{V1, V6}
 abbrev pub contest_ids : List BallotFile → List Id
 contest_ids list = map (λ ballots. ballots.contest) list
 
--- the contest with this id
-abbrev pub contest_named : List BallotFile → Id → Option BallotFile
-contest_named list id = find (λ ballots. is_same ballots.contest id) list
+-- the ballots of the contest with this id
+abbrev pub ballots_for : List BallotFile → Id → Option BallotFile
+ballots_for list id = find (λ ballots. is_same ballots.contest id) list
 
 -- ---- what is seen of a card for a contest
 
@@ -55,7 +55,7 @@ contest_entry_of batches list earlier (id ∷ []) = Err V1
 contest_entry_of batches list earlier (id ∷ contest ∷ []) = Err V1
 contest_entry_of batches list earlier (id ∷ contest ∷ word ∷ rest) =
     with_card (card_of batches id word rest)
-    (λ card. entry_for earlier word rest card (contest_named list contest))
+    (λ card. entry_for earlier word rest card (ballots_for list contest))
 
 -- ---- the file
 

@@ -108,6 +108,6 @@ pub never_spent : (n winner nodes : ℕ) (list : List Assertion) (last : ℕ) �
     covered_is n winner list (Nodes nodes) ≡ Err (Spent last) → ⊥
 never_spent n winner nodes list last le h = never_fails n winner list (Nodes nodes) (Spent last) (nodes-enough n winner list nodes le) h
 
-pub sets_never_spent : (n winner sets : ℕ) (list : List Assertion) → winner < n → 1 < n → 2 ^ n - 3 ≤ sets →
-    covered_is n winner list (Sets sets) ≡ Err (SpentSets sets) → ⊥
-sets_never_spent n winner sets list below two le h = never_fails n winner list (Sets sets) (SpentSets sets) (sets-enough n winner list sets below two le) h
+pub sets_never_spent : (n winner sets told : ℕ) (list : List Assertion) → winner < n → 1 < n → 2 ^ n - 3 ≤ sets →
+    covered_is n winner list (Sets sets) ≡ Err (SpentSets told) → ⊥
+sets_never_spent n winner sets told list below two le h = never_fails n winner list (Sets sets) (SpentSets told) (sets-enough n winner list sets below two le) h

@@ -56,11 +56,11 @@ CoveredIsNeverSpent =
     (n winner nodes : ℕ) (list : List Assertion) (last : ℕ) → 2 * factorial (n - 1) ≤ nodes →
     covered_is n winner list (Nodes nodes) ≡ Err (CoverSpent last) → ⊥
 
--- nor about the sets, where they are 2^n - 3 or more
+-- nor about the sets, whatever number it tells, where they are 2^n - 3 or more
 abbrev pub CoveredBySetsIsNeverSpent : Type 0
 CoveredBySetsIsNeverSpent =
-    (n winner sets : ℕ) (list : List Assertion) → winner < n → 1 < n → 2 ^ n - 3 ≤ sets →
-    covered_is n winner list (Sets sets) ≡ Err (CoverSpentSets sets) → ⊥
+    (n winner sets told : ℕ) (list : List Assertion) → winner < n → 1 < n → 2 ^ n - 3 ≤ sets →
+    covered_is n winner list (Sets sets) ≡ Err (CoverSpentSets told) → ⊥
 
 -- ==== files
 

@@ -63,7 +63,8 @@ impl From<Memory> for CoverFault {
     }
 }
 
-// Whether they do, by a walk through the suffixes that none of them refutes.
+// Whether the assertions refute each alternative order: covered, or else the first order that walks back from its last candidate through
+// suffixes that none of them refutes. Or the least candidate for whom more such suffixes count than there are nodes.
 fn by_nodes(list: Index<'_>, n: u32, winner: Candidate, nodes: u32) -> Result<Verdict, CoverFault>
     requires some { 1 ≤ n }
     requires room { n ≤ ROOM }
@@ -86,7 +87,8 @@ fn verdict_of(end: &WalkEnd) -> Verdict
     }
 }
 
-// Whether they do, by a walk into each set of such a suffix once.
+// Whether the assertions refute each alternative order: covered, or else the first order that walks from set to set without a step that
+// one of them refutes anew. Or, where more sets count than these, that the sets are spent.
 fn by_sets(
     alloc: Global,
     list: Index<'_>,

@@ -82,7 +82,8 @@ fn cover_in(
 }
 
 /// The canonical certificate of the contest with these records, of which `tab` is the tabulation, found by sets: what is put in front of
-/// a suffix depends on its set alone, so each set is gone into once.
+/// a suffix depends on its set alone, so a walk goes into a set once. Three walks are made: for the best margin, for the certificate's
+/// order, and for the sets below that margin, whose steps give the claims.
 ///
 /// Two counts of sets are taken, for all alternative winners together: those of suffixes that elect another candidate than the winner,
 /// aren't whole orders, and have a low below the best margin; and those of such suffixes whose low is at most the best margin and that

@@ -42,3 +42,11 @@ impl fmt::Display for SetsFault {
         }
     }
 }
+
+impl fmt::Debug for SetsFault {
+    fn fmt<W: fmt::Write>(&self, f: &mut fmt::Formatter<W>) -> fmt::Result {
+        write!(f, "{self}")
+    }
+}
+
+impl Error for SetsFault {}

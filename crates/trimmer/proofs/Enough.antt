@@ -47,6 +47,6 @@ trim_is_never_spent nodes file enough at last e =
     file-never (Nodes nodes) file (λ claims. nodes-enough (candidate_count file) file.winner (map assertion_in claims) nodes enough) (Spent at last) e
 
 pub trim_by_sets_is_never_spent : TrimBySetsIsNeverSpent
-trim_by_sets_is_never_spent sets file sound enough at e =
+trim_by_sets_is_never_spent sets file sound enough at told e =
     file-never (Sets sets) file (λ claims. sets-enough (candidate_count file) file.winner (map assertion_in claims) sets sound.winner
-    (omega (arith, sound.fewest)) enough) (SpentSets at sets) e
+    (omega (arith, sound.fewest)) enough) (SpentSets at told) e

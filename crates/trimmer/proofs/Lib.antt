@@ -13,3 +13,4 @@ pub mod SetTrials
 pub mod Kept
 pub mod Accepted
 pub mod Enough
+pub mod BySets

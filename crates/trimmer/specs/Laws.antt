@@ -79,4 +79,4 @@ TrimIsNeverSpent =
 abbrev pub TrimBySetsIsNeverSpent : Type 0
 TrimBySetsIsNeverSpent =
     (sets : ℕ) (file : Content) → IsSound file → 2 ^ candidate_count file - 3 ≤ sets →
-    (claim : ℕ) → trimmed (Sets sets) file ≢ Err (SpentSets claim sets)
+    (claim told : ℕ) → trimmed (Sets sets) file ≢ Err (SpentSets claim told)

@@ -10,9 +10,9 @@ use Rattle.cli_base.proofs.AmongKinds.{among}
 use Rattle.command.specs.declared.audit_plurality.AuditPluralityTask.{AuditPluralityTask}
 use Rattle.input_files.proofs.Going.{OnlyRefuses, go_on-agrees, go_on-kinds, then-only, unless-only}
 use Rattle.plurality.specs.Plural.{Outcome, values_of}
-use Rattle.session_commands.specs.Refusals.{other_digest, without_facts}
-use Rattle.session_commands.specs.Rounds.{same_ballots, same_manifest, session_to_go_on}
-use Rattle.session_commands.proofs.OneRound.{ballots-only, digest-only, facts-only, manifest-only, session-only, with_seen-agrees, with_seen-kinds}
+use Rattle.session_rounds.specs.Refusals.{other_digest, without_facts}
+use Rattle.session_rounds.specs.Rounds.{same_ballots, same_manifest, session_to_go_on}
+use Rattle.session_rounds.proofs.OneRound.{ballots-only, digest-only, facts-only, manifest-only, session-only, with_seen-agrees, with_seen-kinds}
 use Rattle.plurality_commands.specs.AuditPlurality.{after_count, kinds, plural_session, same_facts, script}
 use Rattle.plurality_commands.proofs.Counted.{won-agrees, won-kinds}
 

@@ -11,8 +11,8 @@ use Rattle.cli_base.specs.declared.outcome.AnswerKind.{AnswerKind}
 use Rattle.cli_base.specs.declared.outcome.AnswerKind.TheVariants.{Done, Tie, Unconfirmed}
 use Rattle.input_files.specs.Judged.{then_judged, unless, go_on}
 use Rattle.plurality.specs.Plural.{Outcome, values_of}
-use Rattle.session_commands.specs.Refusals.{other_digest, without_facts}
-use Rattle.session_commands.specs.Rounds.{same_ballots, same_manifest, session_to_go_on, with_seen}
+use Rattle.session_rounds.specs.Refusals.{other_digest, without_facts}
+use Rattle.session_rounds.specs.Rounds.{same_ballots, same_manifest, session_to_go_on, with_seen}
 use Rattle.plurality_commands.specs.Outcome.{if_won}
 
 module _ (task : AuditPluralityTask) where

@@ -5,12 +5,13 @@ ghost use Rattle.irv_base.specs.declared.limits.TheConstants.{MOST_DRAWS};
 ghost use Rattle.manifest.specs.Cards.{cards_of};
 ghost use Rattle.manifest.specs.Linked.{linked_of};
 ghost use Rattle.cli_base.specs.Accounts.{IsAccountedFor};
+ghost use Rattle.cli_base.specs.Begun.{HasCome};
 ghost use Rattle.cli_base.specs.Due.{due, due_refusal};
-ghost use Rattle.cli_base.specs.Script.{ByDesk, MayOrMemory};
+ghost use Rattle.cli_base.specs.Script.{ByDesk, Runs};
 ghost use Rattle.input_files.specs.Judged.{IsJudged, IsTold};
 ghost use Rattle.session_state.specs.Inputs.{HasFacts};
-ghost use Rattle.session_commands.specs.Refusals.{without_facts};
-ghost use Rattle.session_commands.specs.Rounds.{MayGoOn};
+ghost use Rattle.session_rounds.specs.Refusals.{without_facts};
+ghost use Rattle.session_rounds.specs.Rounds.{MayGoOn};
 ghost use Rattle.plurality_commands.specs.AuditPlurality.{after_ballots, after_count, after_facts, after_manifest, after_session, plural_session, script};
 ghost use Rattle.plurality_commands.specs.Outcome.{outcome_in};
 
@@ -21,7 +22,7 @@ use command::AuditPluralityTask;
 use desk::Desk;
 use input_files::{Cards, bytes_of};
 use plurality::{Plural, plurality};
-use session_commands::{
+use session_rounds::{
     RoundTask, same_ballots, same_digest, same_manifest, session_to_go_on, with_facts, with_seen,
 };
 use session_state::{Session, has_facts_of};
@@ -36,9 +37,10 @@ pub fn answer<D: Desk>(
     requires { task.now.draws ≤ MOST_DRAWS }
     ensures held { D.held desk.new ≡ D.held desk.old }
     ensures later { D.faults desk.old ≤ D.faults desk.new }
-    ensures due { MayOrMemory
+    ensures due { HasCome
         (ByDesk (D.held desk.old) (Rose (D.faults desk.old) (D.faults desk.new)))
-        (script task.now) (due result) }
+        (D.served desk.old) (D.served desk.new)
+        (Runs (script task.now)) (due result) }
     ensures served { IsAccountedFor 4 (D.served desk.old) (D.served desk.new) (due result).status }
 {
     let bytes = bytes_of(alloc, desk, &task.session)?;
@@ -71,9 +73,10 @@ fn after_session<D: Desk>(
     requires { MayGoOn task.now.draws session }
     ensures held { D.held desk.new ≡ D.held desk.old }
     ensures later { D.faults desk.old ≤ D.faults desk.new }
-    ensures due { MayOrMemory
+    ensures due { HasCome
         (ByDesk (D.held desk.old) (Rose (D.faults desk.old) (D.faults desk.new)))
-        (after_session task.now session) (due result) }
+        (D.served desk.old) (D.served desk.new)
+        (Runs (after_session task.now session)) (due result) }
     ensures served { IsAccountedFor 3 (D.served desk.old) (D.served desk.new) (due result).status }
 {
     let bytes = bytes_of(alloc, desk, &task.ballots)?;
@@ -92,9 +95,10 @@ fn after_ballots<D: Desk>(
     requires { MayGoOn task.now.draws session }
     ensures held { D.held desk.new ≡ D.held desk.old }
     ensures later { D.faults desk.old ≤ D.faults desk.new }
-    ensures due { MayOrMemory
+    ensures due { HasCome
         (ByDesk (D.held desk.old) (Rose (D.faults desk.old) (D.faults desk.new)))
-        (after_ballots task.now session ballots.now) (due result) }
+        (D.served desk.old) (D.served desk.new)
+        (Runs (after_ballots task.now session ballots.now)) (due result) }
     ensures served { IsAccountedFor 2 (D.served desk.old) (D.served desk.new) (due result).status }
 {
     let bytes = bytes_of(alloc, desk, &task.manifest)?;
@@ -122,9 +126,10 @@ fn count<D: Desk>(
     requires linked { cards.now.linked ≡ linked_of cards.now.manifest ballots.now }
     ensures held { D.held desk.new ≡ D.held desk.old }
     ensures later { D.faults desk.old ≤ D.faults desk.new }
-    ensures due { MayOrMemory
+    ensures due { HasCome
         (ByDesk (D.held desk.old) (Rose (D.faults desk.old) (D.faults desk.new)))
-        (after_manifest task.now session ballots.now cards.now.manifest) (due result) }
+        (D.served desk.old) (D.served desk.new)
+        (Runs (after_manifest task.now session ballots.now cards.now.manifest)) (due result) }
     ensures served { IsAccountedFor 1 (D.served desk.old) (D.served desk.new) (due result).status }
 {
     match plurality(alloc, ballots) {
@@ -148,9 +153,11 @@ fn after_count<D: Desk>(
     requires counted { outcome_in ballots.now ≡ Ok plural.now }
     ensures held { D.held desk.new ≡ D.held desk.old }
     ensures later { D.faults desk.old ≤ D.faults desk.new }
-    ensures due { MayOrMemory
+    ensures due { HasCome
         (ByDesk (D.held desk.old) (Rose (D.faults desk.old) (D.faults desk.new)))
-        (after_count task.now session ballots.now cards.now.manifest plural.now) (due result) }
+        (D.served desk.old) (D.served desk.new)
+        (Runs (after_count task.now session ballots.now cards.now.manifest plural.now))
+        (due result) }
     ensures served { IsAccountedFor 1 (D.served desk.old) (D.served desk.new) (due result).status }
 {
     same_facts(

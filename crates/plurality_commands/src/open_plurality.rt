@@ -4,8 +4,9 @@ ghost use Rattle.desk.specs.Count.{Rose};
 ghost use Rattle.irv_base.specs.declared.limits.TheConstants.{GREATEST_GAMMA, GREATEST_LIMIT};
 ghost use Rattle.manifest.specs.Linked.{first_without_card};
 ghost use Rattle.cli_base.specs.Accounts.{IsAccountedFor};
+ghost use Rattle.cli_base.specs.Begun.{HasCome};
 ghost use Rattle.cli_base.specs.Due.{due, IsOneOrMemory};
-ghost use Rattle.cli_base.specs.Script.{ByDesk, MayOrMemory};
+ghost use Rattle.cli_base.specs.Script.{ByDesk, Runs};
 ghost use Rattle.command.specs.Limits.{IsUpTo};
 ghost use Rattle.plurality_commands.specs.OpenPlurality.{after_ballots, digests_of, opened, opened_or_tied, script};
 ghost use Rattle.plurality_commands.specs.Outcome.{outcome_in};
@@ -18,8 +19,8 @@ use desk::Desk;
 use input_files::{ballots_in, bytes_of, cards_for};
 use manifest::Manifest;
 use plurality::{Plural, plurality};
-use session_commands::digest_of;
 use session_file::print_session;
+use session_rounds::digest_of;
 use session_state::{Digests, begin_plain};
 use std::alloc::Global;
 
@@ -44,9 +45,10 @@ pub fn answer<D: Desk>(
     requires gamma { IsUpTo GREATEST_GAMMA task.now.gamma }
     ensures held { D.held desk.new ≡ D.held desk.old }
     ensures later { D.faults desk.old ≤ D.faults desk.new }
-    ensures due { MayOrMemory
+    ensures due { HasCome
         (ByDesk (D.held desk.old) (Rose (D.faults desk.old) (D.faults desk.new)))
-        (script task.now) (due result) }
+        (D.served desk.old) (D.served desk.new)
+        (Runs (script task.now)) (due result) }
     ensures served { IsAccountedFor 2 (D.served desk.old) (D.served desk.new) (due result).status }
 {
     let bytes = bytes_of(alloc, desk, &task.ballots)?;
@@ -66,9 +68,10 @@ fn after_ballots<D: Desk>(
     requires gamma { IsUpTo GREATEST_GAMMA task.now.gamma }
     ensures held { D.held desk.new ≡ D.held desk.old }
     ensures later { D.faults desk.old ≤ D.faults desk.new }
-    ensures due { MayOrMemory
+    ensures due { HasCome
         (ByDesk (D.held desk.old) (Rose (D.faults desk.old) (D.faults desk.new)))
-        (after_ballots task.now ballots.now digest) (due result) }
+        (D.served desk.old) (D.served desk.new)
+        (Runs (after_ballots task.now ballots.now digest)) (due result) }
     ensures served { IsAccountedFor 1 (D.served desk.old) (D.served desk.new) (due result).status }
 {
     let bytes = bytes_of(alloc, desk, &task.manifest)?;

@@ -20,9 +20,9 @@ use Rattle.input_files.specs.Refusals.{refused_assertions}
 use Rattle.input_files.proofs.Going.{OnlyRefuses, go_on-agrees, go_on-kinds, told-only, unless-only}
 use Rattle.session_commands.specs.Accepted.{if_accepted, is_accepted, on_if}
 use Rattle.session_commands.specs.Audit.{kinds, after_check, same_assertions, same_facts, script}
-use Rattle.session_commands.specs.Refusals.{other_digest, without_facts}
-use Rattle.session_commands.specs.Rounds.{same_ballots, same_manifest, session_to_go_on}
-use Rattle.session_commands.proofs.OneRound.{ballots-only, digest-only, facts-only, manifest-only, session-only, with_seen-agrees, with_seen-kinds}
+use Rattle.session_rounds.specs.Refusals.{other_digest, without_facts}
+use Rattle.session_rounds.specs.Rounds.{same_ballots, same_manifest, session_to_go_on}
+use Rattle.session_rounds.proofs.OneRound.{ballots-only, digest-only, facts-only, manifest-only, session-only, with_seen-agrees, with_seen-kinds}
 
 -- ---- the files that are refused
 

@@ -20,8 +20,11 @@ use Rattle.cli_base.specs.declared.outcome.RefusalKind.TheVariants.{Input, ReadF
 use Rattle.cli_base.proofs.Scripts.{some_is}
 use Rattle.cli_base.proofs.Statuses.{status_in, same_kind, of_no_kind}
 use Rattle.check_command.specs.Check.{Checks, verdict_on}
-use Rattle.cli_base.specs.Script.{Ends, MayOrMemory, Readings, Script}
+use Rattle.cli_base.specs.Script.{Ends, Readings, Runs, Script}
 use Rattle.session_commands.specs.Accepted.{if_accepted, is_accepted, on_if}
+use Rattle.desk.specs.declared.served.Served.{Served}
+use Rattle.cli_base.specs.Begun.{HasCome}
+use Rattle.cli_base.proofs.Begun.{EndsNow}
 use Rattle.session_commands.proofs.Acceptance.{decided}
 
 -- the kind of an answer
@@ -104,10 +107,15 @@ module _ (budget : Budget) (ballots : BallotFile) (file : Content) where
   memory_alone refusal (inr memory) = memory
 
   -- a script goes on where a check accepts the file, and ends with what a check says where it doesn't
-  pub accepted_on : (readings : Readings) (next : Script) (due : Outcome) → is_accepted budget ballots file ≡ true → MayOrMemory readings next due →
-      MayOrMemory readings (if_accepted budget ballots file next) due
-  accepted_on readings next due yes may = subst (λ b. MayOrMemory readings (on_if b next (Ends (Checks budget ballots file))) due) (sym yes) may
+  pub accepted_on : {x y : Served} (readings : Readings) (next : Script) (due : Outcome) → is_accepted budget ballots file ≡ true →
+      HasCome readings x y (Runs next) due → HasCome readings x y (Runs (if_accepted budget ballots file next)) due
+  accepted_on {x} {y} readings next due yes come =
+      subst (λ b. HasCome readings x y (Runs (on_if b next (Ends (Checks budget ballots file)))) due) (sym yes) come
 
-  pub checked_on : (readings : Readings) (next : Script) (due : Outcome) → is_accepted budget ballots file ≡ false →
-      IsOneOrMemory (Checks budget ballots file) due → MayOrMemory readings (if_accepted budget ballots file next) due
-  checked_on readings next due no one = subst (λ b. MayOrMemory readings (on_if b next (Ends (Checks budget ballots file))) due) (sym no) one
+  pub accepted_now : (next : Script) (due : Outcome) → is_accepted budget ballots file ≡ true → EndsNow next due →
+      EndsNow (if_accepted budget ballots file next) due
+  accepted_now next due yes now = subst (λ b. EndsNow (on_if b next (Ends (Checks budget ballots file))) due) (sym yes) now
+
+  pub checked_now : (next : Script) (due : Outcome) → is_accepted budget ballots file ≡ false → IsOneOrMemory (Checks budget ballots file) due →
+      EndsNow (if_accepted budget ballots file next) due
+  checked_now next due no one = subst (λ b. EndsNow (on_if b next (Ends (Checks budget ballots file))) due) (sym no) one

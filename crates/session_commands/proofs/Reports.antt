@@ -1,21 +1,14 @@
 -- A report comes to one end.
-use Rattle.std.proofs.Common.{List, ℕ, Option, None, Some, ok_or, refl, sym, ap, ◌∙◌}
-use Rattle.session_state.specs.Content.{Content}
-use Rattle.session_file.specs.Reading.{session_of}
+use Rattle.std.proofs.Common.{refl, sym, ap, ◌∙◌}
 use Rattle.cli_base.specs.Outcome.{outcome}
 use Rattle.cli_base.specs.Script.{Agree, AreOfKind, Same}
 use Rattle.cli_base.specs.declared.outcome.AnswerKind.TheVariants.{Done}
 use Rattle.cli_base.proofs.Ended.{answer-kind}
 use Rattle.command.specs.declared.report.ReportTask.{ReportTask}
 use Rattle.input_files.proofs.Going.{OnlyRefuses, go_on-agrees, go_on-kinds}
-use Rattle.session_commands.specs.Refusals.{refused_session}
-use Rattle.session_commands.specs.Report.{kinds, script, session_in}
-
-pub session_in-only : (name bytes : List ℕ) → OnlyRefuses (session_in name bytes)
-session_in-only name bytes = by (session_of bytes) where
-  by : (content : Option Content) → OnlyRefuses (ok_or content (refused_session name))
-  by None = tt
-  by (Some content) = tt
+use Rattle.session_commands.specs.Report.{kinds, script}
+use Rattle.session_rounds.specs.Rounds.{session_in}
+use Rattle.session_rounds.proofs.OneRound.{session_in-only}
 
 pub agrees : (task : ReportTask) → Agree Same (script task)
 agrees task = λ bytes. go_on-agrees (session_in task.session bytes) _ (λ session v w p q. ap outcome (p ∙ sym q))

@@ -15,8 +15,8 @@ use Rattle.cli_base.specs.declared.outcome.AnswerKind.TheVariants.{Done, Spent, 
 use Rattle.input_files.specs.Judged.{told, unless, go_on}
 use Rattle.input_files.specs.Refusals.{refused_assertions}
 use Rattle.session_commands.specs.Accepted.{if_accepted}
-use Rattle.session_commands.specs.Refusals.{other_digest, without_facts}
-use Rattle.session_commands.specs.Rounds.{same_ballots, same_manifest, session_to_go_on, with_seen}
+use Rattle.session_rounds.specs.Refusals.{other_digest, without_facts}
+use Rattle.session_rounds.specs.Rounds.{same_ballots, same_manifest, session_to_go_on, with_seen}
 
 module _ (task : AuditTask) where
   -- ---- the assertions, and whether the session is one of them and of the cards

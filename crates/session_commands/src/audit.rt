@@ -5,23 +5,23 @@ ghost use Rattle.irv_base.specs.declared.limits.TheConstants.{MOST_DRAWS};
 ghost use Rattle.manifest.specs.Cards.{cards_of};
 ghost use Rattle.manifest.specs.Linked.{linked_of};
 ghost use Rattle.cli_base.specs.Accounts.{IsAccountedFor};
+ghost use Rattle.cli_base.specs.Begun.{HasCome};
 ghost use Rattle.cli_base.specs.Due.{due};
-ghost use Rattle.cli_base.specs.Script.{ByDesk, MayOrMemory};
+ghost use Rattle.cli_base.specs.Script.{ByDesk, Runs};
 ghost use Rattle.session_state.specs.Claims.{margins_of};
 ghost use Rattle.session_state.specs.Inputs.{HasFacts};
 ghost use Rattle.session_commands.specs.Audit.{after_ballots, after_facts, after_manifest, after_session, script};
-ghost use Rattle.session_commands.specs.Rounds.{MayGoOn};
+ghost use Rattle.session_rounds.specs.Rounds.{MayGoOn};
 
 use crate::accepted::unless_accepted;
-use crate::round::{RoundTask, with_seen};
-use crate::same::{same_assertions, same_ballots, same_facts, same_manifest};
-use crate::sessions::session_to_go_on;
+use crate::same::{same_assertions, same_facts};
 use assertion_file::AssertionFile;
 use ballot_reader::Ballots;
 use cli_base::{Answer, Refusal};
 use command::AuditTask;
 use desk::Desk;
 use input_files::{Cards, bytes_of};
+use session_rounds::{RoundTask, same_ballots, same_manifest, session_to_go_on, with_seen};
 use session_state::Session;
 use std::alloc::Global;
 use std::thread::Threads;
@@ -35,9 +35,10 @@ pub fn answer<R: AllocGlobal + Threads + Sync, D: Desk>(
     requires { task.now.draws ≤ MOST_DRAWS }
     ensures held { D.held desk.new ≡ D.held desk.old }
     ensures later { D.faults desk.old ≤ D.faults desk.new }
-    ensures due { MayOrMemory
+    ensures due { HasCome
         (ByDesk (D.held desk.old) (Rose (D.faults desk.old) (D.faults desk.new)))
-        (script task.now) (due result) }
+        (D.served desk.old) (D.served desk.new)
+        (Runs (script task.now)) (due result) }
     ensures served { IsAccountedFor 5 (D.served desk.old) (D.served desk.new) (due result).status }
 {
     let alloc = rt.alloc();
@@ -56,9 +57,10 @@ fn after_session<R: AllocGlobal + Threads + Sync, D: Desk>(
     requires { MayGoOn task.now.draws session }
     ensures held { D.held desk.new ≡ D.held desk.old }
     ensures later { D.faults desk.old ≤ D.faults desk.new }
-    ensures due { MayOrMemory
+    ensures due { HasCome
         (ByDesk (D.held desk.old) (Rose (D.faults desk.old) (D.faults desk.new)))
-        (after_session task.now session) (due result) }
+        (D.served desk.old) (D.served desk.new)
+        (Runs (after_session task.now session)) (due result) }
     ensures served { IsAccountedFor 4 (D.served desk.old) (D.served desk.new) (due result).status }
 {
     let alloc = rt.alloc();
@@ -78,9 +80,10 @@ fn after_ballots<R: AllocGlobal + Threads + Sync, D: Desk>(
     requires { MayGoOn task.now.draws session }
     ensures held { D.held desk.new ≡ D.held desk.old }
     ensures later { D.faults desk.old ≤ D.faults desk.new }
-    ensures due { MayOrMemory
+    ensures due { HasCome
         (ByDesk (D.held desk.old) (Rose (D.faults desk.old) (D.faults desk.new)))
-        (after_ballots task.now session ballots.now) (due result) }
+        (D.served desk.old) (D.served desk.new)
+        (Runs (after_ballots task.now session ballots.now)) (due result) }
     ensures served { IsAccountedFor 3 (D.served desk.old) (D.served desk.new) (due result).status }
 {
     let alloc = rt.alloc();
@@ -109,9 +112,10 @@ fn after_manifest<R: AllocGlobal + Threads + Sync, D: Desk>(
     requires linked { cards.now.linked ≡ linked_of cards.now.manifest ballots.now }
     ensures held { D.held desk.new ≡ D.held desk.old }
     ensures later { D.faults desk.old ≤ D.faults desk.new }
-    ensures due { MayOrMemory
+    ensures due { HasCome
         (ByDesk (D.held desk.old) (Rose (D.faults desk.old) (D.faults desk.new)))
-        (after_manifest task.now session ballots.now cards.now.manifest) (due result) }
+        (D.served desk.old) (D.served desk.new)
+        (Runs (after_manifest task.now session ballots.now cards.now.manifest)) (due result) }
     ensures served { IsAccountedFor 2 (D.served desk.old) (D.served desk.new) (due result).status }
 {
     let alloc = rt.alloc();
@@ -140,10 +144,10 @@ fn after_facts<D: Desk>(
         file.now.contest (margins_of file.now) }
     ensures held { D.held desk.new ≡ D.held desk.old }
     ensures later { D.faults desk.old ≤ D.faults desk.new }
-    ensures due { MayOrMemory
+    ensures due { HasCome
         (ByDesk (D.held desk.old) (Rose (D.faults desk.old) (D.faults desk.new)))
-        (after_facts task.now session ballots.now cards.now.manifest file.now)
-        (due result) }
+        (D.served desk.old) (D.served desk.new)
+        (Runs (after_facts task.now session ballots.now cards.now.manifest file.now)) (due result) }
     ensures served { IsAccountedFor 1 (D.served desk.old) (D.served desk.new) (due result).status }
 {
     let round = RoundTask {

@@ -4,13 +4,13 @@ ghost use Rattle.desk.specs.Count.{Rose};
 ghost use Rattle.irv_base.specs.declared.limits.TheConstants.{GREATEST_GAMMA, GREATEST_LIMIT};
 ghost use Rattle.manifest.specs.Linked.{first_without_card};
 ghost use Rattle.cli_base.specs.Accounts.{IsAccountedFor};
+ghost use Rattle.cli_base.specs.Begun.{HasCome};
 ghost use Rattle.cli_base.specs.Due.{due, IsOneOrMemory};
-ghost use Rattle.cli_base.specs.Script.{ByDesk, MayOrMemory};
+ghost use Rattle.cli_base.specs.Script.{ByDesk, Runs};
 ghost use Rattle.command.specs.Limits.{IsUpTo};
 ghost use Rattle.session_commands.specs.Open.{Opens, after_ballots, after_manifest, all_digests, script};
 
 use crate::accepted::unless_accepted;
-use crate::digests::digest_of;
 use assertion_file::AssertionFile;
 use ballot_reader::Ballots;
 use cli_base::{Answer, AnswerKind, Refusal};
@@ -19,6 +19,7 @@ use desk::Desk;
 use input_files::{assertions_in, ballots_in, bytes_of, cards_for};
 use manifest::Manifest;
 use session_file::print_session;
+use session_rounds::digest_of;
 use session_state::{Digests, begin_session};
 use std::thread::Threads;
 
@@ -50,9 +51,10 @@ pub fn answer<R: AllocGlobal + Threads + Sync, D: Desk>(
     requires gamma { IsUpTo GREATEST_GAMMA task.now.gamma }
     ensures held { D.held desk.new ≡ D.held desk.old }
     ensures later { D.faults desk.old ≤ D.faults desk.new }
-    ensures due { MayOrMemory
+    ensures due { HasCome
         (ByDesk (D.held desk.old) (Rose (D.faults desk.old) (D.faults desk.new)))
-        (script task.now) (due result) }
+        (D.served desk.old) (D.served desk.new)
+        (Runs (script task.now)) (due result) }
     ensures served { IsAccountedFor 3 (D.served desk.old) (D.served desk.new) (due result).status }
 {
     let alloc = rt.alloc();
@@ -74,9 +76,10 @@ fn after_ballots<R: AllocGlobal + Threads + Sync, D: Desk>(
     requires gamma { IsUpTo GREATEST_GAMMA task.now.gamma }
     ensures held { D.held desk.new ≡ D.held desk.old }
     ensures later { D.faults desk.old ≤ D.faults desk.new }
-    ensures due { MayOrMemory
+    ensures due { HasCome
         (ByDesk (D.held desk.old) (Rose (D.faults desk.old) (D.faults desk.new)))
-        (after_ballots task.now ballots.now digest) (due result) }
+        (D.served desk.old) (D.served desk.new)
+        (Runs (after_ballots task.now ballots.now digest)) (due result) }
     ensures served { IsAccountedFor 2 (D.served desk.old) (D.served desk.new) (due result).status }
 {
     let alloc = rt.alloc();
@@ -103,9 +106,10 @@ fn after_manifest<R: AllocGlobal + Threads + Sync, D: Desk>(
     requires linked { first_without_card manifest.now ballots.now ≡ None }
     ensures held { D.held desk.new ≡ D.held desk.old }
     ensures later { D.faults desk.old ≤ D.faults desk.new }
-    ensures due { MayOrMemory
+    ensures due { HasCome
         (ByDesk (D.held desk.old) (Rose (D.faults desk.old) (D.faults desk.new)))
-        (after_manifest task.now ballots.now manifest.now earlier.now) (due result) }
+        (D.served desk.old) (D.served desk.new)
+        (Runs (after_manifest task.now ballots.now manifest.now earlier.now)) (due result) }
     ensures served { IsAccountedFor 1 (D.served desk.old) (D.served desk.new) (due result).status }
 {
     let alloc = rt.alloc();

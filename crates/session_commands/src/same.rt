@@ -1,57 +1,19 @@
-// The files of a session: each has the digest that the session has of it, before it is read, and the session has their facts.
-ghost use Rattle.std.specs.Prelude.{◌≡◌, Ok, None, Some, IfOk, IfErr, IsTrue, IsFalse};
-ghost use Rattle.manifest.specs.Linked.{first_without_card, linked_of};
-ghost use Rattle.session_commands.specs.Audit.{same_assertions};
+// The assertions of a session: the file has the digest that the session has of it, before it is read, and the session has its facts.
+ghost use Rattle.std.specs.Prelude.{◌≡◌, None, IfOk, IfErr};
 ghost use Rattle.session_state.specs.Claims.{margins_of};
 ghost use Rattle.session_state.specs.Inputs.{HasFacts};
 ghost use Rattle.cli_base.specs.Due.{due_refusal};
-ghost use Rattle.input_files.specs.Judged.{IsJudged, IsStopped, IsTold};
-ghost use Rattle.session_commands.specs.Refusals.{other_facts, without_facts};
-ghost use Rattle.session_commands.specs.Rounds.{same_ballots, same_manifest};
+ghost use Rattle.input_files.specs.Judged.{IsJudged, IsTold};
+ghost use Rattle.session_rounds.specs.Refusals.{without_facts};
+ghost use Rattle.session_commands.specs.Audit.{same_assertions};
 
-use crate::digests::same_digest;
 use assertion_file::AssertionFile;
-use ballot_reader::Ballots;
-use cli_base::{Refusal, RefusalKind, refuse};
-use command::{AuditTask, FileName};
-use input_files::{Cards, assertions_in, ballots_in, cards_for};
+use cli_base::Refusal;
+use command::AuditTask;
+use input_files::assertions_in;
+use session_rounds::{same_digest, with_facts};
 use session_state::{Session, has_facts};
 use std::alloc::Global;
-
-/// The ballots of the session's contest, in the bytes of the file with this name.
-pub fn same_ballots(
-    alloc: Global,
-    name: &FileName,
-    session: &Session,
-    bytes: &[u8],
-) -> Result<Ballots, Refusal>
-    ensures { IsJudged (same_ballots name.now session.now bytes.now) result }
-{
-    same_digest(alloc, name, &session.digests().ballots, bytes)?;
-    ballots_in(alloc, name, bytes, Some(session.contest()))
-}
-
-/// The cards of the ballots, of a file with this name, in the bytes of the manifest.
-pub fn same_manifest(
-    alloc: Global,
-    name: &FileName,
-    manifest: &FileName,
-    session: &Session,
-    ballots: &Ballots,
-    bytes: &[u8],
-) -> Result<Cards, Refusal>
-    ensures read { IfOk result (λ cards.
-        same_manifest name.now manifest.now session.now ballots.now bytes.now
-        ≡ Ok cards.manifest) }
-    ensures placed { IfOk result (λ cards.
-        first_without_card cards.manifest ballots.now ≡ None) }
-    ensures linked { IfOk result (λ cards. cards.linked ≡ linked_of cards.manifest ballots.now) }
-    ensures refused { IfErr result
-        (IsStopped (same_manifest name.now manifest.now session.now ballots.now bytes.now)) }
-{
-    same_digest(alloc, manifest, &session.digests().manifest, bytes)?;
-    cards_for(alloc, name, ballots, manifest, bytes)
-}
 
 /// The assertions.
 pub(crate) fn same_assertions(
@@ -65,19 +27,6 @@ pub(crate) fn same_assertions(
     let name = &task.assertions;
     same_digest(alloc, name, &session.digests().assertions, bytes)?;
     assertions_in(alloc, name, bytes)
-}
-
-/// The session in a file with this name is refused where its facts don't agree with those of the other files.
-pub fn with_facts(alloc: Global, name: &FileName, agree: bool) -> Result<(), Refusal>
-    ensures agree { IfOk result (λ _. IsTrue agree) }
-    ensures differ { IfErr result (λ _. IsFalse agree) }
-    ensures refused { IfErr result (λ refusal.
-        IsTold (Some (other_facts name.now)) (due_refusal refusal)) }
-{
-    if agree {
-        return Ok(());
-    }
-    Err(refuse(alloc, RefusalKind::Input, name.as_str(), "S5"))
 }
 
 /// The session has so many cards, and the contest and the margins of the assertion file.

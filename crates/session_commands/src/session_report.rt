@@ -2,16 +2,17 @@
 ghost use Rattle.std.specs.Prelude.{◌≡◌, ◌≤◌};
 ghost use Rattle.desk.specs.Count.{Rose};
 ghost use Rattle.cli_base.specs.Accounts.{IsAccountedFor};
+ghost use Rattle.cli_base.specs.Begun.{HasCome};
 ghost use Rattle.cli_base.specs.Due.{due, IsOneOrMemory};
-ghost use Rattle.cli_base.specs.Script.{ByDesk, MayOrMemory};
+ghost use Rattle.cli_base.specs.Script.{ByDesk, Runs};
 ghost use Rattle.session_commands.specs.Report.{reported, script};
 
-use crate::sessions::session_in;
 use audit_report::session_table;
 use cli_base::{Answer, AnswerKind, Refusal};
 use command::ReportTask;
 use desk::Desk;
 use input_files::bytes_of;
+use session_rounds::session_in;
 use session_state::Session;
 use std::alloc::Global;
 
@@ -19,9 +20,10 @@ use std::alloc::Global;
 pub fn answer<D: Desk>(alloc: Global, desk: &mut D, task: &ReportTask) -> Result<Answer, Refusal>
     ensures held { D.held desk.new ≡ D.held desk.old }
     ensures later { D.faults desk.old ≤ D.faults desk.new }
-    ensures due { MayOrMemory
+    ensures due { HasCome
         (ByDesk (D.held desk.old) (Rose (D.faults desk.old) (D.faults desk.new)))
-        (script task.now) (due result) }
+        (D.served desk.old) (D.served desk.new)
+        (Runs (script task.now)) (due result) }
     ensures served { IsAccountedFor 1 (D.served desk.old) (D.served desk.new) (due result).status }
 {
     let bytes = bytes_of(alloc, desk, &task.session)?;

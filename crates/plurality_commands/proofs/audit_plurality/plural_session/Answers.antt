@@ -3,8 +3,8 @@ use Rattle.std.proofs.lemmas.Result.{err_from_is_err_and}
 use Rattle.cli_base.specs.Due.{due_refusal}
 use Rattle.input_files.specs.Judged.{IsTold}
 use Rattle.input_files.proofs.Judging.{next_stopped, unless_stopped}
-use Rattle.session_commands.specs.Refusals.{other_digest}
-use Rattle.session_commands.specs.Rounds.{session_to_go_on}
+use Rattle.session_rounds.specs.Refusals.{other_digest}
+use Rattle.session_rounds.specs.Rounds.{session_to_go_on}
 use Rattle.plurality_commands.proofs.audit_plurality.plural_session.Goals as goal
 
 pub returns-in_err-same_digest-clause-read : goal.returns-in_err-same_digest-clause-read

@@ -6,14 +6,15 @@ use Rattle.cli_base.specs.Due.{due, due_refusal, IsOneOrMemory}
 use Rattle.cli_base.proofs.Steps.{accounted_on, ended_accounted}
 use Rattle.check_command.specs.Check.{Checks}
 use Rattle.session_commands.specs.Audit.{same_assertions, same_facts, after_assertions, after_check, after_facts}
-use Rattle.session_commands.specs.Refusals.{without_facts}
+use Rattle.session_rounds.specs.Refusals.{without_facts}
 use Rattle.input_files.specs.Judged.{unless, IsStopped, IsTold}
 use Rattle.cli_base.proofs.Statuses.{differ, status_in}
 use Rattle.session_commands.proofs.Audits.{assertions-only}
-use Rattle.session_commands.proofs.OneRound.{facts-only}
-use Rattle.session_commands.proofs.Checked.{accepted_on, checked_on}
-use Rattle.input_files.proofs.Going.{judged_on, judged_stopped, read_last, read_on, read_stopped, raised, stopped_accounted, unless-only}
+use Rattle.session_rounds.proofs.OneRound.{facts-only}
+use Rattle.session_commands.proofs.Checked.{accepted_now, accepted_on, checked_now}
+use Rattle.input_files.proofs.Going.{judged_on, stopped_now, read_last, read_on, read_stopped, raised, stopped_accounted, unless-only}
 use Rattle.input_files.proofs.Judging.{unless_passed, unless_stopped}
+use Rattle.cli_base.proofs.Begun.{memory_now, stopped_at}
 use Rattle.session_commands.proofs.audit.after_manifest.Goals as goal
 
 pub returns-in_err-file-clause-due : goal.returns-in_err-file-clause-due
@@ -25,7 +26,7 @@ returns-in_err-file-clause-due g c =
     let judged = same_assertions task session in
     let p = err_from_is_err_and c.from_residual-in_err-file.result c.from_residual-in_err-file.ensures.1 in
     rw (p.1, p.2)
-    (read_stopped _ _ _ _ c.in_ok-bytes.bytes.items judged (λ bytes. after_assertions task session ballots batches) c.in_ok-bytes.ensures.read
+    (read_stopped _ _ _ _ c.in_ok-bytes.bytes.items judged (λ bytes. after_assertions task session ballots batches) c.in_ok-bytes.ensures.begun c.in_ok-bytes.ensures.read
     c.in_err-file.field-0.0
     (subst (λ bytes. IsStopped (judged bytes) c.in_err-file.field-0.0) c.deref.ensures.value c.in_err-file.ensures))
 
@@ -57,9 +58,9 @@ returns-in-Some-clause-due g c =
     let no = c.in_ok-answer.ensures.accepted ∙ ap is_none c.in-Some.is in
     let other = subst (λ found. IfSome found (λ answer. IsOneOrMemory (Checks task.budget ballots file) (due (Ok answer)))) c.in-Some.is
     c.in_ok-answer.ensures.other in
-    read_last _ _ _ _ c.in_ok-bytes.bytes.items judged (λ bytes. after_assertions task session ballots batches) c.in_ok-bytes.ensures.read file
+    read_last _ _ _ _ c.in_ok-bytes.bytes.items judged (λ bytes. after_assertions task session ballots batches) c.in_ok-bytes.ensures.begun c.in_ok-bytes.ensures.read file
     (due (Ok c.in-Some.answer)) is
-    (checked_on task.budget ballots file _ (after_check task session ballots batches file) (due (Ok c.in-Some.answer)) no other)
+    (checked_now task.budget ballots file (after_check task session ballots batches file) (due (Ok c.in-Some.answer)) no other)
 
 pub returns-in-Some-clause-served : goal.returns-in-Some-clause-served
 returns-in-Some-clause-served g c =
@@ -84,10 +85,10 @@ returns-in_err-same_facts-clause-due g c =
     let yes = c.in_ok-answer.ensures.accepted ∙ ap is_none c.in_default.is in
     let p = err_from_is_err_and c.from_residual-in_err-same_facts.result c.from_residual-in_err-same_facts.ensures.1 in
     rw (p.1, p.2)
-    (read_last _ _ _ _ c.in_ok-bytes.bytes.items judged (λ bytes. after_assertions task session ballots batches) c.in_ok-bytes.ensures.read file
+    (read_last _ _ _ _ c.in_ok-bytes.bytes.items judged (λ bytes. after_assertions task session ballots batches) c.in_ok-bytes.ensures.begun c.in_ok-bytes.ensures.read file
     (due_refusal refusal) is
-    (accepted_on task.budget ballots file _ (after_check task session ballots batches file) (due_refusal refusal) yes
-    (judged_stopped _ (same_facts task session batches file) (λ same. after_facts task same ballots batches file) refusal
+    (accepted_now task.budget ballots file (after_check task session ballots batches file) (due_refusal refusal) yes
+    (stopped_now (same_facts task session batches file) (λ same. after_facts task same ballots batches file) refusal
     (unless_stopped wrong (Ok session) refusal told))))
 
 pub returns-in_err-same_facts-clause-served : goal.returns-in_err-same_facts-clause-served
@@ -112,7 +113,7 @@ returns-clause-due g c =
     let wrong = without_facts task.session session (length (cards_of batches)) file.contest (margins_of file) in
     let right : wrong ≡ None = ap (λ cards. without_facts task.session session cards file.contest (margins_of file)) (sym c.cards.ensures.all) ∙ c.in_ok-same_facts.ensures.same in
     let yes = c.in_ok-answer.ensures.accepted ∙ ap is_none c.in_default.is in
-    read_on _ _ _ _ c.in_ok-bytes.bytes.items judged (λ bytes. after_assertions task session ballots batches) c.in_ok-bytes.ensures.read _ _ file
+    read_on _ _ _ _ c.in_ok-bytes.bytes.items judged (λ bytes. after_assertions task session ballots batches) c.in_ok-bytes.ensures.begun c.in_ok-bytes.ensures.read _ _ file
     (due c.after_facts.result)
     c.in_ok-bytes.ensures.held c.in_ok-bytes.ensures.later c.after_facts.ensures.later is
     (accepted_on task.budget ballots file _ (after_check task session ballots batches file) (due c.after_facts.result) yes
@@ -121,3 +122,23 @@ returns-clause-due g c =
 
 pub returns-clause-served : goal.returns-clause-served
 returns-clause-served g c = accounted_on _ _ _ _ c.in_ok-bytes.ensures.served c.after_facts.ensures.served
+
+pub returns-in_err-bytes-clause-due : goal.returns-in_err-bytes-clause-due
+returns-in_err-bytes-clause-due g c =
+    let p = err_from_is_err_and c.from_residual.result c.from_residual.ensures.1 in
+    rw (p.1, p.2) (stopped_at _ c.args.task.now.assertions _ c.in_err-bytes.field-0.0 c.in_err-bytes.ensures.begun c.in_err-bytes.ensures.read)
+
+pub returns-in_err-answer-clause-due : goal.returns-in_err-answer-clause-due
+returns-in_err-answer-clause-due g c =
+    let task = c.args.task.now in
+    let session = c.args.session in
+    let ballots = c.args.ballots.now in
+    let batches = c.args.cards.now.manifest in
+    let judged = same_assertions task session in
+    let file = c.in_ok-file.file in
+    let refusal = c.in_err-answer.field-0.0 in
+    let p = err_from_is_err_and c.from_residual-in_err-answer.result c.from_residual-in_err-answer.ensures.1 in
+    rw (p.1, p.2)
+    (read_last _ _ _ _ c.in_ok-bytes.bytes.items judged (λ bytes. after_assertions task session ballots batches) c.in_ok-bytes.ensures.begun
+    c.in_ok-bytes.ensures.read file (due_refusal refusal) (ap judged (sym c.deref.ensures.value) ∙ c.in_ok-file.ensures)
+    (memory_now (after_assertions task session ballots batches file) (due_refusal refusal) c.in_err-answer.ensures.memory))

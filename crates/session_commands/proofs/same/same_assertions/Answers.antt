@@ -4,7 +4,7 @@ use Rattle.input_files.specs.Refusals.{refused_assertions}
 use Rattle.cli_base.specs.Due.{due_refusal}
 use Rattle.std.proofs.lemmas.Result.{err_from_is_err_and}
 use Rattle.input_files.specs.Judged.{told, IsTold}
-use Rattle.session_commands.specs.Refusals.{other_digest}
+use Rattle.session_rounds.specs.Refusals.{other_digest}
 use Rattle.input_files.proofs.Judging.{unless_judged, unless_stopped}
 use Rattle.session_commands.proofs.same.same_assertions.Goals as goal
 

@@ -2,8 +2,9 @@
 ghost use Rattle.std.specs.Prelude.{◌≡◌, ◌≤◌};
 ghost use Rattle.desk.specs.Count.{Rose};
 ghost use Rattle.cli_base.specs.Accounts.{IsAccountedFor};
+ghost use Rattle.cli_base.specs.Begun.{HasCome};
 ghost use Rattle.cli_base.specs.Due.{due, IsOneOrMemory};
-ghost use Rattle.cli_base.specs.Script.{ByDesk, MayOrMemory};
+ghost use Rattle.cli_base.specs.Script.{ByDesk, Runs};
 ghost use Rattle.audit_commands.specs.Sample.{sample_of, script};
 
 use audit_report::sample_table;
@@ -18,9 +19,10 @@ use std::alloc::Global;
 pub fn answer<D: Desk>(alloc: Global, desk: &mut D, task: &SampleTask) -> Result<Answer, Refusal>
     ensures held { D.held desk.new ≡ D.held desk.old }
     ensures later { D.faults desk.old ≤ D.faults desk.new }
-    ensures due { MayOrMemory
+    ensures due { HasCome
         (ByDesk (D.held desk.old) (Rose (D.faults desk.old) (D.faults desk.new)))
-        (script task.now) (due result) }
+        (D.served desk.old) (D.served desk.new)
+        (Runs (script task.now)) (due result) }
     ensures served { IsAccountedFor 1 (D.served desk.old) (D.served desk.new) (due result).status }
 {
     let bytes = bytes_of(alloc, desk, &task.manifest)?;

@@ -4,9 +4,10 @@ ghost use Rattle.irv_base.specs.Orders.{is_order};
 ghost use Rattle.desk.specs.Count.{Rose};
 ghost use Rattle.assertion_file.specs.Ids.{id_of};
 ghost use Rattle.cli_base.specs.Accounts.{IsAccountedFor};
+ghost use Rattle.cli_base.specs.Begun.{HasCome};
 ghost use Rattle.cli_base.specs.Due.{due, IsOneOrMemory};
 ghost use Rattle.cli_base.specs.Outcome.{Answered};
-ghost use Rattle.cli_base.specs.Script.{ByDesk, MayOrMemory};
+ghost use Rattle.cli_base.specs.Script.{ByDesk, Runs};
 ghost use Rattle.cli_base.specs.declared.outcome.AnswerKind.TheVariants.{Spent};
 ghost use Rattle.command.specs.Check.{IsWithinLimits};
 ghost use Rattle.report.specs.Ends.{spent_at, spent_sets};
@@ -43,9 +44,10 @@ pub fn answer<R: AllocGlobal + Threads + Sync, D: Desk>(
     requires { IsWithinLimits task.now }
     ensures held { D.held desk.new ≡ D.held desk.old }
     ensures later { D.faults desk.old ≤ D.faults desk.new }
-    ensures due { MayOrMemory
+    ensures due { HasCome
         (ByDesk (D.held desk.old) (Rose (D.faults desk.old) (D.faults desk.new)))
-        (script task.now) (due result) }
+        (D.served desk.old) (D.served desk.new)
+        (Runs (script task.now)) (due result) }
     ensures served { IsAccountedFor 2 (D.served desk.old) (D.served desk.new) (due result).status }
 {
     let alloc = rt.alloc();
@@ -64,9 +66,10 @@ pub fn after_ballots<R: AllocGlobal + Threads + Sync, D: Desk>(
 ) -> Result<Answer, Refusal>
     ensures held { D.held desk.new ≡ D.held desk.old }
     ensures later { D.faults desk.old ≤ D.faults desk.new }
-    ensures due { MayOrMemory
+    ensures due { HasCome
         (ByDesk (D.held desk.old) (Rose (D.faults desk.old) (D.faults desk.new)))
-        (after_ballots assertions.now budget ballots.now) (due result) }
+        (D.served desk.old) (D.served desk.new)
+        (Runs (after_ballots assertions.now budget ballots.now)) (due result) }
     ensures served { IsAccountedFor 1 (D.served desk.old) (D.served desk.new) (due result).status }
 {
     let alloc = rt.alloc();

@@ -2,14 +2,17 @@
 use Rattle.std.proofs.Common.{◌≡◌, ◌⊎◌, inl, inr, ⊎_elim, ℕ, List, Option, [], length, None, Some, IfSome, nat_le, if◌then◌else◌, refl, sym, ◌∙◌, ap, subst, arith, append-nil, Bool, true, false}
 use Rattle.std.specs.Io.KnownBytes.{Appends, Keeps}
 use Rattle.desk.specs.Desk.{File, held_bytes}
+use Rattle.desk.specs.declared.served.Served.{Served}
+use Rattle.cli_base.specs.Begun.{HasBegun, IsDueAfter}
 use Rattle.cli_base.specs.Outcome.{Outcome, Verdict, Answered, Refused, outcome, status_of, out_of_memory, too_long, no_such_file}
-use Rattle.cli_base.specs.Script.{Asked, Nothing, Runs, Reading, Bytes, Missing, TooLong, Fault, Readings, AsHeld, AsTold, ByDesk, MayCome, IsDue, ComesToRead, ComesTo, AgreeOn, Same, SameButBudget, reading_of, stop_of, IsBudgeted, OneIsSpent, IsOfContests, SameButContests, limit}
+use Rattle.cli_base.specs.Script.{Asked, Nothing, Runs, Reading, Bytes, Missing, TooLong, Fault, Readings, AsHeld, AsTold, ByDesk, MayCome, IsDue, MayComeAfter, ComesToRead, ComesToReadAs, ComesTo, AgreeOn, Same, SameButBudget, reading_of, stop_of, IsBudgeted, OneIsSpent, IsOfContests, SameButContests, limit}
 use Rattle.cli_base.specs.Ends.{Writing, Took, HasNewFaults, IsWhole, IsWritten}
 use Rattle.cli_base.specs.Statuses.{IsUndone, IsQuiet, Exactly, ExactlyInBudget, TookTexts, IsDefined, IsAnswered, IsNothing, HasFile, IsRefused, HasAnswer, IsReadFault, IsWriteFault, IsForErr, IsStatus, IsExact, Statuses, ExactlyInContests, ContestsStatuses}
 use Rattle.cli_base.specs.Story.{Story}
 use Rattle.cli_base.specs.declared.outcome.AnswerKind.{AnswerKind}
 use Rattle.cli_base.specs.declared.outcome.AnswerKind.TheVariants.{Done, Tie, Spent, FullCount, Differs, Unconfirmed}
-use Rattle.cli_base.proofs.Scripts.{ended, concludes_may, stops_may, told_reaches, told_or_fault, determined}
+use Rattle.cli_base.proofs.Begun.{due_of, ended_after, told_reaches_as}
+use Rattle.cli_base.proofs.Scripts.{ended, concludes_may, stops_may, told_or_fault, determined}
 use Rattle.cli_base.proofs.Statuses.{status_in, differ, free, unbudgeted, of_no_kind, kind_free, refused_verdict, answer_verdict, verdict_free, verdict_out, Stop, missing, too_long_file, fault, stop, stop_status, stop_out, no_answer}
 
 -- ---- how it came
@@ -25,6 +28,20 @@ came readings Nothing due bad = no_line tt (ap status_in bad) (ap (λ (o : Outco
 came readings (Runs script) due may = elim (ended readings script due may) [
   | inl (v, concludes, is) ↦ concluded v concludes is
   | inr (name, reading, reaches, there, stops) ↦ stopped name reading reaches there (stop name reading due stops)
+]
+
+-- the same, once so many files were begun
+data CameAfter (readings : Readings) (asked : Asked) (files : ℕ) (due : Outcome) : Type 0 where
+  no_line_after : IsNothing asked → due.status ≡ 1 → due.out ≡ [] → CameAfter readings asked files due
+  concluded_after : (v : Verdict) → ComesTo readings asked v → due ≡ outcome v → CameAfter readings asked files due
+  stopped_after : (name : List ℕ) (reading : Reading) → ComesToReadAs readings asked files name → readings name reading → Stop name reading due →
+      CameAfter readings asked files due
+
+came_after : (readings : Readings) (asked : Asked) (files : ℕ) (due : Outcome) → MayComeAfter readings asked files due → CameAfter readings asked files due
+came_after readings Nothing files due (none, bad) = no_line_after tt (ap status_in bad) (ap (λ (o : Outcome). o.out) bad)
+came_after readings (Runs script) files due may = elim (ended_after readings script files due may) [
+  | inl (v, concludes, is) ↦ concluded_after v concludes is
+  | inr (name, reading, reaches, there, stops) ↦ stopped_after name reading reaches there (stop name reading due stops)
 ]
 
 abbrev out_in : Outcome → List ℕ
@@ -114,10 +131,10 @@ fault_told held failed name reading is (inr (failing, f)) = f
 fault_told None failed name reading is (inl told) = absurd (told is)
 fault_told (Some files) failed name reading is (inl told) = absurd (no_fault_held (held_bytes name files) (sym is ∙ told))
 
-asked_reaches : (held : Option (List File)) (failed : Type 0) (asked : Asked) (name : List ℕ) → ComesToRead (ByDesk held failed) asked name →
-    ComesToRead (AsTold held) asked name
-asked_reaches held failed Nothing name reaches = reaches
-asked_reaches held failed (Runs script) name reaches = told_reaches held failed script name reaches
+asked_reaches_as : (held : Option (List File)) (failed : Type 0) (asked : Asked) (n : ℕ) (name : List ℕ) → ComesToReadAs (ByDesk held failed) asked n name →
+    ComesToReadAs (AsTold held) asked n name
+asked_reaches_as held failed Nothing n name reaches = reaches
+asked_reaches_as held failed (Runs script) n name reaches = told_reaches_as held failed script n name reaches
 
 asked_or_fault : (held : Option (List File)) (failed : Type 0) (asked : Asked) (due : Outcome) → MayCome (ByDesk held failed) asked due →
     MayCome (AsTold held) asked due ⊎ (due.status ≡ 7)
@@ -226,48 +243,52 @@ module _ (asked : Asked) (failed : Type 0) (status : ℕ) (out err : Writing) wh
       | inr (may, whole) ↦ inr (asked_determined R itself files asked agree due d may may_d, whole.ends)
     ]
 
-module _ {asked : Asked} {held : Option (List File)} {failed : Type 0} {status : ℕ} {out err : Writing} (story : Story asked held failed status out err) where
+module _ {asked : Asked} {held : Option (List File)} {failed : Type 0} {before after : Served} {status : ℕ} {out err : Writing}
+    (story : Story asked held failed before after status out err) where
   pub bad_words_clause : Exactly 1 status (IsNothing asked)
   bad_words_clause = (
     λ e. elim story.written [
-      | inl whole ↦ no_line_from (ByDesk held failed) asked story.due story.is_due (sym whole.ends ∙ e)
+      | inl whole ↦ no_line_from (ByDesk held failed) asked story.due (due_of story.come) (sym whole.ends ∙ e)
       | inr cut ↦ absurd (differ 8 1 (sym cut.ends ∙ e) refl)
     ],
     λ none. elim story.written [
       | inl whole ↦
           ⊎_elim (λ one. inl (whole.ends ∙ one)) (λ nine. inr (inr (inr (whole.ends ∙ nine))))
-          (no_line_to (ByDesk held failed) asked story.due none story.is_due)
+          (no_line_to (ByDesk held failed) asked story.due none (due_of story.come))
       | inr cut ↦ inr (inr (inl cut.ends))
     ],
   )
 
-  fault_from : (due : Outcome) → IsDue (ByDesk held failed) asked due → IsWhole due status out err → due.status ≡ 7 → IsReadFault asked held failed out err
-  fault_from due (inr memory) whole n = absurd (differ 9 7 (sym (ap status_in memory) ∙ n) refl)
-  fault_from due (inl may) whole n = elim (came (ByDesk held failed) asked due may) [
-    | no_line none one empty ↦ absurd (differ 1 7 (sym one ∙ n) refl)
-    | concluded v comes is ↦ absurd (verdict_free 7 refl refl v due is n)
-    | stopped name reading reaches there stops ↦ elim stops [
+  fault_from : (due : Outcome) (files : ℕ) → HasBegun files before after → IsDueAfter (ByDesk held failed) asked files due → IsWhole due status out err →
+      due.status ≡ 7 → IsReadFault asked held failed before after out err
+  fault_from due files begun (inr (memory, some)) whole n = absurd (differ 9 7 (sym (ap status_in memory) ∙ n) refl)
+  fault_from due files begun (inl may) whole n = elim (came_after (ByDesk held failed) asked files due may) [
+    | no_line_after none one empty ↦ absurd (differ 1 7 (sym one ∙ n) refl)
+    | concluded_after v comes is ↦ absurd (verdict_free 7 refl refl v due is n)
+    | stopped_after name reading reaches there stops ↦ elim stops [
       | missing r is ↦ absurd (differ 12 7 (ap status_in is ∙ n) refl)
       | too_long_file r is ↦ absurd (differ 11 7 (ap status_in is ∙ n) refl)
       | fault r is ↦ record {
         cause = fault_told held failed name reading r there;
+        files = files;
+        begun = begun;
         name = name;
-        reached = asked_reaches held failed asked name reaches;
+        reached = asked_reaches_as held failed asked files name reaches;
         texts = subst (λ d. TookTexts d out err) (sym is) (whole.to_out, whole.to_err);
       }
     ]
   ]
 
-  read_fault_clause : status ≡ 7 → IsReadFault asked held failed out err
+  read_fault_clause : status ≡ 7 → IsReadFault asked held failed before after out err
   read_fault_clause e = elim story.written [
-    | inl whole ↦ fault_from story.due story.is_due whole (sym whole.ends ∙ e)
+    | inl whole ↦ fault_from story.due story.come.files story.come.begun story.come.is_due whole (sym whole.ends ∙ e)
     | inr cut ↦ absurd (differ 8 7 (sym cut.ends ∙ e) refl)
   ]
 
-  write_fault_clause : status ≡ 8 → IsWriteFault (ByDesk held failed) asked out err
+  write_fault_clause : status ≡ 8 → IsWriteFault (ByDesk held failed) before after asked out err
   write_fault_clause e = elim story.written [
-    | inl whole ↦ absurd (not_eight (ByDesk held failed) asked story.due story.is_due (sym whole.ends ∙ e))
-    | inr cut ↦ record { cause = cut.cause; due = story.due; is_due = story.is_due; to_out = cut.to_out; to_err = cut.to_err }
+    | inl whole ↦ absurd (not_eight (ByDesk held failed) asked story.due (due_of story.come) (sym whole.ends ∙ e))
+    | inr cut ↦ record { cause = cut.cause; due = story.due; come = story.come; to_out = cut.to_out; to_err = cut.to_err }
   ]
 
   write_told_clause : HasNewFaults out ⊎ HasNewFaults err → status ≡ 8
@@ -281,13 +302,13 @@ module _ {asked : Asked} {held : Option (List File)} {failed : Type 0} {status :
 
   memory_clause : status ≡ 9 → TookTexts out_of_memory out err
   memory_clause e = elim story.written [
-    | inl whole ↦ subst (λ d. TookTexts d out err) (nine (ByDesk held failed) asked story.due story.is_due (sym whole.ends ∙ e)) (whole.to_out, whole.to_err)
+    | inl whole ↦ subst (λ d. TookTexts d out err) (nine (ByDesk held failed) asked story.due (due_of story.come) (sym whole.ends ∙ e)) (whole.to_out, whole.to_err)
     | inr cut ↦ absurd (differ 8 9 (sym cut.ends ∙ e) refl)
   ]
 
   known_clause : IsStatus status
   known_clause = elim story.written [
-    | inl whole ↦ subst IsStatus (sym whole.ends) (due_known (ByDesk held failed) asked story.due story.is_due)
+    | inl whole ↦ subst IsStatus (sym whole.ends) (due_known (ByDesk held failed) asked story.due (due_of story.come))
     | inr cut ↦ inr (inl cut.ends)
   ]
 
@@ -295,7 +316,7 @@ module _ {asked : Asked} {held : Option (List File)} {failed : Type 0} {status :
   pub kept_clause : IsForErr status → Keeps out.before out.after
   kept_clause for_err = elim story.written [
     | inl whole ↦
-        keeps out.before out.after (subst (Took out) (due_out (ByDesk held failed) asked story.due story.is_due (subst IsForErr whole.ends for_err))
+        keeps out.before out.after (subst (Took out) (due_out (ByDesk held failed) asked story.due (due_of story.come) (subst IsForErr whole.ends for_err))
         whole.to_out)
     | inr cut ↦ absurd (omega (arith, for_err, cut.ends))
   ]
@@ -314,7 +335,7 @@ module _ {asked : Asked} {held : Option (List File)} {failed : Type 0} {status :
   undone_is_nine quiet (inr (inr nine)) = nine
 
   pub answered_clause : IsAnswered asked held failed status out err
-  answered_clause = let answer = defined asked failed status out err held story.due story.is_due story.written in record {
+  answered_clause = let answer = defined asked failed status out err held story.due (due_of story.come) story.written in record {
     quiet = λ quiet not_nine. ⊎_elim (λ undone. absurd (not_nine (undone_is_nine quiet undone))) (λ is. is) answer;
     otherwise = answer;
   }
@@ -323,7 +344,7 @@ module _ {asked : Asked} {held : Option (List File)} {failed : Type 0} {status :
 
   -- what holds of the files holds where they are told
   where_told : (P : List File → Type 0) → ((files : List File) → IsDue (ByDesk (Some files) failed) asked story.due → P files) → IfSome held P
-  where_told P each = by held story.is_due where
+  where_told P each = by held (due_of story.come) where
     by : (h : Option (List File)) → IsDue (ByDesk h failed) asked story.due → IfSome h P
     by None is_due = tt
     by (Some files) is_due = each files is_due
@@ -397,7 +418,7 @@ module _ {asked : Asked} {held : Option (List File)} {failed : Type 0} {status :
         exactly (status_of kind) (λ files. HasAnswer asked files kind) (kind_free kind) unbudgeted (λ files. answer_from (AsHeld files) asked kind)
         (λ files (text, comes). verdict_to (AsHeld files) asked (Answered kind text) comes)
 
-    pub statuses_clause : Statuses asked held failed status out err
+    pub statuses_clause : Statuses asked held failed before after status out err
     statuses_clause = record {
       known = known_clause;
       done = in_budget Done (λ e. differ 0 4 e refl);
@@ -459,7 +480,7 @@ module _ {asked : Asked} {held : Option (List File)} {failed : Type 0} {status :
       λ so. let (d, may, is) = to files so in beside_contests files is_due n d may is not_of,
     ))
 
-    pub contests_clause : ContestsStatuses asked held failed status out err
+    pub contests_clause : ContestsStatuses asked held failed before after status out err
     contests_clause = record {
       known = known_clause;
       done = in_contests 0 (λ files. HasAnswer asked files Done) (kind_free Done) (inl refl) (λ files. answer_from (AsHeld files) asked Done)

@@ -1,5 +1,6 @@
 pub mod Scripts
 pub mod Statuses
+pub mod Begun
 pub mod Steps
 pub mod Ended
 pub mod Clauses

@@ -29,16 +29,9 @@ stops_may readings (Read first next) name reading due (inl is) there stop =
 stops_may readings (Read first next) name reading due (inr (bytes, may, rest)) there stop =
     inr (bytes, may, stops_may readings (next bytes) name reading due rest there stop)
 
-no_fault : (held : Option (List File)) (failed : Type 0) (name bytes : List ℕ) → ByDesk held failed name (Bytes bytes) → AsTold held name (Bytes bytes)
+pub no_fault : (held : Option (List File)) (failed : Type 0) (name bytes : List ℕ) → ByDesk held failed name (Bytes bytes) → AsTold held name (Bytes bytes)
 no_fault held failed name bytes (inl told) = told
 no_fault held failed name bytes (inr (fault, f)) = absurd (cc fault)
-
-pub told_reaches : (held : Option (List File)) (failed : Type 0) (script : Script) (name : List ℕ) → Reaches (ByDesk held failed) script name →
-    Reaches (AsTold held) script name
-told_reaches held failed (Ends verdicts) name reaches = reaches
-told_reaches held failed (Read first next) name (inl is) = inl is
-told_reaches held failed (Read first next) name (inr (bytes, may, rest)) =
-    inr (bytes, no_fault held failed first bytes may, told_reaches held failed (next bytes) name rest)
 
 pub some_is : {A : Type 0} {x y : A} → Some x ≡ Some y → x ≡ y
 some_is e = cc

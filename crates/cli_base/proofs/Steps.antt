@@ -6,33 +6,24 @@ use Rattle.desk.specs.Desk.{File}
 use Rattle.cli_base.specs.Accounts.{IsBroken, IsAccountedFor}
 use Rattle.cli_base.specs.Due.{IsOneOrMemory}
 use Rattle.cli_base.specs.Outcome.{Outcome, Verdict, Answered, Refused}
-use Rattle.cli_base.specs.Script.{Reading, Bytes, Script, Read, Ends, AsTold, ByDesk, May, MayOrMemory, limit}
+use Rattle.cli_base.specs.Begun.{HasCome}
+use Rattle.cli_base.specs.Script.{Reading, Bytes, Script, Read, Runs, AsTold, ByDesk, limit}
+use Rattle.cli_base.proofs.Begun.{begun_on}
 use Rattle.cli_base.proofs.Statuses.{differ, of_no_kind, status_in}
 
 -- the desk over a longer time
-longer : (held h : Option (List File)) (a b c d : ℕ) (name : List ℕ) (reading : Reading) → h ≡ held → a ≤ b → c ≤ d → ByDesk h (Rose b c) name reading →
+pub longer : (held h : Option (List File)) (a b c d : ℕ) → h ≡ held → a ≤ b → c ≤ d → (name : List ℕ) (reading : Reading) → ByDesk h (Rose b c) name reading →
     ByDesk held (Rose a d) name reading
-longer held h a b c d name reading same before after (inl told) = inl (subst (λ x. AsTold x name reading) same told)
-longer held h a b c d name reading same before after (inr (fault, rose)) = inr (fault, omega (arith, rose))
-
-longer_may : (held h : Option (List File)) (a b c d : ℕ) (script : Script) (due : Outcome) → h ≡ held → a ≤ b → c ≤ d → May (ByDesk h (Rose b c)) script due →
-    May (ByDesk held (Rose a d)) script due
-longer_may held h a b c d (Ends verdicts) due same before after may = may
-longer_may held h a b c d (Read name next) due same before after (inl (reading, there, stop)) =
-    inl (reading, longer held h a b c d name reading same before after there, stop)
-longer_may held h a b c d (Read name next) due same before after (inr (bytes, there, rest)) =
-    inr (bytes, longer held h a b c d name (Bytes bytes) same before after there, longer_may held h a b c d (next bytes) due same before after rest)
+longer held h a b c d same before after name reading (inl told) = inl (subst (λ x. AsTold x name reading) same told)
+longer held h a b c d same before after name reading (inr (fault, rose)) = inr (fault, omega (arith, rose))
 
 -- after a file was read, what comes of the rest
-pub gone_on : (held h : Option (List File)) (a b c : ℕ) (name bytes : List ℕ) (next : List ℕ → Script) (due : Outcome) → h ≡ held → a ≤ b → b ≤ c
-    → ByDesk held (Rose a b) name (Bytes bytes) → MayOrMemory (ByDesk h (Rose b c)) (next bytes) due → MayOrMemory (ByDesk held (Rose a c)) (Read name next) due
-gone_on held h a b c name bytes next due same before after there (inl may) =
-    inl (inr (
-      bytes,
-      longer held held a a b c name (Bytes bytes) refl (omega arith) after there,
-      longer_may held h a b c c (next bytes) due same before (omega arith) may,
-    ))
-gone_on held h a b c name bytes next due same before after there (inr memory) = inr memory
+pub gone_on : {x y z : Served} (held h : Option (List File)) (a b c : ℕ) (name bytes : List ℕ) (next : List ℕ → Script) (due : Outcome) → h ≡ held → a ≤ b →
+    b ≤ c → y.begins ≡ one_more x.begins → ByDesk held (Rose a b) name (Bytes bytes) → HasCome (ByDesk h (Rose b c)) y z (Runs (next bytes)) due →
+    HasCome (ByDesk held (Rose a c)) x z (Runs (Read name next)) due
+gone_on held h a b c name bytes next due same before after one there come =
+    begun_on (ByDesk h (Rose b c)) (ByDesk held (Rose a c)) name bytes next due (longer held h a b c c same before (omega arith)) one
+    (longer held held a a b c refl (omega arith) after name (Bytes bytes) there) come
 
 -- what the desk served of both
 pub accounted_on : {m n : ℕ} (a b c : Served) (status : ℕ) → IsAccountedFor m a b 0 → IsAccountedFor n b c status → IsAccountedFor (m + n) a c status
@@ -60,13 +51,6 @@ accounted_on {m} {n} a b c status first rest = record {
     short = first.short (λ e. omega (arith, e)) unbroken
 
 -- ---- the last file
-
--- after it was read, a verdict
-pub ended_on : (held : Option (List File)) (a b : ℕ) (name bytes : List ℕ) (verdicts : List ℕ → Verdict → Type 0) (due : Outcome)
-    → ByDesk held (Rose a b) name (Bytes bytes) → IsOneOrMemory (verdicts bytes) due
-    → MayOrMemory (ByDesk held (Rose a b)) (Read name (λ bytes. Ends (verdicts bytes))) due
-ended_on held a b name bytes verdicts due there (inl ended) = inl (inr (bytes, there, ended))
-ended_on held a b name bytes verdicts due there (inr memory) = inr memory
 
 -- what the desk served, where the status tells of no file
 pub accounted_as : {n : ℕ} (a b : Served) (status : ℕ) → (status ≡ 12 → ⊥) → (status ≡ 11 → ⊥) → IsAccountedFor n a b 0 → IsAccountedFor n a b status

@@ -1,7 +1,9 @@
 pub mod Outcome
+pub mod Confirmed
 pub mod Script
 pub mod Ends
 pub mod Accounts
+pub mod Begun
 pub mod Due
 pub mod Story
 pub mod Statuses

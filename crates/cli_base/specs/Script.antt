@@ -1,5 +1,5 @@
 -- A command as the files that it reads, one after the other, and what it comes to.
-use Rattle.std.specs.Prelude.{◌≡◌, ◌⊎◌, ℕ, List, length, Contains, Option, None, Some, MatchOption, ◌≢◌, nat_le, if◌then◌else◌, ⊤}
+use Rattle.std.specs.Prelude.{◌≡◌, ◌⊎◌, ℕ, suc, List, length, Contains, Option, None, Some, MatchOption, ◌≢◌, nat_le, if◌then◌else◌, ⊤}
 use Rattle.irv_base.specs.declared.limits.TheConstants.{MOST_FILE_BYTES}
 use Rattle.desk.specs.Desk.{File, held_bytes}
 use Rattle.cli_base.specs.Outcome.{Outcome, Verdict, Answered, Refused, outcome, bad_words, read_fault, out_of_memory, too_long, no_such_file}
@@ -65,6 +65,14 @@ May readings (Read name next) due =
     MayStop readings name due
     ⊎ ((bytes : List ℕ) × readings name (Bytes bytes) × May readings (next bytes) due)
 
+-- A script may come to this once it has begun so many files, each once: all of them are read, or the last one stops it.
+abbrev pub MayAfter : Readings → Script → ℕ → Outcome → Type 0
+MayAfter readings (Ends verdicts) files due = (files ≡ 0) × May readings (Ends verdicts) due
+MayAfter readings (Read name next) files due =
+    ((files ≡ 1) × MayStop readings name due)
+    ⊎ ((more : ℕ) × (files ≡ suc more) × (bytes : List ℕ) × readings name (Bytes bytes)
+    × MayAfter readings (next bytes) more due)
+
 -- a script may come to this, or memory runs out
 abbrev pub MayOrMemory : Readings → Script → Outcome → Type 0
 MayOrMemory readings script due = May readings script due ⊎ (due ≡ out_of_memory)
@@ -75,6 +83,14 @@ Reaches readings (Ends verdicts) name = ⊥
 Reaches readings (Read first next) name =
     (first ≡ name)
     ⊎ ((bytes : List ℕ) × readings first (Bytes bytes) × Reaches readings (next bytes) name)
+
+-- A script comes to read this file as its n-th, all before it being read.
+abbrev pub ReachesAs : Readings → Script → ℕ → List ℕ → Type 0
+ReachesAs readings (Ends verdicts) n name = ⊥
+ReachesAs readings (Read first next) n name =
+    ((n ≡ 1) × (first ≡ name))
+    ⊎ ((more : ℕ) × (n ≡ suc more) × (bytes : List ℕ) × readings first (Bytes bytes)
+    × ReachesAs readings (next bytes) more name)
 
 -- A script reads all its files, and may end with this verdict.
 abbrev pub Concludes : Readings → Script → Verdict → Type 0
@@ -94,6 +110,11 @@ abbrev pub MayCome : Readings → Asked → Outcome → Type 0
 MayCome readings Nothing due = due ≡ bad_words
 MayCome readings (Runs script) due = May readings script due
 
+-- What is asked for may come to this, once so many files are begun.
+abbrev pub MayComeAfter : Readings → Asked → ℕ → Outcome → Type 0
+MayComeAfter readings Nothing files due = (files ≡ 0) × (due ≡ bad_words)
+MayComeAfter readings (Runs script) files due = MayAfter readings script files due
+
 -- what is asked for may come to this, or memory runs out
 abbrev pub IsDue : Readings → Asked → Outcome → Type 0
 IsDue readings asked due = MayCome readings asked due ⊎ (due ≡ out_of_memory)
@@ -102,6 +123,11 @@ IsDue readings asked due = MayCome readings asked due ⊎ (due ≡ out_of_memory
 abbrev pub ComesToRead : Readings → Asked → List ℕ → Type 0
 ComesToRead readings Nothing name = ⊥
 ComesToRead readings (Runs script) name = Reaches readings script name
+
+-- a command is run that comes to read this file as its n-th, all before it being read
+abbrev pub ComesToReadAs : Readings → Asked → ℕ → List ℕ → Type 0
+ComesToReadAs readings Nothing n name = ⊥
+ComesToReadAs readings (Runs script) n name = ReachesAs readings script n name
 
 -- a command is run that reads all its files, and comes to this verdict
 abbrev pub ComesTo : Readings → Asked → Verdict → Type 0

@@ -1,8 +1,10 @@
 -- When each status comes, and what the sinks then took.
 use Rattle.std.specs.Prelude.{◌≡◌, ◌≢◌, ◌⊎◌, ℕ, List, Option, IfSome, ⊤}
 use Rattle.desk.specs.Desk.{File}
+use Rattle.desk.specs.declared.served.Served.{Served}
+use Rattle.cli_base.specs.Begun.{HasBegun, HasCome}
 use Rattle.cli_base.specs.Outcome.{Outcome, status_of, Answered, Refused, read_fault, out_of_memory}
-use Rattle.cli_base.specs.Script.{Asked, Nothing, Runs, Readings, Reading, TooLong, Missing, ByDesk, AsHeld, AsTold, MayCome, IsDue, ComesToRead, ComesTo, IsOfContests}
+use Rattle.cli_base.specs.Script.{Asked, Nothing, Runs, Readings, Reading, TooLong, Missing, ByDesk, AsHeld, AsTold, MayCome, ComesToRead, ComesToReadAs, ComesTo, IsOfContests}
 use Rattle.cli_base.specs.Ends.{Writing, Took, TookPrefix, Failed, HasNewFaults}
 use Rattle.cli_base.specs.declared.outcome.AnswerKind.{AnswerKind}
 use Rattle.cli_base.specs.declared.outcome.AnswerKind.TheVariants.{Done, Tie, Spent, FullCount, Differs, Unconfirmed}
@@ -81,24 +83,28 @@ HasAnswer asked files kind = (text : List ℕ) × ComesTo (AsHeld files) asked (
 abbrev pub TookTexts : Outcome → Writing → Writing → Type 0
 TookTexts due out err = Took out due.out × Took err due.err
 
--- The desk failed at a file that the command reads. Where the desk tells, all before it are held and gone on with.
+-- The desk failed at a file that the command reads, the last one that was begun. Where the desk tells, all before it are held and gone
+-- on with.
 pub record IsReadFault (asked : Asked) (held : Option (List File)) (failed : Type 0)
-    (out err : Writing) : Type 0 where
+    (before after : Served) (out err : Writing) : Type 0 where
   pub cause : failed
+  pub files : ℕ
+  pub begun : HasBegun files before after
   pub name : List ℕ
-  pub reached : ComesToRead (AsTold held) asked name
+  pub reached : ComesToReadAs (AsTold held) asked files name
   pub texts : TookTexts (read_fault name) out err
 
 -- A write failed. The sinks took prefixes of what was due.
-pub record IsWriteFault (readings : Readings) (asked : Asked) (out err : Writing) : Type 0 where
+pub record IsWriteFault (readings : Readings) (before after : Served) (asked : Asked)
+    (out err : Writing) : Type 0 where
   pub cause : Failed out ⊎ Failed err
   pub due : Outcome
-  pub is_due : IsDue readings asked due
+  pub come : HasCome readings before after asked due
   pub to_out : TookPrefix out due.out
   pub to_err : TookPrefix err due.err
 
-pub record Statuses (asked : Asked) (held : Option (List File)) (failed : Type 0) (status : ℕ)
-    (out err : Writing) : Type 0 where
+pub record Statuses (asked : Asked) (held : Option (List File)) (failed : Type 0)
+    (before after : Served) (status : ℕ) (out err : Writing) : Type 0 where
   -- there is no other
   pub known : IsStatus status
   pub done : IfSome held (λ files. ExactlyInBudget 0 status (HasAnswer asked files Done))
@@ -108,8 +114,8 @@ pub record Statuses (asked : Asked) (held : Option (List File)) (failed : Type 0
   pub spent : IfSome held (λ files. status ≡ 4 → HasAnswer asked files Spent)
   pub full_count : IfSome held (λ files. ExactlyInBudget 5 status (HasAnswer asked files FullCount))
   pub differs : IfSome held (λ files. Exactly 6 status (HasAnswer asked files Differs))
-  pub read_fault : status ≡ 7 → IsReadFault asked held failed out err
-  pub write_fault : status ≡ 8 → IsWriteFault (ByDesk held failed) asked out err
+  pub read_fault : status ≡ 7 → IsReadFault asked held failed before after out err
+  pub write_fault : status ≡ 8 → IsWriteFault (ByDesk held failed) before after asked out err
   -- no write that failed is passed over
   pub write_told : HasNewFaults out ⊎ HasNewFaults err → status ≡ 8
   -- it may come at any time
@@ -126,14 +132,14 @@ IsExact asked held status =
 
 -- The statuses of an audit of several contests.
 pub record ContestsStatuses (asked : Asked) (held : Option (List File)) (failed : Type 0)
-    (status : ℕ) (out err : Writing) : Type 0 where
+    (before after : Served) (status : ℕ) (out err : Writing) : Type 0 where
   pub known : IsStatus status
   pub done : IfSome held (λ files. ExactlyInContests 0 status (HasAnswer asked files Done))
   pub refused : IfSome held (λ files. ExactlyInContests 2 status (IsRefused asked files))
   pub unconfirmed : IfSome held (λ files.
       ExactlyInContests 10 status (HasAnswer asked files Unconfirmed))
-  pub read_fault : status ≡ 7 → IsReadFault asked held failed out err
-  pub write_fault : status ≡ 8 → IsWriteFault (ByDesk held failed) asked out err
+  pub read_fault : status ≡ 7 → IsReadFault asked held failed before after out err
+  pub write_fault : status ≡ 8 → IsWriteFault (ByDesk held failed) before after asked out err
   pub write_told : HasNewFaults out ⊎ HasNewFaults err → status ≡ 8
   pub memory : status ≡ 9 → TookTexts out_of_memory out err
   pub too_long : IfSome held (λ files. Exactly 11 status (HasFile asked files TooLong))

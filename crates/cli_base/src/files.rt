@@ -1,6 +1,6 @@
 // Files are read whole, or refused.
 ghost use Rattle.std.specs.Prelude.{◌≡◌, ◌≤◌, ◌++◌, IfOk, string_bytes, codes};
-ghost use Rattle.desk.specs.Count.{Rose};
+ghost use Rattle.desk.specs.Count.{one_more, Rose};
 ghost use Rattle.cli_base.specs.Script.{ByDesk};
 ghost use Rattle.cli_base.specs.Outcome.{line, file_refusal, broken_at};
 ghost use Rattle.cli_base.specs.Accounts.{IsAccountedFor};
@@ -18,6 +18,7 @@ pub fn read_file<D: Desk>(alloc: Global, desk: &mut D, file: &str) -> Result<Vec
     ensures later { D.faults desk.old ≤ D.faults desk.new }
     ensures read { IsRead
         (ByDesk (D.held desk.old) (Rose (D.faults desk.old) (D.faults desk.new))) file.now result }
+    ensures begun { (D.served desk.new).begins ≡ one_more (D.served desk.old).begins }
     ensures served { IsAccountedFor 1
         (D.served desk.old) (D.served desk.new) (status_so_far result) }
 {

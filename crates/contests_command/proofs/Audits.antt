@@ -6,6 +6,7 @@ use Rattle.manifest.specs.Cards.{Batches}
 use Rattle.manifest.specs.Manifest.{manifest_of}
 use Rattle.seen_file.specs.Seen.{Entry}
 use Rattle.contest_set.specs.SeenBy.{seen_by}
+use Rattle.cli_base.specs.Confirmed.{confirmed_kind}
 use Rattle.cli_base.specs.Outcome.{Outcome, Verdict, Answered, Refused, broken_at, outcome}
 use Rattle.cli_base.specs.Due.{IsOneOrMemory, IsOrMemory}
 use Rattle.cli_base.specs.Script.{Script, Agree, AreOfKind, IsOfContests, IsOfKind, SameButContests}
@@ -17,11 +18,11 @@ use Rattle.input_files.specs.Judged.{told, go_on}
 use Rattle.input_files.specs.Refusals.{no_record_text, refused_ballots, refused_manifest, refused_seen}
 use Rattle.input_files.proofs.Going.{go_on-kinds, told-only}
 use Rattle.contests_command.specs.Table.{all_signed, contests_table}
-use Rattle.contests_command.specs.Contests.{Audits, after_ballots, after_manifest, kind_of, kinds, script}
+use Rattle.contests_command.specs.Contests.{Audits, after_ballots, after_manifest, kinds, script}
 
 -- ---- the kinds of its answers
 
-all-kind : (all : Bool) (text : List ℕ) → IsOfKind kinds (Answered (kind_of all) text)
+all-kind : (all : Bool) (text : List ℕ) → IsOfKind kinds (Answered (confirmed_kind all) text)
 all-kind true text = among kinds Done refl
 all-kind false text = among kinds Unconfirmed refl
 
@@ -56,7 +57,7 @@ go_on-agrees (Err verdict) next each = λ v w p q. inl (ap outcome (p ∙ sym q)
 abbrev status_after : Verdict → ℕ
 status_after verdict = (outcome verdict).status
 
-told-status : (all : Bool) (text : List ℕ) → IsOfContests (status_after (Answered (kind_of all) text))
+told-status : (all : Bool) (text : List ℕ) → IsOfContests (status_after (Answered (confirmed_kind all) text))
 told-status true text = inl refl
 told-status false text = inr (inr refl)
 

@@ -1,33 +1,10 @@
--- The lines of the claims of a contest, and the blocks of the contests, one after the other.
-use Rattle.std.proofs.Common.{◌≡◌, ℕ, zero, suc, ◌+◌, ◌*◌, ◌<◌, nat_le, List, [], ◌∷◌, ◌++◌, drop, get_or, length, refl, sym, ap, ◌∙◌, append_assoc, arith}
+-- The blocks of the contests, one after the other.
+use Rattle.std.proofs.Common.{◌≡◌, ℕ, zero, suc, ◌+◌, ◌<◌, List, [], ◌∷◌, ◌++◌, drop, get_or, length, refl, sym, ap, ◌∙◌, append_assoc, arith}
 use Rattle.std.specs.List.{AllZip}
 use Rattle.std.proofs.lemmas.List.{drop_more}
-use Rattle.irv_base.specs.Names.{Id}
-use Rattle.assertions.specs.declared.assertion.Claim.{Claim}
 use Rattle.ballot_reader.specs.Ballots.{BallotFile}
-use Rattle.km_risk.specs.declared.draws.Counts.{Counts}
-use Rattle.km_risk.specs.declared.limits.TheConstants.{MILLIONTH}
-use Rattle.report.specs.Texts.{assertion_text}
 use Rattle.contest_set.specs.declared.end.ContestEnd.{ContestEnd}
-use Rattle.contests_command.specs.Table.{block, blocks, claim_line, claim_lines}
-
-module _ (ids : List Id) (limit : ℕ) (claims : List Claim) (counts : List Counts) (risks : List ℕ) where
-  -- those of the claims from index j on
-  abbrev pub lines_from : ℕ → List ℕ
-  lines_from j = claim_lines ids limit (drop j claims) (drop j counts) (drop j risks)
-
-  pub line_more : (j : ℕ) (claim : Claim) (n : Counts) (risk : ℕ) (text told whole : List ℕ) →
-      j < length claims → j < length counts → j < length risks →
-      claim ≡ get_or claims j claim → n ≡ get_or counts j n → risk ≡ get_or risks j risk →
-      told ≡ text ++ claim_line (assertion_text ids claim.assertion) claim.margin n risk (nat_le risk (limit * MILLIONTH)) →
-      text ++ lines_from j ≡ whole → told ++ lines_from (j + 1) ≡ whole
-  line_more j claim n risk text told whole within within' within'' is is' is'' line so_far =
-      let first : drop j claims ≡ claim ∷ drop (j + 1) claims = drop_more claims j claim within ∙ ap (λ x. x ∷ drop (j + 1) claims) (sym is) in
-      let second : drop j counts ≡ n ∷ drop (j + 1) counts = drop_more counts j n within' ∙ ap (λ x. x ∷ drop (j + 1) counts) (sym is') in
-      let third : drop j risks ≡ risk ∷ drop (j + 1) risks = drop_more risks j risk within'' ∙ ap (λ x. x ∷ drop (j + 1) risks) (sym is'') in
-      let own : List ℕ = claim_line (assertion_text ids claim.assertion) claim.margin n risk (nat_le risk (limit * MILLIONTH)) in
-      let left : lines_from j ≡ own ++ lines_from (j + 1) = (λ i. claim_lines ids limit (first i) (second i) (third i)) in
-      ap (λ t. t ++ lines_from (j + 1)) line ∙ append_assoc text own (lines_from (j + 1)) ∙ ap (λ t. text ++ t) (sym left) ∙ so_far
+use Rattle.contests_command.specs.Table.{block, blocks}
 
 module _ (limit : ℕ) (list : List BallotFile) (ends : List ContestEnd) where
   -- those of the contests from index i on

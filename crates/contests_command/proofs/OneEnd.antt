@@ -9,6 +9,7 @@ use Rattle.manifest.specs.Linked.{linked_of}
 use Rattle.seen_file.specs.Seen.{Entry}
 use Rattle.audit_session.specs.Refusals.{without_record}
 use Rattle.audit_session.specs.declared.fault.AdvanceFault.TheVariants.{NoRecord}
+use Rattle.cli_base.specs.Confirmed.{confirmed_kind}
 use Rattle.cli_base.specs.Outcome.{Verdict, Answered, Refused}
 use Rattle.command.specs.declared.contests.ContestsTask.{ContestsTask}
 use Rattle.contest_search.specs.Budget.{nodes_for}
@@ -23,7 +24,7 @@ use Rattle.contest_set.proofs.EndsEach.{one_end}
 use Rattle.input_files.specs.Refusals.{no_card, no_record_text}
 use Rattle.report.specs.Ends.{tie_text}
 use Rattle.report.specs.Risks.{signed_off_line}
-use Rattle.contests_command.specs.Contests.{Audits, IsUnspent, SufficeFor, kind_of, terms_of}
+use Rattle.contests_command.specs.Contests.{Audits, IsUnspent, SufficeFor, terms_of}
 use Rattle.contests_command.specs.Table.{all_signed, audited_lines, block, blocks, contest_line, end_lines, is_signed, last_line}
 
 -- ---- one contest
@@ -172,4 +173,4 @@ module _ (task : ContestsTask) (list : List BallotFile) (batches : Batches) (see
       a.refused ∙ (λ i. Refused task.seen (no_record_text (card i) (k i))) ∙ sym b.refused
   audits_one v w (inr (inr a)) (inr (inr b)) =
       let (same, signed) = all_tell_same batches terms task.limit list seen a.ends b.ends suffice a.are b.are in
-      a.told ∙ (λ i. Answered (kind_of (signed i)) (same i ++ last_line (signed i))) ∙ sym b.told
+      a.told ∙ (λ i. Answered (confirmed_kind (signed i)) (same i ++ last_line (signed i))) ∙ sym b.told

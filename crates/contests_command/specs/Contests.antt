@@ -1,5 +1,5 @@
 -- `contests BALLOTS MANIFEST SEEN`: all contests of a ballot file, audited on one sample of cards.
-use Rattle.std.specs.Prelude.{◌≡◌, ◌⊎◌, ◌≤◌, ℕ, Bool, true, false, List, [], ◌∷◌, length, None, Some, IsTrue, ⊤}
+use Rattle.std.specs.Prelude.{◌≡◌, ◌⊎◌, ◌≤◌, ℕ, List, [], ◌∷◌, length, None, Some, IsTrue, ⊤}
 use Rattle.irv_base.specs.Names.{all_differ}
 use Rattle.ballot_reader.specs.Ballots.{BallotFile}
 use Rattle.ballot_reader.specs.Grammar.{contests_of}
@@ -15,6 +15,7 @@ use Rattle.contest_set.specs.SeenBy.{contest_ids, seen_by}
 use Rattle.contest_set.specs.declared.end.ContestEnd.{ContestEnd}
 use Rattle.contest_set.specs.declared.end.ContestEnd.TheVariants.{Tied, Spent, Audited}
 use Rattle.contest_set.specs.declared.terms.SharedTerms.{SharedTerms}
+use Rattle.cli_base.specs.Confirmed.{confirmed_kind}
 use Rattle.cli_base.specs.Outcome.{Verdict, Answered, Refused}
 use Rattle.cli_base.specs.Script.{Script, Read, Ends}
 use Rattle.cli_base.specs.declared.outcome.AnswerKind.{AnswerKind}
@@ -36,11 +37,6 @@ terms_of task = record {
   workers = task.workers;
   nodes = task.nodes;
 }
-
--- all contests are signed off
-abbrev pub kind_of : Bool → AnswerKind
-kind_of true = Done
-kind_of false = Unconfirmed
 
 -- with what is seen for each contest
 module _ (task : ContestsTask) (list : List BallotFile) (batches : Batches)
@@ -66,7 +62,7 @@ module _ (task : ContestsTask) (list : List BallotFile) (batches : Batches)
     pub ends : List ContestEnd
     pub are : AreEnds batches (terms_of task) list seen ends
     pub told : verdict
-        ≡ Answered (kind_of (all_signed ends)) (contests_table task.limit list ends)
+        ≡ Answered (confirmed_kind (all_signed ends)) (contests_table task.limit list ends)
 
   abbrev pub Audits : Verdict → Type 0
   Audits verdict = IsUnplaced verdict ⊎ IsUnseen verdict ⊎ IsTold verdict

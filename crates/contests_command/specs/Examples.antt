@@ -3,9 +3,9 @@ use Rattle.std.specs.Prelude.{ℕ, List, [], ◌∷◌, codes}
 use Rattle.ballot_reader.specs.Ballots.{BallotFile}
 use Rattle.irv_base.specs.Names.{Id}
 
--- two candidates, whose ballots don't matter to what is told
-abbrev pub contest_named : Id → BallotFile
-contest_named id = record {
+-- a contest with this id, whose ballots don't matter to what is told
+abbrev pub of_two_candidates : Id → BallotFile
+of_two_candidates id = record {
   contest = id;
   candidates = codes "1" ∷ codes "2" ∷ [];
   ids = [];

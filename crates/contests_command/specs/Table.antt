@@ -10,6 +10,7 @@ use Rattle.assertion_file.specs.Content.{Content}
 use Rattle.assertion_file.specs.Ids.{id_of}
 use Rattle.km_risk.specs.declared.draws.Counts.{Counts}
 use Rattle.km_risk.specs.declared.limits.TheConstants.{MILLIONTH}
+use Rattle.report.specs.Claims.{claim_lines}
 use Rattle.report.specs.Ends.{spent_text, tie_text}
 use Rattle.report.specs.Risks.{counts_text, risk_text, signed_off_line, state_end, yes_or_no}
 use Rattle.report.specs.Texts.{assertion_text}
@@ -23,15 +24,11 @@ claim_line assertion margin counts risk confirmed =
     assertion ++ codes " margin " ++ decimal margin ++ codes " counts " ++ counts_text counts
     ++ codes " risk " ++ risk_text risk ++ state_end confirmed
 
--- each claim with its margin, its counts and its risk; it is confirmed where the risk is at most limit millionths
-abbrev pub claim_lines : List Id → ℕ → List Claim → List Counts → List ℕ → List ℕ
-claim_lines ids limit [] counts risks = []
-claim_lines ids limit (claim ∷ claims) [] risks = []
-claim_lines ids limit (claim ∷ claims) (n ∷ counts) [] = []
-claim_lines ids limit (claim ∷ claims) (n ∷ counts) (risk ∷ risks) =
-    claim_line (assertion_text ids claim.assertion) claim.margin n risk
+-- by these ids; it is confirmed where the risk is at most limit millionths
+abbrev pub line_of : List Id → ℕ → Claim → Counts → ℕ → List ℕ
+line_of ids limit claim counts risk =
+    claim_line (assertion_text ids claim.assertion) claim.margin counts risk
     (nat_le risk (limit * MILLIONTH))
-    ++ claim_lines ids limit claims counts risks
 
 -- ---- a contest
 
@@ -47,7 +44,7 @@ winner_lines records winner margin =
 abbrev pub audited_lines : ℕ → Content → List Counts → List ℕ → List ℕ
 audited_lines limit file counts risks =
     winner_lines file.records (id_of file.candidates file.winner) file.margin
-    ++ claim_lines file.candidates limit file.claims counts risks
+    ++ claim_lines (line_of file.candidates limit) file.claims counts risks
 
 -- how it ends: with its winner and the claims, or as a search that has no certificate
 abbrev pub end_lines : ℕ → BallotFile → ContestEnd → List ℕ

@@ -4,19 +4,21 @@ ghost use Rattle.std.specs.List.{AllZip};
 ghost use Rattle.desk.specs.Count.{Rose};
 ghost use Rattle.irv_base.specs.Names.{all_differ};
 ghost use Rattle.cli_base.specs.Accounts.{IsAccountedFor};
+ghost use Rattle.cli_base.specs.Confirmed.{confirmed_kind};
+ghost use Rattle.cli_base.specs.Begun.{HasCome};
 ghost use Rattle.cli_base.specs.Due.{due, IsOneOrMemory};
 ghost use Rattle.cli_base.specs.Outcome.{Answered};
-ghost use Rattle.cli_base.specs.Script.{ByDesk, MayOrMemory};
+ghost use Rattle.cli_base.specs.Script.{ByDesk, Runs};
 ghost use Rattle.command.specs.Contests.{IsWithinLimits};
 ghost use Rattle.contest_set.specs.SeenBy.{contest_ids, seen_by};
 ghost use Rattle.input_files.specs.Judged.{IsStopped, told};
 ghost use Rattle.input_files.specs.Refusals.{refused_seen};
-ghost use Rattle.contests_command.specs.Contests.{AreContests, Audits, after_ballots, after_manifest, kind_of, script, terms_of};
+ghost use Rattle.contests_command.specs.Contests.{AreContests, Audits, after_ballots, after_manifest, script, terms_of};
 ghost use Rattle.contests_command.specs.Table.{CanBeTold, all_signed, contests_table};
 
 use crate::table::{all_signed, contests_table};
 use ballot_reader::Ballots;
-use cli_base::{Answer, AnswerKind, Refusal, refuse_at};
+use cli_base::{Answer, Refusal, confirmed_kind, refuse_at};
 use command::{ContestsTask, FileName};
 use contest_set::{ContestEnd, SetFault, SharedTerms, audit_all, read_seen_by};
 use desk::{Desk, Gate};
@@ -36,9 +38,10 @@ pub fn answer<R: AllocGlobal + Threads + Sync, D: Desk, G: Gate + Sync>(
     requires { IsWithinLimits task.now }
     ensures held { D.held desk.new ≡ D.held desk.old }
     ensures later { D.faults desk.old ≤ D.faults desk.new }
-    ensures due { MayOrMemory
+    ensures due { HasCome
         (ByDesk (D.held desk.old) (Rose (D.faults desk.old) (D.faults desk.new)))
-        (script task.now) (due result) }
+        (D.served desk.old) (D.served desk.new)
+        (Runs (script task.now)) (due result) }
     ensures served { IsAccountedFor 3 (D.served desk.old) (D.served desk.new) (due result).status }
 {
     let alloc = rt.alloc();
@@ -59,9 +62,10 @@ fn after_ballots<R: AllocGlobal + Threads + Sync, D: Desk, G: Gate + Sync>(
     requires contests { AreContests list.now }
     ensures held { D.held desk.new ≡ D.held desk.old }
     ensures later { D.faults desk.old ≤ D.faults desk.new }
-    ensures due { MayOrMemory
+    ensures due { HasCome
         (ByDesk (D.held desk.old) (Rose (D.faults desk.old) (D.faults desk.new)))
-        (after_ballots task.now list.now) (due result) }
+        (D.served desk.old) (D.served desk.new)
+        (Runs (after_ballots task.now list.now)) (due result) }
     ensures served { IsAccountedFor 2 (D.served desk.old) (D.served desk.new) (due result).status }
 {
     let alloc = rt.alloc();
@@ -83,9 +87,10 @@ fn after_manifest<R: AllocGlobal + Threads + Sync, D: Desk, G: Gate + Sync>(
     requires contests { AreContests list.now }
     ensures held { D.held desk.new ≡ D.held desk.old }
     ensures later { D.faults desk.old ≤ D.faults desk.new }
-    ensures due { MayOrMemory
+    ensures due { HasCome
         (ByDesk (D.held desk.old) (Rose (D.faults desk.old) (D.faults desk.new)))
-        (after_manifest task.now list.now batches.now) (due result) }
+        (D.served desk.old) (D.served desk.new)
+        (Runs (after_manifest task.now list.now batches.now)) (due result) }
     ensures served { IsAccountedFor 1 (D.served desk.old) (D.served desk.new) (due result).status }
 {
     let alloc = rt.alloc();
@@ -170,16 +175,11 @@ fn told(
 ) -> Result<Answer, Refusal>
     requires limits { IsWithinLimits task.now }
     requires told { AllZip CanBeTold list.now ends.now }
-    ensures { IsOneOrMemory (λ verdict. verdict ≡ Answered (kind_of (all_signed ends.now))
+    ensures { IsOneOrMemory (λ verdict. verdict ≡ Answered (confirmed_kind (all_signed ends.now))
         (contests_table task.now.limit list.now ends.now)) (due result) }
 {
-    let kind = if all_signed(ends) {
-        AnswerKind::Done
-    } else {
-        AnswerKind::Unconfirmed
-    };
     Ok(Answer {
-        kind,
+        kind: confirmed_kind(all_signed(ends)),
         text: contests_table(alloc, list, ends, task.limit)?,
     })
 }

@@ -1,13 +1,12 @@
 // What an audit of all contests tells.
-ghost use Rattle.std.specs.Prelude.{◌≡◌, ◌≤◌, ◌++◌, ◌*◌, length, nat_le, codes, IfOk, IsTrue, string_bytes};
+ghost use Rattle.std.specs.Prelude.{◌≡◌, ◌≤◌, ◌++◌, length, codes, IfOk, IsTrue, string_bytes};
 ghost use Rattle.std.specs.Fmt.{decimal};
 ghost use Rattle.std.specs.List.{AllZip};
 ghost use Rattle.irv_base.specs.declared.limits.TheConstants.{GREATEST_LIMIT, ROOM};
-ghost use Rattle.km_risk.specs.declared.limits.TheConstants.{MILLIONTH};
 ghost use Rattle.assertions.specs.Assertions.{is_proper};
+ghost use Rattle.report.specs.Claims.{claim_lines};
 ghost use Rattle.report.specs.Risks.{yes_or_no};
-ghost use Rattle.report.specs.Texts.{assertion_text};
-ghost use Rattle.contests_command.specs.Table.{CanBeTold, all_signed, audited_lines, block, blocks, claim_line, claim_lines, contest_line, contests_table, end_lines, is_signed, last_line, winner_lines};
+ghost use Rattle.contests_command.specs.Table.{CanBeTold, all_signed, audited_lines, block, blocks, claim_line, contest_line, contests_table, end_lines, is_signed, last_line, line_of, winner_lines};
 
 use assertion_file::{AssertionFile, id_of};
 use assertions::Claim;
@@ -63,8 +62,7 @@ fn add_claim(
     requires proper { IsTrue (is_proper (length names.now) claim.now.assertion) }
     requires limit { limit ≤ GREATEST_LIMIT }
     ensures { IfOk result (λ _. string_bytes text.new ≡ string_bytes text.old
-        ++ claim_line (assertion_text names.now claim.now.assertion) claim.now.margin counts.now
-        risk (nat_le risk (limit * MILLIONTH))) }
+        ++ line_of names.now limit claim.now counts.now risk) }
 {
     let assertion = assertion_text(alloc, names, &claim.assertion)?;
     add_line(
@@ -91,7 +89,7 @@ fn add_claims(
     requires risks { length risks.now ≡ length f.now.claims }
     requires limit { limit ≤ GREATEST_LIMIT }
     ensures { IfOk result (λ _. string_bytes text.new ≡ string_bytes text.old
-        ++ claim_lines f.now.candidates limit f.now.claims counts.now risks.now) }
+        ++ claim_lines (line_of f.now.candidates limit) f.now.claims counts.now risks.now) }
 {
     let names = f.candidates();
     let claims = f.claims();

@@ -1,7 +1,7 @@
 -- A command goes on with what a file says, or stops.
 use Rattle.std.proofs.Common.{◌≡◌, ◌⊎◌, inl, inr, ℕ, ◌+◌, ◌≤◌, List, Option, None, Some, IfSome, option_map, Result, Ok, Err, refl, sym, ap, subst, ◌∙◌, arith}
 use Rattle.std.specs.Prelude.{⊤}
-use Rattle.desk.specs.Count.{Rose}
+use Rattle.desk.specs.Count.{Rose, one_more}
 use Rattle.desk.specs.Desk.{File}
 use Rattle.desk.specs.declared.served.Served.{Served}
 use Rattle.cli_base.specs.Outcome.{Outcome, Verdict, Answered, Refused, outcome}
@@ -9,7 +9,9 @@ use Rattle.cli_base.specs.Accounts.{IsAccountedFor}
 use Rattle.cli_base.specs.Due.{due_refusal}
 use Rattle.cli_base.specs.declared.outcome.AnswerKind.{AnswerKind}
 use Rattle.cli_base.specs.declared.outcome.Refusal.{Refusal as Stop}
-use Rattle.cli_base.specs.Script.{Bytes, Readings, Script, Read, ByDesk, May, MayOrMemory, Agree, AreOfKind, IsOfKind, Same}
+use Rattle.cli_base.specs.Begun.{HasCome}
+use Rattle.cli_base.specs.Script.{Bytes, Readings, Script, Read, Runs, ByDesk, Agree, AreOfKind, IsOfKind, Same}
+use Rattle.cli_base.proofs.Begun.{EndsNow, begun_on, come_now, memory_now}
 use Rattle.cli_base.proofs.Statuses.{status_in}
 use Rattle.cli_base.proofs.Steps.{accounted_as, gone_on}
 use Rattle.ballot_reader.specs.Ballots.{BallotFile}
@@ -20,40 +22,47 @@ use Rattle.input_files.specs.Cards.{cards_for, without_card}
 use Rattle.input_files.specs.Refusals.{no_card, refused_manifest}
 use Rattle.input_files.specs.Judged.{told, unless, then_judged, go_on, IsStopped}
 
+-- ---- what is judged
+
+pub judged_on : {A : Type 0} {x y : Served} (readings : Readings) (judged : Result A Verdict) (next : A → Script) (value : A) (due : Outcome) →
+    judged ≡ Ok value → HasCome readings x y (Runs (next value)) due → HasCome readings x y (Runs (go_on judged next)) due
+judged_on {A} {x} {y} readings judged next value due is come = subst (λ j. HasCome readings x y (Runs (go_on j next)) due) (sym is) come
+
+pub judged_now : {A : Type 0} (judged : Result A Verdict) (next : A → Script) (value : A) (due : Outcome) → judged ≡ Ok value → EndsNow (next value) due →
+    EndsNow (go_on judged next) due
+judged_now judged next value due is now = subst (λ j. EndsNow (go_on j next) due) (sym is) now
+
+pub stopped_now : {A : Type 0} (judged : Result A Verdict) (next : A → Script) (refusal : Stop) → IsStopped judged refusal →
+    EndsNow (go_on judged next) (due_refusal refusal)
+stopped_now judged next refusal (inl (verdict, is, due)) = subst (λ j. EndsNow (go_on j next) (due_refusal refusal)) (sym is) (inl (verdict, refl, due))
+stopped_now judged next refusal (inr memory) = memory_now (go_on judged next) (due_refusal refusal) memory
+
 -- ---- a file is read and judged
 
-module _ {A : Type 0} (held : Option (List File)) (a b : ℕ) (name bytes : List ℕ) (judged : List ℕ → Result A Verdict) (next : List ℕ → A → Script)
-    (there : ByDesk held (Rose a b) name (Bytes bytes)) where
-  abbrev whole : Script
-  whole = Read name (λ bytes. go_on (judged bytes) (next bytes))
+-- a file is read, and what is judged of it goes on
+abbrev reading : {A : Type 0} → List ℕ → (List ℕ → Result A Verdict) → (List ℕ → A → Script) → Script
+reading name judged next = Read name (λ bytes. go_on (judged bytes) (next bytes))
 
+module _ {A : Type 0} {x y : Served} (held : Option (List File)) (a b : ℕ) (name bytes : List ℕ) (judged : List ℕ → Result A Verdict)
+    (next : List ℕ → A → Script) (begun : y.begins ≡ one_more x.begins) (there : ByDesk held (Rose a b) name (Bytes bytes)) where
   -- the rest reads on
-  pub read_on : (h : Option (List File)) (c : ℕ) (value : A) (due : Outcome) → h ≡ held → a ≤ b → b ≤ c → judged bytes ≡ Ok value →
-      MayOrMemory (ByDesk h (Rose b c)) (next bytes value) due → MayOrMemory (ByDesk held (Rose a c)) whole due
-  read_on h c value due same before after is may =
-      gone_on held h a b c name bytes (λ bytes. go_on (judged bytes) (next bytes)) due same before after there
-      (subst (λ j. MayOrMemory (ByDesk h (Rose b c)) (go_on j (next bytes)) due) (sym is) may)
+  pub read_on : {z : Served} (h : Option (List File)) (c : ℕ) (value : A) (due : Outcome) → h ≡ held → a ≤ b → b ≤ c → judged bytes ≡ Ok value →
+      HasCome (ByDesk h (Rose b c)) y z (Runs (next bytes value)) due → HasCome (ByDesk held (Rose a c)) x z (Runs (reading name judged next)) due
+  read_on {z} h c value due same before after is come =
+      gone_on held h a b c name bytes (λ bytes. go_on (judged bytes) (next bytes)) due same before after begun there
+      (subst (λ j. HasCome (ByDesk h (Rose b c)) y z (Runs (go_on j (next bytes))) due) (sym is) come)
 
   -- the rest reads nothing more
-  pub read_last : (value : A) (due : Outcome) → judged bytes ≡ Ok value → MayOrMemory (ByDesk held (Rose a b)) (next bytes value) due →
-      MayOrMemory (ByDesk held (Rose a b)) whole due
-  read_last value due is (inl may) = inl (inr (bytes, there, subst (λ j. May (ByDesk held (Rose a b)) (go_on j (next bytes)) due) (sym is) may))
-  read_last value due is (inr memory) = inr memory
+  read_now : (due : Outcome) → EndsNow (go_on (judged bytes) (next bytes)) due → HasCome (ByDesk held (Rose a b)) x y (Runs (reading name judged next)) due
+  read_now due now =
+      begun_on (ByDesk held (Rose a b)) (ByDesk held (Rose a b)) name bytes (λ bytes. go_on (judged bytes) (next bytes)) due (λ name reading given. given) begun
+      there (come_now (ByDesk held (Rose a b)) y (go_on (judged bytes) (next bytes)) due now)
 
-  pub read_stopped : (refusal : Stop) → IsStopped (judged bytes) refusal → MayOrMemory (ByDesk held (Rose a b)) whole (due_refusal refusal)
-  read_stopped refusal (inl (verdict, is, due)) =
-      inl (inr (bytes, there, subst (λ j. May (ByDesk held (Rose a b)) (go_on j (next bytes)) (due_refusal refusal)) (sym is) (verdict, refl, due)))
-  read_stopped refusal (inr memory) = inr memory
+  pub read_last : (value : A) (due : Outcome) → judged bytes ≡ Ok value → EndsNow (next bytes value) due → HasCome (ByDesk held (Rose a b)) x y (Runs (reading name judged next)) due
+  read_last value due is now = read_now due (judged_now (judged bytes) (next bytes) value due is now)
 
-pub judged_on : {A : Type 0} (readings : Readings) (judged : Result A Verdict) (next : A → Script) (value : A) (due : Outcome) → judged ≡ Ok value →
-    MayOrMemory readings (next value) due → MayOrMemory readings (go_on judged next) due
-judged_on readings judged next value due is may = subst (λ j. MayOrMemory readings (go_on j next) due) (sym is) may
-
-pub judged_stopped : {A : Type 0} (readings : Readings) (judged : Result A Verdict) (next : A → Script) (refusal : Stop) → IsStopped judged refusal →
-    MayOrMemory readings (go_on judged next) (due_refusal refusal)
-judged_stopped readings judged next refusal (inl (verdict, is, due)) =
-    inl (subst (λ j. May readings (go_on j next) (due_refusal refusal)) (sym is) (verdict, refl, due))
-judged_stopped readings judged next refusal (inr memory) = inr memory
+  pub read_stopped : (refusal : Stop) → IsStopped (judged bytes) refusal → HasCome (ByDesk held (Rose a b)) x y (Runs (reading name judged next)) (due_refusal refusal)
+  read_stopped refusal stopped = read_now (due_refusal refusal) (stopped_now (judged bytes) (next bytes) refusal stopped)
 
 -- ---- what the desk served
 

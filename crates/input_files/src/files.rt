@@ -1,6 +1,6 @@
 // What the bytes of a file say, one function for each kind of file.
 ghost use Rattle.std.specs.Prelude.{◌≡◌, ◌≤◌, Ok, IfOk, IfErr, length, option_copied};
-ghost use Rattle.desk.specs.Count.{Rose};
+ghost use Rattle.desk.specs.Count.{one_more, Rose};
 ghost use Rattle.irv_base.specs.declared.limits.TheConstants.{ROOM};
 ghost use Rattle.assertion_file.specs.Reading.{assertion_file_of};
 ghost use Rattle.ballot_reader.specs.Grammar.{ballots_of, contests_of};
@@ -28,6 +28,7 @@ pub fn bytes_of<D: Desk>(alloc: Global, desk: &mut D, file: &FileName) -> Result
     ensures later { D.faults desk.old ≤ D.faults desk.new }
     ensures read { IsRead
         (ByDesk (D.held desk.old) (Rose (D.faults desk.old) (D.faults desk.new))) file.now result }
+    ensures begun { (D.served desk.new).begins ≡ one_more (D.served desk.old).begins }
     ensures served { IsAccountedFor 1
         (D.served desk.old) (D.served desk.new) (status_so_far result) }
 {

@@ -11,11 +11,12 @@ use Rattle.audit_session.specs.Going.{all_seen, drawn_cards}
 use Rattle.audit_session.specs.Refusals.{unseen_draw}
 use Rattle.polling.specs.Polls.{is_confirmed, is_risk_within, poll_counts, poll_risk}
 use Rattle.polling.specs.declared.counts.PollCounts.{PollCounts}
+use Rattle.cli_base.specs.Confirmed.{confirmed_kind}
 use Rattle.cli_base.specs.Due.{IsOneOrMemory}
 use Rattle.cli_base.specs.Outcome.{Outcome, Verdict, Answered, Refused}
 use Rattle.command.specs.declared.poll.PollTask.{PollTask}
 use Rattle.input_files.specs.Refusals.{no_record_text}
-use Rattle.poll_command.specs.Poll.{Polls, answered, counts, is_yes, kind_of, risks, unseen}
+use Rattle.poll_command.specs.Poll.{Polls, answered, counts, is_yes, risks, unseen}
 use Rattle.poll_command.specs.Table.{poll_table}
 
 -- each risk is within the limit exactly where the claims are confirmed
@@ -28,7 +29,7 @@ all-within limit gamma seen drawn (value ∷ values) =
 module _ (task : PollTask) (batches : Batches) (file : Content) (entries : List Entry) where
   abbrev told : ℕ → List PollCounts → List ℕ → Bool → Verdict
   told cards list printed confirmed =
-      Answered (kind_of confirmed) (poll_table file cards task.draws task.limit task.gamma list printed confirmed)
+      Answered (confirmed_kind confirmed) (poll_table file cards task.draws task.limit task.gamma list printed confirmed)
 
   or-answered : unseen_draw task.seed (length (cards_of batches)) entries task.draws ≡ None →
       answered task batches file entries ≡ unwrap_or (unseen task batches file entries) (answered task batches file entries)

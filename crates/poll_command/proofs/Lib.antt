@@ -3,4 +3,3 @@ pub mod Ending
 pub mod Answered
 pub mod Polls
 pub mod Polled
-pub mod Lines

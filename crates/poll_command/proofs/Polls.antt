@@ -11,6 +11,7 @@ use Rattle.cover_checker.specs.Findings.{assertions_of}
 use Rattle.seen_file.specs.Reading.{seen_of}
 use Rattle.seen_file.specs.Seen.{Entry}
 use Rattle.audit_session.specs.Refusals.{unseen_draw}
+use Rattle.cli_base.specs.Confirmed.{confirmed_kind}
 use Rattle.cli_base.specs.Outcome.{Verdict, Answered, Refused, outcome}
 use Rattle.cli_base.specs.Script.{Script, Agree, AreOfKind, IsOfKind, Same}
 use Rattle.cli_base.specs.declared.outcome.AnswerKind.TheVariants.{Done, Spent, Differs, Unconfirmed}
@@ -19,7 +20,7 @@ use Rattle.command.specs.declared.poll.PollTask.{PollTask}
 use Rattle.input_files.specs.Judged.{told}
 use Rattle.input_files.specs.Refusals.{no_record_text, refused_assertions, refused_manifest, refused_seen}
 use Rattle.input_files.proofs.Going.{go_on-agrees, go_on-kinds, told-only}
-use Rattle.poll_command.specs.Poll.{Polls, after_assertions, after_cover, after_manifest, answered, kind_of, kinds, is_yes, poll_text, script, spent, standing, uncovered, unless_ended, unseen}
+use Rattle.poll_command.specs.Poll.{Polls, after_assertions, after_cover, after_manifest, answered, kinds, is_yes, poll_text, script, spent, standing, uncovered, unless_ended, unseen}
 
 -- ---- one end
 
@@ -56,7 +57,7 @@ uncovered-kind nodes file =
       by None (Some order) = among kinds Differs refl
       by None None = tt
 
-yes-kind : (yes : Bool) (text : List ℕ) → IsOfKind kinds (Answered (kind_of yes) text)
+yes-kind : (yes : Bool) (text : List ℕ) → IsOfKind kinds (Answered (confirmed_kind yes) text)
 yes-kind true text = among kinds Done refl
 yes-kind false text = among kinds Unconfirmed refl
 

@@ -1,5 +1,5 @@
 -- `poll MANIFEST ASSERTIONS SEEN`: whether what is seen of drawn cards confirms the assertions of a file.
-use Rattle.std.specs.Prelude.{◌≡◌, ℕ, Bool, true, false, List, [], ◌∷◌, length, map, Option, None, Some, option_map, unwrap_or}
+use Rattle.std.specs.Prelude.{◌≡◌, ℕ, Bool, List, [], ◌∷◌, length, map, Option, None, Some, option_map, unwrap_or}
 use Rattle.std.specs.Option.{option_or}
 use Rattle.sampler.specs.Draws.{drawn_card}
 use Rattle.manifest.specs.Cards.{Batches, cards_of}
@@ -19,6 +19,7 @@ use Rattle.polling.specs.Polls.{is_confirmed, poll_counts, poll_risk}
 use Rattle.polling.specs.declared.counts.PollCounts.{PollCounts}
 use Rattle.report.specs.Ends.{spent_at}
 use Rattle.report.specs.Texts.{order_text}
+use Rattle.cli_base.specs.Confirmed.{confirmed_kind}
 use Rattle.cli_base.specs.Outcome.{Verdict, Answered, Refused}
 use Rattle.cli_base.specs.declared.outcome.AnswerKind.{AnswerKind}
 use Rattle.cli_base.specs.declared.outcome.AnswerKind.TheVariants.{Done, Spent, Differs, Unconfirmed}
@@ -55,10 +56,6 @@ if_covered nodes file next = unless_ended (uncovered nodes file) next
 
 -- ---- the poll of the cards of a manifest
 
-abbrev pub kind_of : Bool → AnswerKind
-kind_of true = Done
-kind_of false = Unconfirmed
-
 -- with these entries of a seen file
 module _ (task : PollTask) (batches : Batches) (file : Content) (entries : List Entry) where
   abbrev pub cards : ℕ
@@ -93,7 +90,7 @@ module _ (task : PollTask) (batches : Batches) (file : Content) (entries : List 
       (unseen_draw task.seed cards entries task.draws)
 
   abbrev pub answered : Verdict
-  answered = Answered (kind_of is_yes) poll_text
+  answered = Answered (confirmed_kind is_yes) poll_text
 
   -- each drawn card has to be seen; then the poll tells what came of it
   abbrev pub Polls : Verdict → Type 0

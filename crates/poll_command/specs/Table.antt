@@ -1,9 +1,10 @@
 -- What a poll tells: its numbers, the counts and the risk of each claim, and whether all claims are confirmed.
-use Rattle.std.specs.Prelude.{ℕ, Bool, List, [], ◌∷◌, ◌++◌, codes}
+use Rattle.std.specs.Prelude.{ℕ, Bool, List, ◌++◌, codes}
 use Rattle.std.specs.Fmt.{decimal}
 use Rattle.irv_base.specs.Names.{Id}
 use Rattle.assertions.specs.declared.assertion.Claim.{Claim}
 use Rattle.assertion_file.specs.Content.{Content}
+use Rattle.report.specs.Claims.{claim_lines}
 use Rattle.report.specs.Risks.{risk_text, state_end, yes_or_no}
 use Rattle.report.specs.Texts.{assertion_text}
 use Rattle.polling.specs.Polls.{is_risk_within}
@@ -26,14 +27,10 @@ claim_line assertion counts risk confirmed =
     assertion ++ codes " counts " ++ counts_text counts ++ codes " risk " ++ risk_text risk
     ++ state_end confirmed
 
--- each claim with its counts and its risk; it is confirmed where the risk is at most limit millionths
-abbrev pub claim_lines : List Id → ℕ → List Claim → List PollCounts → List ℕ → List ℕ
-claim_lines ids limit [] counts risks = []
-claim_lines ids limit (claim ∷ claims) [] risks = []
-claim_lines ids limit (claim ∷ claims) (n ∷ counts) [] = []
-claim_lines ids limit (claim ∷ claims) (n ∷ counts) (risk ∷ risks) =
-    claim_line (assertion_text ids claim.assertion) n risk (is_risk_within limit risk)
-    ++ claim_lines ids limit claims counts risks
+-- by these ids; it is confirmed where the risk is at most limit millionths
+abbrev pub line_of : List Id → ℕ → Claim → PollCounts → ℕ → List ℕ
+line_of ids limit claim counts risk =
+    claim_line (assertion_text ids claim.assertion) counts risk (is_risk_within limit risk)
 
 -- ---- all of them
 
@@ -45,4 +42,4 @@ module _ (file : Content) (cards draws limit gamma : ℕ) where
   abbrev pub poll_table : List PollCounts → List ℕ → Bool → List ℕ
   poll_table counts risks confirmed =
       head_lines cards draws limit gamma
-      ++ claim_lines file.candidates limit file.claims counts risks ++ last_line confirmed
+      ++ claim_lines (line_of file.candidates limit) file.claims counts risks ++ last_line confirmed

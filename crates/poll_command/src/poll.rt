@@ -2,18 +2,20 @@
 ghost use Rattle.std.specs.Prelude.{◌≡◌, ◌≤◌, length};
 ghost use Rattle.desk.specs.Count.{Rose};
 ghost use Rattle.cli_base.specs.Accounts.{IsAccountedFor};
+ghost use Rattle.cli_base.specs.Confirmed.{confirmed_kind};
+ghost use Rattle.cli_base.specs.Begun.{HasCome};
 ghost use Rattle.cli_base.specs.Due.{due, IsOneOrMemory};
 ghost use Rattle.cli_base.specs.Outcome.{Answered};
-ghost use Rattle.cli_base.specs.Script.{ByDesk, MayOrMemory};
+ghost use Rattle.cli_base.specs.Script.{ByDesk, Runs};
 ghost use Rattle.command.specs.Poll.{IsWithinLimits};
-ghost use Rattle.poll_command.specs.Poll.{Polls, after_cover, after_manifest, kind_of, script};
+ghost use Rattle.poll_command.specs.Poll.{Polls, after_cover, after_manifest, script};
 ghost use Rattle.poll_command.specs.Table.{poll_table};
 
 use crate::cover::unless_covered;
 use crate::table::poll_table;
 use assertion_file::AssertionFile;
 use audit_session::SeenCards;
-use cli_base::{Answer, AnswerKind, Refusal};
+use cli_base::{Answer, Refusal, confirmed_kind};
 use command::PollTask;
 use desk::Desk;
 use input_files::{assertions_in, bytes_of, manifest_in, no_record_text, refuse_for, seen_in};
@@ -26,9 +28,10 @@ pub fn answer<D: Desk>(alloc: Global, desk: &mut D, task: &PollTask) -> Result<A
     requires { IsWithinLimits task.now }
     ensures held { D.held desk.new ≡ D.held desk.old }
     ensures later { D.faults desk.old ≤ D.faults desk.new }
-    ensures due { MayOrMemory
+    ensures due { HasCome
         (ByDesk (D.held desk.old) (Rose (D.faults desk.old) (D.faults desk.new)))
-        (script task.now) (due result) }
+        (D.served desk.old) (D.served desk.new)
+        (Runs (script task.now)) (due result) }
     ensures served { IsAccountedFor 3 (D.served desk.old) (D.served desk.new) (due result).status }
 {
     let bytes = bytes_of(alloc, desk, &task.manifest)?;
@@ -46,9 +49,10 @@ fn after_manifest<D: Desk>(
     requires { IsWithinLimits task.now }
     ensures held { D.held desk.new ≡ D.held desk.old }
     ensures later { D.faults desk.old ≤ D.faults desk.new }
-    ensures due { MayOrMemory
+    ensures due { HasCome
         (ByDesk (D.held desk.old) (Rose (D.faults desk.old) (D.faults desk.new)))
-        (after_manifest task.now batches.now) (due result) }
+        (D.served desk.old) (D.served desk.new)
+        (Runs (after_manifest task.now batches.now)) (due result) }
     ensures served { IsAccountedFor 2 (D.served desk.old) (D.served desk.new) (due result).status }
 {
     let bytes = bytes_of(alloc, desk, &task.assertions)?;
@@ -70,9 +74,10 @@ fn after_cover<D: Desk>(
     requires { IsWithinLimits task.now }
     ensures held { D.held desk.new ≡ D.held desk.old }
     ensures later { D.faults desk.old ≤ D.faults desk.new }
-    ensures due { MayOrMemory
+    ensures due { HasCome
         (ByDesk (D.held desk.old) (Rose (D.faults desk.old) (D.faults desk.new)))
-        (after_cover task.now batches.now file.now) (due result) }
+        (D.served desk.old) (D.served desk.new)
+        (Runs (after_cover task.now batches.now file.now)) (due result) }
     ensures served { IsAccountedFor 1 (D.served desk.old) (D.served desk.new) (due result).status }
 {
     let bytes = bytes_of(alloc, desk, &task.seen)?;
@@ -113,17 +118,12 @@ fn poll_answer(
     requires limits { IsWithinLimits task.now }
     requires counts { length end.now.counts.items ≡ length file.now.claims }
     requires risks { length end.now.risks.items ≡ length file.now.claims }
-    ensures { IsOneOrMemory (λ verdict. verdict ≡ Answered (kind_of end.now.confirmed)
+    ensures { IsOneOrMemory (λ verdict. verdict ≡ Answered (confirmed_kind end.now.confirmed)
         (poll_table file.now cards task.now.draws task.now.limit task.now.gamma
         end.now.counts.items end.now.risks.items end.now.confirmed)) (due result) }
 {
-    let kind = if end.confirmed {
-        AnswerKind::Done
-    } else {
-        AnswerKind::Unconfirmed
-    };
     Ok(Answer {
-        kind,
+        kind: confirmed_kind(end.confirmed),
         text: poll_table(alloc, file, cards, task.draws, task.limit, task.gamma, end)?,
     })
 }

@@ -2,9 +2,8 @@
 ghost use Rattle.std.specs.Prelude.{◌≡◌, ◌≤◌, ◌++◌, length, codes, IfOk, IsTrue, string_bytes};
 ghost use Rattle.irv_base.specs.declared.limits.TheConstants.{GREATEST_LIMIT, ROOM};
 ghost use Rattle.assertions.specs.Assertions.{is_proper};
-ghost use Rattle.polling.specs.Polls.{is_risk_within};
-ghost use Rattle.report.specs.Texts.{assertion_text};
-ghost use Rattle.poll_command.specs.Table.{claim_line, claim_lines, counts_text, head_lines, last_line, poll_table};
+ghost use Rattle.report.specs.Claims.{claim_lines};
+ghost use Rattle.poll_command.specs.Table.{claim_line, counts_text, head_lines, last_line, line_of, poll_table};
 
 use assertion_file::AssertionFile;
 use assertions::Claim;
@@ -68,8 +67,7 @@ fn add_claim(
     requires proper { IsTrue (is_proper (length names.now) claim.now.assertion) }
     requires limit { limit ≤ GREATEST_LIMIT }
     ensures { IfOk result (λ _. string_bytes text.new ≡ string_bytes text.old
-        ++ claim_line (assertion_text names.now claim.now.assertion) counts.now risk
-        (is_risk_within limit risk)) }
+        ++ line_of names.now limit claim.now counts.now risk) }
 {
     let assertion = assertion_text(alloc, names, &claim.assertion)?;
     add_line(
@@ -94,7 +92,8 @@ fn add_claims(
     requires risks { length e.now.risks.items ≡ length f.now.claims }
     requires limit { limit ≤ GREATEST_LIMIT }
     ensures { IfOk result (λ _. string_bytes text.new ≡ string_bytes text.old
-        ++ claim_lines f.now.candidates limit f.now.claims e.now.counts.items e.now.risks.items) }
+        ++ claim_lines (line_of f.now.candidates limit) f.now.claims e.now.counts.items
+        e.now.risks.items) }
 {
     let names = f.candidates();
     let claims = f.claims();

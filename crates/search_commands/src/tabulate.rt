@@ -5,9 +5,10 @@ ghost use Rattle.contest_search.specs.Contest.{candidate_count, IsElected, IsTie
 ghost use Rattle.contest_search.specs.Found.{IsCounted};
 ghost use Rattle.desk.specs.Count.{Rose};
 ghost use Rattle.cli_base.specs.Accounts.{IsAccountedFor};
-ghost use Rattle.cli_base.specs.Script.{ByDesk, MayOrMemory};
+ghost use Rattle.cli_base.specs.Script.{ByDesk, Runs};
 ghost use Rattle.command.specs.Tabulate.{IsWithinLimits};
 ghost use Rattle.search_commands.specs.Tabulate.{Tabulates, IsStopped, script};
+ghost use Rattle.cli_base.specs.Begun.{HasCome};
 ghost use Rattle.cli_base.specs.Due.{due, IsOneOrMemory};
 
 use crate::answers::{first_tie, spent};
@@ -38,9 +39,10 @@ pub fn answer<R: AllocGlobal + Threads + Sync, D: Desk, G: Gate + Sync>(
     requires { IsWithinLimits task.now }
     ensures held { D.held desk.new ≡ D.held desk.old }
     ensures later { D.faults desk.old ≤ D.faults desk.new }
-    ensures due { MayOrMemory
+    ensures due { HasCome
         (ByDesk (D.held desk.old) (Rose (D.faults desk.old) (D.faults desk.new)))
-        (script task.now) (due result) }
+        (D.served desk.old) (D.served desk.new)
+        (Runs (script task.now)) (due result) }
     ensures served { IsAccountedFor 1 (D.served desk.old) (D.served desk.new) (due result).status }
 {
     let alloc = rt.alloc();

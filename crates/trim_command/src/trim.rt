@@ -7,8 +7,9 @@ ghost use Rattle.cover_checker.specs.Findings.{assertions_of};
 ghost use Rattle.cover_checker.specs.declared.cover.Verdict.TheVariants.{Covered};
 ghost use Rattle.trimmer.specs.Trimmed.{trimmed};
 ghost use Rattle.cli_base.specs.Accounts.{IsAccountedFor};
+ghost use Rattle.cli_base.specs.Begun.{HasCome};
 ghost use Rattle.cli_base.specs.Due.{due, IsOneOrMemory};
-ghost use Rattle.cli_base.specs.Script.{ByDesk, MayOrMemory};
+ghost use Rattle.cli_base.specs.Script.{ByDesk, Runs};
 ghost use Rattle.command.specs.Trim.{IsWithinLimits};
 ghost use Rattle.trim_command.specs.Trim.{Trims, after_ballots, script, trim_verdict};
 
@@ -33,9 +34,10 @@ pub fn answer<R: AllocGlobal + Threads + Sync, D: Desk>(
     requires { IsWithinLimits task.now }
     ensures held { D.held desk.new ≡ D.held desk.old }
     ensures later { D.faults desk.old ≤ D.faults desk.new }
-    ensures due { MayOrMemory
+    ensures due { HasCome
         (ByDesk (D.held desk.old) (Rose (D.faults desk.old) (D.faults desk.new)))
-        (script task.now) (due result) }
+        (D.served desk.old) (D.served desk.new)
+        (Runs (script task.now)) (due result) }
     ensures served { IsAccountedFor 2 (D.served desk.old) (D.served desk.new) (due result).status }
 {
     let alloc = rt.alloc();
@@ -54,9 +56,10 @@ fn after_ballots<R: AllocGlobal + Threads + Sync, D: Desk>(
 ) -> Result<Answer, Refusal>
     ensures held { D.held desk.new ≡ D.held desk.old }
     ensures later { D.faults desk.old ≤ D.faults desk.new }
-    ensures due { MayOrMemory
+    ensures due { HasCome
         (ByDesk (D.held desk.old) (Rose (D.faults desk.old) (D.faults desk.new)))
-        (after_ballots assertions.now budget ballots.now) (due result) }
+        (D.served desk.old) (D.served desk.new)
+        (Runs (after_ballots assertions.now budget ballots.now)) (due result) }
     ensures served { IsAccountedFor 1 (D.served desk.old) (D.served desk.new) (due result).status }
 {
     let alloc = rt.alloc();

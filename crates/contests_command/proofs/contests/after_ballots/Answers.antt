@@ -7,6 +7,7 @@ use Rattle.input_files.specs.Judged.{IsStopped, told}
 use Rattle.input_files.specs.Refusals.{refused_manifest}
 use Rattle.input_files.proofs.Going.{read_on, read_stopped, stopped_accounted, told-only}
 use Rattle.contests_command.specs.Contests.{after_manifest}
+use Rattle.cli_base.proofs.Begun.{stopped_at}
 use Rattle.contests_command.proofs.contests.after_ballots.Goals as goal
 
 pub returns-clause-due : goal.returns-clause-due
@@ -14,7 +15,7 @@ returns-clause-due g c =
     let task = c.args.task.now in
     let list = c.args.list.now in
     let judged = λ (bytes : List ℕ). told (refused_manifest task.manifest) (manifest_of bytes) in
-    read_on _ _ _ _ c.in_ok-bytes.bytes.items judged (λ bytes batches. after_manifest task list batches) c.in_ok-bytes.ensures.read _ _
+    read_on _ _ _ _ c.in_ok-bytes.bytes.items judged (λ bytes batches. after_manifest task list batches) c.in_ok-bytes.ensures.begun c.in_ok-bytes.ensures.read _ _
     c.in_ok-batches.batches (due c.after_manifest.result) c.in_ok-bytes.ensures.held c.in_ok-bytes.ensures.later c.after_manifest.ensures.later
     (ap judged (sym c.deref.ensures.value) ∙ c.in_ok-batches.ensures) c.after_manifest.ensures.due
 
@@ -29,7 +30,7 @@ returns-in_err-batches-clause-due g c =
     let refusal = c.in_err-batches.field-0.0 in
     let p = err_from_is_err_and c.from_residual-in_err-batches.result c.from_residual-in_err-batches.ensures.1 in
     rw (p.1, p.2)
-    (read_stopped _ _ _ _ c.in_ok-bytes.bytes.items judged (λ bytes batches. after_manifest task list batches) c.in_ok-bytes.ensures.read refusal
+    (read_stopped _ _ _ _ c.in_ok-bytes.bytes.items judged (λ bytes batches. after_manifest task list batches) c.in_ok-bytes.ensures.begun c.in_ok-bytes.ensures.read refusal
     (subst (λ bytes. IsStopped (judged bytes) refusal) c.deref.ensures.value c.in_err-batches.ensures))
 
 pub returns-in_err-batches-clause-served : goal.returns-in_err-batches-clause-served
@@ -39,3 +40,8 @@ returns-in_err-batches-clause-served g c =
     let p = err_from_is_err_and c.from_residual-in_err-batches.result c.from_residual-in_err-batches.ensures.1 in
     rw (p.1, p.2) (stopped_accounted 1 _ _ (told words read) c.in_err-batches.field-0.0
     (told-only words read (λ why. tt)) c.in_err-batches.ensures c.in_ok-bytes.ensures.served)
+
+pub returns-in_err-bytes-clause-due : goal.returns-in_err-bytes-clause-due
+returns-in_err-bytes-clause-due g c =
+    let p = err_from_is_err_and c.from_residual.result c.from_residual.ensures.1 in
+    rw (p.1, p.2) (stopped_at _ c.args.task.now.manifest _ c.in_err-bytes.field-0.0 c.in_err-bytes.ensures.begun c.in_err-bytes.ensures.read)

@@ -8,6 +8,7 @@ use Rattle.input_files.specs.Judged.{IsStopped, told}
 use Rattle.input_files.specs.Refusals.{refused_seen}
 use Rattle.input_files.proofs.Going.{read_last, read_stopped, stopped_accounted, told-only}
 use Rattle.contests_command.specs.Contests.{Audits}
+use Rattle.cli_base.proofs.Begun.{stopped_at}
 use Rattle.contests_command.proofs.contests.after_manifest.Goals as goal
 
 pub returns-clause-due : goal.returns-clause-due
@@ -16,7 +17,7 @@ returns-clause-due g c =
     let list = c.args.list.now in
     let batches = c.args.batches.now in
     let judged = λ (bytes : List ℕ). told (refused_seen task.seen) (seen_by batches list bytes) in
-    read_last _ _ _ _ c.in_ok-bytes.bytes.items judged (λ bytes seen. Ends (Audits task list batches seen)) c.in_ok-bytes.ensures.read
+    read_last _ _ _ _ c.in_ok-bytes.bytes.items judged (λ bytes seen. Ends (Audits task list batches seen)) c.in_ok-bytes.ensures.begun c.in_ok-bytes.ensures.read
     c.in_ok-seen.seen.items (due c.audit.result) (ap judged (sym c.deref.ensures.value) ∙ c.in_ok-seen.ensures.read)
     (subst (λ seen. IsOneOrMemory (Audits task list batches seen) (due c.audit.result)) c.deref-2.ensures.value c.audit.ensures)
 
@@ -34,7 +35,7 @@ returns-in_err-seen-clause-due g c =
     let refusal = c.in_err-seen.field-0.0 in
     let p = err_from_is_err_and c.from_residual-in_err-seen.result c.from_residual-in_err-seen.ensures.1 in
     rw (p.1, p.2)
-    (read_stopped _ _ _ _ c.in_ok-bytes.bytes.items judged (λ bytes seen. Ends (Audits task list batches seen)) c.in_ok-bytes.ensures.read refusal
+    (read_stopped _ _ _ _ c.in_ok-bytes.bytes.items judged (λ bytes seen. Ends (Audits task list batches seen)) c.in_ok-bytes.ensures.begun c.in_ok-bytes.ensures.read refusal
     (subst (λ bytes. IsStopped (judged bytes) refusal) c.deref.ensures.value c.in_err-seen.ensures.refused))
 
 pub returns-in_err-seen-clause-served : goal.returns-in_err-seen-clause-served
@@ -44,3 +45,8 @@ returns-in_err-seen-clause-served g c =
     let p = err_from_is_err_and c.from_residual-in_err-seen.result c.from_residual-in_err-seen.ensures.1 in
     rw (p.1, p.2) (stopped_accounted 0 _ _ (told words read) c.in_err-seen.field-0.0
     (told-only words read (λ why. tt)) c.in_err-seen.ensures.refused c.in_ok-bytes.ensures.served)
+
+pub returns-in_err-bytes-clause-due : goal.returns-in_err-bytes-clause-due
+returns-in_err-bytes-clause-due g c =
+    let p = err_from_is_err_and c.from_residual.result c.from_residual.ensures.1 in
+    rw (p.1, p.2) (stopped_at _ c.args.task.now.seen _ c.in_err-bytes.field-0.0 c.in_err-bytes.ensures.begun c.in_err-bytes.ensures.read)

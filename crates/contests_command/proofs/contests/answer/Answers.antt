@@ -3,7 +3,7 @@ use Rattle.std.proofs.lemmas.Result.{err_from_is_err_and}
 use Rattle.ballot_reader.specs.Grammar.{contests_of}
 use Rattle.desk.specs.Count.{Rose}
 use Rattle.cli_base.specs.Due.{due}
-use Rattle.cli_base.specs.Script.{ByDesk, MayOrMemory}
+use Rattle.cli_base.specs.Script.{ByDesk, Runs}
 use Rattle.cli_base.proofs.Steps.{accounted_on}
 use Rattle.input_files.specs.Judged.{IsStopped, told}
 use Rattle.input_files.specs.Refusals.{refused_ballots}
@@ -11,17 +11,20 @@ use Rattle.input_files.proofs.Going.{read_on, read_stopped, stopped_accounted, t
 use Rattle.input_files.proofs.Judging.{said}
 use Rattle.contests_command.specs.Contests.{AreContests, after_ballots}
 use Rattle.contests_command.proofs.Read.{contests_are}
+use Rattle.cli_base.specs.Begun.{HasCome}
+use Rattle.cli_base.proofs.Begun.{stopped_at}
 use Rattle.contests_command.proofs.contests.answer.Goals as goal
 
 pub returns-clause-due : goal.returns-clause-due
 returns-clause-due g c =
     let task = c.args.task.now in
     let judged = λ (bytes : List ℕ). told (refused_ballots task.ballots) (contests_of bytes) in
-    read_on _ _ _ _ c.in_ok-bytes.bytes.items judged (λ bytes list. after_ballots task list) c.in_ok-bytes.ensures.read _ _
+    read_on _ _ _ _ c.in_ok-bytes.bytes.items judged (λ bytes list. after_ballots task list) c.in_ok-bytes.ensures.begun c.in_ok-bytes.ensures.read _ _
     c.in_ok-list.list.items (due c.after_ballots.result) c.in_ok-bytes.ensures.held c.in_ok-bytes.ensures.later c.after_ballots.ensures.later
     (ap judged (sym c.deref.ensures.value) ∙ c.in_ok-list.ensures.read)
-    (subst (λ list. MayOrMemory (ByDesk (g.D.Desk.held c.bytes_of.new.desk) (Rose (g.D.Desk.faults c.bytes_of.new.desk)
-    (g.D.Desk.faults c.after_ballots.new.desk))) (after_ballots task list) (due c.after_ballots.result)) c.deref-2.ensures.value c.after_ballots.ensures.due)
+    (subst (λ list. HasCome (ByDesk (g.D.Desk.held c.bytes_of.new.desk) (Rose (g.D.Desk.faults c.bytes_of.new.desk)
+    (g.D.Desk.faults c.after_ballots.new.desk))) (g.D.Desk.served c.bytes_of.new.desk) (g.D.Desk.served c.after_ballots.new.desk)
+    (Runs (after_ballots task list)) (due c.after_ballots.result)) c.deref-2.ensures.value c.after_ballots.ensures.due)
 
 pub returns-clause-served : goal.returns-clause-served
 returns-clause-served g c = accounted_on _ _ _ _ c.in_ok-bytes.ensures.served c.after_ballots.ensures.served
@@ -39,7 +42,7 @@ returns-in_err-list-clause-due g c =
     let refusal = c.in_err-list.field-0.0 in
     let p = err_from_is_err_and c.from_residual-in_err-list.result c.from_residual-in_err-list.ensures.1 in
     rw (p.1, p.2)
-    (read_stopped _ _ _ _ c.in_ok-bytes.bytes.items judged (λ bytes list. after_ballots task list) c.in_ok-bytes.ensures.read refusal
+    (read_stopped _ _ _ _ c.in_ok-bytes.bytes.items judged (λ bytes list. after_ballots task list) c.in_ok-bytes.ensures.begun c.in_ok-bytes.ensures.read refusal
     (subst (λ bytes. IsStopped (judged bytes) refusal) c.deref.ensures.value c.in_err-list.ensures.refused))
 
 pub returns-in_err-list-clause-served : goal.returns-in_err-list-clause-served
@@ -49,3 +52,8 @@ returns-in_err-list-clause-served g c =
     let p = err_from_is_err_and c.from_residual-in_err-list.result c.from_residual-in_err-list.ensures.1 in
     rw (p.1, p.2) (stopped_accounted 2 _ _ (told words read) c.in_err-list.field-0.0
     (told-only words read (λ why. tt)) c.in_err-list.ensures.refused c.in_ok-bytes.ensures.served)
+
+pub returns-in_err-bytes-clause-due : goal.returns-in_err-bytes-clause-due
+returns-in_err-bytes-clause-due g c =
+    let p = err_from_is_err_and c.from_residual.result c.from_residual.ensures.1 in
+    rw (p.1, p.2) (stopped_at _ c.args.task.now.ballots _ c.in_err-bytes.field-0.0 c.in_err-bytes.ensures.begun c.in_err-bytes.ensures.read)

@@ -1,4 +1,5 @@
 use Rattle.std.proofs.Common.{◌≡◌, Some, codes, inl, inr, refl, sym, subst}
+use Rattle.cli_base.specs.Confirmed.{confirmed_kind}
 use Rattle.cli_base.specs.Due.{due, due_refusal, IsOrMemory}
 use Rattle.cli_base.specs.Outcome.{Answered, Refused, broken_at, file_refusal}
 use Rattle.cli_base.specs.declared.outcome.RefusalKind.TheVariants.{Input}
@@ -6,7 +7,7 @@ use Rattle.cli_base.proofs.Ended.{told_as}
 use Rattle.input_files.specs.Refusals.{no_card, no_record_text}
 use Rattle.contest_set.specs.Ends.{AreEnds}
 use Rattle.contest_set.specs.Refusals.{FirstLacksRecord}
-use Rattle.contests_command.specs.Contests.{Audits, IsTold, IsUnplaced, IsUnseen, kind_of, terms_of}
+use Rattle.contests_command.specs.Contests.{Audits, IsTold, IsUnplaced, IsUnseen, terms_of}
 use Rattle.contests_command.specs.Table.{all_signed, contests_table}
 use Rattle.contests_command.proofs.Audits.{refused_as}
 use Rattle.contests_command.proofs.Telling.{can_tell_all}
@@ -27,7 +28,7 @@ returns-in-Ok g c =
     let are : AreEnds batches (terms_of task) list seen ends =
     subst (λ terms. AreEnds batches terms list seen ends) c.terms_of.ensures
     (subst (AreEnds batches c.terms_of.result list seen) (sym c.deref.ensures.value) c.in-Ok.ensures.ends) in
-    let told : IsTold task list batches seen (Answered (kind_of (all_signed ends)) (contests_table task.limit list ends)) =
+    let told : IsTold task list batches seen (Answered (confirmed_kind (all_signed ends)) (contests_table task.limit list ends)) =
     record { placed = c.in-Ok.ensures.linked; ends = ends; are = are; told = refl } in
     told_as (Audits task list batches seen) _ (due c.told.result) (inr (inr told)) c.told.ensures
 

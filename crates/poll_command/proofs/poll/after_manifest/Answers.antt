@@ -5,11 +5,12 @@ use Rattle.cli_base.specs.Due.{due, due_refusal, IsOneOrMemory}
 use Rattle.cli_base.specs.Outcome.{Verdict}
 use Rattle.cli_base.proofs.Statuses.{differ, status_in}
 use Rattle.cli_base.proofs.Steps.{accounted_on, ended_accounted}
-use Rattle.input_files.specs.Judged.{told}
+use Rattle.input_files.specs.Judged.{told, IsStopped}
 use Rattle.input_files.specs.Refusals.{refused_assertions}
-use Rattle.input_files.proofs.Going.{raised, read_last, read_on}
+use Rattle.input_files.proofs.Going.{raised, read_last, read_on, read_stopped}
 use Rattle.poll_command.specs.Poll.{after_assertions, after_cover, uncovered}
 use Rattle.poll_command.proofs.Ending.{ended_by, gone_on}
+use Rattle.cli_base.proofs.Begun.{stopped_at, memory_now}
 use Rattle.poll_command.proofs.poll.after_manifest.Goals as goal
 
 pub returns-in_err-answer-clause-served : goal.returns-in_err-answer-clause-served
@@ -25,9 +26,9 @@ returns-in-Some-clause-due g c =
     let task = c.args.task.now in
     let file = c.in_ok-file.file in
     let judged = λ (bytes : List ℕ). told (refused_assertions task.assertions) (assertion_file_of bytes) in
-    read_last _ _ _ _ c.in_ok-bytes.bytes.items judged (λ bytes. after_assertions task c.args.batches.now) c.in_ok-bytes.ensures.read file
+    read_last _ _ _ _ c.in_ok-bytes.bytes.items judged (λ bytes. after_assertions task c.args.batches.now) c.in_ok-bytes.ensures.begun c.in_ok-bytes.ensures.read file
     (due (Ok c.in-Some.answer)) (ap judged (sym c.deref.ensures.value) ∙ c.in_ok-file.ensures)
-    (ended_by (uncovered task.nodes file) (after_cover task c.args.batches.now file) _ (due (Ok c.in-Some.answer))
+    (ended_by (uncovered task.nodes file) (after_cover task c.args.batches.now file) (due (Ok c.in-Some.answer))
     (subst (λ found. IfSome found (λ answer. IsOneOrMemory (λ verdict. uncovered task.nodes file ≡ Some verdict) (due (Ok answer)))) c.in-Some.is
     c.in_ok-answer.ensures.other))
 
@@ -43,7 +44,7 @@ returns-clause-due g c =
     let task = c.args.task.now in
     let file = c.in_ok-file.file in
     let judged = λ (bytes : List ℕ). told (refused_assertions task.assertions) (assertion_file_of bytes) in
-    read_on _ _ _ _ c.in_ok-bytes.bytes.items judged (λ bytes. after_assertions task c.args.batches.now) c.in_ok-bytes.ensures.read _ _ file
+    read_on _ _ _ _ c.in_ok-bytes.bytes.items judged (λ bytes. after_assertions task c.args.batches.now) c.in_ok-bytes.ensures.begun c.in_ok-bytes.ensures.read _ _ file
     (due c.after_cover.result) c.in_ok-bytes.ensures.held c.in_ok-bytes.ensures.later c.after_cover.ensures.later
     (ap judged (sym c.deref.ensures.value) ∙ c.in_ok-file.ensures)
     (gone_on (uncovered task.nodes file) (after_cover task c.args.batches.now file) _ (due c.after_cover.result)
@@ -51,3 +52,31 @@ returns-clause-due g c =
 
 pub returns-clause-served : goal.returns-clause-served
 returns-clause-served g c = accounted_on _ _ _ _ c.in_ok-bytes.ensures.served c.after_cover.ensures.served
+
+pub returns-in_err-bytes-clause-due : goal.returns-in_err-bytes-clause-due
+returns-in_err-bytes-clause-due g c =
+    let p = err_from_is_err_and c.from_residual.result c.from_residual.ensures.1 in
+    rw (p.1, p.2) (stopped_at _ c.args.task.now.assertions _ c.in_err-bytes.field-0.0 c.in_err-bytes.ensures.begun c.in_err-bytes.ensures.read)
+
+pub returns-in_err-file-clause-due : goal.returns-in_err-file-clause-due
+returns-in_err-file-clause-due g c =
+    let task = c.args.task.now in
+    let judged = λ (bytes : List ℕ). told (refused_assertions task.assertions) (assertion_file_of bytes) in
+    let refusal = c.in_err-file.field-0.0 in
+    let p = err_from_is_err_and c.from_residual-in_err-file.result c.from_residual-in_err-file.ensures.1 in
+    rw (p.1, p.2)
+    (read_stopped _ _ _ _ c.in_ok-bytes.bytes.items judged
+    (λ bytes. after_assertions task c.args.batches.now) c.in_ok-bytes.ensures.begun c.in_ok-bytes.ensures.read refusal
+    (subst (λ bytes. IsStopped (judged bytes) refusal) c.deref.ensures.value c.in_err-file.ensures))
+
+pub returns-in_err-answer-clause-due : goal.returns-in_err-answer-clause-due
+returns-in_err-answer-clause-due g c =
+    let task = c.args.task.now in
+    let file = c.in_ok-file.file in
+    let judged = λ (bytes : List ℕ). told (refused_assertions task.assertions) (assertion_file_of bytes) in
+    let refusal = c.in_err-answer.field-0.0 in
+    let p = err_from_is_err_and c.from_residual-in_err-answer.result c.from_residual-in_err-answer.ensures.1 in
+    rw (p.1, p.2)
+    (read_last _ _ _ _ c.in_ok-bytes.bytes.items judged (λ bytes. after_assertions task c.args.batches.now) c.in_ok-bytes.ensures.begun
+    c.in_ok-bytes.ensures.read file (due_refusal refusal) (ap judged (sym c.deref.ensures.value) ∙ c.in_ok-file.ensures)
+    (memory_now (after_assertions task c.args.batches.now file) (due_refusal refusal) c.in_err-answer.ensures.memory))

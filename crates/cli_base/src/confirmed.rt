@@ -1,0 +1,16 @@
+// The kind of an answer that tells whether all is confirmed.
+ghost use Rattle.std.specs.Prelude.{◌≡◌};
+ghost use Rattle.cli_base.specs.Confirmed.{confirmed_kind};
+
+use crate::outcome::AnswerKind;
+
+/// Done if all is confirmed, and else unconfirmed.
+pub fn confirmed_kind(all: bool) -> AnswerKind
+    ensures { result ≡ confirmed_kind all }
+{
+    if all {
+        AnswerKind::Done
+    } else {
+        AnswerKind::Unconfirmed
+    }
+}

@@ -38,11 +38,11 @@ use Rattle.input_files.specs.Refusals.{refused_assertions, refused_seen}
 use Rattle.input_files.proofs.Going.{told-only}
 use Rattle.session_commands.specs.Accepted.{if_accepted, is_accepted, on_if}
 use Rattle.session_commands.specs.Audit.{after_assertions, after_ballots, after_check, after_facts, after_manifest, after_session, same_assertions, same_facts, script}
-use Rattle.session_commands.specs.Refusals.{other_digest, without_facts}
-use Rattle.session_commands.specs.Rounds.{Compared, GoesOn as GoesTo, kind_of, next_session, same_ballots, same_manifest, session_to_go_on, verdict_of}
+use Rattle.session_rounds.specs.Refusals.{other_digest, without_facts}
+use Rattle.session_rounds.specs.Rounds.{Compared, GoesOn as GoesTo, kind_of, next_session, same_ballots, same_manifest, session_to_go_on, verdict_of}
 use Rattle.session_commands.proofs.Acceptance.{decided}
 use Rattle.session_commands.proofs.Audits.{assertions-only, same_facts-only}
-use Rattle.session_commands.proofs.OneRound.{ballots-only, manifest-only, next-only, session-only}
+use Rattle.session_rounds.proofs.OneRound.{ballots-only, manifest-only, next-only, session-only}
 use Rattle.raire_cli.specs.Answers.{asked, asked_by}
 use Rattle.raire_cli.specs.Audits.{AllBytes, AreAllHeld, AsksForAudit, GoesOn, Inputs, claims, recorded}
 use Rattle.raire_cli.proofs.Accepted.{accepted_answer}

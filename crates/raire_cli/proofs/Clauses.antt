@@ -2,11 +2,15 @@
 use Rattle.std.proofs.Common.{◌≡◌, ◌⊎◌, inl, inr, ⊎_elim, ℕ, ◌≤◌, ◌-◌, ◌^◌, List, Option, None, Some, IfSome, false, refl, sym, ap, subst, ◌∙◌, arith}
 use Rattle.std.specs.Prelude.{◌≢◌, is_some}
 use Rattle.desk.specs.Desk.{File}
+use Rattle.desk.specs.declared.served.Served.{Served}
+use Rattle.cli_base.specs.Begun.{HasCome}
+use Rattle.cli_base.proofs.Begun.{due_of}
 use Rattle.ballot_reader.specs.Ballots.{BallotFile}
 use Rattle.budget.specs.declared.budget.Budget.TheVariants.{Sets}
 use Rattle.contest_search.specs.Contest.{candidate_count}
 use Rattle.assertion_file.specs.Content.{Content}
 use Rattle.assertion_file.specs.Text.{assertion_file_text}
+use Rattle.cli_base.specs.Confirmed.{confirmed_kind}
 use Rattle.cli_base.specs.Outcome.{Outcome, Answered}
 use Rattle.cli_base.specs.Script.{Asked, AsHeld, ByDesk, IsDue, ComesTo, AgreeOn, Same, SameButContests}
 use Rattle.cli_base.specs.Ends.{Writing, Took, IsWritten}
@@ -14,12 +18,10 @@ use Rattle.cli_base.specs.Statuses.{IsUndone, IsQuiet, Exactly, ExactlyInBudget,
 use Rattle.cli_base.specs.Story.{Story}
 use Rattle.cli_base.specs.declared.outcome.AnswerKind.{AnswerKind}
 use Rattle.cli_base.specs.declared.outcome.AnswerKind.TheVariants.{Done, Tie, Spent, FullCount, Unconfirmed}
-use Rattle.session_commands.specs.Rounds.{kind_of}
-use Rattle.poll_command.specs.Poll as poll
-use Rattle.contests_command.specs.Contests as contests
+use Rattle.session_rounds.specs.Rounds.{kind_of}
 use Rattle.contests_command.specs.Table.{all_signed}
 use Rattle.cli_base.proofs.Statuses.{status_in}
-use Rattle.cli_base.proofs.Clauses.{bad_words_clause, contests_clause, statuses_clause, exact_clause, answered_with, undone_is_nine}
+use Rattle.cli_base.proofs.Clauses.{bad_words_clause, contests_clause, statuses_clause, exact_clause, answered_clause, answered_with, undone_is_nine}
 use Rattle.command_line.specs.Line.{command_of, is_line}
 use Rattle.command_line.specs.declared.commands.Command.{Command}
 use Rattle.command_line.specs.declared.commands.Command.TheVariants.{Contests}
@@ -44,6 +46,7 @@ use Rattle.raire_cli.specs.Enough.{AreEnough, Judging, IsNeverSpent, judging_of}
 use Rattle.raire_cli.specs.Openings.{AsksForOpening, Opens, IsOpened}
 use Rattle.raire_cli.specs.Contests.{AsksForContests, AuditsContests, IsAuditedByContest, blocks_of}
 use Rattle.raire_cli.proofs.Accepted.{held_of}
+use Rattle.raire_cli.proofs.ContestsRefused.{refused_anyway}
 use Rattle.raire_cli.proofs.ContestsAudited.{audited_by, done_all, unconfirmed_not_all}
 use Rattle.raire_cli.proofs.Trims.{printed_of}
 use Rattle.raire_cli.proofs.Audited.{IsKind, done_signed, goes_on, unconfirmed_not}
@@ -62,9 +65,9 @@ use Rattle.raire_cli.proofs.SetsSpent.{closed_by, more_spent, never_by_sets, spe
 use Rattle.raire_cli.proofs.Undecided.{has_tie, never_spent_there, tells_tie}
 
 -- how a call went by what was due, and by what the sinks took of it
-pub story_of : {asked : Asked} {held : Option (List File)} {failed : Type 0} {status : ℕ} {out err : Writing} {due : Outcome}
-    → IsDue (ByDesk held failed) asked due → IsWritten due status out err → Story asked held failed status out err
-story_of {asked} {held} {failed} {status} {out} {err} {due} is_due written = record { due = due; is_due = is_due; written = written }
+pub story_of : {asked : Asked} {held : Option (List File)} {failed : Type 0} {before after : Served} {status : ℕ} {out err : Writing} {due : Outcome}
+    → HasCome (ByDesk held failed) before after asked due → IsWritten due status out err → Story asked held failed before after status out err
+story_of {asked} {held} {failed} {before} {after} {status} {out} {err} {due} come written = record { due = due; come = come; written = written }
 
 if_some : {A : Type 0} (o : Option A) (P Q : A → Type 0) → ((x : A) → P x → Q x) → IfSome o P → IfSome o Q
 if_some None P Q f p = tt
@@ -96,8 +99,8 @@ about_one : (files : List File) (command : Command) (ballots : BallotFile) → I
 about_one files (Contests task) ballots about = absurd about
 about_one files _ ballots about = refl
 
-module _ (words : List (List ℕ)) {held : Option (List File)} {failed : Type 0} {status : ℕ} {out err : Writing}
-    (story : Story (asked words) held failed status out err) where
+module _ (words : List (List ℕ)) {held : Option (List File)} {failed : Type 0} {before after : Served} {status : ℕ} {out err : Writing}
+    (story : Story (asked words) held failed before after status out err) where
   pub headline_clause : IsConfirmed held words status out
   headline_clause = if_some held (λ files. status ≡ 0 → (text : List ℕ) × ComesTo (AsHeld files) (asked words) (Answered Done text) × Took out text)
       (λ files. AsksForSearch words → status ≡ 0 → (file : Content) × ConfirmsAsked words files file × Took out (assertion_file_text file))
@@ -187,7 +190,7 @@ module _ (words : List (List ℕ)) {held : Option (List File)} {failed : Type 0}
   -- a poll that ends with an answer of this kind
   polled-of : (files : List File) (kind : AnswerKind) → IsKind kind → AsksForPoll words →
       (text : List ℕ) × ComesTo (AsHeld files) (asked words) (Answered kind text) × Took out text →
-      (of : IsPollOf words files) × Took out (told_of of) × (kind ≡ poll.kind_of (is_confirmed_by of))
+      (of : IsPollOf words files) × Took out (told_of of) × (kind ≡ confirmed_kind (is_confirmed_by of))
   polled-of files kind of asks (text, comes, took) =
       let (made, text-is, kind-is) = polled_by words files asks kind text of comes in
       (made, subst (Took out) text-is took, kind-is)
@@ -258,7 +261,7 @@ module _ (words : List (List ℕ)) {held : Option (List File)} {failed : Type 0}
   -- an audit of them that ends with an answer of this kind
   contests-of : (files : List File) (kind : AnswerKind) → AsksForContests words →
       (text : List ℕ) × ComesTo (AsHeld files) (asked words) (Answered kind text) × Took out text →
-      (audit : AuditsContests words files) × Took out (blocks_of audit) × (kind ≡ contests.kind_of (all_signed audit.ends))
+      (audit : AuditsContests words files) × Took out (blocks_of audit) × (kind ≡ confirmed_kind (all_signed audit.ends))
   contests-of files kind asks (text, comes, took) =
       let (audit, text-is, kind-is) = audited_by words files asks kind text comes in
       (audit, subst (Took out) text-is took, kind-is)
@@ -281,20 +284,21 @@ module _ (words : List (List ℕ)) {held : Option (List File)} {failed : Type 0}
 
   -- ---- the statuses
 
-  causes : of_contests (command_of words) ≡ false → Statuses (asked words) held failed status out err
+  causes : of_contests (command_of words) ≡ false → Statuses (asked words) held failed before after status out err
   causes one = statuses_clause story (agrees_by (command_of words) one)
 
-  contests_causes : AsksForContests words → ContestsStatuses (asked words) held failed status out err
+  contests_causes : AsksForContests words → ContestsStatuses (asked words) held failed before after status out err
   contests_causes asks =
       contests_clause story (subst (λ command. AgreeOn SameButContests (asked_by command)) (sym asks.asked) (contests_agree asks.task))
 
-  pub status_clause : HasCause held words failed status out err
+  pub status_clause : HasCause held words failed before after status out err
   status_clause = record {
     by_words = exactly_same 1 status (IsNothing (asked words)) (is_line words ≡ false)
         (λ nothing. have_meanings words ∙ some_nothing (command_of words) nothing)
         (λ none. nothing_some (command_of words) (sym (have_meanings words) ∙ none)) (bad_words_clause story);
     by_files = λ none. causes (without_contests words (command_of words) refl none);
     by_contests = contests_causes;
+    refused_anyway = refused_anyway words (answered_clause story);
   }
 
   pub exact_promise : IsExactUnlessOpen held words status
@@ -315,9 +319,9 @@ module _ (words : List (List ℕ)) {held : Option (List File)} {failed : Type 0}
   spent_sets_clause = by held exact_promise where
     by : (h : Option (List File)) → IsExactUnlessOpen h words status → IsSpentBySets h words status
     by None exact = tt
-    by (Some files) exact = λ command sets line counts is.
+    by (Some files) exact = λ command sets line is.
         exactly_same 4 status (HasAnswer (asked words) files Spent) (MoreCount files command sets)
-        (λ (text, comes). spent_more files command sets text counts is (subst (λ c. ComesTo (AsHeld files) (asked_by c) (Answered Spent text)) line comes))
+        (λ (text, comes). spent_more files command sets text is (subst (λ c. ComesTo (AsHeld files) (asked_by c) (Answered Spent text)) line comes))
         (λ more. let (text, comes) = more_spent files command sets is more in
         (text, subst (λ c. ComesTo (AsHeld files) (asked_by c) (Answered Spent text)) (sym line) comes))
         (exact command line (closed_by command sets is) Spent)
@@ -382,7 +386,7 @@ module _ (words : List (List ℕ)) {held : Option (List File)} {failed : Type 0}
 
   pub complete_trial_clause : IsTrialComplete words failed status out err
   complete_trial_clause ok quiet = elim story.written [
-    | inl whole ↦ subst (λ s. (s ≡ 0) ⊎ (s ≡ 3) ⊎ (s ≡ 9)) (sym whole.ends) (by story.is_due)
+    | inl whole ↦ subst (λ s. (s ≡ 0) ⊎ (s ≡ 3) ⊎ (s ≡ 9)) (sym whole.ends) (by (due_of story.come))
     | inr cut ↦ absurd (⊎_elim quiet.sink_out quiet.sink_err cut.cause)
   ]
     where

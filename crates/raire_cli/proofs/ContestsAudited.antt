@@ -8,13 +8,14 @@ use Rattle.manifest.specs.Cards.{Batches}
 use Rattle.manifest.specs.Manifest.{manifest_of}
 use Rattle.seen_file.specs.Seen.{Entry}
 use Rattle.contest_set.specs.SeenBy.{seen_by}
+use Rattle.cli_base.specs.Confirmed.{confirmed_kind}
 use Rattle.cli_base.specs.Outcome.{Answered}
 use Rattle.cli_base.specs.Script.{Ends, AsHeld, ComesTo}
 use Rattle.cli_base.specs.declared.outcome.AnswerKind.{AnswerKind}
 use Rattle.cli_base.specs.declared.outcome.AnswerKind.TheVariants.{Done, Unconfirmed}
 use Rattle.command.specs.declared.contests.ContestsTask.{ContestsTask}
 use Rattle.input_files.specs.Refusals.{refused_ballots, refused_manifest, refused_seen}
-use Rattle.contests_command.specs.Contests.{Audits, IsTold, after_ballots, after_manifest, kind_of}
+use Rattle.contests_command.specs.Contests.{Audits, IsTold, after_ballots, after_manifest}
 use Rattle.contests_command.specs.Table.{all_signed, contests_table}
 use Rattle.raire_cli.specs.Answers.{asked, asked_by}
 use Rattle.raire_cli.specs.Contests.{AsksForContests, AuditsContests, blocks_of}
@@ -23,14 +24,14 @@ use Rattle.raire_cli.proofs.Said.{said}
 -- an answer tells how each contest ends
 told_of : (task : ContestsTask) (list : List BallotFile) (batches : Batches) (seen : List (List Entry)) (kind : AnswerKind) (text : List ℕ) →
     Audits task list batches seen (Answered kind text) →
-    (is : IsTold task list batches seen (Answered kind text)) × (kind ≡ kind_of (all_signed is.ends)) × (text ≡ contests_table task.limit list is.ends)
+    (is : IsTold task list batches seen (Answered kind text)) × (kind ≡ confirmed_kind (all_signed is.ends)) × (text ≡ contests_table task.limit list is.ends)
 told_of task list batches seen kind text (inl unplaced) = let e = unplaced.refused in absurd (cc e)
 told_of task list batches seen kind text (inr (inl unseen)) = let e = unseen.refused in absurd (cc e)
 told_of task list batches seen kind text (inr (inr is)) = let e = is.told in (is, cc e, cc e)
 
 module _ (words : List (List ℕ)) (files : List File) (asks : AsksForContests words) (kind : AnswerKind) (text : List ℕ) where
   pub audited_by : ComesTo (AsHeld files) (asked words) (Answered kind text) →
-      (audit : AuditsContests words files) × (text ≡ blocks_of audit) × (kind ≡ kind_of (all_signed audit.ends))
+      (audit : AuditsContests words files) × (text ≡ blocks_of audit) × (kind ≡ confirmed_kind (all_signed audit.ends))
   audited_by comes =
       let task = asks.task in
       let b = said files task.ballots (refused_ballots task.ballots) contests_of (λ bytes list. after_ballots task list) kind text (λ why. tt)
@@ -56,10 +57,10 @@ module _ (words : List (List ℕ)) (files : List File) (asks : AsksForContests w
 
 -- ---- 0 where each contest is signed off, and else 10
 
-pub done_all : (all : Bool) → Done ≡ kind_of all → IsTrue all
+pub done_all : (all : Bool) → Done ≡ confirmed_kind all → IsTrue all
 done_all true is = refl
 done_all false is = absurd (cc is)
 
-pub unconfirmed_not_all : (all : Bool) → Unconfirmed ≡ kind_of all → IsTrue all → ⊥
+pub unconfirmed_not_all : (all : Bool) → Unconfirmed ≡ confirmed_kind all → IsTrue all → ⊥
 unconfirmed_not_all true is signed = cc is
 unconfirmed_not_all false is signed = false≢true signed

@@ -32,6 +32,7 @@ use Rattle.cover_checker.specs.declared.checked.CheckFault.TheVariants.{Spent as
 use Rattle.cover_checker.specs.declared.cover.CoverFault.TheVariants.{Spent as CoverSpent}
 use Rattle.cover_checker.proofs.Enough.{never_over, never_spent as cover_never_spent}
 use Rattle.cover_checker.proofs.Existing.{answer_never_fault}
+use Rattle.cli_base.specs.Confirmed.{confirmed_kind}
 use Rattle.cli_base.specs.Outcome.{Verdict, Answered, Refused}
 use Rattle.cli_base.specs.Script.{Script, Read, Ends, Bytes, AsHeld, ComesTo, Concludes}
 use Rattle.cli_base.specs.Statuses.{HasAnswer}
@@ -61,9 +62,9 @@ use Rattle.input_files.proofs.Going.{IsRefusal, OnlyRefuses, cards-only, told-on
 use Rattle.session_commands.specs.Accepted.{if_accepted, is_accepted, on_if}
 use Rattle.session_commands.specs.Audit as audit
 use Rattle.session_commands.specs.Open as opening
-use Rattle.session_commands.specs.Rounds.{same_ballots, same_manifest, session_to_go_on, verdict_of}
+use Rattle.session_rounds.specs.Rounds.{same_ballots, same_manifest, session_to_go_on, verdict_of}
 use Rattle.session_commands.proofs.Audits.{assertions-only, same_facts-only}
-use Rattle.session_commands.proofs.OneRound.{ballots-only, manifest-only, next-only, session-only}
+use Rattle.session_rounds.proofs.OneRound.{ballots-only, manifest-only, next-only, session-only}
 use Rattle.raire_cli.specs.Answers.{asked, asked_by, script_of}
 use Rattle.raire_cli.specs.Enough.{AreEnough, Judging, judging_of}
 use Rattle.raire_cli.proofs.Said.{held_whole, value_of, told_ok, unless_ok}
@@ -92,7 +93,7 @@ checks-never budget ballots file text sound enough (answer, found, is) =
 
 -- ---- a trim
 
-spent_trial : (file : FileContent) (r : Result FileContent TrimFault) (text : List ℕ) → trim_verdict file r ≡ Some (Answered Spent text) →
+pub spent_trial : (file : FileContent) (r : Result FileContent TrimFault) (text : List ℕ) → trim_verdict file r ≡ Some (Answered Spent text) →
     (fault : TrimFault) × (r ≡ Err fault)
 spent_trial file (Ok left) text is = absurd (cc is)
 spent_trial file (Err fault) text is = (fault, refl)
@@ -115,7 +116,7 @@ trims-never budget ballots file text sound enough (Err (SpentAt last), found, is
 trims-never budget ballots file text sound enough (Err (SpentSets sets), found, is) = checks-never budget ballots file text sound enough (Err (SpentSets sets), found, is)
 trims-never budget ballots file text sound enough (Err Memory, found, is) = checks-never budget ballots file text sound enough (Err Memory, found, is)
 
-module _ (files : List File) (judging : Judging) (enough : AreEnough files judging) (text : List ℕ) where
+module _ (files : List File) (text : List ℕ) where
   -- what is read comes to no budget that is spent
   abbrev Never : Script → Type 0
   Never script = Concludes (AsHeld files) script (Answered Spent text) → ⊥
@@ -124,6 +125,28 @@ module _ (files : List File) (judging : Judging) (enough : AreEnough files judgi
       Never (go_on judged next)
   after_value judged next only each comes = let (value, is, on) = value_of (AsHeld files) judged next Spent text only comes in each value is on
 
+  -- ---- a round, once its assertion file was accepted
+
+  -- a session is signed off or not
+  session-never : (signed : Bool) → Spent ≡ (if signed then Done else Unconfirmed) → ⊥
+  session-never true is = cc is
+  session-never false is = cc is
+
+  next-never : (judged : Result Content Verdict) → OnlyRefuses judged → Answered Spent text ≡ verdict_of judged → ⊥
+  next-never (Ok next) only is = session-never (is_signed_off next.session) (cc is)
+  next-never (Err (Refused name t)) only is = cc is
+  next-never (Err (Answered kind t)) only is = absurd only
+
+  pub facts-never : (task : AuditTask) (session : Content) (ballots : BallotFile) (batches : Batches) (file : FileContent) →
+      Never (audit.after_check task session ballots batches file)
+  facts-never task session ballots batches file =
+      after_value (audit.same_facts task session batches file) _ (same_facts-only task session batches file) (λ same is (v, at_v, from_v).
+      after_value (told (refused_seen task.seen) (seen_of batches file.candidates v)) _
+      (told-only (refused_seen task.seen) (seen_of batches file.candidates v) (λ why. tt)) (λ entries is_v ends.
+      next-never _ (next-only task.session task.seen task.draws same (values_of file) (record { recorded = linked_of batches ballots; entries = entries }))
+      ends) from_v)
+
+module _ (files : List File) (judging : Judging) (enough : AreEnough files judging) (text : List ℕ) where
   -- the budget of a command that judges the assertion file is enough for what that says
   few_there : (assertions : List ℕ) (budget : Budget) → assertions ≡ judging.assertions → budget ≡ judging.budget → (bytes : List ℕ) (file : FileContent) →
       AsHeld files assertions (Bytes bytes) → assertion_file_of bytes ≡ Ok file → IsEnoughFor (candidate_count file) budget
@@ -134,16 +157,16 @@ module _ (files : List File) (judging : Judging) (enough : AreEnough files judgi
   -- what is read of a file is gone on with
   abbrev ReadNever : {A Why : Type 0} → List ℕ → (Why → Verdict) → (List ℕ → Result A Why) → (List ℕ → A → Script) → Type 0
   ReadNever {A} name words read next =
-      ((bytes : List ℕ) (value : A) → AsHeld files name (Bytes bytes) → read bytes ≡ Ok value → Never (next bytes value)) →
-      Never (Read name (λ bytes. go_on (told words (read bytes)) (next bytes)))
+      ((bytes : List ℕ) (value : A) → AsHeld files name (Bytes bytes) → read bytes ≡ Ok value → Never files text (next bytes value)) →
+      Never files text (Read name (λ bytes. go_on (told words (read bytes)) (next bytes)))
 
   read-never : {A Why : Type 0} (name : List ℕ) (words : Why → Verdict) (read : List ℕ → Result A Why) (next : List ℕ → A → Script) →
       ((why : Why) → IsRefusal (words why)) → ReadNever name words read next
   read-never name words read next refuses each (bytes, there, rest) =
-      after_value (told words (read bytes)) (next bytes) (told-only words (read bytes) refuses)
+      after_value files text (told words (read bytes)) (next bytes) (told-only words (read bytes) refuses)
       (λ value is. each bytes value there (told_ok words (read bytes) value is)) rest
 
-  check-never : (task : CheckTask) → task.assertions ≡ judging.assertions → task.budget ≡ judging.budget → Never (check.script task)
+  check-never : (task : CheckTask) → task.assertions ≡ judging.assertions → task.budget ≡ judging.budget → Never files text (check.script task)
   check-never task name same =
       read-never task.ballots (refused_ballots task.ballots) (λ bytes. ballots_of bytes task.contest)
       (λ bytes ballots. check.after_ballots task.assertions task.budget ballots) (λ why. tt)
@@ -151,7 +174,7 @@ module _ (files : List File) (judging : Judging) (enough : AreEnough files judgi
       (λ bytes file. Ends (Checks task.budget ballots file)) (λ why. tt)
       (λ a file at_a is_a. checks-never task.budget ballots file text (read_is_sound a file is_a) (few_there task.assertions task.budget name same a file at_a is_a)))
 
-  trim-never : (task : TrimTask) → task.assertions ≡ judging.assertions → task.budget ≡ judging.budget → Never (trim.script task)
+  trim-never : (task : TrimTask) → task.assertions ≡ judging.assertions → task.budget ≡ judging.budget → Never files text (trim.script task)
   trim-never task name same =
       read-never task.ballots (refused_ballots task.ballots) (λ bytes. ballots_of bytes task.contest)
       (λ bytes ballots. trim.after_ballots task.assertions task.budget ballots) (λ why. tt)
@@ -169,74 +192,56 @@ module _ (files : List File) (judging : Judging) (enough : AreEnough files judgi
     by true is = cc is
     by false checks = checks-never task.budget ballots file text sound le checks
 
-  open-never : (task : OpenTask) → task.assertions ≡ judging.assertions → task.budget ≡ judging.budget → Never (opening.script task)
+  open-never : (task : OpenTask) → task.assertions ≡ judging.assertions → task.budget ≡ judging.budget → Never files text (opening.script task)
   open-never task name same =
       read-never task.ballots (refused_ballots task.ballots) (λ bytes. ballots_of bytes task.contest)
       (λ bytes ballots. opening.after_ballots task ballots (sha256 bytes)) (λ why. tt)
       (λ b ballots at_b is_b (m, at_m, from_m).
-      after_value (cards_for task.ballots ballots task.manifest m) _ (cards-only task.ballots ballots task.manifest m) (λ batches is_m.
+      after_value files text (cards_for task.ballots ballots task.manifest m) _ (cards-only task.ballots ballots task.manifest m) (λ batches is_m.
       read-never task.assertions (refused_assertions task.assertions) assertion_file_of _ (λ why. tt) (λ a file at_a is_a.
       opens-never task ballots batches file _ (read_is_sound a file is_a) (few_there task.assertions task.budget name same a file at_a is_a)))
       from_m)
 
   -- ---- a round of an audit
 
-  accepted-never : (budget : Budget) (ballots : BallotFile) (file : FileContent) (next : Script) → IsSound file → IsEnoughFor (candidate_count file) budget → Never next →
-      Never (if_accepted budget ballots file next)
+  accepted-never : (budget : Budget) (ballots : BallotFile) (file : FileContent) (next : Script) → IsSound file →
+      IsEnoughFor (candidate_count file) budget → Never files text next →
+      Never files text (if_accepted budget ballots file next)
   accepted-never budget ballots file next sound le never = by (is_accepted budget ballots file) where
-    by : (b : Bool) → Never (on_if b next (Ends (Checks budget ballots file)))
+    by : (b : Bool) → Never files text (on_if b next (Ends (Checks budget ballots file)))
     by true = never
     by false = λ checks. checks-never budget ballots file text sound le checks
 
-  -- a session is signed off or not
-  session-never : (signed : Bool) → Spent ≡ (if signed then Done else Unconfirmed) → ⊥
-  session-never true is = cc is
-  session-never false is = cc is
-
-  next-never : (judged : Result Content Verdict) → OnlyRefuses judged → Answered Spent text ≡ verdict_of judged → ⊥
-  next-never (Ok next) only is = session-never (is_signed_off next.session) (cc is)
-  next-never (Err (Refused name t)) only is = cc is
-  next-never (Err (Answered kind t)) only is = absurd only
-
-  facts-never : (task : AuditTask) (session : Content) (ballots : BallotFile) (batches : Batches) (file : FileContent) →
-      Never (audit.after_check task session ballots batches file)
-  facts-never task session ballots batches file =
-      after_value (audit.same_facts task session batches file) _ (same_facts-only task session batches file) (λ same is (v, at_v, from_v).
-      after_value (told (refused_seen task.seen) (seen_of batches file.candidates v)) _
-      (told-only (refused_seen task.seen) (seen_of batches file.candidates v) (λ why. tt)) (λ entries is_v ends.
-      next-never _ (next-only task.session task.seen task.draws same (values_of file) (record { recorded = linked_of batches ballots; entries = entries }))
-      ends) from_v)
-
-  audit-never : (task : AuditTask) → task.assertions ≡ judging.assertions → task.budget ≡ judging.budget → Never (audit.script task)
+  audit-never : (task : AuditTask) → task.assertions ≡ judging.assertions → task.budget ≡ judging.budget → Never files text (audit.script task)
   audit-never task name same = λ (s, at_s, from_s).
-      after_value (session_to_go_on task.session task.draws s) _ (session-only task.session task.draws s) (λ session is_s (b, at_b, from_b).
-      after_value (same_ballots task.ballots session b) _ (ballots-only task.ballots session b) (λ ballots is_b (m, at_m, from_m).
-      after_value (same_manifest task.ballots task.manifest session ballots m) _ (manifest-only task.ballots task.manifest session ballots m)
+      after_value files text (session_to_go_on task.session task.draws s) _ (session-only task.session task.draws s) (λ session is_s (b, at_b, from_b).
+      after_value files text (same_ballots task.ballots session b) _ (ballots-only task.ballots session b) (λ ballots is_b (m, at_m, from_m).
+      after_value files text (same_manifest task.ballots task.manifest session ballots m) _ (manifest-only task.ballots task.manifest session ballots m)
       (λ batches is_m (a, at_a, from_a).
-      after_value (audit.same_assertions task session a) _ (assertions-only task session a) (λ file is_a.
+      after_value files text (audit.same_assertions task session a) _ (assertions-only task session a) (λ file is_a.
       let reads = told_ok (refused_assertions task.assertions) (assertion_file_of a) file (unless_ok _ _ file is_a).1 in
       accepted-never task.budget ballots file _ (read_is_sound a file reads) (few_there task.assertions task.budget name same a file at_a reads)
-      (facts-never task session ballots batches file))
+      (facts-never files text task session ballots batches file))
       from_a) from_m) from_b) from_s
 
   -- ---- a poll
 
-  covered-never : (nodes : ℕ) (file : FileContent) (next : Script) → 2 * factorial (candidate_count file - 1) ≤ nodes → Never next →
-      Never (poll.if_covered nodes file next)
+  covered-never : (nodes : ℕ) (file : FileContent) (next : Script) → 2 * factorial (candidate_count file - 1) ≤ nodes → Never files text next →
+      Never files text (poll.if_covered nodes file next)
   covered-never nodes file next le never =
       by (first_over n file.winner (assertions_of file) nodes) (standing_order n file.winner (assertions_of file)) refl where
         n : ℕ
         n = candidate_count file
 
         by : (over : Option ℕ) (left : Option (List ℕ)) → first_over n file.winner (assertions_of file) nodes ≡ over →
-            Never (poll.unless_ended (option_or (option_map (poll.spent file) over) (option_map (poll.standing file) left)) next)
+            Never files text (poll.unless_ended (option_or (option_map (poll.spent file) over) (option_map (poll.standing file) left)) next)
         by (Some last) left e is = cover_never_spent n file.winner nodes (assertions_of file) last le
             (ap (λ over. or_spent (option_map CoverSpent over) (cover_verdict_on (standing_order n file.winner (assertions_of file)))) e)
         by None (Some order) e is = cc is
         by None None e comes = never comes
 
   -- a poll confirms each claim or not
-  told-never : (yes : Bool) → Spent ≡ poll.kind_of yes → ⊥
+  told-never : (yes : Bool) → Spent ≡ confirmed_kind yes → ⊥
   told-never true is = cc is
   told-never false is = cc is
 
@@ -251,7 +256,7 @@ module _ (files : List File) (judging : Judging) (enough : AreEnough files judgi
     by None is = told-never (poll.is_yes task batches file entries) (cc is)
     by (Some k) is = cc is
 
-  poll-never : (task : PollTask) → task.assertions ≡ judging.assertions → Nodes task.nodes ≡ judging.budget → Never (poll.script task)
+  poll-never : (task : PollTask) → task.assertions ≡ judging.assertions → Nodes task.nodes ≡ judging.budget → Never files text (poll.script task)
   poll-never task name same =
       read-never task.manifest (refused_manifest task.manifest) manifest_of (λ bytes batches. poll.after_manifest task batches) (λ why. tt)
       (λ m batches at_m is_m. read-never task.assertions (refused_assertions task.assertions) assertion_file_of

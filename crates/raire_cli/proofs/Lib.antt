@@ -23,9 +23,12 @@ mod PluralAudited
 mod PluralsLimit
 mod ContestsAudited
 mod ContestsOnce
+mod ContestsRefused
 mod ContestsAlone
 mod ContestsLimit
+mod ContestsSignedOff
 mod Undecided
+mod SetsJudged
 mod SetsSpent
 mod Rounds
 mod Clauses
@@ -36,3 +39,4 @@ mod PrintedFiles
 mod TrimmedFiles
 mod Unconfirmed
 mod EachStatus
+mod ReadFaults

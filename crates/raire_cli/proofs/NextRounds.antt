@@ -32,9 +32,9 @@ use Rattle.cli_base.specs.Outcome.{Verdict, Answered, Refused}
 use Rattle.cli_base.specs.declared.outcome.AnswerKind.{AnswerKind}
 use Rattle.input_files.specs.Refusals.{refused_ballots}
 use Rattle.input_files.proofs.Going.{OnlyRefuses}
-use Rattle.session_commands.specs.Refusals.{other_digest, refused_by}
-use Rattle.session_commands.specs.Report.{session_in}
-use Rattle.session_commands.specs.Rounds.{Compared, changed, had_as_many, kind_of, next_session, same_ballots, same_manifest, session_to_go_on, unseen, verdict_of}
+use Rattle.session_rounds.specs.Refusals.{other_digest, refused_by}
+use Rattle.session_rounds.specs.Rounds.{session_in}
+use Rattle.session_rounds.specs.Rounds.{Compared, changed, had_as_many, kind_of, next_session, same_ballots, same_manifest, session_to_go_on, unseen, verdict_of}
 use Rattle.raire_cli.specs.NextRound.{IsNextRound, WereWithin, cards, drawn, seen}
 use Rattle.raire_cli.proofs.Said.{said_cards, some_ok, then_ok, told_ok, unless_ok}
 use Rattle.raire_cli.proofs.Unrefused.{all_recorded, not_as_many, same_digest, unchanged}

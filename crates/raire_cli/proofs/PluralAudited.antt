@@ -23,9 +23,9 @@ use Rattle.command.specs.declared.audit_plurality.AuditPluralityTask.{AuditPlura
 use Rattle.input_files.specs.Judged.{told}
 use Rattle.input_files.specs.Refusals.{refused_seen}
 use Rattle.input_files.proofs.Going.{OnlyRefuses, told-only}
-use Rattle.session_commands.specs.Refusals.{other_digest, without_facts}
-use Rattle.session_commands.specs.Rounds.{Compared, GoesOn as GoesTo, kind_of, next_session, same_ballots, same_manifest, session_to_go_on, verdict_of}
-use Rattle.session_commands.proofs.OneRound.{ballots-only, manifest-only, next-only}
+use Rattle.session_rounds.specs.Refusals.{other_digest, without_facts}
+use Rattle.session_rounds.specs.Rounds.{Compared, GoesOn as GoesTo, kind_of, next_session, same_ballots, same_manifest, session_to_go_on, verdict_of}
+use Rattle.session_rounds.proofs.OneRound.{ballots-only, manifest-only, next-only}
 use Rattle.plurality_commands.specs.AuditPlurality.{after_ballots, after_count, after_facts, after_manifest, after_session, plural_session, same_facts}
 use Rattle.plurality_commands.specs.Outcome.{outcome_in}
 use Rattle.plurality_commands.proofs.Audits.{plural-only, same_facts-only}

@@ -15,13 +15,14 @@ use Rattle.cover_checker.specs.Findings.{assertions_of}
 use Rattle.seen_file.specs.Reading.{seen_of}
 use Rattle.seen_file.specs.Seen.{Entry}
 use Rattle.audit_session.specs.Refusals.{unseen_draw}
+use Rattle.cli_base.specs.Confirmed.{confirmed_kind}
 use Rattle.cli_base.specs.Outcome.{Verdict, Answered, Refused}
 use Rattle.cli_base.specs.Script.{Script, Ends, Readings, AsHeld, Concludes, ComesTo}
 use Rattle.cli_base.specs.declared.outcome.AnswerKind.{AnswerKind}
 use Rattle.cli_base.specs.declared.outcome.AnswerKind.TheVariants.{Done, Unconfirmed}
 use Rattle.command.specs.declared.poll.PollTask.{PollTask}
 use Rattle.input_files.specs.Refusals.{no_record_text, refused_assertions, refused_manifest, refused_seen}
-use Rattle.poll_command.specs.Poll.{Polls, after_assertions, after_cover, after_manifest, answered, if_covered, is_yes, kind_of, poll_text, spent, standing, uncovered, unless_ended}
+use Rattle.poll_command.specs.Poll.{Polls, after_assertions, after_cover, after_manifest, answered, if_covered, is_yes, poll_text, spent, standing, uncovered, unless_ended}
 use Rattle.poll_command.proofs.Polled.{covering}
 use Rattle.raire_cli.specs.Answers.{asked, asked_by}
 use Rattle.raire_cli.specs.Polls.{AsksForPoll, IsPollOf, PollInputs, cards, is_confirmed_by, told_of}
@@ -56,13 +57,13 @@ module _ (task : PollTask) (batches : Batches) (file : Content) (entries : List 
 
   seen_all : (kind : AnswerKind) (text : List ℕ) → Polls task batches file entries (Answered kind text) →
       (unseen_draw task.seed (cards task inputs) entries task.draws ≡ None)
-      × (kind ≡ kind_of (is_yes task batches file entries)) × (text ≡ poll_text task batches file entries)
+      × (kind ≡ confirmed_kind (is_yes task batches file entries)) × (text ≡ poll_text task batches file entries)
   seen_all kind text is = by (unseen_draw task.seed (cards task inputs) entries task.draws) refl is where
     by : (o : Option ℕ) → unseen_draw task.seed (cards task inputs) entries task.draws ≡ o →
         Answered kind text ≡ unwrap_or (option_map (λ k. Refused task.seen (no_record_text (drawn_card task.seed k (cards task inputs)) k)) o)
         (answered task batches file entries) →
         (unseen_draw task.seed (cards task inputs) entries task.draws ≡ None)
-        × (kind ≡ kind_of (is_yes task batches file entries)) × (text ≡ poll_text task batches file entries)
+        × (kind ≡ confirmed_kind (is_yes task batches file entries)) × (text ≡ poll_text task batches file entries)
     by None e is = (e, cc is, cc is)
     by (Some k) e is = absurd (cc is)
 
@@ -70,7 +71,7 @@ module _ (task : PollTask) (batches : Batches) (file : Content) (entries : List 
 
 module _ (words : List (List ℕ)) (files : List File) (asks : AsksForPoll words) (kind : AnswerKind) (text : List ℕ) (of : IsKind kind) where
   pub polled_by : ComesTo (AsHeld files) (asked words) (Answered kind text) →
-      (poll : IsPollOf words files) × (text ≡ told_of poll) × (kind ≡ kind_of (is_confirmed_by poll))
+      (poll : IsPollOf words files) × (text ≡ told_of poll) × (kind ≡ confirmed_kind (is_confirmed_by poll))
   polled_by comes =
       let task = asks.task in
       let m = said files task.manifest (refused_manifest task.manifest) manifest_of (λ bytes batches. after_manifest task batches) kind text (λ why. tt)
@@ -96,10 +97,10 @@ module _ (words : List (List ℕ)) (files : List File) (asks : AsksForPoll words
 
 -- ---- 0 where each claim is confirmed, and else 10
 
-pub done_confirmed : (yes : Bool) → Done ≡ kind_of yes → IsTrue yes
+pub done_confirmed : (yes : Bool) → Done ≡ confirmed_kind yes → IsTrue yes
 done_confirmed true is = refl
 done_confirmed false is = absurd (cc is)
 
-pub unconfirmed_never : (yes : Bool) → Unconfirmed ≡ kind_of yes → IsTrue yes → ⊥
+pub unconfirmed_never : (yes : Bool) → Unconfirmed ≡ confirmed_kind yes → IsTrue yes → ⊥
 unconfirmed_never true is confirmed = cc is
 unconfirmed_never false is confirmed = false≢true confirmed

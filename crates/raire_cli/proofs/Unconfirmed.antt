@@ -41,7 +41,7 @@ use Rattle.budget.specs.declared.budget.Budget.TheVariants.{Nodes}
 use Rattle.budget.specs.declared.limits.TheConstants.{DEFAULT_NODES}
 use Rattle.session_commands.specs.Accepted.{is_accepted, on_if}
 use Rattle.session_commands.specs.Audit.{after_assertions, after_ballots, after_check, after_facts, after_manifest, after_session, script, same_assertions, same_facts}
-use Rattle.session_commands.specs.Rounds.{Compared, GoesOn, next_session, same_ballots, same_manifest, session_to_go_on, verdict_of}
+use Rattle.session_rounds.specs.Rounds.{Compared, GoesOn, next_session, same_ballots, same_manifest, session_to_go_on, verdict_of}
 use Rattle.command.specs.declared.audit.AuditTask.{AuditTask}
 use Rattle.input_files.specs.Judged.{told}
 use Rattle.input_files.specs.Refusals.{refused_seen}

@@ -17,8 +17,8 @@ use Rattle.audit_session.specs.declared.fault.AdvanceFault.TheVariants.{NoRecord
 use Rattle.sampler.specs.Draws.{drawn_card}
 use Rattle.seen_file.specs.Seen.{Entry}
 use Rattle.cli_base.specs.Outcome.{Refused}
-use Rattle.session_commands.specs.Refusals.{had_text, other_digest, other_facts, differs_text, refused_by}
-use Rattle.session_commands.specs.Rounds.{had_as_many}
+use Rattle.session_rounds.specs.Refusals.{had_text, other_digest, other_facts, differs_text, refused_by}
+use Rattle.session_rounds.specs.Rounds.{had_as_many}
 
 pub same_digest : (name expected bytes : List ℕ) → other_digest name expected bytes ≡ None → expected ≡ sha256 bytes
 same_digest name expected bytes none = elim (cases_Bool (is_same expected (sha256 bytes))) [

@@ -1,5 +1,5 @@
 -- What it means that all contests of a ballot file are audited on one sample of cards.
-use Rattle.std.specs.Prelude.{◌≡◌, ◌⊎◌, ◌↔◌, ℕ, List, All, Option, None, Some, IfSome, Ok, IsTrue}
+use Rattle.std.specs.Prelude.{◌≡◌, ◌≢◌, ◌⊎◌, ◌↔◌, ℕ, List, All, Option, None, Some, IfSome, Ok, IsTrue}
 use Rattle.desk.specs.Desk.{File, held_bytes}
 use Rattle.ballot_reader.specs.Ballots.{BallotFile}
 use Rattle.ballot_reader.specs.Grammar.{contests_of}
@@ -11,11 +11,15 @@ use Rattle.contest_set.specs.Refusals.{first_without_card_of_all}
 use Rattle.contest_set.specs.SeenBy.{seen_by}
 use Rattle.contest_set.specs.declared.end.ContestEnd.{ContestEnd}
 use Rattle.cli_base.specs.Ends.{Writing, Took}
+use Rattle.cli_base.specs.Outcome.{Refused}
+use Rattle.cli_base.specs.Script.{AsHeld, ComesTo}
 use Rattle.command.specs.declared.contests.ContestsTask.{ContestsTask}
 use Rattle.command_line.specs.Line.{command_of}
 use Rattle.command_line.specs.declared.commands.Command.TheVariants.{Contests}
 use Rattle.contests_command.specs.Contests.{SufficeFor, terms_of}
 use Rattle.contests_command.specs.Table.{all_signed, contests_table}
+use Rattle.input_files.specs.Refusals.{no_record_text}
+use Rattle.raire_cli.specs.Answers.{asked}
 
 -- the words ask for an audit of all contests
 pub record AsksForContests (words : List (List ℕ)) : Type 0 where
@@ -76,6 +80,14 @@ pub record AuditsContests (words : List (List ℕ)) (files : List File) : Type 0
 abbrev pub blocks_of : {words : List (List ℕ)} {files : List File} →
     AuditsContests words files → List ℕ
 blocks_of audit = contests_table audit.asks.task.limit audit.inputs.list audit.ends
+
+-- ---- a refusal
+
+-- a rule refuses what a file of the words holds, and it isn't that a drawn card has no record
+abbrev pub IsRefusedAnyway : List (List ℕ) → List File → Type 0
+IsRefusedAnyway words files =
+    (name text : List ℕ) × ComesTo (AsHeld files) (asked words) (Refused name text)
+    × ((card k : ℕ) → text ≢ no_record_text card k)
 
 -- ---- what `run` promises
 

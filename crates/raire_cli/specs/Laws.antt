@@ -1,8 +1,11 @@
 -- What the workers and the budget of a search or a trial change, how many nodes or sets suffice for it, and which sessions of an audit
 -- the risk limit counts.
-use Rattle.std.specs.Prelude.{◌≡◌, ℕ, ◌≤◌, ◌-◌, ◌^◌, List, length, Option, Some, IsTrue, ⊤}
+use Rattle.std.specs.Prelude.{◌≡◌, ℕ, ◌≤◌, List, length, Option, Some, IsTrue, ⊤}
 use Rattle.desk.specs.Desk.{File}
 use Rattle.manifest.specs.Linked.{linked_of}
+use Rattle.assertion_file.specs.Content.{Content as FileContent, IsSound, candidate_count as count_in}
+use Rattle.cover_checker.specs.Covers.{standing_sets}
+use Rattle.cover_checker.specs.Findings.{assertions_of}
 use Rattle.session_state.specs.Content.{Content}
 use Rattle.session_state.specs.Sessions.{is_signed_off}
 use Rattle.session_state.specs.RiskOfValues.{MayBeSignedOff}
@@ -18,8 +21,8 @@ use Rattle.budget.specs.declared.budget.Budget.{Budget}
 use Rattle.budget.specs.declared.budget.Budget.TheVariants.{Sets}
 use Rattle.budget.specs.declared.limits.TheConstants.{DEFAULT_NODES, MOST_SETS}
 use Rattle.raire_cli.specs.Answers.{asked}
-use Rattle.contest_search.specs.Budget.{nodes_for}
-use Rattle.contest_search.specs.Contest.{candidate_count, IsOther}
+use Rattle.contest_search.specs.Budget.{nodes_for, sets_of}
+use Rattle.contest_search.specs.Contest.{candidate_count, IsOther, IsWon}
 use Rattle.raire_cli.specs.Audits.{GoesOn, cards, claims, drawn}
 
 -- the words ask for this search, but for the number of its workers
@@ -91,9 +94,17 @@ DefaultSuffices =
     candidate_count ballots ≤ 9 →
     nodes_for ballots tabulated winner c ≤ DEFAULT_NODES
 
--- The most sets suffice for up to twenty.
+-- The most sets suffice for up to twenty, in a search or a trial.
 abbrev pub MostSetsSuffice : Type 0
-MostSetsSuffice = (n : ℕ) → n ≤ 20 → 2 ^ n - 3 ≤ MOST_SETS
+MostSetsSuffice =
+    (ballots : BallotFile) (winner : ℕ) → IsWon ballots winner → candidate_count ballots ≤ 20 →
+    sets_of ballots winner ≤ MOST_SETS
+
+-- They do where an assertion file is checked.
+abbrev pub MostSetsSufficeToCheck : Type 0
+MostSetsSufficeToCheck =
+    (file : FileContent) → IsSound file → count_in file ≤ 20 →
+    standing_sets (count_in file) file.winner (assertions_of file) ≤ MOST_SETS
 
 -- A session that an audit signs off is one that the risk limit counts, where the cards that were drawn were read as they are; also
 -- among sequences of more draws.

@@ -22,6 +22,8 @@ pub mod Laws
 pub mod SignedOff
 pub mod PollLaws
 pub mod PluralLaws
+pub mod ContestsSignedOff
 pub mod Agreement
 pub mod EachStatus
 pub mod PrintedFiles
+pub mod ReadFaults

@@ -1,12 +1,13 @@
 -- What `run` promises by its status.
 use Rattle.std.specs.Prelude.{◌≡◌, ◌⊎◌, ◌≤◌, ℕ, false, List, Option, Some, IfSome, length}
 use Rattle.desk.specs.Desk.{File}
+use Rattle.desk.specs.declared.served.Served.{Served}
 use Rattle.irv_base.specs.Tabulation.{HasNoTie}
 use Rattle.bound_search.specs.Race.{work_for}
 use Rattle.ballot_reader.specs.Ballots.{BallotFile}
 use Rattle.cli_base.specs.Script.{limit}
 use Rattle.cli_base.specs.Ends.{Writing}
-use Rattle.cli_base.specs.Statuses.{ContestsStatuses, IsQuiet, Exactly, IsExact, Statuses}
+use Rattle.cli_base.specs.Statuses.{ContestsStatuses, IsQuiet, IsUndone, Exactly, IsExact, Statuses}
 use Rattle.command.specs.declared.tabulate.TabulateTask.{TabulateTask}
 use Rattle.command.specs.declared.trial.TrialTask.{TrialTask}
 use Rattle.command_line.specs.Line.{command_of, is_line}
@@ -18,7 +19,7 @@ use Rattle.raire_cli.specs.Answers.{asked, is_open}
 use Rattle.raire_cli.specs.Ballots.{AreBallots}
 use Rattle.raire_cli.specs.Budgets.{Suffices}
 use Rattle.raire_cli.specs.Confirmation.{AsksFor}
-use Rattle.raire_cli.specs.Contests.{AsksForContests}
+use Rattle.raire_cli.specs.Contests.{AsksForContests, IsRefusedAnyway}
 
 -- The words ask for a search of a file that is held, not too long and accepted, with as many cards as ballots if they give a number.
 -- Its contest is decided: each way of breaking its ties elects the winner. The budget has as many nodes as may be needed for each
@@ -83,9 +84,13 @@ IsExactUnlessOpen held words status =
 
 -- When each status comes, and what the sinks then took.
 pub record HasCause (held : Option (List File)) (words : List (List ℕ)) (failed : Type 0)
-    (status : ℕ) (out err : Writing) : Type 0 where
+    (before after : Served) (status : ℕ) (out err : Writing) : Type 0 where
   pub by_words : Exactly 1 status (is_line words ≡ false)
-  pub by_files : (AsksForContests words → ⊥) → Statuses (asked words) held failed status out err
+  pub by_files : (AsksForContests words → ⊥) →
+      Statuses (asked words) held failed before after status out err
   -- in an audit of all contests the budget of each may be spent
   pub by_contests : AsksForContests words →
-      ContestsStatuses (asked words) held failed status out err
+      ContestsStatuses (asked words) held failed before after status out err
+  -- but it hides no refusal other than that a drawn card has no record
+  pub refused_anyway : AsksForContests words → IfSome held (λ files.
+      IsRefusedAnyway words files → (status ≡ 2) ⊎ IsUndone status)

@@ -1,22 +1,33 @@
 -- When a number of sets is spent: exactly where more sets count.
-use Rattle.std.specs.Prelude.{◌≡◌, ◌≢◌, ◌≤◌, ◌<◌, ◌-◌, ◌^◌, ℕ, Bool, true, false, List, length, Option, None, Some, IfSome, Ok, IsTrue}
+use Rattle.std.specs.Prelude.{◌≡◌, ◌≢◌, ◌⊎◌, ◌≤◌, ◌<◌, ◌-◌, ◌^◌, ℕ, List, length, Option, None, Some, IfSome, Result, Ok, Err, IsTrue}
 use Rattle.desk.specs.Desk.{File, held_bytes}
+use Rattle.irv_base.specs.Names.{Id}
 use Rattle.ballot_reader.specs.Ballots.{BallotFile}
+use Rattle.ballot_reader.specs.Grammar.{ballots_of}
+use Rattle.manifest.specs.Cards.{Batches}
 use Rattle.assertion_file.specs.Content.{Content, candidate_count as count_in}
 use Rattle.assertion_file.specs.Reading.{assertion_file_of}
+use Rattle.session_state.specs.Content.{Content as Session}
 use Rattle.budget.specs.declared.budget.Budget.TheVariants.{Sets}
+use Rattle.cover_checker.specs.Checks.{IsAnswer}
 use Rattle.cover_checker.specs.Covers.{standing_sets}
 use Rattle.cover_checker.specs.Findings.{assertions_of, is_about, other_margin}
+use Rattle.cover_checker.specs.declared.checked.Checked.TheVariants.{Accepted}
+use Rattle.trimmer.specs.Trimmed.{trimmed}
+use Rattle.trimmer.specs.declared.fault.TrimFault.TheVariants.{SpentSets}
 use Rattle.cli_base.specs.Script.{limit}
 use Rattle.cli_base.specs.Statuses.{Exactly}
-use Rattle.command.specs.declared.check.CheckTask.{CheckTask}
+use Rattle.command.specs.declared.audit.AuditTask.{AuditTask}
+use Rattle.command.specs.declared.open.OpenTask.{OpenTask}
 use Rattle.command_line.specs.Line.{command_of}
 use Rattle.command_line.specs.declared.commands.Command.{Command}
-use Rattle.command_line.specs.declared.commands.Command.TheVariants.{Search, Check, Trial}
+use Rattle.command_line.specs.declared.commands.Command.TheVariants.{Search, Check, Trim, Open, Audit, Trial}
 use Rattle.contest_search.specs.Budget.{sets_of}
 use Rattle.contest_search.specs.Contest.{candidate_count, IsWon}
+use Rattle.input_files.specs.Cards.{cards_for}
 use Rattle.search_commands.specs.Trial.{contest_of}
-use Rattle.raire_cli.specs.Ballots.{AreBallots}
+use Rattle.session_commands.specs.Audit.{same_assertions}
+use Rattle.session_rounds.specs.Rounds.{same_ballots, same_manifest, session_to_go_on}
 use Rattle.raire_cli.specs.Budgets.{budget_of, start_of}
 use Rattle.raire_cli.specs.Undecided.{IsAbout}
 
@@ -29,15 +40,6 @@ pub record NeedsMore (sets : ℕ) (ballots : BallotFile) : Type 0 where
   pub above : sets < sets_of ballots winner
   pub some : 1 ≤ start_of ballots won.order
 
--- the files of a check are held, not too long and accepted, and say this
-pub record AreChecked (files : List File) (task : CheckTask) (ballots : BallotFile)
-    (file : Content) : Type 0 where
-  pub of_ballots : AreBallots files task.ballots task.contest ballots
-  pub bytes : List ℕ
-  pub held : held_bytes task.assertions files ≡ Some bytes
-  pub is_short : length bytes ≤ limit
-  pub accepted : assertion_file_of bytes ≡ Ok file
-
 -- the file is about the contest and its winner, no claim has another margin, and more sets count of the orders that its claims don't
 -- refute
 pub record CountsMore (sets : ℕ) (ballots : BallotFile) (file : Content) : Type 0 where
@@ -46,28 +48,76 @@ pub record CountsMore (sets : ℕ) (ballots : BallotFile) (file : Content) : Typ
   pub margins : other_margin ballots.rankings file ≡ None
   pub above : sets < standing_sets (count_in file) file.winner (assertions_of file)
 
--- a search or a trial needs more, or more count in a check
+-- a check accepts the file, and without the claim of some number more sets count
+pub record TrialCountsMore (sets : ℕ) (ballots : BallotFile) (file : Content) : Type 0 where
+  pub accepted : IsAnswer (Sets sets) ballots file (Ok Accepted)
+  pub claim : ℕ
+  pub spent : trimmed (Sets sets) file ≡ Err (SpentSets claim sets)
+
+-- ---- the files of a command that judges an assertion file
+
+-- a file of this name is held and not too long, and this is read of it
+pub record Says {A Why : Type 0} (files : List File) (name : List ℕ)
+    (read : List ℕ → Result A Why) (value : A) : Type 0 where
+  pub bytes : List ℕ
+  pub held : held_bytes name files ≡ Some bytes
+  pub is_short : length bytes ≤ limit
+  pub is : read bytes ≡ Ok value
+
+-- of a check or a trim
+pub record AreChecked (files : List File) (name assertions : List ℕ) (contest : Option Id)
+    (ballots : BallotFile) (file : Content) : Type 0 where
+  pub of_ballots : Says files name (λ bytes. ballots_of bytes contest) ballots
+  pub of_assertions : Says files assertions assertion_file_of file
+
+-- of a session that is opened: each ballot has a card
+pub record AreOpened (files : List File) (task : OpenTask) (ballots : BallotFile)
+    (file : Content) : Type 0 where
+  pub of_ballots : Says files task.ballots (λ bytes. ballots_of bytes task.contest) ballots
+  pub batches : Batches
+  pub of_manifest : Says files task.manifest (cards_for task.ballots ballots task.manifest) batches
+  pub of_assertions : Says files task.assertions assertion_file_of file
+
+-- of a round: the session goes on to so many draws, the other files are those that it stands on, and each ballot has a card
+pub record AreOfRound (files : List File) (task : AuditTask) (ballots : BallotFile)
+    (file : Content) : Type 0 where
+  pub session : Session
+  pub of_session : Says files task.session (session_to_go_on task.session task.draws) session
+  pub of_ballots : Says files task.ballots (same_ballots task.ballots session) ballots
+  pub batches : Batches
+  pub of_manifest : Says files task.manifest
+      (same_manifest task.ballots task.manifest session ballots) batches
+  pub of_assertions : Says files task.assertions (same_assertions task session) file
+
+-- ---- each command that may have a number of sets
+
+-- a search or a trial needs more, or more count in the check of an assertion file, once all that is judged before it was accepted
 abbrev pub MoreCount : List File → Command → ℕ → Type 0
 MoreCount files (Search task) sets =
     (ballots : BallotFile) × IsAbout files (Search task) ballots × NeedsMore sets ballots
 MoreCount files (Trial task) sets = NeedsMore sets (contest_of task)
 MoreCount files (Check task) sets =
-    (ballots : BallotFile) × (file : Content) × AreChecked files task ballots file
+    (ballots : BallotFile) × (file : Content)
+    × AreChecked files task.ballots task.assertions task.contest ballots file
+    × CountsMore sets ballots file
+MoreCount files (Trim task) sets =
+    (ballots : BallotFile) × (file : Content)
+    × AreChecked files task.ballots task.assertions task.contest ballots file
+    × (CountsMore sets ballots file ⊎ TrialCountsMore sets ballots file)
+MoreCount files (Open task) sets =
+    (ballots : BallotFile) × (file : Content) × AreOpened files task ballots file
+    × CountsMore sets ballots file
+MoreCount files (Audit task) sets =
+    (ballots : BallotFile) × (file : Content) × AreOfRound files task ballots file
     × CountsMore sets ballots file
 MoreCount files _ sets = ⊥
 
-abbrev pub counts_sets : Command → Bool
-counts_sets (Search task) = true
-counts_sets (Trial task) = true
-counts_sets (Check task) = true
-counts_sets _ = false
-
 -- ---- what `run` promises
 
--- Status 4 of a search, a trial or a check with a number of sets comes exactly where more sets count.
+-- Status 4 of a command with a number of sets comes exactly where more sets count.
 abbrev pub IsSpentBySets : Option (List File) → List (List ℕ) → ℕ → Type 0
 IsSpentBySets held words status = IfSome held (λ files. (command : Command) (sets : ℕ) →
-    command_of words ≡ Some command → IsTrue (counts_sets command) → budget_of command ≡ Sets sets →
+    command_of words ≡ Some command → budget_of command ≡ Sets sets →
     Exactly 4 status (MoreCount files command sets))
 
 -- With as many sets as the candidates have, but three, a search or a trial isn't spent.

@@ -3,10 +3,12 @@ ghost use Rattle.std.specs.Prelude.{◌≡◌, ◌≤◌};
 ghost use Rattle.std.specs.Io.KnownBytes.{Keeps};
 ghost use Rattle.desk.specs.Count.{Rose};
 ghost use Rattle.cli_base.specs.Accounts.{IsAccountedFor};
+ghost use Rattle.cli_base.specs.Begun.{HasCome};
 ghost use Rattle.cli_base.specs.Due.{due};
 ghost use Rattle.cli_base.specs.Ends.{writing};
-ghost use Rattle.cli_base.specs.Script.{ByDesk, IsDue};
+ghost use Rattle.cli_base.specs.Script.{ByDesk};
 ghost use Rattle.cli_base.specs.Statuses.{IsAnswered, IsForErr};
+ghost use Rattle.cli_base.specs.Story.{Story};
 ghost use Rattle.command_line.specs.Words.{texts};
 ghost use Rattle.raire_cli.specs.Acceptance.{IsUpheld};
 ghost use Rattle.raire_cli.specs.Answers.{asked, file_count};
@@ -92,7 +94,7 @@ pub fn run<R: AllocGlobal + Threads + Sync, D: Desk, O: Sink, E: Sink, G: Gate +
     // With as many sets as the candidates have no search and no trial is spent.
     ensures enough_sets { IsNeverSpentBySets (D.held desk.old) (texts words.now) result }
 
-    // A search, a trial or a check with a number of sets is spent exactly where more sets count.
+    // A command with a number of sets is spent exactly where more sets count.
     ensures spent_sets { IsSpentBySets (D.held desk.old) (texts words.now) result }
 
     // An assertion file that is accepted holds.
@@ -135,15 +137,21 @@ pub fn run<R: AllocGlobal + Threads + Sync, D: Desk, O: Sink, E: Sink, G: Gate +
 
     // When each status comes, and what the sinks then took.
     ensures status { HasCause (D.held desk.old) (texts words.now)
-        (Rose (D.faults desk.old) (D.faults desk.new)) result
+        (Rose (D.faults desk.old) (D.faults desk.new)) (D.served desk.old) (D.served desk.new) result
         (writing O.Sink out.old out.new) (writing E.Sink err.old err.new) }
 
     // No budget leaves open what another command than a search, a tabulation, a trial or an audit of all contests comes to, and no number
     // of sets what any does.
     ensures exact { IsExactUnlessOpen (D.held desk.old) (texts words.now) result }
 
-    // 11 and 12 come exactly where the desk served so, told or not told what it holds. At most as many files are begun as the words
-    // name, and with status 0 as many.
+    // The desk begins the first files that the command reads, each once, and no others: all that it reads before it answers or a rule
+    // refuses, or up to the one that 7, 11 or 12 names, or some where memory runs out. What they make of it is written.
+    ensures begun { Story (asked (texts words.now)) (D.held desk.old)
+        (Rose (D.faults desk.old) (D.faults desk.new)) (D.served desk.old) (D.served desk.new) result
+        (writing O.Sink out.old out.new) (writing E.Sink err.old err.new) }
+
+    // 11 and 12 come exactly where the desk served so, told or not told what it holds. The files that `begun` speaks of are at most as
+    // many as the words name, and with status 0 as many.
     ensures served { IsAccountedFor (file_count (texts words.now))
         (D.served desk.old) (D.served desk.new) result }
 
@@ -164,8 +172,9 @@ fn answer<R: AllocGlobal + Threads + Sync, D: Desk, G: Gate + Sync>(
 ) -> Result<Answer, Refusal>
     ensures held { D.held desk.new ≡ D.held desk.old }
     ensures later { D.faults desk.old ≤ D.faults desk.new }
-    ensures due { IsDue (ByDesk (D.held desk.old) (Rose (D.faults desk.old) (D.faults desk.new)))
-        (asked (texts words.now)) (due result) }
+    ensures due { HasCome
+        (ByDesk (D.held desk.old) (Rose (D.faults desk.old) (D.faults desk.new)))
+        (D.served desk.old) (D.served desk.new) (asked (texts words.now)) (due result) }
     ensures served { IsAccountedFor (file_count (texts words.now))
         (D.served desk.old) (D.served desk.new) (due result).status }
 {

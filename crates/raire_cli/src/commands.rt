@@ -2,7 +2,8 @@
 ghost use Rattle.std.specs.Prelude.{◌≡◌, ◌≤◌, length};
 ghost use Rattle.desk.specs.Count.{Rose};
 ghost use Rattle.cli_base.specs.Accounts.{IsAccountedFor};
-ghost use Rattle.cli_base.specs.Script.{ByDesk, MayOrMemory};
+ghost use Rattle.cli_base.specs.Begun.{HasCome};
+ghost use Rattle.cli_base.specs.Script.{ByDesk, Runs};
 ghost use Rattle.cli_base.specs.Due.{due};
 ghost use Rattle.command_line.specs.Laws.{IsChecked};
 ghost use Rattle.raire_cli.specs.Answers.{files_of, script_of};
@@ -30,9 +31,10 @@ pub(crate) fn answer_command<R: AllocGlobal + Threads + Sync, D: Desk, G: Gate +
     requires { IsChecked command.now }
     ensures held { D.held desk.new ≡ D.held desk.old }
     ensures later { D.faults desk.old ≤ D.faults desk.new }
-    ensures due { MayOrMemory
+    ensures due { HasCome
         (ByDesk (D.held desk.old) (Rose (D.faults desk.old) (D.faults desk.new)))
-        (script_of command.now) (due result) }
+        (D.served desk.old) (D.served desk.new)
+        (Runs (script_of command.now)) (due result) }
     ensures served { IsAccountedFor (length (files_of command.now))
         (D.served desk.old) (D.served desk.new) (due result).status }
 {

@@ -2,11 +2,13 @@
 ghost use Rattle.raire_cli.specs.Agreement.{SameFilesSameAnswer};
 ghost use Rattle.raire_cli.specs.ContestsAlone.{BlockAlone};
 ghost use Rattle.raire_cli.specs.ContestsLimit.{ContestIsCounted};
+ghost use Rattle.raire_cli.specs.ContestsSignedOff.{ContestSignedOffAreFew};
 ghost use Rattle.raire_cli.specs.EachStatus.{EachStatus};
-ghost use Rattle.raire_cli.specs.Laws.{WorkersAskTheSame, WorkersComeToTheSame, TrialsComeToTheSame, SetsComeToTheSame, TrialsBySetsComeToTheSame, BudgetsComeToTheSame, DefaultSuffices, MostSetsSuffice, SignedOffIsCounted};
+ghost use Rattle.raire_cli.specs.Laws.{WorkersAskTheSame, WorkersComeToTheSame, TrialsComeToTheSame, SetsComeToTheSame, TrialsBySetsComeToTheSame, BudgetsComeToTheSame, DefaultSuffices, MostSetsSuffice, MostSetsSufficeToCheck, SignedOffIsCounted};
 ghost use Rattle.raire_cli.specs.PluralLaws.{PluralSignedOffAreFew, PluralSignedOffIsCounted};
 ghost use Rattle.raire_cli.specs.PollLaws.{ConfirmedAreFew, ConfirmedIsCounted};
 ghost use Rattle.raire_cli.specs.PrintedFiles.{PrintedIsAccepted, PrintedIsOpened, TrimmedIsAccepted, TrimmedIsTrimmed};
+ghost use Rattle.raire_cli.specs.ReadFaults.{SecondIsNamed};
 ghost use Rattle.raire_cli.specs.SignedOff.{SignedOffAreFew};
 
 /// What a search may come to, searches that differ from it in their number of workers alone may come to.
@@ -44,9 +46,14 @@ pub fn default_suffices()
     ensures { DefaultSuffices }
 {}
 
-/// The most sets are as many as are never spent with up to twenty candidates, in a search, a trial or a check.
+/// With the most sets no search and no trial of up to twenty candidates is spent.
 pub fn most_sets_suffice()
     ensures { MostSetsSuffice }
+{}
+
+/// Nor is a check of an assertion file of so many.
+pub fn most_sets_suffice_to_check()
+    ensures { MostSetsSufficeToCheck }
 {}
 
 /// A session that an audit signs off is among those that the risk limit counts, if the cards that were seen were read as they are.
@@ -96,6 +103,12 @@ pub fn contest_is_counted()
     ensures { ContestIsCounted }
 {}
 
+/// Where the actual rankings of the cards may elect another candidate in a contest than its assertions say, audits of all contests with
+/// the same ballots, manifest, limit and gamma sign it off on at most `limit` millionths of all sequences of draws.
+pub fn contest_signed_off_are_few()
+    ensures { ContestSignedOffAreFew }
+{}
+
 /// Two calls with the same words, over desks that hold the same, have the same status and write the same, where nothing failed,
 /// memory was found, no search, no tabulation and no trial with nodes was spent, and no audit of all contests might be.
 pub fn same_files_same_answer()
@@ -127,4 +140,9 @@ pub fn trimmed_is_trimmed()
 /// Each status comes of some words and files, but 7, 8 and 9, which come of a desk, a sink or memory.
 pub fn each_status_comes()
     ensures { EachStatus }
+{}
+
+/// Where the desk fails at the second file of a check, the assertion file is named.
+pub fn second_is_named()
+    ensures { SecondIsNamed }
 {}

@@ -69,3 +69,6 @@ returns-clause-exact g c = exact_promise (texts c.args.words.now) (story_of c.an
 
 pub returns-clause-kept : goal.returns-clause-kept
 returns-clause-kept g c = kept_clause (story_of c.answer-outcome.ensures.due c.deliver.ensures)
+
+pub returns-clause-begun : goal.returns-clause-begun
+returns-clause-begun g c = story_of c.answer-outcome.ensures.due c.deliver.ensures

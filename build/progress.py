@@ -1,7 +1,8 @@
 #!/usr/bin/env python3
 """Tells each crate that `rt all check` is done with, and about how many minutes are left.
 
-build/progress.py LANES reads what it prints. The crates have the times of build/seconds.txt; what is left is told at the pace of what is done.
+build/progress.py SLOTS reads what it prints, where so many crates are begun at once. The crates have the times of build/seconds.txt; what is
+left is told at the pace of what is done.
 """
 import os
 import sys
@@ -55,20 +56,29 @@ def seconds():
 class Build:
     """The crates that the program stands on, and what is known of their times."""
 
-    def __init__(self, lanes):
+    def __init__(self, slots):
         named, measured = libraries(), seconds()
-        self.lanes, self.before = lanes, measured.get("before", 0.0)
+        self.slots, self.processors = slots, len(os.sched_getaffinity(0))
+        self.before = measured.get("before", 0.0)
         self.below = {it: below(it, named) for it in [PROGRAM, *below(PROGRAM, named)]}
         self.seconds = {it: measured.get(it, SECONDS_A_LINE * lines_of(it)) for it in self.below}
         self.told, self.latest = [], 0.0
 
     def ends(self):
-        """When each crate is done, in seconds from the start: they are taken in turn, and each waits for those below it."""
-        free, done = [self.before] * self.lanes, {}
-        for crate in sorted(self.below, key=lambda it: len(self.below[it])):
-            lane = free.index(min(free))
-            begun = max([free[lane], *(done[it] for it in self.below[crate])])
-            done[crate] = free[lane] = begun + self.seconds[crate]
+        """When each crate is done, in seconds from the start. A slot takes the next crate and waits for those below it; the crates that are
+        at work have equal shares of the processors."""
+        left = sorted(self.below, key=lambda it: len(self.below[it]))
+        rest, done, now = dict(self.seconds), {}, self.before
+        while left:
+            ready = [it for it in left[: self.slots] if not self.below[it] - done.keys()]
+            share = min(1.0, self.processors / len(ready))
+            first = min(ready, key=rest.get)
+            passed = rest[first]
+            now += passed / share
+            for it in ready:
+                rest[it] -= passed
+            done[first] = now
+            left.remove(first)
         return done
 
     def tell(self, crate, passed):
@@ -95,10 +105,10 @@ def say(text):
     print(f"raire: {text}", file=sys.stderr, flush=True)
 
 
-def main(lanes):
-    build, start = Build(lanes), time.monotonic()
+def main(slots):
+    build, start = Build(slots), time.monotonic()
     whole = round(max(build.ends().values()) / 60)
-    say(f"proving and building {len(build.below)} crates, at most {lanes} at once; from nothing this takes some {whole} minutes or more")
+    say(f"proving and building {len(build.below)} crates, at most {slots} at once; from nothing this takes some {whole} minutes or more")
     for line in sys.stdin:
         crate = line[3:].strip()
         if line.startswith("== ") and crate in build.below:

@@ -120,7 +120,7 @@ def builds(copy):
     yield "the program runs once it is built", (status, out) == (0, "tabulate a file\n")
     yield "crates are proved before the program is made", [line.split()[:3] for line in noted] == [["raire", "all", "check"], ["raire", "run", "--"]]
     at_once = int(noted[0].split()[-1])
-    yield "side by side, as far as there are processors", min(2, os.cpu_count()) <= at_once <= os.cpu_count()
+    yield "side by side, twice as many as there are processors at most", 2 <= at_once <= 2 * os.cpu_count()
     yield "progress is told", all(re.search(f" of {len(wanted)}: {crate}(; about .* left)?\n", err) for crate in wanted)
     yield "nothing is built again", copy.run("--build") == (0, "", "") and not os.path.exists(copy.notes)
     status, out, err = copy.run("bad")

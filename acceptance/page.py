@@ -953,6 +953,13 @@ exit "$(cat status.txt)"
 """
 
 
+# A program whose tabulation is spent.
+NO_ROUNDS = """#!/usr/bin/env bash
+[ "$1" != tabulate ] || { printf 'spent\\ncandidate 1\\norder 2,1\\nmargin 1\\n'; exit 4; }
+exec "$PROGRAM" "$@"
+"""
+
+
 def ties(shows, tried):
     """A tie is told, and whether it matters."""
     write("ballots.raire", "1\nContest,7,4,a,b,c d,e=1 f=2\n7,b_1,a\n")
@@ -980,6 +987,11 @@ def ties(shows, tried):
         tried.see(f"rounds with a tie are marked: {text}", found == marked, (found, marked))
         told = "c d and e=1 f=2 share the least votes. Whoever of them goes first, a wins; c d , who stands first in the file, is eliminated"
         tried.see(f"who goes, and that it doesn't matter: {text}", (told in words) == (2 in marked), words[:900])
+    write_program("no_rounds", NO_ROUNDS)
+    audits.write("ballots.raire", audits.BALLOTS)
+    write("assertions.json", subprocess.run([shows.given["PROGRAM"], "search", "ballots.raire"], capture_output=True, text=True).stdout)
+    status, page, err = shows.run("ballots.raire", "assertions.json", program=os.path.abspath("no_rounds"))
+    tried.see("a tie that isn't followed to its end is no alarm where the assertions hold", status == 0 and "share the least votes in some round" in text_of(page) and "prove that each way of breaking the ties elects" in text_of(page) and "wasn’t found" not in page, err or text_of(page)[:500])
     write("bottom.raire", "1\nContest,1,3,1,2,3\n1,b_1,1\n1,b_2,1\n1,b_3,1\n")
     status, page, _ = shows.run("bottom.raire")
     tried.see("a tie at the bottom is shown", status == 0 and "Candidates share the least votes in round 1" in text_of(page))

@@ -11,30 +11,27 @@ import shutil
 import subprocess
 import sys
 import tempfile
+import time
 
 TOP = os.path.dirname(os.path.dirname(os.path.abspath(__file__)))
 
-# Notes what it is asked for, tells crates as `rt all` does, refuses one of them, and makes a program that refuses one word.
+# Notes what it is asked for, tells crates as `rt ci` does, refuses one of them, and makes a program that refuses one word.
 STAND_IN = """#!/usr/bin/env bash
-crate=$(basename "$PWD")
 [ "$1" != version ] || { echo "a kit"; exit 0; }
-echo "$crate $*" >>"$NOTES"
-if [ "$1" = all ]; then
-    for below in $CRATES; do
-        echo "== $below"
-        if [ "$below" = "$REFUSES" ]; then
-            printf '%s\\n' "the goal of $below" "== summary" "$below: failed (1)" "raire: not run, since $below failed"
-            exit 1
-        fi
-        echo "$below is proved"
-    done
-    echo "== summary"
-elif [ "$1" = run ]; then
-    if [ "$crate" = "$REFUSES_TO_RUN" ]; then echo "no processor for $crate"; exit 1; fi
-    mkdir -p out
-    printf '#!/usr/bin/env bash\\necho "$@"\\n[ "$1" != bad ] || exit 1\\n' >out/raire
-    chmod +x out/raire
-fi
+echo "$* over $(ls crates | wc -l), $(find . -name must-fail | wc -l) with wrong bodies" >>"$NOTES"
+for below in $CRATES; do
+    if [ "$below" = "$KEPT" ]; then echo "rt: $below is kept: an earlier run proved it"; continue; fi
+    echo "== $below"
+    if [ "$below" = "$REFUSES" ]; then
+        printf '%s\\n' "the goal of $below" "rt: $below NOT PROVED" "rt: raire NOT PROVED: its library $below failed" "0 passed, 2 failed"
+        exit 1
+    fi
+    printf '%s\\n' "$below has all its proofs" "rt: $below proved"
+done
+if [ "$REFUSES" = run ]; then echo "rt: raire wrote something else"; exit 1; fi
+mkdir -p crates/raire/out
+printf '#!/usr/bin/env bash\\necho "$@"\\n[ "$1" != bad ] || exit 1\\n' >crates/raire/out/raire
+chmod +x crates/raire/out/raire
 """
 
 
@@ -57,23 +54,25 @@ class Copy:
     """A repository of its own, with nothing built."""
 
     def __init__(self, folder):
-        self.folder, self.notes = folder, os.path.join(folder, "notes")
+        self.folder, self.notes, self.room = folder, os.path.join(folder, "notes"), os.path.join(folder, "room")
+        os.mkdir(self.room)
         shutil.copy(os.path.join(TOP, "raire"), folder)
         shutil.copy(os.path.join(TOP, "crates.txt"), folder)
         shutil.copytree(os.path.join(TOP, "docs", "help"), os.path.join(folder, "docs", "help"))
         shutil.copytree(os.path.join(TOP, "build"), os.path.join(folder, "build"))
         for crate in crates():
-            for part in ("src", "specs", "proofs"):
+            for part in ("src", "specs", "proofs", "must-fail"):
                 os.makedirs(os.path.join(folder, "crates", crate, part))
+        shutil.copy(os.path.join(TOP, "HANDLES"), folder)
         os.mkdir(os.path.join(folder, "bin"))
         stand_in = os.path.join(folder, "bin", "rt")
         with open(stand_in, "w") as file:
             file.write(STAND_IN)
         os.chmod(stand_in, 0o755)
 
-    def run(self, *words, refuses="", refuses_to_run=""):
+    def run(self, *words, refuses="", kept=""):
         path = os.path.join(self.folder, "bin") + ":" + os.environ["PATH"]
-        given = {**os.environ, "PATH": path, "NOTES": self.notes, "REFUSES": refuses, "REFUSES_TO_RUN": refuses_to_run}
+        given = {**os.environ, "PATH": path, "NOTES": self.notes, "REFUSES": refuses, "KEPT": kept, "TMPDIR": self.room}
         given["CRATES"] = " ".join(sorted(needed(crates(), "raire")))
         ran = subprocess.run([os.path.join(self.folder, "raire"), *words], capture_output=True, text=True, env=given)
         return ran.returncode, ran.stdout, ran.stderr
@@ -110,42 +109,49 @@ def helps(copy):
 def builds(copy):
     wanted = needed(crates(), "raire")
     status, out, err = copy.run("tabulate", "a file", refuses="irv_base")
-    yield "a refused crate ends the build", status == 70 and out == "" and "the goal of irv_base\nraire: not run" in err
-    yield "of other crates nothing is told", "is proved" not in err
-    yield "nothing is built on a refused crate", len(copy.noted()) == 1
-    status, out, err = copy.run("tabulate", refuses_to_run="raire")
-    yield "a refused program isn't run", status == 70 and out == "" and "no processor for raire" in err and bool(copy.noted())
-    status, out, err = copy.run("tabulate", "a file")
-    noted = copy.noted()
+    yield "a refused crate ends the build", status == 70 and out == "" and "the goal of irv_base\nrt: irv_base NOT PROVED\n" in err
+    yield "what wasn't tried is told", "rt: raire NOT PROVED: its library irv_base failed\n" in err and err.endswith("raire: the program was not built\n")
+    yield "of other crates nothing is told", "has all its proofs" not in err
+    status, out, err = copy.run("tabulate", refuses="run")
+    yield "a refused program isn't taken", status == 70 and out == "" and "raire wrote something else" in err and bool(copy.noted())
+    status, out, err = copy.run("tabulate", "a file", kept="irv_base")
     yield "the program runs once it is built", (status, out) == (0, "tabulate a file\n")
-    yield "crates are proved before the program is made", [line.split()[:3] for line in noted] == [["raire", "all", "check"], ["raire", "run", "--"]]
-    at_once = int(noted[0].split()[-1])
-    yield "side by side, twice as many as there are processors at most", 2 <= at_once <= 2 * os.cpu_count()
+    yield "the gate runs over its crates alone, without wrong bodies", copy.noted() == [f"ci over {len(wanted)}, 0 with wrong bodies"]
     yield "progress is told", all(re.search(f" of {len(wanted)}: {crate}(; about .* left)?\n", err) for crate in wanted)
+    yield "no copy is left", os.listdir(copy.room) == []
     yield "nothing is built again", copy.run("--build") == (0, "", "") and not os.path.exists(copy.notes)
     status, out, err = copy.run("bad")
     yield "bad words are followed by a pointer", (status, out) == (1, "bad\n") and err.startswith("raire: ./raire help")
     with open(os.path.join(copy.folder, "crates", "desk", "src", "lib.rt"), "w") as file:
         file.write("// newer\n")
     yield "a newer source builds again", copy.run("--build")[:2] == (0, "") and os.path.exists(copy.notes)
+    os.remove(os.path.join(copy.folder, "bin", "rt"))
+    later = time.time() + 10
+    os.utime(os.path.join(copy.folder, "crates", "desk", "src", "lib.rt"), (later, later))
+    os.environ["PATH"], path = "/usr/bin:/bin", os.environ["PATH"]
+    status, out, err = copy.run("--build")
+    os.environ["PATH"] = path
+    yield "without the kit it says so", (status, out) == (70, "") and err.endswith("raire: there is no `rt` on the path: the kit isn't set up\n")
 
 
 def minutes_left():
-    """What is told of the time that is left, by a clock of the test's own: at the pace of what is done, and nothing of a crate that was built before."""
+    """What is told of the time that is left, by a clock of the test's own: at the pace of what is done, and nothing of a crate that was kept."""
     sys.path.insert(0, os.path.join(TOP, "build"))
-    import progress
+    import build as builder
 
-    build = progress.Build(2)
-    build.before, build.below = 60.0, {"low": set(), "side": {"low"}, "top": {"low", "side"}}
-    build.seconds = {"low": 60.0, "side": 120.0, "top": 360.0}
-    yield "a whole build is a chain", build.ends() == {"low": 120.0, "side": 240.0, "top": 600.0}
-    yield "half as fast", build.tell("low", 240.0) == "4:00  1 of 3: low; about 16 minutes left"
-    yield "at the same pace", build.tell("side", 480.0) == "8:00  2 of 3: side; about 12 minutes left"
-    yield "the last one", build.tell("top", 1200.0) == "20:00  3 of 3: top"
-    build.told, build.latest, build.before = [], 0.0, 0.0
-    build.seconds = {"low": 60.0, "side": 120.0, "top": 360.0}
-    yield "what was built before takes no time", build.tell("low", 0.1) == "0:00  1 of 3: low"
-    yield "and the pace is that of the others", build.tell("side", 60.0) == "1:00  2 of 3: side; about 3 minutes left"
+    named = {"low": [], "side": ["low", "std"], "other": ["low"], "raire": ["side", "low"], "above": ["raire"]}
+    seconds = {"low": 120.0, "side": 240.0, "other": 1.0, "raire": 480.0}
+    build = builder.Build(named, seconds, 2)
+    yield "what the program doesn't stand on isn't built", list(build.below) == ["low", "side", "raire"]
+    yield "a whole build is a chain, each crate proved by two", build.ends() == {"low": 60.0, "side": 180.0, "raire": 420.0}
+    yield "half as fast", build.tell("low", False, 120.0) == "2:00  1 of 3: low; about 12 minutes left"
+    yield "at the same pace", build.tell("side", False, 360.0) == "6:00  2 of 3: side; about 8 minutes left"
+    yield "the last one", build.tell("raire", False, 840.0) == "14:00  3 of 3: raire"
+    build = builder.Build(named, seconds, 2)
+    yield "what is kept takes no time", build.tell("low", True, 0.1) == "0:00  1 of 3: low"
+    yield "and the pace is that of the others", build.tell("side", False, 60.0) == "1:00  2 of 3: side; about 2 minutes left"
+    build = builder.Build({"low": [], "left": ["low"], "right": ["low"], "raire": ["left", "right"]}, {"low": 8.0, "left": 4.0, "right": 8.0, "raire": 4.0}, 4)
+    yield "crates side by side share the processors", build.ends() == {"low": 2.0, "left": 4.0, "right": 5.0, "raire": 6.0}
 
 
 def places_of(path):

@@ -12,7 +12,7 @@ DOCS = os.path.dirname(os.path.abspath(__file__))
 CRATES = os.path.join(DOCS, "..", "crates")
 BEGIN, END = "<!-- listed by docs/list_definitions.py -->\n", "<!-- end of the list -->\n"
 USE = re.compile(r"^(?:ghost )?use Rattle\.(\w+)\.specs\.([\w.]+)", re.MULTILINE)
-CALL, LAWS = ["raire_cli/src/call.rt"], ["raire_cli/src/laws.rt", "audit_laws/specs/RiskLimit.antt"]
+CALL, LAWS = ["raire_cli/src/call.rt"], ["call_laws/src/laws.rt", "audit_laws/specs/RiskLimit.antt"]
 
 
 def cited(path):

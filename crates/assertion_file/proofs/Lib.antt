@@ -17,3 +17,4 @@ pub mod SoundClaims
 pub mod Ranked
 pub mod Printed
 pub mod SoundFiles
+pub mod Guessed

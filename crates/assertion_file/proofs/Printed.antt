@@ -1,5 +1,5 @@
 -- The file's value says what the file says.
-use Rattle.std.proofs.Common.{◌≡◌, ℕ, suc, ◌+◌, ◌<◌, ◌≤◌, Bool, true, ◌&&◌, List, [], ◌∷◌, length, All, map, filter, Option, Some, None, Ok, refl, sym, ap, ◌∙◌, arith, eq-eqb}
+use Rattle.std.proofs.Common.{◌≡◌, ℕ, suc, ◌+◌, ◌<◌, ◌≤◌, Bool, true, ◌&&◌, List, [], ◌∷◌, length, All, map, filter, Option, Some, None, Ok, refl, sym, ap, ◌∙◌, arith}
 use Rattle.std.specs.Prelude.{if◌then◌else◌, is_some, nat_le, option_map, ok_or, codes, unwrap_or, IfSome}
 use Rattle.std.specs.List.{list_all}
 use Rattle.std.specs.Cmp.Lexicographic.{bytes_decides}
@@ -9,7 +9,6 @@ use Rattle.serde_json.proofs.OnLiterals.{serde_json_on_literals}
 use Rattle.assertions.specs.Assertions.{is_proper}
 use Rattle.assertions.specs.declared.assertion.Assertion.{Assertion}
 use Rattle.assertions.specs.declared.assertion.Assertion.TheVariants.{Neb, Nen}
-use Rattle.assertion_file.specs.declared.claims.Planned.{Planned}
 use Rattle.assertion_file.specs.declared.members.Terms.{Terms}
 use Rattle.assertions.proofs.Proper.{pair_facts, nen_facts}
 use Rattle.irv_base.specs.Candidates.{candidates, has, is_distinct, is_in, set_of}

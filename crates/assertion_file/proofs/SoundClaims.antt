@@ -86,7 +86,7 @@ pub record IsSoundPlanned (n records : ℕ) (planned : Planned) : Type 0 where
   pub claim : IsSoundClaim n records (claim_in planned)
   pub draws : IfSome planned.draws IsDrawCount
 
-draws-are : (draws : Option ℕ) → are_draws draws ≡ true → IfSome draws IsDrawCount
+pub draws-are : (draws : Option ℕ) → are_draws draws ≡ true → IfSome draws IsDrawCount
 draws-are None h = tt
 draws-are (Some draws) h =
     let (some, most) = and_parts (nat_le 1 draws) (nat_le draws MOST_DRAWS) h in

@@ -62,7 +62,8 @@ fn assertion(
     }
 }
 
-fn are_draws(draws: Option<u32>) -> bool
+/// Whether these draws can be planned.
+pub fn are_draws(draws: Option<u32>) -> bool
     ensures { result ≡ are_draws draws }
 {
     match draws {

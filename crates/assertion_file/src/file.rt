@@ -3,7 +3,7 @@ ghost use Rattle.std.specs.Prelude.{◌≡◌, ◌<◌, ◌≤◌, length, optio
 ghost use Rattle.irv_base.specs.Orders.{is_order};
 ghost use Rattle.irv_base.specs.declared.limits.TheConstants.{FEWEST_CANDIDATES, MOST_CANDIDATES, MOST_RECORDS};
 ghost use Rattle.irv_base.specs.Names.{all_differ};
-ghost use Rattle.assertion_file.specs.Content.{IsMargin, IsSound, IsSoundClaim, IsSoundPlan};
+ghost use Rattle.assertion_file.specs.Content.{IsDrawCount, IsMargin, IsSound, IsSoundClaim, IsSoundPlan, Plan};
 
 use crate::plan::PlanFacts;
 use assertions::Claim;
@@ -77,6 +77,21 @@ impl Model for AssertionFile {
     ghost invariant = { λ f. IsSound f.parts };
 }
 
+// The plan with these draws, if there is one.
+fn with_draws(plan: Option<PlanFacts>, draws: Vec<Option<u32>>) -> Option<PlanFacts>
+    ensures { result ≡ option_map (λ (plan : Plan). record plan { draws = draws.items }) plan }
+{
+    match plan {
+        None => None,
+        Some(plan) => Some(PlanFacts {
+            cards: plan.cards,
+            gamma: plan.gamma,
+            limit: plan.limit,
+            draws,
+        }),
+    }
+}
+
 impl AssertionFile {
     /// A file that says this of the contest.
     pub fn new(parts: Parts) -> AssertionFile
@@ -102,6 +117,23 @@ impl AssertionFile {
     {
         let mut parts = self.parts;
         parts.plan = Some(plan);
+        AssertionFile { parts }
+    }
+
+    /// The file with these claims and the draws that are planned for them, in place of those that it has. A file without a plan
+    /// has no draws.
+    pub(crate) fn with_claims(self, claims: Vec<Claim>, draws: Vec<Option<u32>>) -> AssertionFile
+        requires claims { All (IsSoundClaim (length self.candidates) self.records) claims.items }
+        requires each { length draws.items ≡ length claims.items }
+        requires draws { All (λ draws. IfSome draws IsDrawCount) draws.items }
+        ensures { result ≡ record self {
+          claims = claims.items;
+          plan = option_map (λ (plan : Plan). record plan { draws = draws.items }) self.plan;
+        } }
+    {
+        let mut parts = self.parts;
+        parts.claims = claims;
+        parts.plan = with_draws(parts.plan, draws);
         AssertionFile { parts }
     }
 

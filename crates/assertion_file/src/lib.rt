@@ -3,9 +3,11 @@
 #![tactic(auto)]
 
 mod claims;
+mod claims_left;
 pub mod examples;
 mod fault;
 mod file;
+mod guess;
 mod ids;
 pub mod laws;
 mod members;

@@ -12,10 +12,11 @@ ghost use Rattle.assertion_file.specs.declared.fault.FileFault.TheVariants.{Refu
 use crate::claims::{Planned, claims, is_margin};
 use crate::fault::{FRule, FileFault};
 use crate::file::{AssertionFile, Parts};
+use crate::guess::guess;
 use crate::ids::{candidate, candidates, numbers};
 use crate::members::{Heading, Terms, heading_in};
 use crate::plan::PlanFacts;
-use crate::print::{PLAN_VERSION, VERSION};
+use crate::print::{PLAN_VERSION, VERSION, print_file};
 use assertions::Claim;
 use irv_base::{
     Candidate, GREATEST_GAMMA, GREATEST_LIMIT, MOST_CARDS, MOST_RECORDS, Memory, Name, Order,
@@ -261,6 +262,34 @@ fn content_of(alloc: Global, value: &Value) -> Result<AssertionFile, FileFault>
     }))
 }
 
+/// Reads an assertion file in any layout, as `read_file` does, from the tree of its values.
+pub fn read_tree(alloc: Global, bytes: &[u8]) -> Result<AssertionFile, FileFault>
+    ensures read { IfOk result (λ file. assertion_file_of bytes.now ≡ Ok file) }
+    ensures refused { IfErr result (Refuses (assertion_file_of bytes.now)) }
+{
+    match Value::from_slice(alloc, bytes) {
+        Ok(value) => content_of(alloc, &value),
+        Err(e) => {
+            if e.is_memory() {
+                return Err(FileFault::Memory);
+            }
+            Err(refused(FRule::F1))
+        }
+    }
+}
+
+// The guess at what the bytes say, if it is printed as the same bytes.
+fn printed_as(alloc: Global, bytes: &[u8]) -> Option<AssertionFile>
+    ensures { IfSome result (λ file. assertion_file_of bytes.now ≡ Ok file) }
+{
+    let file = guess(alloc, bytes)?;
+    let text = print_file(alloc, &file).ok()?;
+    if text.as_slice() != bytes {
+        return None;
+    }
+    Some(file)
+}
+
 /// Reads an assertion file, of version 1 or of version 2.
 ///
 /// The bytes are one JSON object, with its members in any order. Further members are passed over, and of a repeated
@@ -277,17 +306,14 @@ fn content_of(alloc: Global, value: &Value) -> Result<AssertionFile, FileFault>
 /// assertion, with its number from 1 as the place: F2 as above; F4 if one who is named isn't a candidate, or the winner is
 /// the loser; F5 if a NEN's rest repeats a candidate or lacks the winner or the loser; F6 if the margin isn't 1 to the
 /// number of records, or its draws are planned and aren't 1 to `MOST_DRAWS`.
+///
+/// Bytes as `print_file` writes them take no more memory than their claims and a copy of the bytes.
 pub fn read_file(alloc: Global, bytes: &[u8]) -> Result<AssertionFile, FileFault>
     ensures read { IfOk result (λ file. assertion_file_of bytes.now ≡ Ok file) }
     ensures refused { IfErr result (Refuses (assertion_file_of bytes.now)) }
 {
-    match Value::from_slice(alloc, bytes) {
-        Ok(value) => content_of(alloc, &value),
-        Err(e) => {
-            if e.is_memory() {
-                return Err(FileFault::Memory);
-            }
-            Err(refused(FRule::F1))
-        }
+    match printed_as(alloc, bytes) {
+        Some(file) => Ok(file),
+        None => read_tree(alloc, bytes),
     }
 }

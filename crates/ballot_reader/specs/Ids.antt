@@ -1,23 +1,11 @@
--- Ids that are kept one behind the other in a list of bytes, and the pages on which those that were met are marked.
-use Rattle.std.specs.Prelude.{◌≡◌, ◌≤◌, ◌-◌, ◌+◌, ◌*◌, ◌/◌, ◌%◌, ◌^◌, ℕ, Bool, false, List, [], ◌∷◌, length, take, drop, Option, None, Some, if◌then◌else◌, ◌==◌}
+-- The pages on which ids that were met are marked.
+use Rattle.std.specs.Prelude.{◌-◌, ◌+◌, ◌*◌, ◌/◌, ◌%◌, ◌^◌, ℕ, Bool, false, List, [], ◌∷◌, length, take, drop, Option, None, Some, if◌then◌else◌, ◌==◌}
 use Rattle.std.specs.Hash.FoldHasher.{initial, write, finish}
 use Rattle.std.specs.BTreeMap.{get}
 use Rattle.std.specs.Ordering.{nat_cmp}
 use Rattle.irv_base.specs.Names.{Id}
 use Rattle.ballot_reader.specs.declared.pages.TheConstants.{COUNTED_BYTES}
 use Rattle.ballot_reader.specs.declared.pages.Pages.{Pages}
-
--- the first id begins at byte a, each other where the one before it ends
-abbrev pub ids_between : ℕ → List ℕ → List ℕ → List Id
-ids_between a [] bytes = []
-ids_between a (end ∷ ends) bytes = take (end - a) (drop a bytes) ∷ ids_between end ends bytes
-
--- the ends rise from a to n
-abbrev pub AreEnds : ℕ → List ℕ → ℕ → Type 0
-AreEnds a [] n = a ≡ n
-AreEnds a (end ∷ ends) n = (a ≤ end) × AreEnds end ends n
-
--- ---- pages
 
 -- a page is the sum of 2 ^ bit over the bits that are set on it
 abbrev pub has_bit : ℕ → ℕ → Bool

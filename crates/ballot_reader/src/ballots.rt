@@ -6,8 +6,7 @@ ghost use Rattle.irv_base.specs.Candidates.{is_distinct};
 ghost use Rattle.irv_base.specs.declared.limits.TheConstants.{FEWEST_CANDIDATES, MOST_CANDIDATES, MOST_RECORDS};
 
 use crate::ids::Ids;
-use indexmap::IndexSet;
-use irv_base::{Name, Ranking};
+use irv_base::{Name, Rankings};
 use std::marker::Model;
 
 /// A contest and its ballots, in the order of the file.
@@ -19,10 +18,10 @@ use std::marker::Model;
 #[derive(Drop)]
 pub struct Ballots {
     contest: Name,
-    candidates: IndexSet<Name>,
+    candidates: Vec<Name>,
     ids: Ids,
     places: Vec<u32>,
-    rankings: Vec<Ranking>,
+    rankings: Rankings,
 }
 
 impl Model for Ballots {
@@ -32,37 +31,37 @@ impl Model for Ballots {
 
     ghost view = { λ b. record {
       contest = b.contest;
-      candidates = b.candidates.keys;
+      candidates = b.candidates.items;
       ids = b.ids;
       places = b.places.items;
-      rankings = b.rankings.items;
+      rankings = b.rankings;
     } };
 
     ghost invariant = { λ b. IsSound (record {
       contest = b.contest;
-      candidates = b.candidates.keys;
+      candidates = b.candidates.items;
       ids = b.ids;
       places = b.places.items;
-      rankings = b.rankings.items;
+      rankings = b.rankings;
     }) };
 }
 
 impl Ballots {
     pub(crate) fn new(
         contest: Name,
-        candidates: IndexSet<Name>,
+        candidates: Vec<Name>,
         ids: Ids,
         places: Vec<u32>,
-        rankings: Vec<Ranking>,
+        rankings: Rankings,
     ) -> Ballots
-        requires candidates { AreCandidates candidates.keys }
-        requires ballots { AreBallots (length candidates.keys) ids places.items rankings.items }
+        requires candidates { AreCandidates candidates.items }
+        requires ballots { AreBallots (length candidates.items) ids places.items rankings }
         ensures { result ≡ record {
           contest = contest;
-          candidates = candidates.keys;
+          candidates = candidates.items;
           ids = ids;
           places = places.items;
-          rankings = rankings.items;
+          rankings = rankings;
         } }
     {
         Ballots {
@@ -109,13 +108,13 @@ impl Ballots {
     }
 
     /// The rankings of the ballots.
-    pub fn rankings(&self) -> &[Ranking]
+    pub fn rankings(&self) -> &Rankings
         ensures same { result.now ≡ self.now.rankings }
         ensures most { length self.now.rankings ≤ MOST_RECORDS }
         ensures below { All (λ ranking. All (λ c. c < length self.now.candidates) ranking)
             self.now.rankings }
         ensures distinct { All (λ ranking. IsTrue (is_distinct ranking)) self.now.rankings }
     {
-        self.rankings.as_slice()
+        &self.rankings
     }
 }

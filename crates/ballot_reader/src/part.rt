@@ -7,9 +7,12 @@ use crate::contest::Contest;
 use crate::guesses::Guesses;
 use crate::preferences::{are_candidates, ranking_guessed};
 use csv_rows::Fields;
-use irv_base::{Memory, Ranking};
+use irv_base::{Memory, Rankings};
 use std::alloc::Global;
 use std::marker::Model;
+
+// For how many places a ballot room is made first, and for more when they come.
+const PLACES_A_BALLOT: usize = 8;
 
 /// What is kept of the ballots of a contest beside their ids.
 ///
@@ -19,7 +22,7 @@ pub struct Part {
     /// For each ballot the number of its record, from 1.
     pub places: Vec<u32>,
     /// For each ballot its ranking.
-    pub rankings: Vec<Ranking>,
+    pub rankings: Rankings,
     // Which candidate an id looks like. It saves time, and tells nothing of the ballots.
     guesses: Guesses,
 }
@@ -29,7 +32,7 @@ impl Model for Part {
 
     ghost Value = { KeptPart };
 
-    ghost view = { λ p. record { places = p.places.items; rankings = p.rankings.items } };
+    ghost view = { λ p. record { places = p.places.items; rankings = p.rankings } };
 }
 
 impl Part {
@@ -40,7 +43,7 @@ impl Part {
     {
         Ok(Part {
             places: Vec::with_capacity(alloc, room)?,
-            rankings: Vec::with_capacity(alloc, room)?,
+            rankings: Rankings::nothing(alloc, room, room.saturating_mul(PLACES_A_BALLOT))?,
             guesses: Guesses::of(alloc, contest.candidates.as_slice())?,
         })
     }
@@ -60,7 +63,7 @@ impl Part {
             return Ok(false);
         };
         self.places.push(at)?;
-        self.rankings.push(ranking)?;
+        self.rankings.push(&ranking)?;
         Ok(true)
     }
 }

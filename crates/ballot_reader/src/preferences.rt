@@ -1,5 +1,6 @@
 // The preferences of a ballot.
-ghost use Rattle.std.specs.Prelude.{◌≡◌, ◌≤◌, IfSome, IsTrue, is_some, length};
+ghost use Rattle.std.specs.Prelude.{◌≡◌, ◌≤◌, ◌++◌, ◌∷◌, [], ℕ, true, false, IfSome, IsTrue, is_some, length};
+ghost use Rattle.irv_base.specs.Candidates.{has, is_in};
 ghost use Rattle.irv_base.specs.declared.limits.TheConstants.{ROOM};
 ghost use Rattle.irv_base.specs.Names.{all_differ, candidate_named};
 ghost use Rattle.ballot_reader.specs.Grammar.{are_names, ranking_of};
@@ -8,7 +9,7 @@ use crate::guesses::Guesses;
 use crate::same::is_same;
 use csv_rows::Fields;
 use indexmap::IndexSet;
-use irv_base::{Candidate, Name, Ranking, candidate_named};
+use irv_base::{CandSet, Candidate, Name, Ranking, candidate_named};
 
 // The candidate with that id, first sought where it is guessed to stand.
 fn candidate_of(candidates: &[Name], guesses: Option<&Guesses>, id: &[u8]) -> Option<Candidate>
@@ -25,6 +26,20 @@ fn candidate_of(candidates: &[Name], guesses: Option<&Guesses>, id: &[u8]) -> Op
     candidate_named(candidates, id)
 }
 
+// Ranks a candidate last, unless it was seen. It answers with those that are seen then.
+fn rank(ranking: &mut Ranking, seen: CandSet, c: Candidate) -> CandSet
+    requires { (d : ℕ) → has seen d ≡ is_in ranking.old d }
+    ensures added { is_in ranking.old c ≡ false → ranking.new ≡ ranking.old ++ c ∷ [] }
+    ensures kept { is_in ranking.old c ≡ true → ranking.new ≡ ranking.old }
+    ensures seen { (d : ℕ) → has result d ≡ is_in ranking.new d }
+{
+    if seen.has(c) {
+        return seen;
+    }
+    ranking.push_new(c);
+    seen.with(c)
+}
+
 /// The ranking of these preferences, as `ranking_of` gives it. Guesses save time, and need candidates that are all different.
 pub(crate) fn ranking_guessed(
     candidates: &[Name],
@@ -36,12 +51,13 @@ pub(crate) fn ranking_guessed(
     ensures { result ≡ ranking_of candidates.now preferences.entry }
 {
     let mut ranking = Ranking::empty();
+    let mut seen = CandSet::empty();
     for preference in preferences {
         if preference.is_empty() {
             continue;
         }
         let candidate = candidate_of(candidates, guesses, preference)?;
-        ranking.push(candidate);
+        seen = rank(&mut ranking, seen, candidate);
     }
     Some(ranking)
 }

@@ -160,32 +160,44 @@ fn ballots_left(
     Ok(kept)
 }
 
-// A contest with these ballots.
-fn ballots_with(contest: Contest, ids: Noted, part: Part) -> Ballots
+// A contest with these ballots. It keeps the list of its candidates alone, and not the set, by which they were told apart.
+fn ballots_with(alloc: Global, contest: Contest, ids: Noted, part: Part) -> Result<Ballots, Memory>
     requires sized { IsTrue (has_audited_size contest.candidates) }
     requires ballots { AreBallots (length contest.candidates) ids part.places part.rankings }
-    ensures { result ≡ file_with contest ids part }
+    ensures { IfOk result (λ ballots. ballots ≡ file_with contest ids part) }
 {
-    let Contest { id, candidates, .. } = contest;
-    Ballots::new(id, candidates, ids.into_ids(), part.places, part.rankings)
+    let mut candidates = Vec::new(alloc);
+    candidates.extend_from_slice(contest.candidates.as_slice())?;
+    Ok(Ballots::new(
+        contest.id,
+        candidates,
+        ids.into_ids(),
+        part.places,
+        part.rankings,
+    ))
 }
 
 // The contest at a place with the ballots that are kept.
-fn file_of(mut contests: Vec<Contest>, audited: usize, mut kept: Kept) -> Ballots
+fn file_of(
+    alloc: Global,
+    mut contests: Vec<Contest>,
+    audited: usize,
+    mut kept: Kept,
+) -> Result<Ballots, Memory>
     requires within { audited < length contests.items }
     requires sized { WantsAudited contests.items (One audited) }
     requires kept { (ballots : List Ballot) × IsKept contests.items (One audited) ballots kept }
-    ensures { (chosen : ContestRecord) → (ballots : List Ballot)
+    ensures { IfOk result (λ file. (chosen : ContestRecord) → (ballots : List Ballot)
         → slice_get contests.items audited ≡ Some chosen
         → IsKept contests.items (One audited) ballots kept
-        → result ≡ file_of chosen ballots }
+        → file ≡ file_of chosen ballots) }
 {
     let contest = contests.swap_remove(audited);
     let ids = kept.ids.swap_remove(audited);
     let Some(part) = kept.parts.swap_remove(audited) else {
         unreachable!();
     };
-    ballots_with(contest, ids, part)
+    ballots_with(alloc, contest, ids, part)
 }
 
 // Each contest with the ballots that are kept, in the order of the file.
@@ -206,7 +218,7 @@ fn files_of(alloc: Global, contests: Vec<Contest>, kept: Kept) -> Result<Vec<Bal
         let Some(Some(part)) = parts.next() else {
             unreachable!();
         };
-        files.push(ballots_with(contest, ids, part))?;
+        files.push(ballots_with(alloc, contest, ids, part)?)?;
     }
     Ok(files)
 }
@@ -228,7 +240,7 @@ fn ballots_behind(
     let contests = contests_left(alloc, n, records)?;
     let audited = audited_place(&contests, asked)?;
     let kept = ballots_left(alloc, &contests, Wanted::One(audited), room, records)?;
-    Ok(file_of(contests, audited, kept))
+    Ok(file_of(alloc, contests, audited, kept)?)
 }
 
 // The same of all contests.

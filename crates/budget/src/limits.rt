@@ -6,5 +6,6 @@ pub const MOST_NODES: u32 = 200_000;
 /// The number of suffixes that is allowed where a line doesn't say.
 pub const DEFAULT_NODES: u32 = 100_000;
 
-/// The greatest number of sets of candidates that a line may allow a search or a check: all of 20 candidates.
+/// The greatest number of sets of candidates that a line may allow a search, a trial, a check, a trim, or an audit that is opened or goes
+/// on: all of 20 candidates.
 pub const MOST_SETS: u32 = 1_048_576;

@@ -5,4 +5,5 @@ pub mod Steps
 pub mod Ended
 pub mod Clauses
 pub mod AmongKinds
+pub mod ConfirmedKinds
 mod ReadFiles

@@ -73,10 +73,6 @@ MayAfter readings (Read name next) files due =
     ⊎ ((more : ℕ) × (files ≡ suc more) × (bytes : List ℕ) × readings name (Bytes bytes)
     × MayAfter readings (next bytes) more due)
 
--- a script may come to this, or memory runs out
-abbrev pub MayOrMemory : Readings → Script → Outcome → Type 0
-MayOrMemory readings script due = May readings script due ⊎ (due ≡ out_of_memory)
-
 -- A script comes to read this file, all before it being read.
 abbrev pub Reaches : Readings → Script → List ℕ → Type 0
 Reaches readings (Ends verdicts) name = ⊥

@@ -32,8 +32,8 @@ pub enum Found {
         tied: CandSet,
         votes: u32,
     },
-    /// More nodes than the budget has are needed for the orders that elect `last`. Beside it the closest order so far that elects
-    /// another candidate than the winner, and its hardness.
+    /// More nodes than the budget has are needed for the orders that elect `last`. Beside it an order that elects another candidate than
+    /// the winner, no harder than the one that a search starts with, and its hardness.
     Spent {
         last: Candidate,
         order: Order,

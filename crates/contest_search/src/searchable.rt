@@ -6,7 +6,7 @@ ghost use Rattle.ballot_reader.specs.Ballots.{AreCandidates};
 ghost use Rattle.contest_search.specs.Contest.{contest_with, searched};
 
 use ballot_reader::Ballots;
-use irv_base::{Name, Ranking};
+use irv_base::{Name, Rankings};
 use std::marker::Model;
 
 /// A contest that can be searched: its id, the ids of its candidates, and the rankings of its records.
@@ -16,7 +16,7 @@ use std::marker::Model;
 pub struct Searchable<'a> {
     id: &'a Name,
     candidates: &'a [Name],
-    rankings: &'a [Ranking],
+    rankings: &'a Rankings,
 }
 
 impl<'a> Model for Searchable<'a> {
@@ -33,7 +33,7 @@ impl<'a> Model for Searchable<'a> {
 
 impl<'a> Searchable<'a> {
     /// The contest with this id, with candidates of these ids, from whom each of the rankings chooses.
-    pub fn new(id: &'a Name, candidates: &'a [Name], rankings: &'a [Ranking]) -> Searchable<'a>
+    pub fn new(id: &'a Name, candidates: &'a [Name], rankings: &'a Rankings) -> Searchable<'a>
         requires candidates { AreCandidates candidates.now }
         requires few { length rankings.now ≤ MOST_RECORDS }
         requires below { All (All (λ c. c < length candidates.now)) rankings.now }
@@ -71,7 +71,7 @@ impl<'a> Searchable<'a> {
     }
 
     /// The rankings of the records, each of candidates by their places in the list.
-    pub fn rankings(&self) -> &'a [Ranking]
+    pub fn rankings(&self) -> &'a Rankings
         ensures same { result.now ≡ self.now.rankings }
         ensures few { length self.now.rankings ≤ MOST_RECORDS }
         ensures below { All (All (λ c. c < length self.now.candidates)) self.now.rankings }

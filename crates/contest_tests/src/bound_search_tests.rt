@@ -3,13 +3,13 @@ ghost use Rattle.std.specs.Prelude.{◌≡◌, ◌<◌, ◌≤◌, All, length};
 ghost use Rattle.irv_base.specs.declared.limits.TheConstants.{FEWEST_CANDIDATES, ROOM, MOST_RECORDS, MOST_WORKERS};
 
 use crate::contests::{
-    ONE, TWO, ZERO, ballots_of_three, both, only, tie_for_the_win, tie_that_decides,
+    ONE, TWO, ZERO, ballots_of_three, both, counted_of, only, tie_for_the_win, tie_that_decides,
 };
 use bound_search::{Front, RaceEnd, RaceFault, Turn, WorkerEnd, race, tails_of, work};
 use desk::{Gate, NoGate};
 use irv_base::{MOST_WORKERS, Memory, Ranking, Steps};
 use irv_tabulator::tabulate;
-use set_tallies::{Counted, Tallies};
+use set_tallies::Tallies;
 use shared_witness::{Race, Seats};
 use std::alloc::Global;
 use std::marker::Brand;
@@ -100,7 +100,7 @@ fn race_of<R: AllocGlobal + Threads + Sync, G: Gate + Sync>(
     requires workers { (1 ≤ workers) × (workers ≤ MOST_WORKERS) }
 {
     let alloc = rt.alloc();
-    let counted = Counted::of(rt, n, rankings, workers)?;
+    let counted = counted_of(rt, n, rankings, workers)?;
     let mut tallies = counted.tallies()?;
     match tabulate(alloc, &mut tallies) {
         Ok(tab) => race(rt, &counted, &tab, workers, nodes, gate),
@@ -266,7 +266,7 @@ fn took_all(end: &WorkerEnd) -> bool {
 fn alone<R: AllocGlobal + Threads + Sync>(rt: &R, nodes: u32) -> Result<(WorkerEnd, u32), Memory> {
     let alloc = rt.alloc();
     let rankings = ballots_of_three();
-    let counted = Counted::of(rt, 3, rankings.as_slice(), 1)?;
+    let counted = counted_of(rt, 3, rankings.as_slice(), 1)?;
     let mut tallies = counted.tallies()?;
     let tails = tails_of(alloc, 3, ONE)?;
     let Seats { race, mut seats } = Race::new(alloc, 4, 2, 1)?;
@@ -327,7 +327,7 @@ fn turn_of_two<R: AllocGlobal + Threads + Sync>(
     left: u32,
 ) -> Result<Turn, Memory> {
     let rankings = two_to_one();
-    let counted = Counted::of(rt, 2, rankings.as_slice(), 1)?;
+    let counted = counted_of(rt, 2, rankings.as_slice(), 1)?;
     let mut tallies = counted.tallies()?;
     first_turn::<Brand>(rt.alloc(), Blank::new(1), bound, left, &mut tallies)
 }

@@ -5,12 +5,13 @@ ghost use Rattle.irv_base.specs.Tabulation.{is_tabulated};
 ghost use Rattle.irv_base.specs.declared.limits.TheConstants.{FEWEST_CANDIDATES, ROOM, MOST_RECORDS, MOST_WORKERS};
 ghost use Rattle.assertions.specs.Hardness.{low, best_margin};
 
-use crate::contests::{ONE, THREE, TWO, ZERO, ballots_of_three, county_ballots, three_against_two};
+use crate::contests::{
+    ONE, THREE, TWO, ZERO, ballots_of_three, counted_of, county_ballots, three_against_two,
+};
 use assertions::{Assertion, Claim};
 use certifier::{CertFault, Certificate, certify};
 use irv_base::{CandSet, MOST_WORKERS, Ranking};
 use irv_tabulator::tabulate;
-use set_tallies::Counted;
 use std::thread::Threads;
 
 // The certificate, where the best margin is that of whoever is elected.
@@ -32,7 +33,7 @@ fn answer<R: AllocGlobal + Threads + Sync>(
     requires positive { 1 ≤ best }
     requires workers { (1 ≤ workers) × (workers ≤ MOST_WORKERS) }
 {
-    let counted = Counted::of(rt, n, rankings, workers)?;
+    let counted = counted_of(rt, n, rankings, workers)?;
     let mut tallies = counted.tallies()?;
     match tabulate(rt.alloc(), &mut tallies) {
         Ok(tab) => certify(rt, &counted, &tab, best, workers, nodes),

@@ -1,8 +1,12 @@
 // Contests that were counted by hand, and their candidates.
-ghost use Rattle.std.specs.Prelude.{◌≡◌, ◌≢◌, ◌<◌, ◌∷◌, [], All};
+ghost use Rattle.std.specs.Prelude.{◌≡◌, ◌≢◌, ◌<◌, ◌≤◌, ◌∷◌, [], All, IfOk, length};
+ghost use Rattle.irv_base.specs.declared.limits.TheConstants.{FEWEST_CANDIDATES, MOST_RECORDS, ROOM};
 ghost use Rattle.assertions.specs.Contests as contests;
+ghost use Rattle.set_tallies.specs.Bags.{IsOf};
 
-use irv_base::{Candidate, Ranking};
+use irv_base::{Candidate, Memory, Ranking, Rankings};
+use set_tallies::Counted;
+use std::thread::Threads;
 
 pub const ZERO: Candidate = Candidate(0);
 
@@ -27,6 +31,26 @@ pub fn both(first: Candidate, second: Candidate) -> Ranking
     ensures { result ≡ first ∷ second ∷ [] }
 {
     Ranking::of(&[first, second])
+}
+
+/// The records with these rankings, of a contest with `n` candidates, counted by at most so many workers.
+pub fn counted_of<R: AllocGlobal + Threads + Sync>(
+    rt: &R,
+    n: u32,
+    rankings: &[Ranking],
+    workers: u32,
+) -> Result<Counted, Memory>
+    requires fewest { FEWEST_CANDIDATES ≤ n }
+    requires room { n ≤ ROOM }
+    requires most { length rankings.now ≤ MOST_RECORDS }
+    requires below { All (λ ranking. All (λ c. c < n) ranking) rankings.now }
+    requires workers { 1 ≤ workers }
+    ensures candidates { IfOk result (λ counted. counted.bag.n ≡ n) }
+    ensures records { IfOk result (λ counted. IsOf counted.bag rankings.now) }
+{
+    let rankings = Rankings::of(rt.alloc(), rankings)?;
+    let counted = Counted::of(rt, n, &rankings, workers)?;
+    Ok(counted)
 }
 
 /// A ballot 0 and two ballots 1.

@@ -4,18 +4,17 @@ ghost use Rattle.std.specs.Prelude.{◌<◌, ◌≤◌, length, All};
 ghost use Rattle.irv_base.specs.declared.limits.TheConstants.{FEWEST_CANDIDATES, ROOM, MOST_RECORDS};
 
 use crate::contests::{
-    ONE, THREE, TWO, ZERO, county_ballots, one_against_two, only, tie_at_the_bottom,
+    ONE, THREE, TWO, ZERO, counted_of, county_ballots, one_against_two, only, tie_at_the_bottom,
     tie_for_the_win, tie_that_decides,
 };
 use irv_base::{CandSet, Memory, Ranking};
 use irv_tabulator::{FirstTie, Round, TabFault, Tabulated, tabulate};
-use set_tallies::Counted;
 use std::thread::Threads;
 
 #[test]
 fn elects_the_second(rt: HostRuntime) {
     let rankings = one_against_two();
-    let counted = Counted::of(&rt, 2, rankings.as_slice(), 1).expect(&rt, "counted");
+    let counted = counted_of(&rt, 2, rankings.as_slice(), 1).expect(&rt, "counted");
     let mut tallies = counted.tallies().expect(&rt, "tallies");
     match tabulate(rt.alloc(), &mut tallies) {
         Ok(tabulated) => {
@@ -34,7 +33,7 @@ fn says(round: &Round, tallies: [u32; 4], exhausted: u32) -> bool {
 #[test]
 fn county_contest(rt: HostRuntime) {
     let rankings = county_ballots();
-    let counted = Counted::of(&rt, 4, rankings.as_slice(), 1).expect(&rt, "counted");
+    let counted = counted_of(&rt, 4, rankings.as_slice(), 1).expect(&rt, "counted");
     let mut tallies = counted.tallies().expect(&rt, "tallies");
     match tabulate(rt.alloc(), &mut tallies) {
         Ok(tabulated) => {
@@ -61,7 +60,7 @@ fn tabulated<R: AllocGlobal + Threads + Sync>(
     requires most { length rankings.now ≤ MOST_RECORDS }
     requires below { All (λ ranking. All (λ c. c < n) ranking) rankings.now }
 {
-    let counted = Counted::of(rt, n, rankings, 1)?;
+    let counted = counted_of(rt, n, rankings, 1)?;
     let mut tallies = counted.tallies()?;
     match tabulate(rt.alloc(), &mut tallies) {
         Ok(tabulated) => Ok(tabulated),

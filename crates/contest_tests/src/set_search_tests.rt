@@ -3,13 +3,13 @@ ghost use Rattle.std.specs.Prelude.{◌<◌, ◌≤◌, length, All};
 ghost use Rattle.irv_base.specs.declared.limits.TheConstants.{FEWEST_CANDIDATES, ROOM, MOST_RECORDS};
 
 use crate::contests::{
-    FOUR, ONE, THREE, TWO, ZERO, ballots_of_three, both, county_ballots, only, tie_for_the_win,
+    FOUR, ONE, THREE, TWO, ZERO, ballots_of_three, both, counted_of, county_ballots, only,
+    tie_for_the_win,
 };
 use assertions::{Assertion, Claim};
 use irv_base::{CandSet, Candidate, Ranking};
 use irv_tabulator::tabulate;
 use set_search::{SetsEnd, SetsFault, certify_by_sets};
-use set_tallies::Counted;
 use std::thread::Threads;
 
 const FIVE: Candidate = Candidate(5);
@@ -26,7 +26,7 @@ fn answer<R: AllocGlobal + Threads + Sync>(
     requires most { length rankings.now ≤ MOST_RECORDS }
     requires below { All (λ ranking. All (λ c. c < n) ranking) rankings.now }
 {
-    let counted = Counted::of(rt, n, rankings, 1)?;
+    let counted = counted_of(rt, n, rankings, 1)?;
     let mut tallies = counted.tallies()?;
     match tabulate(rt.alloc(), &mut tallies) {
         Ok(tab) => certify_by_sets(rt.alloc(), &counted, &tab, sets),

@@ -2,9 +2,9 @@
 ghost use Rattle.std.specs.Prelude.{◌≡◌, ◌<◌, ◌≤◌, ◌^◌, All, IfOk, length};
 ghost use Rattle.irv_base.specs.declared.limits.TheConstants.{FEWEST_CANDIDATES, ROOM, MOST_RECORDS, MOST_WORKERS};
 
-use crate::contests::{FOUR, ONE, THREE, TWO, ZERO, both, one_against_two, only};
+use crate::contests::{FOUR, ONE, THREE, TWO, ZERO, both, counted_of, one_against_two, only};
 use irv_base::{CandSet, Candidate, MOST_WORKERS, Memory, Ranking};
-use set_tallies::{Counted, Tallies};
+use set_tallies::Tallies;
 use std::alloc::Global;
 use std::process::Abort;
 use std::thread::Threads;
@@ -24,7 +24,7 @@ const TIMES: u32 = 1001;
 #[test]
 fn counts_first_choices(rt: HostRuntime) {
     let rankings = one_against_two();
-    let counted = Counted::of(&rt, 2, rankings.as_slice(), 1).expect(&rt, "counted");
+    let counted = counted_of(&rt, 2, rankings.as_slice(), 1).expect(&rt, "counted");
     let mut tallies = counted.tallies().expect(&rt, "tallies");
     assert!(rt; tallies.records() == 3);
     assert!(rt; tallies.ahead().first(ONE) == 2);
@@ -49,7 +49,7 @@ fn votes_of_10(tallies: &mut Tallies, set: CandSet) -> Option<u32>
 #[test]
 fn counts_again_after_another_row_at_its_place(rt: HostRuntime) {
     let rankings = [only(ZERO), only(Candidate(10)), only(Candidate(10))];
-    let counted = Counted::of(&rt, 19, rankings.as_slice(), 1).expect(&rt, "counted");
+    let counted = counted_of(&rt, 19, rankings.as_slice(), 1).expect(&rt, "counted");
     let mut tallies = counted.tallies().expect(&rt, "tallies");
     let zero = CandSet::empty().with(ZERO);
     let ten = CandSet::empty().with(Candidate(10));
@@ -132,7 +132,7 @@ fn check_count<R: Abort + AllocGlobal + Threads + Sync>(
     requires below { All (λ ranking. All (λ c. c < n) ranking) rankings.now }
     requires workers { (1 ≤ workers) × (workers ≤ MOST_WORKERS) }
 {
-    let counted = Counted::of(rt, n, rankings, workers).expect(rt, "counted");
+    let counted = counted_of(rt, n, rankings, workers).expect(rt, "counted");
     let mut tallies = counted.tallies().expect(rt, "tallies");
     check_rows(rt, &mut tallies, times);
 }

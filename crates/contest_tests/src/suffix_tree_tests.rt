@@ -3,9 +3,9 @@ ghost use Rattle.std.specs.Prelude.{◌≡◌, ◌<◌, map, IfOk};
 ghost use Rattle.suffix_tree.specs.Suffixes.{children};
 ghost use Rattle.suffix_tree.specs.Scores.{IsScoredOver};
 
-use crate::contests::{ZERO, one_against_two};
+use crate::contests::{ZERO, counted_of, one_against_two};
 use irv_base::{Memory, Steps};
-use set_tallies::{Counted, Tallies};
+use set_tallies::Tallies;
 use std::alloc::Global;
 use std::marker::Brand;
 use std::sync::ledger::{Blank, Ledger};
@@ -31,7 +31,7 @@ fn longer<L: Ledger>(
 #[test]
 fn scores_two_candidates(rt: HostRuntime) {
     let rankings = one_against_two();
-    let counted = Counted::of(&rt, 2, rankings.as_slice(), 1).expect(&rt, "counted");
+    let counted = counted_of(&rt, 2, rankings.as_slice(), 1).expect(&rt, "counted");
     let mut tallies = counted.tallies().expect(&rt, "tallies");
     let alone = score(&Tail::last(2, ZERO), &mut tallies).expect(&rt, "score");
     assert!(rt; alone.low == 1);

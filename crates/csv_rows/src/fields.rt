@@ -71,6 +71,7 @@ impl<'r> Iterator for Fields<'r> {
 
     ghost remaining = { item_count (λ fields. fields) };
 
+    #[inline(always)]
     fn next(&mut self) -> Option<&'r [u8]> {
         match &mut self.place {
             Place::Record(fields) => fields.next(),

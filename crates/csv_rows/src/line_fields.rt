@@ -51,6 +51,7 @@ impl<'t> Iterator for LineFields<'t> {
 
     ghost remaining = { item_count (λ fields. fields) };
 
+    #[inline(always)]
     fn next(&mut self) -> Option<&'t [u8]> {
         let (field, left) = cut_field(self.left?);
         self.left = left;

@@ -18,8 +18,8 @@ fn reads_the_only_contest(rt: HostRuntime) {
     assert!(rt; ballots.ids().at(1) == b"t_2".as_slice());
     assert!(rt; ballots.places() == [3, 4].as_slice());
     assert!(rt; ballots.rankings().len() == 2);
-    assert!(rt; ballots.rankings()[0].candidates() == [Candidate(1), Candidate(2)].as_slice());
-    assert!(rt; ballots.rankings()[1].candidates().is_empty());
+    assert!(rt; ballots.rankings().at(0) == [Candidate(1), Candidate(2)].as_slice());
+    assert!(rt; ballots.rankings().at(1).is_empty());
 }
 
 #[test]
@@ -31,8 +31,8 @@ fn reads_the_contest_asked_for(rt: HostRuntime) {
     assert!(rt; ballots.contest().bytes() == b"2".as_slice());
     assert!(rt; ballots.places() == [5, 7].as_slice());
     assert!(rt; ballots.rankings().len() == 2);
-    assert!(rt; ballots.rankings()[0].candidates() == [Candidate(1), Candidate(0)].as_slice());
-    assert!(rt; ballots.rankings()[1].candidates() == [Candidate(0)].as_slice());
+    assert!(rt; ballots.rankings().at(0) == [Candidate(1), Candidate(0)].as_slice());
+    assert!(rt; ballots.rankings().at(1) == [Candidate(0)].as_slice());
 }
 
 fn is_refused(rt: &HostRuntime, file: &[u8], by: BRule, place: u32) -> bool {

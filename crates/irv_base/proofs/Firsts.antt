@@ -1,10 +1,10 @@
 -- Lists of candidates of which each counts at its first place alone.
 use Rattle.std.proofs.Common.{◌≡◌, ◌++◌, ◌∷◌, [], ◌∙◌, ◌+◌, ◌<◌, ◌||◌, ◌==◌, not, ℕ, Bool, true, false, List, length, take, get_or, refl, sym, ap, inl, inr, arith}
 use Rattle.std.specs.Prelude.{filter, if◌then◌else◌}
-use Rattle.std.proofs.lemmas.Bool.{cases_Bool, both_ways, ne_eqb}
+use Rattle.std.proofs.lemmas.Bool.{and_parts, cases_Bool, both_ways, ne_eqb, not-true}
 use Rattle.std.proofs.lemmas.List.{append-nil, take_more}
 use Rattle.std.proofs.lemmas.List.Elements.{filter-append}
-use Rattle.irv_base.specs.Candidates.{is_in}
+use Rattle.irv_base.specs.Candidates.{is_in, is_distinct}
 use Rattle.irv_base.specs.Records.{firsts}
 
 or-false : (a b : Bool) → (a || b) ≡ false → (a ≡ false) × (b ≡ false)
@@ -70,3 +70,30 @@ firsts-step cs i c old new l at seen added kept = step ∙ ap firsts (sym more) 
     | inl t ↦ kept t ∙ seen ∙ sym (firsts-again (take i cs) c (ap (λ s. is_in s c) (sym seen) ∙ t))
     | inr f ↦ added f ∙ ap (λ s. s ++ c ∷ []) seen ∙ sym (firsts-more (take i cs) c (ap (λ s. is_in s c) (sym seen) ∙ f))
   ]
+
+-- ---- distinct candidates
+
+filter-absent : (cs : List ℕ) (c : ℕ) → is_in cs c ≡ false → filter (λ d. not (d == c)) cs ≡ cs
+filter-absent [] c h = refl
+filter-absent (x ∷ cs) c h =
+    let (first, rest) = or-false (x == c) (is_in cs c) h in
+    ap (λ b. if not b then x ∷ filter (λ d. not (d == c)) cs else filter (λ d. not (d == c)) cs) first ∙ ap (λ ds. x ∷ ds) (filter-absent cs c rest)
+
+pub firsts-distinct : (cs : List ℕ) → is_distinct cs ≡ true → firsts cs ≡ cs
+firsts-distinct [] h = refl
+firsts-distinct (c ∷ cs) h =
+    let (out, rest) = and_parts (not (is_in cs c)) (is_distinct cs) h in
+    ap (λ ds. c ∷ filter (λ d. not (d == c)) ds) (firsts-distinct cs rest) ∙ ap (λ ds. c ∷ ds) (filter-absent cs c (not-true (is_in cs c) out))
+
+-- ---- one more
+
+none-more : (b : Bool) → (b || false) ≡ b
+none-more true = refl
+none-more false = refl
+
+pub is_in-push : (cs : List ℕ) (c d : ℕ) → is_in (cs ++ c ∷ []) d ≡ (is_in cs d || (d == c))
+is_in-push [] c d = none-more (c == d) ∙ eqb-sym c d
+is_in-push (x ∷ cs) c d = ap (λ b. (x == d) || b) (is_in-push cs c d) ∙ in_turn (x == d) where
+  in_turn : (b : Bool) → (b || (is_in cs d || (d == c))) ≡ ((b || is_in cs d) || (d == c))
+  in_turn true = refl
+  in_turn false = refl

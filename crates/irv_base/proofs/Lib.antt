@@ -6,6 +6,7 @@ pub mod Bits
 pub mod Tabulated
 pub mod Ranges
 pub mod Padded
+pub mod Between
 pub mod NameBytes
 pub mod Least
 pub mod Sames

@@ -79,9 +79,8 @@ ranking_pushed len c places r out l = record {
         ∙ take-whole (kept ++ c ∷ []) (replicate (ROOM - (len + 1)) 0) (len + 1) (length-append kept (c ∷ []) ∙ omega (arith, r.long))
 
 -- as the code comes to know it
-pub pushed : (len c : ℕ) (places now : List ℕ) (found : Bool) → IsRanking len places → take len places ≡ now → c < ROOM → found ≡ is_in now c →
-    found ≡ false → Pushed len c places
-pushed len c places now found r e below answer absent = ranking_pushed len c places r (ap (λ s. is_in s c) e ∙ sym answer ∙ absent) below
+pub pushed : (len c : ℕ) (places now : List ℕ) → IsRanking len places → take len places ≡ now → c < ROOM → is_in now c ≡ false → Pushed len c places
+pushed len c places now r e below absent = ranking_pushed len c places r (ap (λ s. is_in s c) e ∙ absent) below
 
 -- ---- orders
 -- sound places make a list of candidates none of which stands twice

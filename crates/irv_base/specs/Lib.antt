@@ -1,4 +1,5 @@
 pub mod Candidates
+pub mod Lists
 pub mod Names
 pub mod Records
 pub mod Orders

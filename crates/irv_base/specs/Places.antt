@@ -13,6 +13,11 @@ pub record IsRanking (len : ℕ) (places : List ℕ) : Type 0 where
   pub below : All (λ c. c < ROOM) (take len places)
   pub distinct : IsTrue (is_distinct (take len places))
 
+-- of many: each has candidates below ROOM, none of them twice
+pub record AreRankings (rankings : List (List ℕ)) : Type 0 where
+  pub below : All (λ ranking. All (λ c. c < ROOM) ranking) rankings
+  pub distinct : All (λ ranking. IsTrue (is_distinct ranking)) rankings
+
 pub record IsOrder (len : ℕ) (places : List ℕ) : Type 0 where
   pub some : 1 ≤ len
   pub few : len ≤ ROOM

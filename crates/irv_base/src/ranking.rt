@@ -76,10 +76,18 @@ impl Ranking {
         ensures kept { is_in self.old c ≡ true → self.new ≡ self.old }
     {
         if !self.contains(c) {
-            prove!(c.0 < ROOM);
-            self.places[usize::from(self.len)] = c;
-            self.len += 1;
+            self.push_new(c);
         }
+    }
+
+    /// Adds a candidate that isn't there at the end, without a look at those that are.
+    pub fn push_new(&mut self, c: Candidate)
+        requires { is_in self.old c ≡ false }
+        ensures { self.new ≡ self.old ++ c ∷ [] }
+    {
+        prove!(c.0 < ROOM);
+        self.places[usize::from(self.len)] = c;
+        self.len += 1;
     }
 
     /// Whether it ranks `c`, at whatever place.

@@ -34,3 +34,11 @@ impl From<AllocError> for LinkFault {
         LinkFault::Memory
     }
 }
+
+impl From<Memory> for LinkFault {
+    ghost from_gives = { λ _ fault. fault ≡ WantOfMemory };
+
+    fn from(_: Memory) -> Self {
+        LinkFault::Memory
+    }
+}

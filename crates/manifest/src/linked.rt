@@ -9,8 +9,8 @@ use crate::link_fault::LinkFault;
 use crate::manifest::Manifest;
 use crate::recorded::Recorded;
 use ballot_reader::Ballots;
-use irv_base::Ranking;
-use std::alloc::{AllocError, Global};
+use irv_base::Rankings;
+use std::alloc::Global;
 use std::marker::Model;
 
 // The number of a card's ballot where it has none. Others count from 1.
@@ -22,7 +22,7 @@ const NO_BALLOT: u32 = 0;
 #[derive(Drop)]
 pub struct Linked {
     numbers: Vec<u32>,
-    rankings: Vec<Ranking>,
+    rankings: Rankings,
 }
 
 impl Model for Linked {
@@ -32,9 +32,9 @@ impl Model for Linked {
 
     ghost Value = { List Recorded };
 
-    ghost view = { λ l. map (recorded_at l.rankings.items) l.numbers.items };
+    ghost view = { λ l. map (recorded_at l.rankings) l.numbers.items };
 
-    ghost invariant = { λ l. AreNumbers l.rankings.items l.numbers.items };
+    ghost invariant = { λ l. AreNumbers l.rankings l.numbers.items };
 }
 
 impl Linked {
@@ -56,7 +56,7 @@ impl Linked {
         if number == NO_BALLOT {
             return Recorded::Without;
         }
-        Recorded::Ranked(self.rankings[number as usize - 1])
+        Recorded::Ranked(self.rankings.ranking(number as usize - 1))
     }
 }
 
@@ -81,15 +81,6 @@ fn numbers_of(alloc: Global, m: &Manifest, b: &Ballots) -> Result<Vec<u32>, Link
     Ok(numbers)
 }
 
-// The rankings of the ballots.
-fn rankings_of(alloc: Global, b: &Ballots) -> Result<Vec<Ranking>, AllocError>
-    ensures { IfOk result (λ rankings. rankings.items ≡ b.now.rankings) }
-{
-    let mut rankings = Vec::new(alloc);
-    rankings.extend_from_slice(b.rankings())?;
-    Ok(rankings)
-}
-
 /// Links the ballots of a file to the cards of a manifest: a card has the ballot whose id is the card's.
 ///
 /// Rule M7 asks that the id of each ballot is that of a card. It is answered with the record of the first ballot that breaks it.
@@ -99,6 +90,6 @@ pub fn link(alloc: Global, m: &Manifest, b: &Ballots) -> Result<Linked, LinkFaul
     ensures no_card { IfErr result (RefusesLink (first_without_card m.now b.now)) }
 {
     let numbers = numbers_of(alloc, m, b)?;
-    let rankings = rankings_of(alloc, b)?;
+    let rankings = b.rankings().copied(alloc)?;
     Ok(Linked { numbers, rankings })
 }

@@ -5,32 +5,32 @@ ghost use Rattle.irv_base.specs.Records.{is_first};
 ghost use Rattle.irv_base.specs.declared.limits.TheConstants.{MOST_RECORDS, ROOM};
 ghost use Rattle.plurality.specs.Plurality.{first_preferences};
 
-use irv_base::{CandSet, Candidate, Memory, Ranking};
+use irv_base::{CandSet, Candidate, Memory, Rankings};
 use std::alloc::Global;
 
 // Counts a ranking for the candidate whom it has first.
-fn count_first(firsts: &mut [u32], ranking: &Ranking)
+fn count_first(firsts: &mut [u32], ranking: &[Candidate])
     requires below { All (λ c. c < length firsts.old) ranking.now }
     requires fit { All (λ number. number < MOST_RECORDS) firsts.old }
     ensures long { length firsts.new ≡ length firsts.old }
     ensures more { (c : ℕ) → slice_index firsts.new c
         ≡ slice_index firsts.old c + (if is_first ranking.now c then 1 else 0) }
 {
-    if let Some(first) = ranking.candidates().first() {
+    if let Some(first) = ranking.first() {
         firsts[first.index()] += 1;
     }
 }
 
 /// How many of these rankings have each of n candidates first.
-pub fn first_preferences(alloc: Global, n: u32, rankings: &[Ranking]) -> Result<Vec<u32>, Memory>
+pub fn first_preferences(alloc: Global, n: u32, rankings: &Rankings) -> Result<Vec<u32>, Memory>
     requires most { length rankings.now ≤ MOST_RECORDS }
     requires below { All (λ ranking. All (λ c. c < n) ranking) rankings.now }
     ensures { IfOk result (λ firsts. firsts.items
         ≡ map (first_preferences rankings.now) (candidates n)) }
 {
     let mut firsts = vec![in alloc; 0; n as usize]?;
-    for ranking in rankings {
-        count_first(&mut firsts, ranking);
+    for i in 0..rankings.len() {
+        count_first(&mut firsts, rankings.at(i));
     }
     Ok(firsts)
 }

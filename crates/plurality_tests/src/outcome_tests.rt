@@ -3,7 +3,7 @@ ghost use Rattle.std.specs.Prelude.{◌≤◌};
 
 use audit_session::Claims;
 use ballot_reader::{Ballots, read_ballots};
-use irv_base::{CandSet, Candidate, Ranking};
+use irv_base::{CandSet, Candidate, Rankings};
 use plurality::{Plural, PluralFault, plurality};
 use std::alloc::{AllocError, Global};
 
@@ -17,12 +17,12 @@ fn ballots(alloc: Global, lines: &str) -> Option<Ballots> {
 fn values_of<T: Claims>(
     alloc: Global,
     claims: &T,
-    rankings: &[Ranking],
+    rankings: &Rankings,
 ) -> Result<Vec<u8>, AllocError> {
     let mut values = Vec::new(alloc);
     for j in 0..claims.count() {
-        for ranking in rankings {
-            values.push(claims.value(j, ranking))?;
+        for i in 0..rankings.len() {
+            values.push(claims.value(j, &rankings.ranking(i)))?;
         }
     }
     Ok(values)

@@ -1,6 +1,5 @@
 -- Status 0 and 10 of an audit come with the session that its files make.
-use Rattle.std.proofs.Common.{◌≡◌, ◌⊎◌, inl, inr, ℕ, List, Contains, length, Bool, true, false, if◌then◌else◌, Some, Result, Ok, IsTrue, refl, sym, ap, subst, ◌∙◌}
-use Rattle.std.proofs.lemmas.Bool.{false≢true}
+use Rattle.std.proofs.Common.{◌≡◌, ◌⊎◌, inl, inr, ℕ, List, Contains, length, Bool, true, false, Some, Result, Ok, refl, sym, ap, subst, ◌∙◌}
 use Rattle.std.proofs.lemmas.List.{length-map}
 use Rattle.sha2.specs.Sha256.{sha256}
 use Rattle.desk.specs.Desk.{File, held_bytes}
@@ -234,13 +233,3 @@ module _ (words : List (List ℕ)) (files : List File) (asks : AsksForAudit word
 
   pub goes_on : ComesTo (AsHeld files) (asked words) (Answered kind text) → Gone
   goes_on comes = from_all (subst (λ command. ComesTo readings (asked_by command) verdict) asks.asked comes)
-
--- ---- 0 where it is signed off, and else 10
-
-pub done_signed : (signed : Bool) → Done ≡ (if signed then Done else Unconfirmed) → IsTrue signed
-done_signed true is = refl
-done_signed false is = absurd (cc is)
-
-pub unconfirmed_not : (signed : Bool) → Unconfirmed ≡ (if signed then Done else Unconfirmed) → IsTrue signed → ⊥
-unconfirmed_not true is signed = cc is
-unconfirmed_not false is signed = false≢true signed

@@ -22,6 +22,7 @@ use Rattle.session_rounds.specs.Rounds.{kind_of}
 use Rattle.contests_command.specs.Table.{all_signed}
 use Rattle.cli_base.proofs.Statuses.{status_in}
 use Rattle.cli_base.proofs.Clauses.{bad_words_clause, contests_clause, statuses_clause, exact_clause, answered_clause, answered_with, undone_is_nine}
+use Rattle.cli_base.proofs.ConfirmedKinds.{done_is_confirmed, unconfirmed_is_not}
 use Rattle.command_line.specs.Line.{command_of, is_line}
 use Rattle.command_line.specs.declared.commands.Command.{Command}
 use Rattle.command_line.specs.declared.commands.Command.TheVariants.{Contests}
@@ -47,16 +48,16 @@ use Rattle.raire_cli.specs.Openings.{AsksForOpening, Opens, IsOpened}
 use Rattle.raire_cli.specs.Contests.{AsksForContests, AuditsContests, IsAuditedByContest, blocks_of}
 use Rattle.raire_cli.proofs.Accepted.{held_of}
 use Rattle.raire_cli.proofs.ContestsRefused.{refused_anyway}
-use Rattle.raire_cli.proofs.ContestsAudited.{audited_by, done_all, unconfirmed_not_all}
+use Rattle.raire_cli.proofs.ContestsAudited.{audited_by}
 use Rattle.raire_cli.proofs.Trims.{printed_of}
-use Rattle.raire_cli.proofs.Audited.{IsKind, done_signed, goes_on, unconfirmed_not}
+use Rattle.raire_cli.proofs.Audited.{IsKind, goes_on}
 use Rattle.raire_cli.proofs.Enough.{never_spent}
 use Rattle.raire_cli.proofs.Limited.{limited}
 use Rattle.raire_cli.proofs.Opened.{is_opened}
 use Rattle.raire_cli.proofs.PluralAudited.{plural_goes_on}
 use Rattle.raire_cli.proofs.PluralOpened.{plural_is_opened}
-use Rattle.raire_cli.proofs.PluralsLimit.{plural_limited}
-use Rattle.raire_cli.proofs.Polled.{done_confirmed, polled_by, unconfirmed_never}
+use Rattle.raire_cli.proofs.PluralLimited.{plural_limited}
+use Rattle.raire_cli.proofs.Polled.{polled_by}
 use Rattle.raire_cli.proofs.EachCommand.{agrees_by, agrees_exactly, contests_agree, counts_in_full}
 use Rattle.raire_cli.proofs.Complete.{not_spent, has_answer, tried}
 use Rattle.raire_cli.proofs.Headline.{confirms_asked, gives_reason}
@@ -174,15 +175,15 @@ module _ (words : List (List ℕ)) {held : Option (List File)} {failed : Type 0}
             next,
             on,
             took,
-            (λ e. done_signed (is_signed_off next.session) kind-is, λ yes. zero),
-            λ e. limited next on (done_signed (is_signed_off next.session) kind-is),
+            (λ e. done_is_confirmed (is_signed_off next.session) kind-is, λ yes. zero),
+            λ e. limited next on (done_is_confirmed (is_signed_off next.session) kind-is),
           )
       | inr ten ↦
           let (next, on, took, kind-is) = audited-of files Unconfirmed (inr refl) asks (unconfirmed ten) in (
             next,
             on,
             took,
-            (λ zero. absurd (omega (arith, zero, ten)), λ yes. absurd (unconfirmed_not (is_signed_off next.session) kind-is yes)),
+            (λ zero. absurd (omega (arith, zero, ten)), λ yes. absurd (unconfirmed_is_not (is_signed_off next.session) kind-is yes)),
             λ zero. absurd (omega (arith, zero, ten)),
           )
     ]
@@ -205,10 +206,10 @@ module _ (words : List (List ℕ)) {held : Option (List File)} {failed : Type 0}
     by (Some files) done unconfirmed = λ asks status-is. elim status-is [
       | inl zero ↦
           let (of, took, kind-is) = polled-of files Done (inl refl) asks (done zero) in
-          (of, took, (λ e. done_confirmed (is_confirmed_by of) kind-is, λ yes. zero))
+          (of, took, (λ e. done_is_confirmed (is_confirmed_by of) kind-is, λ yes. zero))
       | inr ten ↦
           let (of, took, kind-is) = polled-of files Unconfirmed (inr refl) asks (unconfirmed ten) in
-          (of, took, (λ zero. absurd (omega (arith, zero, ten)), λ yes. absurd (unconfirmed_never (is_confirmed_by of) kind-is yes)))
+          (of, took, (λ zero. absurd (omega (arith, zero, ten)), λ yes. absurd (unconfirmed_is_not (is_confirmed_by of) kind-is yes)))
     ]
 
   -- ---- a plurality contest
@@ -243,15 +244,15 @@ module _ (words : List (List ℕ)) {held : Option (List File)} {failed : Type 0}
             next,
             on,
             took,
-            (λ e. done_signed (is_signed_off next.session) kind-is, λ yes. zero),
-            λ e. plural_limited next on (done_signed (is_signed_off next.session) kind-is),
+            (λ e. done_is_confirmed (is_signed_off next.session) kind-is, λ yes. zero),
+            λ e. plural_limited next on (done_is_confirmed (is_signed_off next.session) kind-is),
           )
       | inr ten ↦
           let (next, on, took, kind-is) = plural-of files Unconfirmed (inr refl) asks (unconfirmed ten) in (
             next,
             on,
             took,
-            (λ zero. absurd (omega (arith, zero, ten)), λ yes. absurd (unconfirmed_not (is_signed_off next.session) kind-is yes)),
+            (λ zero. absurd (omega (arith, zero, ten)), λ yes. absurd (unconfirmed_is_not (is_signed_off next.session) kind-is yes)),
             λ zero. absurd (omega (arith, zero, ten)),
           )
     ]
@@ -276,10 +277,10 @@ module _ (words : List (List ℕ)) {held : Option (List File)} {failed : Type 0}
     by (Some files) done unconfirmed = λ asks status-is. elim status-is [
       | inl zero ↦
           let (audit, took, kind-is) = contests-of files Done asks (done zero) in
-          (audit, took, (λ e. done_all (all_signed audit.ends) kind-is, λ yes. zero))
+          (audit, took, (λ e. done_is_confirmed (all_signed audit.ends) kind-is, λ yes. zero))
       | inr ten ↦
           let (audit, took, kind-is) = contests-of files Unconfirmed asks (unconfirmed ten) in
-          (audit, took, (λ zero. absurd (omega (arith, zero, ten)), λ yes. absurd (unconfirmed_not_all (all_signed audit.ends) kind-is yes)))
+          (audit, took, (λ zero. absurd (omega (arith, zero, ten)), λ yes. absurd (unconfirmed_is_not (all_signed audit.ends) kind-is yes)))
     ]
 
   -- ---- the statuses

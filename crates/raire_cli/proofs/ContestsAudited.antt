@@ -1,6 +1,5 @@
 -- Status 0 and 10 of an audit of all contests come with the end of each contest.
-use Rattle.std.proofs.Common.{◌≡◌, inl, inr, ℕ, List, Bool, true, false, IsTrue, refl, subst}
-use Rattle.std.proofs.lemmas.Bool.{false≢true}
+use Rattle.std.proofs.Common.{◌≡◌, inl, inr, ℕ, List, subst}
 use Rattle.desk.specs.Desk.{File}
 use Rattle.ballot_reader.specs.Ballots.{BallotFile}
 use Rattle.ballot_reader.specs.Grammar.{contests_of}
@@ -54,13 +53,3 @@ module _ (words : List (List ℕ)) (files : List File) (asks : AsksForContests w
         text-is,
         kind-is,
       )
-
--- ---- 0 where each contest is signed off, and else 10
-
-pub done_all : (all : Bool) → Done ≡ confirmed_kind all → IsTrue all
-done_all true is = refl
-done_all false is = absurd (cc is)
-
-pub unconfirmed_not_all : (all : Bool) → Unconfirmed ≡ confirmed_kind all → IsTrue all → ⊥
-unconfirmed_not_all true is signed = cc is
-unconfirmed_not_all false is signed = false≢true signed

@@ -1,5 +1,5 @@
 -- A command that judges an assertion file isn't spent where its budget is enough.
-use Rattle.std.proofs.Common.{◌≡◌, ℕ, ◌≤◌, ◌-◌, ◌*◌, List, Bool, true, false, if◌then◌else◌, Option, None, Some, Result, Ok, Err, MatchBool, map, refl, sym, ap, subst, arith}
+use Rattle.std.proofs.Common.{◌≡◌, ℕ, ◌≤◌, ◌-◌, ◌*◌, List, Bool, true, false, Option, None, Some, Result, Ok, Err, MatchBool, map, refl, sym, ap, subst, arith}
 use Rattle.std.specs.Prelude.{option_map, unwrap_or}
 use Rattle.std.specs.Option.{option_or}
 use Rattle.sha2.specs.Sha256.{sha256}
@@ -36,7 +36,7 @@ use Rattle.cli_base.specs.Confirmed.{confirmed_kind}
 use Rattle.cli_base.specs.Outcome.{Verdict, Answered, Refused}
 use Rattle.cli_base.specs.Script.{Script, Read, Ends, Bytes, AsHeld, ComesTo, Concludes}
 use Rattle.cli_base.specs.Statuses.{HasAnswer}
-use Rattle.cli_base.specs.declared.outcome.AnswerKind.TheVariants.{Done, Spent, Unconfirmed}
+use Rattle.cli_base.specs.declared.outcome.AnswerKind.TheVariants.{Spent}
 use Rattle.cli_base.proofs.Scripts.{some_is}
 use Rattle.command.specs.declared.audit.AuditTask.{AuditTask}
 use Rattle.command.specs.declared.check.CheckTask.{CheckTask}
@@ -116,6 +116,11 @@ trims-never budget ballots file text sound enough (Err (SpentAt last), found, is
 trims-never budget ballots file text sound enough (Err (SpentSets sets), found, is) = checks-never budget ballots file text sound enough (Err (SpentSets sets), found, is)
 trims-never budget ballots file text sound enough (Err Memory, found, is) = checks-never budget ballots file text sound enough (Err Memory, found, is)
 
+-- an answer that tells whether all is confirmed is never spent
+told-never : (yes : Bool) → Spent ≡ confirmed_kind yes → ⊥
+told-never true is = cc is
+told-never false is = cc is
+
 module _ (files : List File) (text : List ℕ) where
   -- what is read comes to no budget that is spent
   abbrev Never : Script → Type 0
@@ -127,13 +132,8 @@ module _ (files : List File) (text : List ℕ) where
 
   -- ---- a round, once its assertion file was accepted
 
-  -- a session is signed off or not
-  session-never : (signed : Bool) → Spent ≡ (if signed then Done else Unconfirmed) → ⊥
-  session-never true is = cc is
-  session-never false is = cc is
-
   next-never : (judged : Result Content Verdict) → OnlyRefuses judged → Answered Spent text ≡ verdict_of judged → ⊥
-  next-never (Ok next) only is = session-never (is_signed_off next.session) (cc is)
+  next-never (Ok next) only is = told-never (is_signed_off next.session) (cc is)
   next-never (Err (Refused name t)) only is = cc is
   next-never (Err (Answered kind t)) only is = absurd only
 
@@ -239,11 +239,6 @@ module _ (files : List File) (judging : Judging) (enough : AreEnough files judgi
             (ap (λ over. or_spent (option_map CoverSpent over) (cover_verdict_on (standing_order n file.winner (assertions_of file)))) e)
         by None (Some order) e is = cc is
         by None None e comes = never comes
-
-  -- a poll confirms each claim or not
-  told-never : (yes : Bool) → Spent ≡ confirmed_kind yes → ⊥
-  told-never true is = cc is
-  told-never false is = cc is
 
   polls-never : (task : PollTask) (batches : Batches) (file : FileContent) (entries : List Entry) →
       poll.Polls task batches file entries (Answered Spent text) → ⊥

@@ -1,42 +1,27 @@
 mod Begun
 mod Confirmed
-mod Headline
+pub mod Headline
 mod Accepted
-mod Trims
-mod Said
+pub mod Trims
+pub mod Said
 mod Unrefused
-mod NextRounds
+pub mod NextRounds
 mod Audited
 mod Opened
 mod Polled
-mod PollsLimit
 mod Enough
-mod Limited
-mod SignedOff
-mod EitherBudget
-mod EachCommand
-mod Workers
+pub mod Limited
+pub mod EitherBudget
+pub mod EachCommand
 mod Complete
 mod Counting
 mod PluralOpened
 mod PluralAudited
-mod PluralsLimit
+pub mod PluralLimited
 mod ContestsAudited
-mod ContestsOnce
 mod ContestsRefused
-mod ContestsAlone
-mod ContestsLimit
-mod ContestsSignedOff
 mod Undecided
 mod SetsJudged
 mod SetsSpent
 mod Rounds
 mod Clauses
-mod Nodes
-mod Agreement
-mod Ended
-mod PrintedFiles
-mod TrimmedFiles
-mod Unconfirmed
-mod EachStatus
-mod ReadFaults

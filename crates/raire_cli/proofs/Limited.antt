@@ -1,22 +1,16 @@
--- Where an audit signs its session off, the risks were within the limit, and the risk limit counts the session.
+-- Where an audit signs its session off, the risks were within the limit.
 use Rattle.std.proofs.Common.{ℕ, List, IsTrue}
 use Rattle.desk.specs.Desk.{File}
 use Rattle.session_state.specs.Claims.{values_of}
 use Rattle.session_state.specs.Content.{Content}
 use Rattle.session_state.specs.Sessions.{is_signed_off}
 use Rattle.raire_cli.specs.Audits.{GoesOn, WereAllWithin, claims, recorded}
-use Rattle.raire_cli.specs.Laws.{SignedOffIsCounted}
 use Rattle.raire_cli.proofs.Audited.{fitting}
-use Rattle.raire_cli.proofs.NextRounds.{Fitting, round_is_counted, were_within}
+use Rattle.raire_cli.proofs.NextRounds.{Fitting, were_within}
 
 pub fits : {words : List (List ℕ)} {files : List File} {next : Content} (on : GoesOn words files next) →
     Fitting on.inputs.session (recorded on.inputs) (values_of on.inputs.basis.file) (claims on.inputs)
 fits on = fitting on.inputs on.bytes.session on.say.session on.of_files.facts
-
-pub signed_off_is_counted : SignedOffIsCounted
-signed_off_is_counted words files next on actual most signed few long entries =
-    (round_is_counted on.inputs.session (recorded on.inputs) on.inputs.entries (values_of on.inputs.basis.file) (claims on.inputs) (fits on)
-    on.asks.task.draws most next actual on.is_next signed few long entries).1
 
 pub limited : {words : List (List ℕ)} {files : List File} (next : Content) (on : GoesOn words files next) → IsTrue (is_signed_off next.session) →
     WereAllWithin on

@@ -1,5 +1,5 @@
 -- Status 0 and 10 of a round of a plurality contest come with the session that its files make, and status 3 with the tie.
-use Rattle.std.proofs.Common.{◌≡◌, inr, ℕ, ◌<◌, ◌≤◌, List, [], length, Bool, true, false, if◌then◌else◌, Some, Result, Ok, Err, sym, subst}
+use Rattle.std.proofs.Common.{◌≡◌, inr, ℕ, ◌<◌, ◌≤◌, List, [], length, Bool, true, false, Some, Result, Ok, Err, sym, subst}
 use Rattle.sha2.specs.Sha256.{sha256}
 use Rattle.desk.specs.Desk.{File, held_bytes}
 use Rattle.ballot_reader.specs.Ballots.{BallotFile}
@@ -15,10 +15,11 @@ use Rattle.session_file.specs.Reading.{session_of}
 use Rattle.session_file.specs.Text.{session_text}
 use Rattle.audit_session.specs.Refusals.{last_draws}
 use Rattle.plurality.specs.Plural.{Outcome, values_of}
+use Rattle.cli_base.specs.Confirmed.{confirmed_kind}
 use Rattle.cli_base.specs.Outcome.{Verdict, Answered, Refused}
 use Rattle.cli_base.specs.Script.{Readings, AsHeld, Bytes, Concludes, ComesTo, Ends, limit}
 use Rattle.cli_base.specs.declared.outcome.AnswerKind.{AnswerKind}
-use Rattle.cli_base.specs.declared.outcome.AnswerKind.TheVariants.{Done, Tie as TieKind, Unconfirmed}
+use Rattle.cli_base.specs.declared.outcome.AnswerKind.TheVariants.{Tie as TieKind}
 use Rattle.command.specs.declared.audit_plurality.AuditPluralityTask.{AuditPluralityTask}
 use Rattle.input_files.specs.Judged.{told}
 use Rattle.input_files.specs.Refusals.{refused_seen}
@@ -214,7 +215,7 @@ module _ (words : List (List ℕ)) (files : List File) (asks : AsksForPluralRoun
 
 module _ (words : List (List ℕ)) (files : List File) (asks : AsksForPluralRound words) (text : List ℕ) where
   -- a round tells no tie
-  session_tells_none : (signed : Bool) → TieKind ≡ (if signed then Done else Unconfirmed) → ⊥
+  session_tells_none : (signed : Bool) → TieKind ≡ confirmed_kind signed → ⊥
   session_tells_none true is = cc is
   session_tells_none false is = cc is
 

@@ -1,8 +1,7 @@
 -- Status 0 and 10 of a poll come with the poll of its files.
-use Rattle.std.proofs.Common.{◌≡◌, inl, inr, ℕ, List, Bool, true, false, Option, None, Some, IsTrue, refl, subst}
+use Rattle.std.proofs.Common.{◌≡◌, inl, inr, ℕ, List, Option, None, Some, refl, subst}
 use Rattle.std.specs.Prelude.{option_map, unwrap_or}
 use Rattle.std.specs.Option.{option_or}
-use Rattle.std.proofs.lemmas.Bool.{false≢true}
 use Rattle.desk.specs.Desk.{File}
 use Rattle.sampler.specs.Draws.{drawn_card}
 use Rattle.manifest.specs.Cards.{Batches}
@@ -94,13 +93,3 @@ module _ (words : List (List ℕ)) (files : List File) (asks : AsksForPoll words
         text-is,
         kind-is,
       )
-
--- ---- 0 where each claim is confirmed, and else 10
-
-pub done_confirmed : (yes : Bool) → Done ≡ confirmed_kind yes → IsTrue yes
-done_confirmed true is = refl
-done_confirmed false is = absurd (cc is)
-
-pub unconfirmed_never : (yes : Bool) → Unconfirmed ≡ confirmed_kind yes → IsTrue yes → ⊥
-unconfirmed_never true is confirmed = cc is
-unconfirmed_never false is confirmed = false≢true confirmed

@@ -1,15 +1,10 @@
 -- A number of sets is spent exactly where more sets count, and never where there are as many as the candidates have.
 use Rattle.std.proofs.Common.{◌≡◌, inl, inr, ℕ, ◌<◌, ◌≤◌, ◌-◌, ◌^◌, List, refl, sym, ap, subst, arith, false}
-use Rattle.std.proofs.Math.Pow.{pow_mono}
 use Rattle.desk.specs.Desk.{File}
 use Rattle.assertions.specs.Hardness.{start_order}
 use Rattle.ballot_reader.specs.Ballots.{BallotFile}
-use Rattle.assertion_file.specs.Content.{candidate_count as count_in}
 use Rattle.budget.specs.declared.budget.Budget.{Budget}
 use Rattle.budget.specs.declared.budget.Budget.TheVariants.{Nodes, Sets}
-use Rattle.cover_checker.specs.Covers.{standing_sets}
-use Rattle.cover_checker.specs.Findings.{assertions_of}
-use Rattle.cover_checker.proofs.Enough.{sets-enough}
 use Rattle.check_command.specs.Check.{Checks}
 use Rattle.trim_command.specs.Trim.{Trims}
 use Rattle.cli_base.specs.Outcome.{Answered}
@@ -18,7 +13,7 @@ use Rattle.cli_base.specs.declared.outcome.AnswerKind.TheVariants.{Spent}
 use Rattle.command_line.specs.declared.commands.Command.{Command}
 use Rattle.command_line.specs.declared.commands.Command.TheVariants.{Search, Tabulate, Check, Trim, Sample, Plan, Open, Audit, Report, Trial, Poll, OpenPlurality, AuditPlurality, Contests}
 use Rattle.contest_search.specs.Budget.{sets_of}
-use Rattle.contest_search.specs.Contest.{candidate_count, IsWon}
+use Rattle.contest_search.specs.Contest.{candidate_count}
 use Rattle.contest_search.proofs.SetsNeeded.{sets_are_few}
 use Rattle.report.specs.Ends.{spent_sets, spent_sets_text}
 use Rattle.search_commands.specs.Ends.{HasSpent}
@@ -27,7 +22,6 @@ use Rattle.search_commands.specs.Trial.{contest_of}
 use Rattle.search_commands.proofs.Searches.{found_by, searched_with, spent_is}
 use Rattle.raire_cli.specs.Answers.{has_nodes, is_open, script_of}
 use Rattle.raire_cli.specs.Budgets.{budget_of, start_of}
-use Rattle.raire_cli.specs.Laws.{MostSetsSuffice, MostSetsSufficeToCheck}
 use Rattle.raire_cli.specs.Sets.{MoreCount, NeedsMore}
 use Rattle.raire_cli.specs.Undecided.{IsAbout}
 use Rattle.raire_cli.proofs.SetsJudged.{both_said, both_saying, checked_more, more_checked, more_open, more_round, more_trims, open_more, round_more, trims_more}
@@ -142,18 +136,3 @@ never_by_sets files (Trial task) ballots sets text same is enough comes =
     enough_of sets ballots other enough (subst (λ budget. HasSpent budget ballots other) is its)
 never_by_sets files (Tabulate task) ballots sets text are is enough comes = cc is
 never_by_sets files _ ballots sets text about is enough comes = absurd about
-
--- ---- the most sets
-
-within : (n : ℕ) → n ≤ 20 → 2 ^ n - 3 ≤ 1048576
-within n few = let less : 2 ^ n ≤ 1048576 = pow_mono few in omega (arith, less)
-
-pub most_sets_suffice : MostSetsSuffice
-most_sets_suffice ballots winner won few =
-    let sets : sets_of ballots winner ≤ 2 ^ candidate_count ballots - 3 = sets_are_few ballots winner won in
-    let most = within (candidate_count ballots) few in
-    omega (arith, sets, most)
-
-pub most_sets_suffice_to_check : MostSetsSufficeToCheck
-most_sets_suffice_to_check file sound few =
-    sets-enough (count_in file) file.winner (assertions_of file) 1048576 sound.winner (omega (arith, sound.fewest)) (within (count_in file) few)

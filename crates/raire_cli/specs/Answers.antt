@@ -70,11 +70,11 @@ count_of (Some command) = length (files_of command)
 abbrev pub file_count : List (List ℕ) → ℕ
 file_count words = count_of (command_of words)
 
--- a budget of nodes may leave open what the command comes to: a search, a tabulation, a trial, or an audit of all contests
 abbrev pub has_nodes : Budget → Bool
 has_nodes (Nodes nodes) = true
 has_nodes (Sets sets) = false
 
+-- a budget of nodes may leave open what the command comes to: a search, a tabulation, a trial, or an audit of all contests
 abbrev pub is_open : Command → Bool
 is_open (Search task) = has_nodes task.budget
 is_open (Tabulate task) = true

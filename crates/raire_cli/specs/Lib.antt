@@ -9,8 +9,6 @@ pub mod Audits
 pub mod Openings
 pub mod Enough
 pub mod Contests
-pub mod ContestsAlone
-pub mod ContestsLimit
 pub mod Promises
 pub mod Ballots
 pub mod Budgets
@@ -18,12 +16,3 @@ pub mod Pluralities
 pub mod PluralityTies
 pub mod Undecided
 pub mod Sets
-pub mod Laws
-pub mod SignedOff
-pub mod PollLaws
-pub mod PluralLaws
-pub mod ContestsSignedOff
-pub mod Agreement
-pub mod EachStatus
-pub mod PrintedFiles
-pub mod ReadFaults

@@ -91,7 +91,7 @@ pub fn run<R: AllocGlobal + Threads + Sync, D: Desk, O: Sink, E: Sink, G: Gate +
     // poll.
     ensures enough { IsNeverSpent (D.held desk.old) (texts words.now) result }
 
-    // With as many sets as the candidates have no search and no trial is spent.
+    // With 2^n - 3 sets or more no search and no trial of n candidates is spent.
     ensures enough_sets { IsNeverSpentBySets (D.held desk.old) (texts words.now) result }
 
     // A command with a number of sets is spent exactly where more sets count.

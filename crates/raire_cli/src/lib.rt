@@ -3,7 +3,6 @@
 
 mod call;
 mod commands;
-pub mod laws;
 
 pub use call::run;
 pub use command_line::is_line;

@@ -31,7 +31,8 @@ pub(crate) fn first_tie(
     })
 }
 
-/// The answer where the budget of nodes is spent at this candidate, which tells the order that was best so far, and its hardness.
+/// The answer where the budget of nodes is spent at this candidate, which tells an order that elects another candidate than the winner, no
+/// harder than the one that a search starts with, and its hardness.
 pub(crate) fn spent(
     alloc: Global,
     names: &[Name],

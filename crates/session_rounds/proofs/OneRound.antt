@@ -1,5 +1,5 @@
 -- A round refuses a file, or comes to one end.
-use Rattle.std.proofs.Common.{ℕ, Bool, true, false, nat_le, if◌then◌else◌, List, Contains, Option, None, Some, IfSome, ok_or, Result, Ok, Err, sym, ap, subst, ◌∙◌}
+use Rattle.std.proofs.Common.{ℕ, Bool, true, false, nat_le, List, Contains, Option, None, Some, IfSome, ok_or, Result, Ok, Err, sym, ap, subst, ◌∙◌, if◌then◌else◌}
 use Rattle.sha2.specs.Sha256.{sha256}
 use Rattle.irv_base.specs.Names.{Id, is_same}
 use Rattle.ballot_reader.specs.Ballots.{BallotFile}
@@ -15,6 +15,7 @@ use Rattle.session_file.specs.Text.{session_text}
 use Rattle.audit_session.specs.Refusals.{last_draws}
 use Rattle.audit_session.specs.declared.fault.AdvanceFault.{AdvanceFault}
 use Rattle.audit_session.specs.declared.fault.AdvanceFault.TheVariants.{Smaller, NoRecord, Changed, Memory}
+use Rattle.cli_base.specs.Confirmed.{confirmed_kind}
 use Rattle.cli_base.specs.Outcome.{Verdict, Answered, Refused, outcome}
 use Rattle.cli_base.specs.Script.{Agree, AreOfKind, IsOfKind, Same}
 use Rattle.cli_base.specs.declared.outcome.AnswerKind.{AnswerKind}
@@ -91,7 +92,7 @@ module _ (name seen : List ℕ) (draws : ℕ) where
   module _ (kinds : List AnswerKind) (done : Contains kinds Done) (unconfirmed : Contains kinds Unconfirmed) where
     session_answer-kind : (session : Content) → IsOfKind kinds (session_answer session)
     session_answer-kind session = by (is_signed_off session.session) where
-      by : (b : Bool) → IsOfKind kinds (Answered (if b then Done else Unconfirmed) (session_text session))
+      by : (b : Bool) → IsOfKind kinds (Answered (confirmed_kind b) (session_text session))
       by true = done
       by false = unconfirmed
 

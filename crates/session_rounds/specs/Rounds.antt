@@ -15,10 +15,10 @@ use Rattle.audit_session.specs.Going.{all_seen, drawn_at, drawn_cards, next_sess
 use Rattle.audit_session.specs.Refusals.{last_draws, without_record, changed_from}
 use Rattle.session_file.specs.Reading.{session_of}
 use Rattle.session_file.specs.Text.{session_text}
+use Rattle.cli_base.specs.Confirmed.{confirmed_kind}
 use Rattle.cli_base.specs.Outcome.{Verdict, Answered, Refused}
 use Rattle.cli_base.specs.Script.{Script, Read, Ends}
 use Rattle.cli_base.specs.declared.outcome.AnswerKind.{AnswerKind}
-use Rattle.cli_base.specs.declared.outcome.AnswerKind.TheVariants.{Done, Unconfirmed}
 use Rattle.input_files.specs.Cards.{cards_for}
 use Rattle.input_files.specs.Judged.{told, then_judged, unless, go_on}
 use Rattle.input_files.specs.Refusals.{refused_ballots, refused_seen}
@@ -86,7 +86,7 @@ changed session values compared draws =
 
 -- 0 where it is signed off
 abbrev pub kind_of : Session → AnswerKind
-kind_of session = if is_signed_off session then Done else Unconfirmed
+kind_of session = confirmed_kind (is_signed_off session)
 
 -- the new session, and whether it is signed off
 abbrev pub session_answer : Content → Verdict

@@ -12,7 +12,7 @@ ghost use Rattle.session_rounds.specs.Rounds.{GoesOn, MayGoOn, next_session, ses
 
 use crate::texts::{changed_text, had_text};
 use audit_session::{AdvanceFault, Claims, advance_by};
-use cli_base::{Answer, AnswerKind, Refusal};
+use cli_base::{Answer, Refusal, confirmed_kind};
 use command::FileName;
 use desk::Desk;
 use input_files::{Cards, bytes_of, no_record_text, refuse_for, seen_in};
@@ -58,8 +58,8 @@ fn refuse_round(alloc: Global, task: &RoundTask, fault: &AdvanceFault) -> Refusa
     }
 }
 
-/// The session with the next round, by what is recorded of the cards and what is seen of them.
-pub fn next_session<T: Claims>(
+// The session with the next round, by what is recorded of the cards and what is seen of them.
+fn next_session<T: Claims>(
     alloc: Global,
     task: &RoundTask,
     session: Session,
@@ -80,17 +80,12 @@ pub fn next_session<T: Claims>(
     }
 }
 
-/// The answer that gives a session, and tells whether it is signed off.
-pub fn session_answer(alloc: Global, session: &Session) -> Result<Answer, Refusal>
+// The answer that gives a session, and tells whether it is signed off.
+fn session_answer(alloc: Global, session: &Session) -> Result<Answer, Refusal>
     ensures { IsOneOrMemory (λ verdict. verdict ≡ session_answer session.now) (due result) }
 {
-    let kind = if signed_off(session) {
-        AnswerKind::Done
-    } else {
-        AnswerKind::Unconfirmed
-    };
     Ok(Answer {
-        kind,
+        kind: confirmed_kind(signed_off(session)),
         text: print_session(alloc, session)?,
     })
 }

@@ -1,11 +1,13 @@
 -- The tables of two shares, added.
-use Rattle.std.proofs.Common.{◌≡◌, ℕ, zero, suc, ◌+◌, ◌*◌, ◌/◌, ◌%◌, ◌^◌, ◌<◌, ◌≤◌, Bool, true, false, cond, List, ◌∷◌, ◌++◌, length, map, take, get_or, sum_by, count_by, Result, Vec, Global, IfOk, refl, sym, ap, ap₂, subst, arith, length-append, ◌∙◌}
+use Rattle.std.proofs.Common.{◌≡◌, ℕ, zero, suc, ◌+◌, ◌*◌, ◌/◌, ◌%◌, ◌^◌, ◌<◌, ◌≤◌, Bool, true, false, cond, List, ◌∷◌, ◌++◌, length, map, take, get_or, sum_by, count_by, drop, Some, Result, Vec, Global, IfOk, refl, sym, ap, ap₂, subst, arith, length-append, ◌∙◌}
 use Rattle.std.specs.Fork.{slice_chunk}
+use Rattle.std.specs.List.{slice_get}
 use Rattle.std.proofs.Math.Nat.{add-mul, zero-mul}
 use Rattle.std.proofs.Math.Seq.{get_or-append_seam}
-use Rattle.std.proofs.lemmas.List.{take_all, take-take, drop-take, take-append-drop}
+use Rattle.std.proofs.lemmas.List.{take_all, take-take, drop-take, take-append-drop, get_or-drop, length-drop}
+use Rattle.std.proofs.lemmas.Option.{get_or_from_slice_get, slice_get_within}
 use Rattle.std.proofs.lemmas.List.FromFn.{get_or-map-range_with_len, length-map-range_with_len}
-use Rattle.std.proofs.lemmas.List.Sums.{count_by-le-length, sum_by-append}
+use Rattle.std.proofs.lemmas.List.Sums.{count_by-le-length, sum_by-append, sum_by_more}
 use Rattle.irv_base.specs.Candidates.{candidates}
 use Rattle.irv_base.specs.declared.memory.Memory.{Memory}
 use Rattle.set_tallies.specs.Bags.{misses}
@@ -68,6 +70,18 @@ module _ (n : ℕ) (xs ys : List (List ℕ)) (a b : List ℕ) (is : IsCountOf n 
         (ap (λ k. sum_by (at s its_own) (candidates k)) (sym (column-long n n b c)) ∙ its.says s c l)
         ∙ sym (sum_by-append (λ r. cond (has_missed s c r) 1 0) xs ys);
   }
+
+-- ---- a share, ballot by ballot
+
+-- one ballot more is counted
+pub counted-more : (passes : List ℕ → Bool) (rankings : List (List ℕ)) (first k : ℕ) (ranking : List ℕ) → slice_get rankings (first + k) ≡ Some ranking →
+    count_by passes (take (k + 1) (drop first rankings)) ≡ count_by passes (take k (drop first rankings)) + cond (passes ranking) 1 0
+counted-more passes rankings first k ranking there =
+    let own = drop first rankings in
+    let within : k < length own = omega (arith, slice_get_within rankings (first + k) ranking there, length-drop first rankings) in
+    let at : get_or own k ranking ≡ ranking =
+    get_or-drop first rankings k ranking ∙ get_or_from_slice_get rankings (first + k) ranking ranking there in
+    sum_by_more (λ r. cond (passes r) 1 0) own k ranking within ∙ ap (λ r. count_by passes (take k own) + cond (passes r) 1 0) at
 
 -- ---- the shares in turn
 pub none-counted : (n size : ℕ) (rankings : List (List ℕ)) (table : List ℕ) → length table ≡ n * 2 ^ n →

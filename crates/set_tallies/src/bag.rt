@@ -10,7 +10,7 @@ use crate::cost::rows_in_time;
 use crate::count::{all_joined, missing, noted};
 use crate::entry::Entry;
 use crate::sums::{MOST_SUMMED, Sums};
-use irv_base::{Candidate, Memory, Ranking};
+use irv_base::{Candidate, Memory, Rankings};
 use std::alloc::Global;
 use std::marker::Model;
 use std::thread::Threads;
@@ -65,7 +65,7 @@ impl Model for Bag {
 fn few_entries(
     alloc: Global,
     n: u32,
-    rankings: &[Ranking],
+    rankings: &Rankings,
 ) -> Result<Option<Vec<Vec<Entry>>>, Memory>
     requires room { n ≤ ROOM }
     requires most { length rankings.now ≤ MOST_RECORDS }
@@ -90,7 +90,7 @@ fn few_entries(
 fn votes_of<R: AllocGlobal + Threads + Sync>(
     rt: &R,
     n: u32,
-    rankings: &[Ranking],
+    rankings: &Rankings,
     workers: u32,
 ) -> Result<Votes, Memory>
     requires fewest { FEWEST_CANDIDATES ≤ n }
@@ -116,7 +116,7 @@ impl Bag {
     pub fn of<R: AllocGlobal + Threads + Sync>(
         rt: &R,
         n: u32,
-        rankings: &[Ranking],
+        rankings: &Rankings,
         workers: u32,
     ) -> Result<Bag, Memory>
         requires fewest { FEWEST_CANDIDATES ≤ n }

@@ -1,11 +1,12 @@
 // Counting the ballots by the candidates who stand before another.
-ghost use Rattle.std.specs.Prelude.{◌≡◌, ◌≤◌, ◌<◌, [], All, length, map, replicate, IfOk, OnOk};
+ghost use Rattle.std.specs.Prelude.{◌≡◌, ◌≤◌, ◌<◌, [], All, IsTrue, length, map, replicate, IfOk, OnOk};
+ghost use Rattle.irv_base.specs.Candidates.{is_distinct};
 ghost use Rattle.irv_base.specs.declared.limits.TheConstants.{ROOM, MOST_RECORDS};
 ghost use Rattle.set_tallies.specs.Bags.{missing, total};
 ghost use Rattle.set_tallies.specs.Befores.{AllCounted, AllSayTheSame, HasNoted, HasOneMore, SayTheSame};
 
 use crate::entry::Entry;
-use irv_base::{MOST_RECORDS, Memory, Ranking};
+use irv_base::{Candidate, MOST_RECORDS, Memory, Rankings};
 use std::alloc::Global;
 
 // Of each candidate two to this power entries are at hand.
@@ -49,15 +50,16 @@ fn put(entries: &mut Vec<Entry>, before: u32) -> Result<(), Memory>
 }
 
 // Notes for each candidate of the ranking who stands before it.
-fn note(lists: &mut [Vec<Entry>], n: u32, ranking: &Ranking) -> Result<(), Memory>
+fn note(lists: &mut [Vec<Entry>], n: u32, ranking: &[Candidate]) -> Result<(), Memory>
     requires each { length lists.old ≡ n }
     requires room { n ≤ ROOM }
     requires below { All (λ c. c < n) ranking.now }
+    requires distinct { IsTrue (is_distinct ranking.now) }
     ensures { IfOk result (λ _. HasNoted n ranking.now
         (map (λ v. v.items) lists.old) (map (λ v. v.items) lists.new)) }
 {
     let mut seen = 0u32;
-    for d in ranking.candidates() {
+    for d in ranking {
         put(&mut lists[d.index()], seen)?;
         seen |= 1 << d.index();
     }
@@ -111,7 +113,7 @@ pub fn all_joined(alloc: Global, noted: Vec<Vec<Entry>>) -> Result<Vec<Vec<Entry
 }
 
 /// The entries of each of `n` candidates in these rankings, for each set of those who stand before the candidate one or more.
-pub fn noted(alloc: Global, n: u32, rankings: &[Ranking]) -> Result<Vec<Vec<Entry>>, Memory>
+pub fn noted(alloc: Global, n: u32, rankings: &Rankings) -> Result<Vec<Vec<Entry>>, Memory>
     requires room { n ≤ ROOM }
     requires below { All (λ ranking. All (λ c. c < n) ranking) rankings.now }
     ensures each { IfOk result (λ lists. length lists.items ≡ n) }
@@ -119,8 +121,8 @@ pub fn noted(alloc: Global, n: u32, rankings: &[Ranking]) -> Result<Vec<Vec<Entr
         AllCounted (map (λ v. v.items) lists.items) rankings.now) }
 {
     let mut noted = none(alloc, n)?;
-    for ranking in rankings {
-        note(&mut noted, n, ranking)?;
+    for i in 0..rankings.len() {
+        note(&mut noted, n, rankings.at(i))?;
     }
     Ok(noted)
 }

@@ -6,7 +6,7 @@ ghost use Rattle.set_tallies.specs.Bags.{IsOf};
 use crate::ahead::Ahead;
 use crate::bag::Bag;
 use crate::tallies::Tallies;
-use irv_base::{Memory, Ranking};
+use irv_base::{Memory, Rankings};
 use std::alloc::Global;
 use std::marker::Model;
 use std::thread::Threads;
@@ -36,7 +36,7 @@ impl Counted {
     pub fn of<R: AllocGlobal + Threads + Sync>(
         rt: &R,
         n: u32,
-        rankings: &[Ranking],
+        rankings: &Rankings,
         workers: u32,
     ) -> Result<Counted, Memory>
         requires fewest { FEWEST_CANDIDATES ≤ n }

@@ -1,12 +1,13 @@
 // Counting ballots, each worker a share of them in a table of its own.
 ghost use Rattle.std.specs.Prelude.{◌≡◌, ◌<◌, ◌≤◌, ◌*◌, All, IfOk, length};
+ghost use Rattle.std.specs.Fork.{slice_chunk};
 ghost use Rattle.irv_base.specs.declared.limits.TheConstants.{MOST_RECORDS};
 ghost use Rattle.set_tallies.specs.Shares.{AreShares};
 ghost use Rattle.set_tallies.specs.Sums.{IsCountOf};
 ghost use Rattle.set_tallies.specs.declared.sums.TheConstants.{MOST_SUMMED};
 
 use crate::table::{add_table, count, zeros};
-use irv_base::{Memory, Ranking};
+use irv_base::{Memory, Rankings};
 use std::alloc::Global;
 use std::thread;
 use std::thread::Threads;
@@ -28,25 +29,34 @@ fn share_size(n: u32, records: usize, workers: u32) -> usize
         .max(1 << n)
 }
 
-// The ballots with these rankings, counted by one worker.
-fn share_of(alloc: Global, n: u32, rankings: &[Ranking]) -> Result<Vec<u32>, Memory>
+// The share with number `i` of the ballots with these rankings, counted by one worker. Each share has `size` of them, and the last those
+// that are left.
+fn share_of(
+    alloc: Global,
+    n: u32,
+    rankings: &Rankings,
+    size: usize,
+    i: usize,
+) -> Result<Vec<u32>, Memory>
     requires few { n ≤ MOST_SUMMED }
     requires most { length rankings.now ≤ MOST_RECORDS }
     requires below { All (λ ranking. All (λ c. c < n) ranking) rankings.now }
-    ensures { IfOk result (λ table. IsCountOf n rankings.now table.items) }
+    requires within { i * size ≤ length rankings.now }
+    ensures { IfOk result (λ table. IsCountOf n (slice_chunk rankings.now size i) table.items) }
 {
     let mut table = zeros(alloc, n)?;
-    for ranking in rankings {
-        count(&mut table, n, ranking);
+    let first = i * size;
+    for k in 0..size.min(rankings.len() - first) {
+        count(&mut table, n, rankings.at(first + k));
     }
     Ok(table)
 }
 
-// The shares of all workers, each with `size` of the rankings and the last with those that are left.
+// The shares of all workers.
 fn shares<R: AllocGlobal + Threads + Sync>(
     rt: &R,
     n: u32,
-    rankings: &[Ranking],
+    rankings: &Rankings,
     size: usize,
 ) -> Result<Vec<Result<Vec<u32>, Memory>>, Memory>
     requires few { n ≤ MOST_SUMMED }
@@ -56,16 +66,17 @@ fn shares<R: AllocGlobal + Threads + Sync>(
     ensures { IfOk result (λ shares. AreShares n size rankings.now shares.items) }
 {
     let alloc = rt.alloc();
-    let shares = thread::map_chunks(
+    let shares = thread::map_indices(
         rt,
         alloc,
-        rankings,
-        size,
-        &|_start, part: &[Ranking]| -> Result<Vec<u32>, Memory>
-            requires { (n ≤ MOST_SUMMED) × (length part.now ≤ MOST_RECORDS)
-                × All (λ ranking. All (λ c. c < n) ranking) part.now }
-            ensures { IfOk result (λ table. IsCountOf n part.entry.now table.items) }
-        { share_of(alloc, n, part) },
+        rankings.len().div_ceil(size),
+        &|i: usize| -> Result<Vec<u32>, Memory>
+            requires { (n ≤ MOST_SUMMED) × (length rankings.now ≤ MOST_RECORDS)
+                × All (λ ranking. All (λ c. c < n) ranking) rankings.now
+                × (i * size ≤ length rankings.now) }
+            ensures { IfOk result (λ table.
+                IsCountOf n (slice_chunk rankings.entry.now size i) table.items) }
+        { share_of(alloc, n, rankings, size, i) },
     )?;
     Ok(shares)
 }
@@ -74,7 +85,7 @@ fn shares<R: AllocGlobal + Threads + Sync>(
 pub fn counted<R: AllocGlobal + Threads + Sync>(
     rt: &R,
     n: u32,
-    rankings: &[Ranking],
+    rankings: &Rankings,
     workers: u32,
 ) -> Result<Vec<u32>, Memory>
     requires few { n ≤ MOST_SUMMED }
@@ -86,7 +97,7 @@ pub fn counted<R: AllocGlobal + Threads + Sync>(
     let alloc = rt.alloc();
     let size = share_size(n, rankings.len(), workers);
     if rankings.len() <= size {
-        return share_of(alloc, n, rankings);
+        return share_of(alloc, n, rankings, size, 0);
     }
     let shares = shares(rt, n, rankings, size)?;
     let mut table = zeros(alloc, n)?;

@@ -9,7 +9,7 @@ ghost use Rattle.set_tallies.specs.Sums.{IsSummed, column, apart, sums_of, sum_a
 use crate::entry::Entry;
 use crate::shares::counted;
 use crate::table::{place, table_of};
-use irv_base::{Candidate, Memory, Ranking};
+use irv_base::{Candidate, Memory, Rankings};
 use std::alloc::Global;
 use std::thread::Threads;
 
@@ -67,7 +67,7 @@ impl Sums {
     pub fn of<R: AllocGlobal + Threads + Sync>(
         rt: &R,
         n: u32,
-        rankings: &[Ranking],
+        rankings: &Rankings,
         workers: u32,
     ) -> Result<Sums, Memory>
         requires some { 1 ≤ n }

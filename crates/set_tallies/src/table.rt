@@ -1,6 +1,6 @@
 // A table with a number for each set of candidates and each candidate: how many ballots have just that set before the candidate.
-ghost use Rattle.std.specs.Prelude.{◌≡◌, ℕ, ◌<◌, ◌≤◌, ◌+◌, ◌*◌, ◌^◌, ◌==◌, ◌&&◌, [], All, IfOk, length, slice_index, get_or, map, if◌then◌else◌};
-ghost use Rattle.irv_base.specs.Candidates.{candidates};
+ghost use Rattle.std.specs.Prelude.{◌≡◌, ℕ, ◌<◌, ◌≤◌, ◌+◌, ◌*◌, ◌^◌, ◌==◌, ◌&&◌, [], All, IfOk, IsTrue, length, slice_index, get_or, map, if◌then◌else◌};
+ghost use Rattle.irv_base.specs.Candidates.{candidates, is_distinct};
 ghost use Rattle.irv_base.specs.declared.limits.TheConstants.{MOST_RECORDS};
 ghost use Rattle.set_tallies.specs.Bags.{AreEntries, misses, missing, total};
 ghost use Rattle.set_tallies.specs.Befores.{has_missed};
@@ -8,7 +8,7 @@ ghost use Rattle.set_tallies.specs.Sums.{column, apart};
 ghost use Rattle.set_tallies.specs.declared.sums.TheConstants.{MOST_SUMMED};
 
 use crate::entry::Entry;
-use irv_base::{Candidate, Memory, Ranking};
+use irv_base::{Candidate, Memory};
 use std::alloc::Global;
 
 /// A table of zeros.
@@ -43,18 +43,19 @@ pub fn add(table: &mut [u32], n: u32, set: u32, c: Candidate, count: u32)
     table[place(n, set, c)] += count;
 }
 
-/// Counts a ballot.
-pub fn count(table: &mut [u32], n: u32, ranking: &Ranking)
+/// Counts a ballot with this ranking.
+pub fn count(table: &mut [u32], n: u32, ranking: &[Candidate])
     requires few { n ≤ MOST_SUMMED }
     requires long { length table.old ≡ n * 2 ^ n }
     requires below { All (λ c. c < n) ranking.now }
+    requires distinct { IsTrue (is_distinct ranking.now) }
     requires fit { (c : ℕ) → c < n → apart 0 (column n n table.old c) < MOST_RECORDS }
     ensures long { length table.new ≡ n * 2 ^ n }
     ensures more { (s c : ℕ) → c < n → apart s (column n n table.new c)
         ≡ apart s (column n n table.old c) + (if has_missed s c ranking.now then 1 else 0) }
 {
     let mut seen = 0u32;
-    for d in ranking.candidates() {
+    for d in ranking {
         add(table, n, seen, *d, 1);
         seen |= 1 << d.index();
     }

@@ -4,7 +4,7 @@ ghost use Rattle.irv_base.specs.declared.limits.TheConstants.{ROOM};
 ghost use Rattle.trial.specs.Records.{next, drawn, after, places_of, ballot, trial_records};
 
 use crate::draws::Draws;
-use irv_base::{Candidate, Memory, Ranking};
+use irv_base::{Candidate, Memory, Ranking, Rankings};
 use std::alloc::Global;
 
 // The smaller of two candidates that are drawn.
@@ -34,23 +34,19 @@ fn drawn_ballot(draws: &mut Draws, n: u32) -> Ranking
 }
 
 /// The records of the trial with this number: so many ballots over `n` candidates, as the generator draws them.
-pub fn trial_records(
-    alloc: Global,
-    number: u32,
-    n: u32,
-    ballots: u32,
-) -> Result<Vec<Ranking>, Memory>
+pub fn trial_records(alloc: Global, number: u32, n: u32, ballots: u32) -> Result<Rankings, Memory>
     requires some { 0 < n }
     requires room { n ≤ ROOM }
-    ensures records { IfOk result (λ records. records.items ≡ trial_records number n ballots) }
-    ensures number { IfOk result (λ records. length records.items ≡ ballots) }
+    ensures records { IfOk result (λ records. records ≡ trial_records number n ballots) }
+    ensures number { IfOk result (λ records. length records ≡ ballots) }
     ensures below { IfOk result (λ records.
-        All (λ ranking. All (λ c. c < n) ranking) records.items) }
+        All (λ ranking. All (λ c. c < n) ranking) records) }
 {
     let mut draws = Draws::new(number);
-    let mut records = Vec::with_capacity(alloc, ballots as usize)?;
+    let places = (ballots as usize).saturating_mul(n as usize);
+    let mut records = Rankings::nothing(alloc, ballots as usize, places)?;
     for _ in 0..ballots {
-        records.push(drawn_ballot(&mut draws, n))?;
+        records.push(&drawn_ballot(&mut draws, n))?;
     }
     Ok(records)
 }

@@ -18,5 +18,5 @@ fn draws_four_numbers(rt: HostRuntime) {
 fn draws_one_ballot(rt: HostRuntime) {
     let records = trial_records(rt.alloc(), 0, 2, 1).expect(&rt, "records");
     assert!(rt; records.len() == 1);
-    assert!(rt; records[0].candidates() == [Candidate(0)].as_slice());
+    assert!(rt; records.at(0) == [Candidate(0)].as_slice());
 }

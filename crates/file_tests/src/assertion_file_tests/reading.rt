@@ -1,7 +1,7 @@
 // The files of three candidates that are read, and those that are refused.
 use super::THREE_CANDIDATES;
 use crate::texts::altered;
-use assertion_file::{FRule, FileFault, read_file};
+use assertion_file::{FRule, FileFault, print_file, read_file};
 use std::alloc::{AllocError, Global};
 use std::test::Fail;
 
@@ -28,6 +28,29 @@ fn three_candidates(rt: HostRuntime) -> Result<(), Fail> {
         assert!(rt; file.candidates().len() == 3 && file.records() == 12 && file.winner().0 == 1);
         assert!(rt; file.margin() == 1 && file.order().at(0).0 == 1 && file.claims().len() == 3);
     }
+    Ok(())
+}
+
+// Whether the file with another text in place of `old` is read, and printed as the file of three candidates.
+fn says_the_same(alloc: Global, old: &str, new: &str) -> Result<bool, AllocError> {
+    let text = altered(alloc, THREE_CANDIDATES, old, new)?;
+    let Ok(file) = read_file(alloc, text.as_bytes()) else {
+        return Ok(false);
+    };
+    match print_file(alloc, &file) {
+        Ok(printed) => Ok(printed.as_slice() == THREE_CANDIDATES.as_bytes()),
+        Err(_memory) => Ok(false),
+    }
+}
+
+#[test]
+fn other_layouts(rt: HostRuntime) -> Result<(), Fail> {
+    let alloc = rt.alloc();
+    assert!(rt; says_the_same(alloc, "}\n", "}\n")?);
+    assert!(rt; says_the_same(alloc, "}\n", "}")?);
+    assert!(rt; says_the_same(alloc, ",\"loser\"", ", \"loser\"")?);
+    assert!(rt; says_the_same(alloc, "[\"1\",\"3\"],", "[\"3\",\"1\"],")?);
+    assert!(rt; says_the_same(alloc, "\"kind\":\"NEB\",", "\"kind\":\"NEB\",\"draws\":0,")?);
     Ok(())
 }
 

@@ -1,6 +1,6 @@
 // Tests of files whose contests are all read.
 use ballot_reader::{BRule, BallotFault, Ballots, Ids, read_ballots, read_contests};
-use irv_base::{Candidate, Name};
+use irv_base::{Candidate, Name, Rankings};
 
 const TWO: &[u8] =
     b"2\nContest,7,2,A,B\nContest,8,3,A,C,D\n7,b_1,A\n8,b_1,D,,C,D\n7,b_2,B,A\n8,b_3\n";
@@ -19,17 +19,21 @@ fn reads_each_contest(rt: HostRuntime) {
     assert!(rt; first.ids().len() == 2);
     assert!(rt; first.ids().at(1) == b"b_2".as_slice());
     assert!(rt; first.places() == [4, 6].as_slice());
-    assert!(rt; first.rankings()[1].candidates() == [Candidate(1), Candidate(0)].as_slice());
+    assert!(rt; first.rankings().at(1) == [Candidate(1), Candidate(0)].as_slice());
     assert!(rt; last.contest().bytes() == b"8".as_slice());
     let candidates = last.candidates();
     assert!(rt; candidates.len() == 3);
     assert!(rt; candidates[2].bytes() == b"D".as_slice());
     assert!(rt; last.places() == [5, 7].as_slice());
-    assert!(rt; last.rankings()[0].candidates() == [Candidate(2), Candidate(1)].as_slice());
-    assert!(rt; last.rankings()[1].candidates().is_empty());
+    assert!(rt; last.rankings().at(0) == [Candidate(2), Candidate(1)].as_slice());
+    assert!(rt; last.rankings().at(1).is_empty());
 }
 
 fn same_ids(a: &Ids, b: &Ids) -> bool {
+    a.len() == b.len() && (0..a.len()).all(|i| a.at(i) == b.at(i))
+}
+
+fn same_rankings(a: &Rankings, b: &Rankings) -> bool {
     a.len() == b.len() && (0..a.len()).all(|i| a.at(i) == b.at(i))
 }
 
@@ -38,7 +42,7 @@ fn same(a: &Ballots, b: &Ballots) -> bool {
         && a.candidates() == b.candidates()
         && same_ids(a.ids(), b.ids())
         && a.places() == b.places()
-        && a.rankings() == b.rankings()
+        && same_rankings(a.rankings(), b.rankings())
 }
 
 fn is_read_by_id(rt: &HostRuntime, file: &[u8], id: &[u8], ballots: &Ballots) -> bool {

@@ -1,4 +1,4 @@
-use Rattle.std.proofs.Common.{◌≡◌, ◌∙◌, Ok, All, length, map, sym, ap, subst, arith}
+use Rattle.std.proofs.Common.{◌∙◌, Ok, All, length, map, sym, ap, subst, arith}
 use Rattle.std.specs.Prelude.{is_some, option_map, IfSome}
 use Rattle.std.proofs.lemmas.Result.{err_from_is_err_and}
 use Rattle.serde_json.specs.View.{view}
@@ -8,7 +8,6 @@ use Rattle.assertion_file.specs.Content.{IsSoundClaim, IsSoundPlan}
 use Rattle.assertion_file.specs.Faults.{Refuses}
 use Rattle.assertion_file.specs.Reading.{claim_in, content_of, content_with, plan_with, ◌>>=◌}
 use Rattle.assertion_file.specs.Views.{stated_heading}
-use Rattle.assertion_file.specs.declared.claims.Planned.{Planned}
 use Rattle.assertion_file.proofs.Headings.{content-none, content-kept, content-is, refused_heading, refused_claims, sound}
 use Rattle.assertion_file.proofs.SoundClaims.{claims-sound}
 use Rattle.assertion_file.proofs.SoundFiles.{sound-claims, plan-sound}

@@ -1,5 +1,6 @@
 use Rattle.std.proofs.Common.{◌∙◌, Some, length, get_or, refl, sym, ap, subst, arith}
 use Rattle.std.proofs.lemmas.Option.{slice_get_read}
+use Rattle.std.proofs.lemmas.Result.{IfOk-weaker}
 use Rattle.ballot_reader.specs.Grammar.{Contest, file_of}
 use Rattle.ballot_reader.specs.Kept.{IsKept, part_of}
 use Rattle.ballot_reader.specs.declared.wanted.Wanted.TheVariants.{One}
@@ -51,7 +52,7 @@ ballots_with-requires-clause-ballots c =
     rw (own.noted, own.parted) (are_ballots contests (One audited) ballots _ audited contest kept there)
 
 pub returns : goal.returns
-returns c = λ chosen ballots at before.
+returns c = IfOk-weaker c.ballots_with.result _ _ (λ file is chosen ballots at before.
     let contests = c.args.contests.items in
     let audited = c.args.audited in
     let kept = subst (IsKept contests (One audited) ballots) (sym c.kept.view_is) before in
@@ -59,5 +60,5 @@ returns c = λ chosen ballots at before.
     let there = slice_get_read contests (length contests) audited contest refl c.requires.within c.swap_remove-contest.ensures.value in
     let own = own_taken contests audited ballots _ contest c.swap_remove-ids.result c.in-Some.part kept there c.swap_remove-ids.ensures.value
     (sym c.in-Some.is ∙ c.swap_remove.ensures.value ∙ ap (get_or c.kept.inside.parts.items audited) c.in-Some.is) in
-    c.ballots_with.ensures ∙ file-is contest ballots contest c.swap_remove-ids.result c.in-Some.part refl own.noted own.parted
-    ∙ ap (λ (x : Contest). file_of x ballots) (same_at contests audited contest chosen there at)
+    is ∙ file-is contest ballots contest c.swap_remove-ids.result c.in-Some.part refl own.noted own.parted
+    ∙ ap (λ (x : Contest). file_of x ballots) (same_at contests audited contest chosen there at)) c.ballots_with.ensures

@@ -34,7 +34,7 @@ pub loop-contest-preserved : goal.loop-contest-preserved
 loop-contest-preserved c = λ ballots before.
     let part = rw c.in-Some-Some.field-0-is at c.in-Some-Some.ensures.items in
     all_taken c.args.contests.items ballots c.in-Some.contest _ _ _ _ _ (c.loop-contest.invariant ballots before) c.in-Some.ensures.steps.0 c.in-Some-next.ids _
-    c.in-Some-Some.part _ c.in-Some-next.ensures.items part c.ballots_with.result _ c.in_ok-push.ensures.items c.ballots_with.ensures
+    c.in-Some-Some.part _ c.in-Some-next.ensures.items part c.in_ok-ballots_with.field-0 _ c.in_ok-push.ensures.items c.in_ok-ballots_with.ensures
 
 pub returns : goal.returns
 returns c = λ ballots before.

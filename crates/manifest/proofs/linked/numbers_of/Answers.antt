@@ -13,7 +13,7 @@ returns-in_default-clause-no_card c =
     let m = c.args.m.now in
     let file = c.args.b.now in
     let i = c.loop-i.i in
-    let below : i < length file.ids = omega (arith, c.loop-i-test.true, ap length c.rankings-i-end.ensures.same, c.ids-ids.ensures.one_each) in
+    let below : i < length file.ids = omega (arith, c.loop-i-test.true, c.len-i-end.ensures, ap length c.rankings.ensures.same, c.ids-ids.ensures.one_each) in
     let id = get_or_from_slice_get file.ids i c.at-id.result.now [] (ap (λ ids. slice_get ids i) (sym c.ids-ids.ensures.same) ∙ c.at-id.ensures) in
     let at = ap (λ places. get_or places i 0) (sym c.places-places.ensures.same) in
     lacks_card m file i (get_or c.places-places.result.now i 0) c.at-id.result.now c.loop-i.numbers.items below id at
@@ -21,7 +21,7 @@ returns-in_default-clause-no_card c =
 
 pub at-id-requires : goal.at-id-requires
 at-id-requires c =
-    omega (arith, c.loop-i-test.true, ap length c.rankings-i-end.ensures.same, c.ids-ids.ensures.one_each, ap length c.ids-ids.ensures.same)
+    omega (arith, c.loop-i-test.true, c.len-i-end.ensures, ap length c.rankings.ensures.same, c.ids-ids.ensures.one_each, ap length c.ids-ids.ensures.same)
 
 pub index_mut-requires : goal.index_mut-requires
 index_mut-requires c =
@@ -34,7 +34,7 @@ loop-i-preserved c =
     let m = c.args.m.now in
     let file = c.args.b.now in
     let i = c.loop-i.i in
-    let below : i < length file.ids = omega (arith, c.loop-i-test.true, ap length c.rankings-i-end.ensures.same, c.ids-ids.ensures.one_each) in
+    let below : i < length file.ids = omega (arith, c.loop-i-test.true, c.len-i-end.ensures, ap length c.rankings.ensures.same, c.ids-ids.ensures.one_each) in
     let id = get_or_from_slice_get file.ids i c.at-id.result.now [] (ap (λ ids. slice_get ids i) (sym c.ids-ids.ensures.same) ∙ c.at-id.ensures) in
     links_next m file.ids i c.in-Some.card c.at-id.result.now c.loop-i.numbers.items c.cards.ensures.batches c.ids-ids.ensures.differ below id
     (sym c.in-Some.ensures) c.loop-i.invariant
@@ -46,7 +46,8 @@ returns-clause-numbers c =
       arith,
       c.loop-i-test.false,
       c.loop-i.auto.i-end,
-      ap length c.rankings-i-end.ensures.same,
+      c.len-i-end.ensures,
+      ap length c.rankings.ensures.same,
       c.ids-ids.ensures.one_each,
     ) in
     (all_linked c.args.m.now file c.loop-i.i c.loop-i.numbers.items all c.loop-i.invariant).0
@@ -58,7 +59,8 @@ returns-clause-placed c =
       arith,
       c.loop-i-test.false,
       c.loop-i.auto.i-end,
-      ap length c.rankings-i-end.ensures.same,
+      c.len-i-end.ensures,
+      ap length c.rankings.ensures.same,
       c.ids-ids.ensures.one_each,
     ) in
     (all_linked c.args.m.now file c.loop-i.i c.loop-i.numbers.items all c.loop-i.invariant).1
@@ -70,7 +72,8 @@ returns-clause-kept c =
       arith,
       c.loop-i-test.false,
       c.loop-i.auto.i-end,
-      ap length c.rankings-i-end.ensures.same,
+      c.len-i-end.ensures,
+      ap length c.rankings.ensures.same,
       c.ids-ids.ensures.one_each,
     ) in
     kept c.args.m.now file c.loop-i.numbers.items c.ids-ids.ensures.one_each (omega (arith, c.cards.ensures.all, c.cards.ensures.most))

@@ -1,4 +1,4 @@
-use Rattle.std.proofs.Common.{◌∙◌}
+use Rattle.std.proofs.Common.{◌∙◌, refl}
 use Rattle.search_commands.proofs.TrialCandidates.{named_are_candidates, below_named}
 use Rattle.search_commands.proofs.trials.answer.Goals as goal
 
@@ -9,5 +9,5 @@ new-contest-requires-clause-candidates g c =
 
 pub new-contest-requires-clause-below : goal.new-contest-requires-clause-below
 new-contest-requires-clause-below g c =
-    below_named c.args.task.now.candidates c.deref.result.now c.in_ok-records.records.items c.deref-2.result.now
-    (c.deref.ensures.value ∙ c.in_ok-names.ensures) c.deref-2.ensures.value c.in_ok-records.ensures.below
+    below_named c.args.task.now.candidates c.deref.result.now c.in_ok-records.records c.in_ok-records.records
+    (c.deref.ensures.value ∙ c.in_ok-names.ensures) refl c.in_ok-records.ensures.below

@@ -13,14 +13,14 @@ use Rattle.set_tallies.proofs.count.note.Goals as goal
 pub loop-d-preserved : goal.loop-d-preserved
 loop-d-preserved c =
     let lists = c.loop-d.lists in
-    let items = c.candidates-d-items.result.now in
+    let items = c.args.ranking.now in
     let n = c.args.n in
     let d = c.d-item.result in
     let seen = c.loop-d.seen in
     let rest = drop (c.loop-d.d-index + 1) items in
     let here : drop c.loop-d.d-index items ≡ d ∷ rest = drop_more items c.loop-d.d-index d c.loop-d-test.true ∙ ap (λ x. x ∷ rest) (sym c.d-item.is) in
     let own : d < n = subst (λ x. x < n) (sym c.d-item.is)
-    (subst (λ r. All (λ c. c < n) r) (sym c.candidates-d-items.ensures.same) c.requires.below c.loop-d.d-index d c.loop-d-test.true) in
+    (c.requires.below c.loop-d.d-index d c.loop-d-test.true) in
     let bit : 1 * 2 ^ c.index-in-loop-d.result % 2 ^ 32 ≡ 2 ^ d = ap (λ k. 1 * 2 ^ k % 2 ^ 32) c.index-in-loop-d.ensures.same ∙ one_bit d (omega (arith, own, c.requires.room)) in
     let distinct : IsTrue (is_distinct (d ∷ rest)) = subst (λ xs. IsTrue (is_distinct xs)) here c.loop-d.invariant.distinct in
     let unseen : (e : ℕ) → is_in (d ∷ rest) e ≡ true → has seen e ≡ false =

@@ -9,8 +9,8 @@ abbrev pub invariant-loop-d : goal.invariant-loop-d
 invariant-loop-d l = record {
   each : length l.lists ≡ l.n;
   below : l.seen < 2 ^ l.n;
-  distinct : IsTrue (is_distinct (drop l.d-index l.d-items));
-  unseen : (e : ℕ) → is_in (drop l.d-index l.d-items) e ≡ true → has l.seen e ≡ false;
-  more : (s c : ℕ) → c < l.n → missing s (get_or (map (λ v. v.items) l.lists) c []) + left s l.seen (drop l.d-index l.d-items) c
+  distinct : IsTrue (is_distinct (drop l.d-index l.ranking));
+  unseen : (e : ℕ) → is_in (drop l.d-index l.ranking) e ≡ true → has l.seen e ≡ false;
+  more : (s c : ℕ) → c < l.n → missing s (get_or (map (λ v. v.items) l.lists) c []) + left s l.seen (drop l.d-index l.ranking) c
       ≡ missing s (get_or (map (λ v. v.items) l.fn.lists) c []) + (if has_missed s c l.ranking then 1 else 0);
 }

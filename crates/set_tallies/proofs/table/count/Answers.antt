@@ -21,31 +21,29 @@ pub loop-d-init : goal.loop-d-init
 loop-d-init c = record {
   long = c.requires.long;
   below = pow_pos c.args.n;
-  distinct = subst (λ r. IsTrue (is_distinct r)) (sym c.candidates-d-items.ensures.same) c.candidates-d-items.ensures.distinct;
+  distinct = c.requires.distinct;
   unseen = λ e h. nobody e;
-  more = λ s d l. ap (λ r. apart s (column c.args.n c.args.n c.args.table.now d) + left s 0 r d) c.candidates-d-items.ensures.same
-      ∙ ap (λ x. apart s (column c.args.n c.args.n c.args.table.now d) + x) (left-first s c.args.ranking.now d (nobody d));
+  more = λ s d l. ap (λ x. apart s (column c.args.n c.args.n c.args.table.now d) + x) (left-first s c.args.ranking.now d (nobody d));
 }
   where
     nobody : (e : ℕ) → has 0 e ≡ false
     nobody e = ap (λ x. x == 1) (bit_at-zero e)
 
-inside : (n : ℕ) (items ranking : List ℕ) (i d : ℕ) → items ≡ ranking → All (λ c. c < n) ranking → i < length items → d ≡ get_or items i d → d < n
-inside n items ranking i d same below l at = subst (λ x. x < n) (sym at) (subst (λ r. All (λ c. c < n) r) (sym same) below i d l)
+inside : (n : ℕ) (ranking : List ℕ) (i d : ℕ) → All (λ c. c < n) ranking → i < length ranking → d ≡ get_or ranking i d → d < n
+inside n ranking i d below l at = subst (λ x. x < n) (sym at) (below i d l)
 
 pub add-requires-clause-candidate : goal.add-requires-clause-candidate
 add-requires-clause-candidate c =
-    inside c.args.n c.candidates-d-items.result.now c.args.ranking.now c.loop-d.d-index c.d-item.result c.candidates-d-items.ensures.same c.requires.below
-    c.loop-d-test.true c.d-item.is
+    inside c.args.n c.args.ranking.now c.loop-d.d-index c.d-item.result c.requires.below c.loop-d-test.true c.d-item.is
 
 pub add-requires-clause-fit : goal.add-requires-clause-fit
 add-requires-clause-fit c =
-    let items = c.candidates-d-items.result.now in
+    let items = c.args.ranking.now in
     let i = c.loop-d.d-index in
     let d = c.d-item.result in
     let rest = drop (i + 1) items in
     let here : drop i items ≡ d ∷ rest = drop_more items i d c.loop-d-test.true ∙ ap (λ x. x ∷ rest) (sym c.d-item.is) in
-    let own = inside c.args.n items c.args.ranking.now i d c.candidates-d-items.ensures.same c.requires.below c.loop-d-test.true c.d-item.is in
+    let own = inside c.args.n items i d c.requires.below c.loop-d-test.true c.d-item.is in
     let out : has c.loop-d.seen d ≡ false =
     unseen-first c.loop-d.seen d rest (subst (λ xs. (e : ℕ) → is_in xs e ≡ true → has c.loop-d.seen e ≡ false) here c.loop-d.invariant.unseen) in
     let next = ap (λ xs. left 0 c.loop-d.seen xs d) here ∙ left-next 0 c.loop-d.seen d rest d out in
@@ -55,14 +53,14 @@ add-requires-clause-fit c =
 
 pub loop-d-preserved : goal.loop-d-preserved
 loop-d-preserved c =
-    let items = c.candidates-d-items.result.now in
+    let items = c.args.ranking.now in
     let n = c.args.n in
     let i = c.loop-d.d-index in
     let d = c.d-item.result in
     let seen = c.loop-d.seen in
     let rest = drop (i + 1) items in
     let here : drop i items ≡ d ∷ rest = drop_more items i d c.loop-d-test.true ∙ ap (λ x. x ∷ rest) (sym c.d-item.is) in
-    let own = inside n items c.args.ranking.now i d c.candidates-d-items.ensures.same c.requires.below c.loop-d-test.true c.d-item.is in
+    let own = inside n items i d c.requires.below c.loop-d-test.true c.d-item.is in
     let bit : 1 * 2 ^ c.index.result % 2 ^ 32 ≡ 2 ^ d = ap (λ k. 1 * 2 ^ k % 2 ^ 32) c.index.ensures.same ∙ one_bit d (omega (arith, own, c.requires.few)) in
     let distinct : IsTrue (is_distinct (d ∷ rest)) = subst (λ xs. IsTrue (is_distinct xs)) here c.loop-d.invariant.distinct in
     let unseen : (e : ℕ) → is_in (d ∷ rest) e ≡ true → has seen e ≡ false =
@@ -79,6 +77,6 @@ loop-d-preserved c =
 
 pub returns-clause-more : goal.returns-clause-more
 returns-clause-more c = λ s d l.
-    let nothing = ap (λ xs. left s c.loop-d.seen xs d) (drop_all c.loop-d.d-index c.candidates-d-items.result.now (omega (arith, c.loop-d-test.false)))
+    let nothing = ap (λ xs. left s c.loop-d.seen xs d) (drop_all c.loop-d.d-index c.args.ranking.now (omega (arith, c.loop-d-test.false)))
     ∙ left-none s c.loop-d.seen d in
     omega (arith, nothing, c.loop-d.invariant.more s d l)

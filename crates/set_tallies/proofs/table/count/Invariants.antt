@@ -9,8 +9,8 @@ abbrev pub invariant-loop-d : goal.invariant-loop-d
 invariant-loop-d l = record {
   long : length l.table ≡ l.n * 2 ^ l.n;
   below : l.seen < 2 ^ l.n;
-  distinct : IsTrue (is_distinct (drop l.d-index l.d-items));
-  unseen : (e : ℕ) → is_in (drop l.d-index l.d-items) e ≡ true → has l.seen e ≡ false;
-  more : (s c : ℕ) → c < l.n → apart s (column l.n l.n l.table c) + left s l.seen (drop l.d-index l.d-items) c
+  distinct : IsTrue (is_distinct (drop l.d-index l.ranking));
+  unseen : (e : ℕ) → is_in (drop l.d-index l.ranking) e ≡ true → has l.seen e ≡ false;
+  more : (s c : ℕ) → c < l.n → apart s (column l.n l.n l.table c) + left s l.seen (drop l.d-index l.ranking) c
       ≡ apart s (column l.n l.n l.fn.table c) + (if has_missed s c l.ranking then 1 else 0);
 }

@@ -1,0 +1,153 @@
+// Claims in the layout that is printed. No clause says what is read of them: it is a guess.
+ghost use Rattle.std.specs.Prelude.{◌≡◌, ◌≤◌, length};
+ghost use Rattle.irv_base.specs.declared.limits.TheConstants.{ROOM};
+
+use crate::claims::Planned;
+use assertions::Assertion;
+use irv_base::{CandSet, Candidate, Name, candidate_named};
+
+/// Printed claims, as far as they aren't read.
+#[derive(Drop)]
+pub struct ClaimsLeft<'a> {
+    names: &'a [Name],
+    left: &'a [u8],
+    // The winner and the loser of the claim before: the next one most likely has the same, or those who follow.
+    w: Candidate,
+    l: Candidate,
+    ghost few: { length names.now ≤ ROOM },
+}
+
+// The candidate with that id, who is sought from this place on, and then from the front.
+fn candidate_from(names: &[Name], from: usize, id: &[u8]) -> Option<Candidate>
+    requires { length names.now ≤ ROOM }
+{
+    if from < names.len()
+        && let Some(c) = candidate_named(&names[from..], id)
+    {
+        return Some(Candidate(from as u8 + c.0));
+    }
+    candidate_named(names, id)
+}
+
+impl<'a> ClaimsLeft<'a> {
+    /// The claims that this text has, between candidates of these names.
+    pub fn new(names: &'a [Name], text: &'a [u8]) -> ClaimsLeft<'a>
+        requires { length names.now ≤ ROOM }
+    {
+        ClaimsLeft {
+            names,
+            left: text,
+            w: Candidate(0),
+            l: Candidate(0),
+        }
+    }
+
+    /// Whether nothing is left.
+    pub fn is_empty(&self) -> bool {
+        self.left.is_empty()
+    }
+
+    /// Passes over these bytes, if they come next.
+    pub fn pass(&mut self, bytes: &[u8]) -> Option<()> {
+        self.left = self.left.strip_prefix(bytes)?;
+        Some(())
+    }
+
+    // The number that comes next.
+    fn number(&mut self) -> Option<u32> {
+        let end = self.left.iter().position(|b| !b.is_ascii_digit())?;
+        let (digits, left) = self.left.split_at(end);
+        self.left = left;
+        let mut number: u32 = 0;
+        for digit in digits {
+            number = number.wrapping_mul(10).wrapping_add(u32::from(*digit & 15));
+        }
+        Some(number)
+    }
+
+    // The candidate whose id comes next, in quotes, and most likely stands at this place of the list or soon after.
+    fn candidate(&mut self, from: usize) -> Option<Candidate> {
+        self.pass(b"\"")?;
+        let end = self.left.iter().position(|b| *b == b'"')?;
+        let (id, left) = self.left.split_at(end);
+        self.left = left;
+        self.pass(b"\"")?;
+        candidate_from(self.names, from, id)
+    }
+
+    // The candidates whose ids come next, as a list.
+    fn set(&mut self) -> Option<CandSet> {
+        let mut set = CandSet::empty();
+        let mut from = 0;
+        self.pass(b"[")?;
+        for _ in self.names {
+            let c = self.candidate(from)?;
+            set = set.with(c);
+            from = c.index() + 1;
+            if self.pass(b"]").is_some() {
+                return Some(set);
+            }
+            self.pass(b",")?;
+        }
+        None
+    }
+
+    // The draws that come next.
+    fn draws(&mut self) -> Option<Option<u32>> {
+        self.pass(b"\"draws\":")?;
+        let draws = if self.pass(b"null").is_some() {
+            None
+        } else {
+            Some(self.number()?)
+        };
+        self.pass(b",")?;
+        Some(draws)
+    }
+
+    // Whether the claim is a NEB, or else a NEN.
+    fn is_neb(&mut self) -> Option<bool> {
+        if self.pass(b"\"kind\":\"NEB\"").is_some() {
+            return Some(true);
+        }
+        self.pass(b"\"kind\":\"NEN\"")?;
+        Some(false)
+    }
+
+    // The set of a NEN.
+    fn rest(&mut self) -> Option<CandSet> {
+        self.pass(b",\"rest\":")?;
+        self.set()
+    }
+
+    // The assertion that comes next and its margin.
+    fn assertion(&mut self) -> Option<(Assertion, u32)> {
+        let is_neb = self.is_neb()?;
+        self.pass(b",\"loser\":")?;
+        let l = self.candidate(self.l.index())?;
+        self.pass(b",\"margin\":")?;
+        let margin = self.number()?;
+        let rest = if is_neb { None } else { Some(self.rest()?) };
+        self.pass(b",\"winner\":")?;
+        let w = self.candidate(self.w.index())?;
+        self.l = l;
+        self.w = w;
+        let assertion = match rest {
+            None => Assertion::Neb { w, l },
+            Some(rest) => Assertion::Nen { w, l, rest },
+        };
+        Some((assertion, margin))
+    }
+
+    /// The claim that comes next, and the draws that are planned for it, where the file has a plan.
+    pub fn claim(&mut self, is_planned: bool) -> Option<Planned> {
+        self.pass(b"{")?;
+        let draws = if is_planned { self.draws()? } else { None };
+        let (assertion, margin) = self.assertion()?;
+        self.pass(b"}")?;
+        Some(Planned {
+            assertion,
+            margin,
+            draws,
+        })
+    }
+}

@@ -1,0 +1,74 @@
+-- Two calls with the same words, over desks that hold the same, end in the same way.
+use Rattle.std.proofs.Common.{◌≡◌, ◌≢◌, inl, inr, ℕ, Bool, true, false, List, Option, None, Some, refl, sym, ◌∙◌, ap, subst}
+use Rattle.std.proofs.lemmas.Bool.{false≢true}
+use Rattle.desk.specs.Desk.{File}
+use Rattle.cli_base.specs.Ends.{Took}
+use Rattle.cli_base.specs.Outcome.{Outcome}
+use Rattle.cli_base.specs.Script.{Script, Read, Ends, AsHeld, May, MayCome, Same, SameButBudget, reading_of}
+use Rattle.cli_base.proofs.Scripts.{determined, some_is}
+use Rattle.command_line.specs.Line.{command_of}
+use Rattle.command_line.specs.declared.commands.Command.{Command}
+use Rattle.command_line.specs.declared.commands.Command.TheVariants.{Contests}
+use Rattle.call_laws.specs.Agreement.{HoldTheSame, MayBeSpent, SameFilesSameAnswer}
+use Rattle.raire_cli.specs.Answers.{script_of, asked_by, is_open}
+use Rattle.raire_cli.specs.Contests.{AsksForContests, HaveNodes}
+use Rattle.call_laws.proofs.ContestsOnce.{contests_once}
+use Rattle.raire_cli.proofs.EachCommand.{agrees_by, agrees_exactly}
+
+-- what a script may come to, over files that hold the same
+moved : (files others : List File) → HoldTheSame files others → (script : Script) (due : Outcome) → May (AsHeld others) script due →
+    May (AsHeld files) script due
+moved files others same (Ends verdicts) due may = may
+moved files others same (Read name next) due (inl (reading, there, stop)) = inl (reading, there ∙ ap reading_of (sym (same name)), stop)
+moved files others same (Read name next) due (inr (bytes, there, rest)) =
+    inr (bytes, there ∙ ap reading_of (sym (same name)), moved files others same (next bytes) due rest)
+
+-- what isn't left open
+pub not_spent : (words : List (List ℕ)) (command : Command) → command_of words ≡ Some command → is_open command ≡ false → MayBeSpent words → ⊥
+not_spent words command is closed spent =
+    let same : command ≡ spent.command = some_is (sym is ∙ spent.asked_for) in
+    false≢true (sym closed ∙ ap is_open same ∙ spent.is_open)
+
+unspent_same : (d e : Outcome) → d.status ≢ 4 → e.status ≢ 4 → SameButBudget d e → d ≡ e
+unspent_same d e first second (inl same) = same
+unspent_same d e first second (inr (budgeted, other, inl four)) = absurd (first four)
+unspent_same d e first second (inr (budgeted, other, inr four)) = absurd (second four)
+
+module _ (words : List (List ℕ)) (files others : List File) (same : HoldTheSame files others) (d e : Outcome) (first : MayBeSpent words → d.status ≢ 4)
+    (second : MayBeSpent words → e.status ≢ 4) (suffice : (asks : AsksForContests words) → HaveNodes asks.task files) where
+  one_open : (command : Command) → command_of words ≡ Some command → is_open command ≡ true → May (AsHeld files) (script_of command) d →
+      May (AsHeld files) (script_of command) e → d ≡ e
+  one_open (Contests task) is searched may_d may_e = contests_once files task (suffice (record { task = task; asked = is })) d e may_d may_e
+  one_open command is searched may_d may_e =
+      let asks : MayBeSpent words = record { command = command; asked_for = is; is_open = searched } in
+      unspent_same d e (first asks) (second asks) (determined SameButBudget (λ o. inl refl) files (script_of command) d e
+      (agrees_by (Some command) refl) may_d may_e)
+
+  one_command : (command : Command) → command_of words ≡ Some command → May (AsHeld files) (script_of command) d → May (AsHeld files) (script_of command) e →
+      d ≡ e
+  one_command command is may_d may_e = by (is_open command) refl where
+    by : (b : Bool) → is_open command ≡ b → d ≡ e
+    by false closed = determined Same (λ o. refl) files (script_of command) d e (agrees_exactly command closed) may_d may_e
+    by true searched = one_open command is searched may_d may_e
+
+  pub one_end : (command : Option Command) → command_of words ≡ command → MayCome (AsHeld files) (asked_by command) d →
+      MayCome (AsHeld others) (asked_by command) e → d ≡ e
+  one_end None is bad_d bad_e = bad_d ∙ sym bad_e
+  one_end (Some command) is may_d may_e = one_command command is may_d (moved files others same (script_of command) e may_e)
+
+pub same_files_same_answer : SameFilesSameAnswer
+same_files_same_answer words files others first second same settled settled' =
+    let (out, err, may, took_out, took_err) = settled.answer.quiet settled.quiet settled.memory in
+    let (out', err', may', took_out', took_err') = settled'.answer.quiet settled'.quiet settled'.memory in
+    let d : Outcome = record { status = first.status; out = out; err = err } in
+    let e : Outcome = record { status = second.status; out = out'; err = err' } in
+    let is : d ≡ e = one_end words files others same d e settled.unspent settled'.unspent settled.suffice (command_of words) refl may may' in
+    record {
+      status = ap (λ (o : Outcome). o.status) is;
+      to_out = out;
+      to_err = err;
+      first_out = took_out;
+      first_err = took_err;
+      second_out = subst (Took second.out) (sym (ap (λ (o : Outcome). o.out) is)) took_out';
+      second_err = subst (Took second.err) (sym (ap (λ (o : Outcome). o.err) is)) took_err';
+    }

@@ -1,0 +1,17 @@
+mod Workers
+mod Nodes
+mod MostSets
+mod SignedOff
+mod PollsLimit
+mod PluralsLimit
+mod ContestsOnce
+mod ContestsAlone
+mod ContestsLimit
+mod ContestsSignedOff
+mod Agreement
+mod Ended
+mod PrintedFiles
+mod TrimmedFiles
+mod Unconfirmed
+mod EachStatus
+mod ReadFaults

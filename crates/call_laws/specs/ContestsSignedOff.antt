@@ -1,0 +1,89 @@
+-- The risk limit of each contest of audits of all contests, from the words of their calls to the count: `ContestSignedOffAreFew`, at the
+-- end, is what is promised; the records before it are the premises. They are those of audits of one contest (`SignedOff.antt`), but that
+-- there is no session, and the assertions are those that a search of the contest's ballots finds.
+use Rattle.std.specs.Prelude.{◌≡◌, ◌≢◌, ℕ, ◌*◌, ◌^◌, ◌≤◌, true, List, length, All, AllPairs, Some, Ok, Vec}
+use Rattle.std.specs.List.{slice_get}
+use Rattle.std.specs.declared.alloc.Global.{Global}
+use Rattle.desk.specs.Desk.{File}
+use Rattle.ballot_reader.specs.Ballots.{BallotFile}
+use Rattle.ballot_reader.specs.Grammar.{contests_of}
+use Rattle.manifest.specs.Cards.{Batches, cards_of}
+use Rattle.manifest.specs.Manifest.{manifest_of}
+use Rattle.assertion_file.specs.Content.{Content, candidate_count}
+use Rattle.km_risk.specs.Exact.{millionths_in_one}
+use Rattle.km_risk.specs.declared.draws.Counts.{Counts}
+use Rattle.seen_file.specs.Seen.{Entry}
+use Rattle.audit_session.specs.Laws.{AreTrueEntries}
+use Rattle.audit_laws.specs.RiskLimit.{MayElectAnother}
+use Rattle.contest_search.specs.Certificate.{IsCertificateOfDecided}
+use Rattle.contest_set.specs.declared.end.ContestEnd.TheVariants.{Audited}
+use Rattle.raire_cli.specs.Contests.{AuditsContests}
+use Rattle.call_laws.specs.ContestsLimit.{drawn}
+use Rattle.raire_cli.specs.Pluralities.{CardBytes}
+
+-- ---- what is given
+
+-- What is announced before a seed is drawn: two files, one of their contests, and the terms.
+pub record AnnouncedContest : Type 0 where
+  -- the bytes of the ballots and of the manifest
+  pub bytes : CardBytes
+  -- the ballots of each contest, and the cards, as they say
+  pub list : List BallotFile
+  pub ballots_say : contests_of bytes.ballots ≡ Ok list
+  pub batches : Batches
+  pub manifest_says : manifest_of bytes.manifest ≡ Ok batches
+  -- the contest at one place among them
+  pub place : ℕ
+  pub ballots : BallotFile
+  pub listed : slice_get list place ≡ Some ballots
+  -- it is decided, and these are its assertions
+  pub file : Content
+  pub certificate : IsCertificateOfDecided ballots file
+  -- the limit in millionths, and gamma in thousandths
+  pub limit : ℕ
+  pub gamma : ℕ
+
+-- ---- what is counted
+
+-- The cards have these actual rankings in the contest, and no audit goes beyond so many draws.
+module _ (announced : AnnouncedContest) (actual : List (List ℕ)) (most : ℕ) where
+  -- an audit of what was announced signs the contest off, and its seed draws this sequence
+  pub record IsContestSignedOffOn (sequence : List ℕ) : Type 0 where
+    -- `run` promises so where an audit of all contests ends with status 0 or 10 (`IsAuditedByContest`)
+    pub words : List (List ℕ)
+    pub files : List File
+    pub audit : AuditsContests words files
+    -- the contest has its assertions, counts and risks, and is signed off, whatever comes of the other contests
+    pub file : Content
+    pub counts : Vec Counts Global
+    pub risks : Vec ℕ Global
+    pub signed_off : slice_get audit.ends announced.place ≡ Some (Audited file counts risks true)
+    -- it stands on the files and the terms that were announced
+    pub same_ballots : audit.bytes.ballots ≡ announced.bytes.ballots
+    pub same_manifest : audit.bytes.manifest ≡ announced.bytes.manifest
+    pub same_limit : audit.asks.task.limit ≡ announced.limit
+    pub same_gamma : audit.asks.task.gamma ≡ announced.gamma
+    -- it ends at one of the draws of the sequence, at whichever
+    pub few : audit.asks.task.draws ≤ most
+    -- each card that it drew is missing, or was read as it is for this contest
+    pub entries : List Entry
+    pub seen : slice_get audit.inputs.seen announced.place ≡ Some entries
+    pub true_entries : AreTrueEntries actual entries (drawn audit audit.asks.task.draws)
+    -- the sequence is what its seed draws, also behind its end
+    pub of_seed : sequence ≡ drawn audit most
+
+-- ---- what is promised
+
+-- The actual rankings, one each for the cards, may elect another candidate than the assertions of the contest say. Then of all
+-- cards ^ most sequences at most limit millionths are such that an audit signs the contest off on them.
+abbrev pub ContestSignedOffAreFew : Type 0
+ContestSignedOffAreFew =
+    (announced : AnnouncedContest) (actual : List (List ℕ)) (most : ℕ)
+    (sequences : List (List ℕ)) →
+    MayElectAnother (candidate_count announced.file) announced.file.winner
+    (length (cards_of announced.batches)) actual →
+    -- no two of the sequences are the same, and an audit signs the contest off on each
+    AllPairs ◌≢◌ sequences →
+    All (IsContestSignedOffOn announced actual most) sequences →
+    length sequences * millionths_in_one
+    ≤ announced.limit * length (cards_of announced.batches) ^ most

@@ -1,0 +1,11 @@
+pub mod Laws
+pub mod SignedOff
+pub mod PollLaws
+pub mod PluralLaws
+pub mod ContestsAlone
+pub mod ContestsLimit
+pub mod ContestsSignedOff
+pub mod Agreement
+pub mod EachStatus
+pub mod PrintedFiles
+pub mod ReadFaults

@@ -1,0 +1,115 @@
+-- What a search or a trim printed, and a later call that is given it: two calls of `run`, one after the other.
+use Rattle.std.specs.Prelude.{◌≡◌, ◌⊎◌, ◌≤◌, ℕ, List, ◌++◌, length, Option, Some, None, Ok}
+use Rattle.budget.specs.declared.budget.Budget.{Budget}
+use Rattle.desk.specs.Desk.{File, held_bytes}
+use Rattle.irv_base.specs.Names.{Id}
+use Rattle.irv_base.specs.declared.limits.TheConstants.{MOST_FILE_BYTES}
+use Rattle.ballot_reader.specs.Ballots.{BallotFile}
+use Rattle.manifest.specs.Cards.{Batches}
+use Rattle.manifest.specs.Linked.{first_without_card}
+use Rattle.manifest.specs.Manifest.{manifest_of}
+use Rattle.cli_base.specs.Ends.{Took}
+use Rattle.cli_base.specs.Statuses.{IsAnswered}
+use Rattle.command.specs.declared.check.CheckTask.{CheckTask}
+use Rattle.command.specs.declared.open.OpenTask.{OpenTask}
+use Rattle.command.specs.declared.trim.TrimTask.{TrimTask}
+use Rattle.command_line.specs.Line.{command_of}
+use Rattle.command_line.specs.declared.commands.Command.TheVariants.{Check, Open, Trim}
+use Rattle.call_laws.specs.Agreement.{Call, Failed, IsSettled}
+use Rattle.raire_cli.specs.Answers.{asked}
+use Rattle.raire_cli.specs.Confirmation.{AsksFor, AsksForSearch}
+use Rattle.raire_cli.specs.Trims.{AsksForTrim}
+
+-- The call was of these words, over a desk that holds these files. It ended with status 0, and `out`, which tells what it takes, took
+-- this text.
+pub record HasPrinted (words : List (List ℕ)) (files : List File) (call : Call)
+    (text : List ℕ) : Type 0 where
+  pub answer : IsAnswered (asked words) (Some files) (Failed call) call.status call.out call.err
+  pub done : call.status ≡ 0
+  pub before : List ℕ
+  pub told_before : call.out.before ≡ Some before
+  pub told_after : call.out.after ≡ Some (before ++ text)
+
+-- ---- the files of the later call
+
+-- Under the one name its desk holds the ballots that the first call read under its own, and under the other this text, which isn't too
+-- long for a file.
+pub record HoldsPrinted (own : List ℕ) (files more : List File)
+    (text ballots assertions : List ℕ) : Type 0 where
+  pub same_ballots : held_bytes ballots more ≡ held_bytes own files
+  pub printed : held_bytes assertions more ≡ Some text
+  pub is_short : length text ≤ MOST_FILE_BYTES
+
+-- Under this name it holds a manifest that is accepted, and that has a card of each ballot of the search.
+pub record HoldsCards (words : List (List ℕ)) (files more : List File)
+    (manifest : List ℕ) : Type 0 where
+  pub bytes : List ℕ
+  pub held : held_bytes manifest more ≡ Some bytes
+  pub is_short : length bytes ≤ MOST_FILE_BYTES
+  pub batches : Batches
+  pub accepted : manifest_of bytes ≡ Ok batches
+  pub placed : (ballots : BallotFile) (winner : ℕ) → AsksFor words files ballots winner →
+      first_without_card batches ballots ≡ None
+
+-- ---- the words of the later call
+
+-- they ask for a check, with the contest and the budget of the first call
+pub record ChecksTheSame (contest : Option Id) (budget : Budget) (others : List (List ℕ)) : Type 0 where
+  pub task : CheckTask
+  pub asked_for : command_of others ≡ Some (Check task)
+  pub same_contest : task.contest ≡ contest
+  pub same_budget : task.budget ≡ budget
+
+-- they ask that a session be opened, with them
+pub record OpensTheSame (contest : Option Id) (budget : Budget) (others : List (List ℕ)) : Type 0 where
+  pub task : OpenTask
+  pub asked_for : command_of others ≡ Some (Open task)
+  pub same_contest : task.contest ≡ contest
+  pub same_budget : task.budget ≡ budget
+
+-- they ask for a trim, with them
+pub record TrimsTheSame (contest : Option Id) (budget : Budget) (others : List (List ℕ)) : Type 0 where
+  pub task : TrimTask
+  pub asked_for : command_of others ≡ Some (Trim task)
+  pub same_contest : task.contest ≡ contest
+  pub same_budget : task.budget ≡ budget
+
+-- ---- the laws
+
+-- A check accepts what a search printed: it ends with status 0, if nothing fails in it and memory is found.
+abbrev pub PrintedIsAccepted : Type 0
+PrintedIsAccepted =
+    (words others : List (List ℕ)) (search : AsksForSearch words)
+    (check : ChecksTheSame search.task.contest search.task.budget others) (files more : List File) (first second : Call)
+    (text : List ℕ) → HasPrinted words files first text →
+    HoldsPrinted search.task.ballots files more text check.task.ballots check.task.assertions →
+    IsSettled others more second → second.status ≡ 0
+
+-- A session is opened with it, where each ballot has a card.
+abbrev pub PrintedIsOpened : Type 0
+PrintedIsOpened =
+    (words others : List (List ℕ)) (search : AsksForSearch words)
+    (opening : OpensTheSame search.task.contest search.task.budget others) (files more : List File) (first second : Call)
+    (text : List ℕ) → HasPrinted words files first text →
+    HoldsPrinted search.task.ballots files more text opening.task.ballots opening.task.assertions →
+    HoldsCards words files more opening.task.manifest → IsSettled others more second → second.status ≡ 0
+
+-- A check accepts what a trim printed.
+abbrev pub TrimmedIsAccepted : Type 0
+TrimmedIsAccepted =
+    (words others : List (List ℕ)) (trim : AsksForTrim words)
+    (check : ChecksTheSame trim.task.contest trim.task.budget others)
+    (files more : List File) (first second : Call) (text : List ℕ) →
+    HasPrinted words files first text →
+    HoldsPrinted trim.task.ballots files more text check.task.ballots check.task.assertions →
+    IsSettled others more second → second.status ≡ 0
+
+-- Trimmed again it is printed as it is, unless the budget is spent.
+abbrev pub TrimmedIsTrimmed : Type 0
+TrimmedIsTrimmed =
+    (words others : List (List ℕ)) (trim : AsksForTrim words)
+    (again : TrimsTheSame trim.task.contest trim.task.budget others)
+    (files more : List File) (first second : Call) (text : List ℕ) →
+    HasPrinted words files first text →
+    HoldsPrinted trim.task.ballots files more text again.task.ballots again.task.assertions →
+    IsSettled others more second → (second.status ≡ 4) ⊎ ((second.status ≡ 0) × Took second.out text)

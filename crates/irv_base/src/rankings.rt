@@ -1,0 +1,92 @@
+// The rankings of ballots.
+ghost use Rattle.std.specs.Prelude.{◌≡◌, ◌<◌, ◌≤◌, ◌++◌, ◌∷◌, [], Some, IfOk, OnOk, OnErr, IsTrue, All, length, slice_get};
+ghost use Rattle.irv_base.specs.Candidates.{is_distinct};
+ghost use Rattle.irv_base.specs.declared.limits.TheConstants.{ROOM};
+
+use crate::{Candidate, Lists, Memory, Ranking};
+use std::alloc::Global;
+use std::marker::Model;
+
+/// The rankings of ballots, in their order. They take a byte for each place, and four for each ranking.
+///
+/// To a contract it is the list of the rankings.
+#[derive(Drop)]
+pub struct Rankings {
+    lists: Lists<Candidate>,
+}
+
+impl Model for Rankings {
+    ghost use Rattle.std.specs.Prelude.{ℕ, List};
+    ghost use Rattle.irv_base.specs.Places.{AreRankings};
+
+    ghost Value = { List (List ℕ) };
+
+    ghost view = { λ r. r.lists };
+
+    ghost invariant = { λ r. AreRankings r.lists };
+}
+
+impl Rankings {
+    /// No rankings, with room for so many, and for so many places in all.
+    pub fn nothing(alloc: Global, rankings: usize, places: usize) -> Result<Rankings, Memory>
+        ensures { IfOk result (λ none. none ≡ []) }
+    {
+        Ok(Rankings {
+            lists: Lists::nothing(alloc, rankings, places)?,
+        })
+    }
+
+    /// These rankings.
+    pub fn of(alloc: Global, rankings: &[Ranking]) -> Result<Rankings, Memory>
+        ensures { IfOk result (λ those. those ≡ rankings.now) }
+    {
+        let mut those = Rankings::nothing(alloc, rankings.len(), 0)?;
+        for ranking in rankings {
+            those.push(ranking)?;
+        }
+        Ok(those)
+    }
+
+    /// How many there are.
+    pub fn len(&self) -> usize
+        ensures { result ≡ length self.now }
+    {
+        self.lists.len()
+    }
+
+    /// The candidates of the ranking with number `i`, from 0, the most preferred first.
+    pub fn at(&self, i: usize) -> &[Candidate]
+        requires { i < length self.now }
+        ensures there { slice_get self.now i ≡ Some result.now }
+        ensures below { All (λ c. c < ROOM) result.now }
+        ensures distinct { IsTrue (is_distinct result.now) }
+    {
+        self.lists.at(i)
+    }
+
+    /// The ranking with number `i`, from 0.
+    pub fn ranking(&self, i: usize) -> Ranking
+        requires { i < length self.now }
+        ensures { slice_get self.now i ≡ Some result }
+    {
+        Ranking::of(self.at(i))
+    }
+
+    /// Puts a ranking last. More than `u32::MAX` places in all are want of memory.
+    pub fn push(&mut self, ranking: &Ranking) -> Result<(), Memory>
+        ensures pushed { OnOk result (self.new ≡ self.old ++ ranking.now ∷ []) }
+        ensures same { OnErr result (self.new ≡ self.old) }
+    {
+        self.lists.push(ranking.candidates())?;
+        Ok(())
+    }
+
+    /// The same rankings once more.
+    pub fn copied(&self, alloc: Global) -> Result<Rankings, Memory>
+        ensures { IfOk result (λ rankings. rankings ≡ self.now) }
+    {
+        Ok(Rankings {
+            lists: self.lists.copied(alloc)?,
+        })
+    }
+}

@@ -1,5 +1,0 @@
-use Rattle.raire_cli.proofs.Workers.{budgets_come_to_the_same}
-use Rattle.raire_cli.proofs.laws.budgets_come_to_the_same.Goals as goal
-
-pub returns : goal.returns
-returns c = budgets_come_to_the_same

@@ -1,5 +1,0 @@
-use Rattle.raire_cli.proofs.ContestsSignedOff.{contest_signed_off_are_few}
-use Rattle.raire_cli.proofs.laws.contest_signed_off_are_few.Goals as goal
-
-pub returns : goal.returns
-returns c = contest_signed_off_are_few

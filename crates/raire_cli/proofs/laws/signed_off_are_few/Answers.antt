@@ -1,5 +1,0 @@
-use Rattle.raire_cli.proofs.SignedOff.{signed_off_are_few}
-use Rattle.raire_cli.proofs.laws.signed_off_are_few.Goals as goal
-
-pub returns : goal.returns
-returns c = signed_off_are_few

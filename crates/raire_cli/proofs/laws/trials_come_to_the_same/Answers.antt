@@ -1,5 +1,0 @@
-use Rattle.raire_cli.proofs.Workers.{trials_come_to_the_same}
-use Rattle.raire_cli.proofs.laws.trials_come_to_the_same.Goals as goal
-
-pub returns : goal.returns
-returns c = trials_come_to_the_same

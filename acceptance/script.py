@@ -29,9 +29,11 @@ for below in $CRATES; do
     printf '%s\\n' "$below has all its proofs" "rt: $below proved"
 done
 if [ "$REFUSES" = run ]; then echo "rt: raire wrote something else"; exit 1; fi
+[ -z "$CHANGES" ] || echo "// meanwhile" >>"$CHANGES"
 mkdir -p crates/raire/out
 printf '#!/usr/bin/env bash\\necho "$@"\\n[ "$1" != bad ] || exit 1\\n' >crates/raire/out/raire
 chmod +x crates/raire/out/raire
+[ "$REFUSES" != signal ] || kill -9 $$
 """
 
 
@@ -70,9 +72,9 @@ class Copy:
             file.write(STAND_IN)
         os.chmod(stand_in, 0o755)
 
-    def run(self, *words, refuses="", kept=""):
+    def run(self, *words, refuses="", kept="", changes=""):
         path = os.path.join(self.folder, "bin") + ":" + os.environ["PATH"]
-        given = {**os.environ, "PATH": path, "NOTES": self.notes, "REFUSES": refuses, "KEPT": kept, "TMPDIR": self.room}
+        given = {**os.environ, "PATH": path, "NOTES": self.notes, "REFUSES": refuses, "KEPT": kept, "CHANGES": changes, "TMPDIR": self.room}
         given["CRATES"] = " ".join(sorted(needed(crates(), "raire")))
         ran = subprocess.run([os.path.join(self.folder, "raire"), *words], capture_output=True, text=True, env=given)
         return ran.returncode, ran.stdout, ran.stderr
@@ -114,6 +116,8 @@ def builds(copy):
     yield "of other crates nothing is told", "has all its proofs" not in err
     status, out, err = copy.run("tabulate", refuses="run")
     yield "a refused program isn't taken", status == 70 and out == "" and "raire wrote something else" in err and bool(copy.noted())
+    status, out, err = copy.run("tabulate", refuses="signal")
+    yield "nor is one whose gate was ended", status == 70 and out == "" and err.endswith("rt ci ended with status -9\nraire: the program was not built\n") and bool(copy.noted())
     status, out, err = copy.run("tabulate", "a file", kept="irv_base")
     yield "the program runs once it is built", (status, out) == (0, "tabulate a file\n")
     yield "the gate runs over its crates alone, without wrong bodies", copy.noted() == [f"ci over {len(wanted)}, 0 with wrong bodies"]
@@ -122,12 +126,14 @@ def builds(copy):
     yield "nothing is built again", copy.run("--build") == (0, "", "") and not os.path.exists(copy.notes)
     status, out, err = copy.run("bad")
     yield "bad words are followed by a pointer", (status, out) == (1, "bad\n") and err.startswith("raire: ./raire help")
-    with open(os.path.join(copy.folder, "crates", "desk", "src", "lib.rt"), "w") as file:
+    source = os.path.join(copy.folder, "crates", "desk", "src", "lib.rt")
+    with open(source, "w") as file:
         file.write("// newer\n")
-    yield "a newer source builds again", copy.run("--build")[:2] == (0, "") and os.path.exists(copy.notes)
+    yield "a newer source builds again", copy.run("--build", changes=source)[:2] == (0, "") and bool(copy.noted())
+    yield "so does one that was changed meanwhile", copy.run("--build")[:2] == (0, "") and os.path.exists(copy.notes)
     os.remove(os.path.join(copy.folder, "bin", "rt"))
     later = time.time() + 10
-    os.utime(os.path.join(copy.folder, "crates", "desk", "src", "lib.rt"), (later, later))
+    os.utime(source, (later, later))
     os.environ["PATH"], path = "/usr/bin:/bin", os.environ["PATH"]
     status, out, err = copy.run("--build")
     os.environ["PATH"] = path

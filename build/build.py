@@ -1,8 +1,8 @@
 #!/usr/bin/env python3
 """Proves the crates that the program stands on, builds it, and puts it into crates/raire/out. Tells how far it is, and what is refused.
 
-The crates are copied to a folder of their own, where `rt ci` proves them as the gate does: side by side, those first on which most others
-wait. What an earlier run proved on this machine isn't proved again, if the kit can keep it.
+The crates are copied to a folder of their own, where `rt ci` proves them as the gate does: side by side, those first behind which the longest
+chain of others waits. What an earlier run proved on this machine isn't proved again, if the kit can keep it.
 """
 import os
 import re
@@ -112,25 +112,38 @@ def say(text):
     print(f"raire: {text}", file=sys.stderr, flush=True)
 
 
-def proved(build, folder):
-    """Runs `rt ci` in the folder and tells each crate that is done. What it said of those that it refused, where it did."""
+def refusals(build, folder):
+    """Runs `rt ci` in the folder and tells each crate that is done. Where it ends badly, what it said of what it refused, or else what it said last."""
     start, said, refused = time.monotonic(), [], []
     with subprocess.Popen(["rt", "ci"], cwd=folder, stdin=subprocess.DEVNULL, stdout=subprocess.PIPE, stderr=subprocess.STDOUT, text=True, errors="replace") as ran:
-        for line in ran.stdout:
-            done = re.match(r"rt: (\w+) (proved|is kept|NOT PROVED)", line)
-            said = [line] if line.startswith("== ") else [*said, line]
-            if not done or done[1] not in build.below:
-                continue
-            if done[2] == "NOT PROVED":
-                refused += said
-            else:
-                say(build.tell(done[1], done[2] == "is kept", time.monotonic() - start))
-            said = []
-    return (refused or said) if ran.returncode else []
+        try:
+            for line in ran.stdout:
+                line = line.replace(folder, TOP)  # the copy is gone when this is read
+                done = re.match(r"rt: (\w+)(: its tests are)? (proved|is kept|NOT PROVED)", line)
+                said = [line] if line.startswith("== ") else [*said, line]
+                if line.startswith("rt: note: "):
+                    say(line.removeprefix("rt: note: ").rstrip())
+                if not done or done[1] not in build.below:
+                    continue
+                if done[3] == "NOT PROVED":
+                    refused += said
+                elif not done[2]:
+                    say(build.tell(done[1], done[3] == "is kept", time.monotonic() - start))
+                said = []
+        except BaseException:
+            ran.kill()  # the checks that it began end with it
+            raise
+    return (refused or said or [f"rt ci ended with status {ran.returncode}\n"]) if ran.returncode else []
+
+
+def stopped(*_):
+    say("stopped; the program was not built")
+    sys.exit(REFUSED)
 
 
 def main():
-    signal.signal(signal.SIGTERM, lambda *_: sys.exit(REFUSED))
+    for it in (signal.SIGINT, signal.SIGTERM, signal.SIGHUP):
+        signal.signal(it, stopped)
     named = named_in(os.path.join(TOP, "crates.txt"))
     build = Build(named, measured(), len(os.sched_getaffinity(0)))
     minutes = round(max(build.ends().values()) / 60)
@@ -139,16 +152,24 @@ def main():
     if not shutil.which("rt"):
         say("there is no `rt` on the path: the kit isn't set up")
         return REFUSED
-    with tempfile.TemporaryDirectory(prefix="raire-") as folder:
-        copied(named, build.below, folder)
-        refused = proved(build, folder)
-        if refused:
-            sys.stderr.writelines(refused)
-            say("the program was not built")
+    with tempfile.TemporaryDirectory(prefix="raire-", ignore_cleanup_errors=True) as folder:
+        begun = os.stat(folder).st_mtime_ns
+        try:
+            copied(named, build.below, folder)
+            refused = refusals(build, os.path.realpath(folder))
+            if refused:
+                sys.stderr.writelines(refused)
+                say("the program was not built")
+                return REFUSED
+            new = os.path.join(TOP, f"{made}.new")
+            os.makedirs(os.path.dirname(new), exist_ok=True)
+            shutil.copy(os.path.join(folder, made), new)
+            os.utime(new, ns=(begun, begun))  # so that a source that was changed since the copy is newer
+            os.replace(new, os.path.join(TOP, made))
+        except OSError as error:
+            why = error.args[0][0][2] if isinstance(error, shutil.Error) else error
+            say(f"the program was not built: {why}")
             return REFUSED
-        os.makedirs(os.path.dirname(os.path.join(TOP, made)), exist_ok=True)
-        shutil.copy(os.path.join(folder, made), os.path.join(TOP, f"{made}.new"))
-        os.replace(os.path.join(TOP, f"{made}.new"), os.path.join(TOP, made))
     return 0
 
 

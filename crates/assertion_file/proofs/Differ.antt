@@ -2,9 +2,10 @@
 use Rattle.std.proofs.Common.{inl, inr, ◌≡◌, ◌==◌, ℕ, Bool, true, false, not, ◌&&◌, ◌||◌, List, [], ◌∷◌, ◌++◌, refl, sym, ap, ap₂, ◌∙◌}
 use Rattle.std.specs.List.{list_all}
 use Rattle.std.proofs.lemmas.Bool.{and_parts, and_from, and_right, or_parts, not-true, not_from_false, both_ways, cases_Bool}
-use Rattle.std.proofs.lemmas.Cmp.{nat_list_eq_equiv, nat_eq_equiv}
+use Rattle.std.proofs.lemmas.Cmp.{nat_list_eq_equiv}
 use Rattle.std.proofs.lemmas.List.Folds.{list_any-append}
 use Rattle.irv_base.specs.Candidates.{is_in, is_distinct}
+use Rattle.irv_base.proofs.Firsts.{is_in-push}
 use Rattle.irv_base.specs.Names.{Id, is_same, is_among, all_differ, is_name}
 use Rattle.assertion_file.specs.Reading.{are_candidates}
 
@@ -44,12 +45,6 @@ none-differ ids h = and_right _ _ h
 
 -- ---- one number more
 
-pub in-more : (xs : List ℕ) (c d : ℕ) → is_in (xs ++ c ∷ []) d ≡ (is_in xs d || (d == c))
-in-more xs c d = list_any-append (λ e. e == d) xs (c ∷ []) ∙ ap (λ b. is_in xs d || b) (or-none (c == d) ∙ nat_eq_equiv.symm c d) where
-  or-none : (b : Bool) → (b || false) ≡ b
-  or-none true = refl
-  or-none false = refl
-
 parted : (a e d b : Bool) → (not (a || e) && (d && not b)) ≡ ((not a && d) && not (e || b))
 parted true e d b = refl
 parted false true true b = refl
@@ -59,7 +54,7 @@ parted false false d b = refl
 distinct-more : (xs : List ℕ) (c : ℕ) → is_distinct (xs ++ c ∷ []) ≡ (is_distinct xs && not (is_in xs c))
 distinct-more [] c = refl
 distinct-more (x ∷ xs) c =
-    ap₂ (λ a b. not a && b) (in-more xs c x) (distinct-more xs c) ∙ parted (is_in xs x) (x == c) (is_distinct xs) (is_in xs c)
+    ap₂ (λ a b. not a && b) (is_in-push xs c x) (distinct-more xs c) ∙ parted (is_in xs x) (x == c) (is_distinct xs) (is_in xs c)
 
 pub repeats-more : (xs : List ℕ) (c : ℕ) (repeats has : Bool) → repeats ≡ not (is_distinct xs) → has ≡ is_in xs c →
     (repeats || has) ≡ not (is_distinct (xs ++ c ∷ []))

@@ -88,8 +88,3 @@ with_draws_sent draws others n old first mid last new count begun one more ended
 pub members_same : (name : List ℕ) {m n : Option ℕ} (old new : Log) → m ≡ n → WritesEach SendsNamed (number_member name m) old new →
     WritesEach SendsNamed (number_member name n) old new
 members_same name old new same sent = subst (λ number. WritesEach SendsNamed (number_member name number) old new) same sent
-
--- the numbers of the members of a file
-pub member_count_is : (plan : Option Plan) (file : Content) → file.plan ≡ plan → (n : ℕ) → n ≡ length (file_members (record file { plan = plan })) →
-    n ≡ length (file_members file)
-member_count_is plan file e n count = count ∙ ap (λ plan. length (file_members (record file { plan = plan }))) (sym e)

@@ -64,7 +64,7 @@ fn is_proper(n: usize, a: &Assertion) -> bool
     }
 }
 
-// Whether it can be a claim of a file about so many candidates and records.
+// Whether a claim can be one of a file about so many candidates and records.
 fn is_sound(n: usize, records: u32, claim: &Claim) -> bool
     requires { n ≤ ROOM }
     ensures { result ≡ (is_proper n claim.now.assertion && is_margin records claim.now.margin) }
@@ -91,7 +91,7 @@ fn are_all_draws(draws: &[Option<u32>]) -> bool
     draws.iter().all(|draws| are_draws(*draws))
 }
 
-// Whether they can be those of the file.
+// Whether these claims and draws can be those of the file.
 fn are_right(file: &AssertionFile, told: &Guessed) -> bool
     ensures claims { IsTrue result → All
         (IsSoundClaim (length file.now.candidates) file.now.records) told.now.claims.items }

@@ -307,7 +307,7 @@ fn printed_as(alloc: Global, bytes: &[u8]) -> Option<AssertionFile>
 /// the loser; F5 if a NEN's rest repeats a candidate or lacks the winner or the loser; F6 if the margin isn't 1 to the
 /// number of records, or its draws are planned and aren't 1 to `MOST_DRAWS`.
 ///
-/// Bytes as `print_file` writes them take no more memory than their claims and a copy of the bytes.
+/// Bytes as `print_file` writes them are read without a tree of their claims.
 pub fn read_file(alloc: Global, bytes: &[u8]) -> Result<AssertionFile, FileFault>
     ensures read { IfOk result (λ file. assertion_file_of bytes.now ≡ Ok file) }
     ensures refused { IfErr result (Refuses (assertion_file_of bytes.now)) }

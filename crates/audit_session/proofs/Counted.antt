@@ -14,18 +14,6 @@ use Rattle.audit_session.specs.Going.{all_counts, compared, counts_over, value_a
 count-push : (k : ℕ) (ds : List ℕ) (d : ℕ) → count_by (λ x. x == k) (ds ++ d ∷ []) ≡ count_by (λ x. x == k) ds + cond (d == k) 1 0
 count-push k ds d = sum_by-append (λ x. cond (x == k) 1 0) ds (d ∷ []) ∙ omega arith
 
--- the counts with one more, field by field
-pub counts-push : (counts : Counts) (ds : List ℕ) (d a0 a1 a2 a3 a4 : ℕ) → counts ≡ counts_of ds →
-    a0 ≡ cond (d == 0) 1 0 → a1 ≡ cond (d == 1) 1 0 → a2 ≡ cond (d == 2) 1 0 → a3 ≡ cond (d == 3) 1 0 → a4 ≡ cond (d == 4) 1 0 →
-    record { n0 = counts.n0 + a0; n1 = counts.n1 + a1; n2 = counts.n2 + a2; n3 = counts.n3 + a3; n4 = counts.n4 + a4 } ≡ counts_of (ds ++ d ∷ [])
-counts-push counts ds d a0 a1 a2 a3 a4 is e0 e1 e2 e3 e4 =
-    let f0 : counts.n0 + a0 ≡ count_by (λ x. x == 0) (ds ++ d ∷ []) = omega (arith, ap (λ c. c.n0) is, e0, count-push 0 ds d) in
-    let f1 : counts.n1 + a1 ≡ count_by (λ x. x == 1) (ds ++ d ∷ []) = omega (arith, ap (λ c. c.n1) is, e1, count-push 1 ds d) in
-    let f2 : counts.n2 + a2 ≡ count_by (λ x. x == 2) (ds ++ d ∷ []) = omega (arith, ap (λ c. c.n2) is, e2, count-push 2 ds d) in
-    let f3 : counts.n3 + a3 ≡ count_by (λ x. x == 3) (ds ++ d ∷ []) = omega (arith, ap (λ c. c.n3) is, e3, count-push 3 ds d) in
-    let f4 : counts.n4 + a4 ≡ count_by (λ x. x == 4) (ds ++ d ∷ []) = omega (arith, ap (λ c. c.n4) is, e4, count-push 4 ds d) in
-    λ i. record { n0 = f0 i; n1 = f1 i; n2 = f2 i; n3 = f3 i; n4 = f4 i }
-
 -- one card more is counted
 pub over-more : (value : List ℕ → ℕ) (earlier drawn : List Drawn) (i : ℕ) (card : Drawn) → i < length drawn → card ≡ get_or drawn i card →
     map (compared value) (earlier ++ take i drawn) ++ compared value card ∷ [] ≡ map (compared value) (earlier ++ take (i + 1) drawn)

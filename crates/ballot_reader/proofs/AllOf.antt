@@ -7,10 +7,6 @@ use Rattle.ballot_reader.specs.Grammar.{all_of}
 abbrev pub behind : {B : Type 0} → List B → Option (List B) → Option (List B)
 behind before more = option_map (λ rest. before ++ rest) more
 
-pub behind-nil : {B : Type 0} (o : Option (List B)) → o ≡ behind [] o
-behind-nil None = refl
-behind-nil (Some rest) = refl
-
 pub behind-more : {A B : Type 0} (f : A → Option B) (before : List B) (x : A) (y : B) (xs : List A) → f x ≡ Some y
     → behind before (all_of f (x ∷ xs)) ≡ behind (before ++ y ∷ []) (all_of f xs)
 behind-more {A} {B} f before x y xs h = ap (λ o. behind before (option_and_then (λ z. option_map (λ zs. z ∷ zs) (all_of f xs)) o)) h ∙ by (all_of f xs) where
@@ -23,9 +19,3 @@ behind-none f before x xs h = ap (λ o. behind before (option_and_then (λ z. op
 
 pub behind-end : {A B : Type 0} (f : A → Option B) (before : List B) → behind before (all_of f []) ≡ Some before
 behind-end f before = ap Some (append-nil before)
-
--- what no list that begins so has, the whole hasn't
-pub behind-refused : {A B : Type 0} (g : List A → Option B) (before : List A) (o : Option (List A)) → ((rest : List A) → g (before ++ rest) ≡ None) →
-    option_and_then g (behind before o) ≡ None
-behind-refused g before None h = refl
-behind-refused g before (Some rest) h = h rest

@@ -25,15 +25,6 @@ pub ballots-more : (contests : List Contest) (rows : List Fields) (ballots : Lis
 ballots-more contests rows ballots at row rest ballot split h = split
     ∙ ap (λ o. and_then at o (λ (b : Ballot). ballots_after contests (ballots ++ b ∷ []) (at + 1) rest)) h
 
-pub ballots-refused : (contests : List Contest) (rows : List Fields) (ballots : List Ballot) (at : ℕ) (row : Fields) (rest : List Fields) (fault : BallotFault)
-    → ballots_after contests [] (2 + length contests) rows ≡ ballots_after contests ballots at (row ∷ rest) →
-    RefusesRecord (ballot_of contests ballots at row) at fault
-    → Refuses (ballots_after contests [] (2 + length contests) rows) fault
-ballots-refused contests rows ballots at row rest (Refused rule place) split (h, p) =
-    split ∙ ap (λ o. and_then at o (λ (b : Ballot). ballots_after contests (ballots ++ b ∷ []) (at + 1) rest)) h
-    ∙ ap (λ k. Err (record { rule = rule; at = k })) (sym p)
-ballots-refused contests rows ballots at row rest Memory split h = tt
-
 -- ---- the whole
 
 refused-on : {A B : Type 0} (said : Result A Refusal) (more : A → Result B Refusal) (fault : BallotFault) → Refuses said fault →
@@ -51,20 +42,9 @@ after_sized asked n rows contests audited = then_on (ballots_after contests [] (
 abbrev pub after_contests : Option Id → ℕ → List Fields → List Contest → Result BallotFile Refusal
 after_contests asked n rows contests = then_on (audited_contest (asked_for contests asked)) (after_sized asked n rows contests)
 
-pub no-contests : (n : ℕ) (asked : Option Id) (rows : List Fields) (fault : BallotFault) → Refuses (contests_in n [] 2 rows) fault →
-    Refuses (ballots_behind (Some n) asked rows) fault
-no-contests n asked rows fault h = refused-on (contests_in n [] 2 rows) (after_contests asked n rows) fault h
-
 pub with-contests : (n : ℕ) (asked : Option Id) (rows : List Fields) (contests : List Contest) → contests_in n [] 2 rows ≡ Ok contests →
     ballots_behind (Some n) asked rows ≡ after_contests asked n rows contests
 with-contests n asked rows contests h = ap (λ r. then_on r (after_contests asked n rows)) h
-
-pub not-audited : (n : ℕ) (asked : Option Id) (rows : List Fields) (contests : List Contest) (fault : BallotFault) → contests_in n [] 2 rows ≡ Ok contests →
-    Refuses (audited_contest (asked_for contests asked)) fault
-    → Refuses (ballots_behind (Some n) asked rows) fault
-not-audited n asked rows contests fault h r =
-    same-refusal (ballots_behind (Some n) asked rows) (after_contests asked n rows contests) fault (with-contests n asked rows contests h)
-    (refused-on (audited_contest (asked_for contests asked)) (after_sized asked n rows contests) fault r)
 
 with-audited : (n : ℕ) (asked : Option Id) (rows : List Fields) (contests : List Contest) (chosen : Contest) → contests_in n [] 2 rows ≡ Ok contests →
     audited_contest (asked_for contests asked) ≡ Ok chosen
@@ -74,16 +54,6 @@ with-audited n asked rows contests chosen h s = with-contests n asked rows conte
 left : (n : ℕ) (rows rest : List Fields) (contests : List Contest) → length contests ≡ n → rest ≡ drop n rows →
     ballots_after contests [] (2 + n) (drop n rows) ≡ ballots_after contests [] (2 + length contests) rest
 left n rows rest contests l e = ap (λ m. ballots_after contests [] (2 + m) (drop n rows)) (sym l) ∙ ap (ballots_after contests [] (2 + length contests)) (sym e)
-
-pub no-ballots : (n : ℕ) (asked : Option Id) (rows rest : List Fields) (contests : List Contest) (chosen : Contest) (fault : BallotFault) →
-    contests_in n [] 2 rows ≡ Ok contests
-    → audited_contest (asked_for contests asked) ≡ Ok chosen → length contests ≡ n → rest ≡ drop n rows →
-    Refuses (ballots_after contests [] (2 + length contests) rest) fault
-    → Refuses (ballots_behind (Some n) asked rows) fault
-no-ballots n asked rows rest contests chosen fault h s l e r =
-    same-refusal (ballots_behind (Some n) asked rows) (after_sized asked n rows contests chosen) fault (with-audited n asked rows contests chosen h s)
-    (refused-on (ballots_after contests [] (2 + n) (drop n rows)) (λ ballots. Ok (file_of chosen ballots)) fault
-    (same-refusal _ _ fault (left n rows rest contests l e) r))
 
 pub all-read : (n : ℕ) (asked : Option Id) (rows rest : List Fields) (contests : List Contest) (chosen : Contest) (ballots : List Ballot) →
     contests_in n [] 2 rows ≡ Ok contests
@@ -110,23 +80,9 @@ pub listed : (n : ℕ) (rows : List Fields) (contests : List Contest) → contes
     contests_behind (Some n) rows ≡ after_listed n rows contests
 listed n rows contests h = ap (λ r. then_on r (after_listed n rows)) h
 
-pub one-unsized : (n : ℕ) (rows : List Fields) (contests : List Contest) (fault : BallotFault) → contests_in n [] 2 rows ≡ Ok contests →
-    Refuses (all_audited contests) fault → Refuses (contests_behind (Some n) rows) fault
-one-unsized n rows contests fault h r =
-    same-refusal (contests_behind (Some n) rows) (after_listed n rows contests) fault (listed n rows contests h)
-    (refused-on (all_audited contests) (after_all n rows contests) fault r)
-
 all-sized : (n : ℕ) (rows : List Fields) (contests : List Contest) → contests_in n [] 2 rows ≡ Ok contests → all_audited contests ≡ Ok contests →
     contests_behind (Some n) rows ≡ after_all n rows contests contests
 all-sized n rows contests h s = listed n rows contests h ∙ ap (λ r. then_on r (after_all n rows contests)) s
-
-pub none-behind : (n : ℕ) (rows rest : List Fields) (contests : List Contest) (fault : BallotFault) → contests_in n [] 2 rows ≡ Ok contests →
-    all_audited contests ≡ Ok contests → length contests ≡ n → rest ≡ drop n rows → Refuses (ballots_after contests [] (2 + length contests) rest) fault →
-    Refuses (contests_behind (Some n) rows) fault
-none-behind n rows rest contests fault h s l e r =
-    same-refusal (contests_behind (Some n) rows) (after_all n rows contests contests) fault (all-sized n rows contests h s)
-    (refused-on (ballots_after contests [] (2 + n) (drop n rows)) (λ ballots. Ok (map (λ (c : Contest). file_of c ballots) contests)) fault
-    (same-refusal _ _ fault (left n rows rest contests l e) r))
 
 pub each-read : (n : ℕ) (rows rest : List Fields) (contests : List Contest) (ballots : List Ballot) → contests_in n [] 2 rows ≡ Ok contests →
     all_audited contests ≡ Ok contests → length contests ≡ n → rest ≡ drop n rows → ballots_after contests [] (2 + length contests) rest ≡ Ok ballots →

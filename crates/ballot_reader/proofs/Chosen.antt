@@ -46,15 +46,6 @@ chosen candidates preferences = all_of (candidate_named candidates) (marked pref
 abbrev pub ChosenSoFar : List Id → List Id → List ℕ → List Id → Type 0
 ChosenSoFar candidates preferences cs rest = chosen candidates preferences ≡ behind cs (chosen candidates rest)
 
-pub chosen-blank : (candidates preferences : List Id) (cs : List ℕ) (field : Id) (rest : List Id) → ChosenSoFar candidates preferences cs (field ∷ rest) →
-    (length field == 0) ≡ true
-    → ChosenSoFar candidates preferences cs rest
-chosen-blank candidates preferences cs field rest so_far blank = so_far
-    ∙ ap (λ ids. behind cs (all_of (candidate_named candidates) ids)) (skipped field blank) where
-      skipped : (field : Id) → (length field == 0) ≡ true → marked (field ∷ rest) ≡ marked rest
-      skipped [] h = refl
-      skipped (b ∷ field) h = absurd (omega (arith, eqb-true (length (b ∷ field)) 0 h))
-
 pub some-marked : (field : Id) (rest : List Id) → (length field == 0) ≡ false → marked (field ∷ rest) ≡ field ∷ marked rest
 some-marked [] rest h = absurd (eqb-false 0 0 h refl)
 some-marked (b ∷ field) rest h = refl
@@ -65,17 +56,6 @@ pub chosen-more : (candidates preferences : List Id) (cs : List ℕ) (field : Id
 chosen-more candidates preferences cs field c rest so_far some e =
     so_far ∙ ap (λ ids. behind cs (all_of (candidate_named candidates) ids)) (some-marked field rest some)
     ∙ behind-more (candidate_named candidates) cs field c (marked rest) e
-
-pub chosen-unknown : (candidates preferences : List Id) (cs : List ℕ) (field : Id) (rest : List Id) → ChosenSoFar candidates preferences cs (field ∷ rest) →
-    (length field == 0) ≡ false
-    → candidate_named candidates field ≡ None → ranking_of candidates preferences ≡ None
-chosen-unknown candidates preferences cs field rest so_far some e =
-    ap (option_map firsts) (so_far ∙ ap (λ ids. behind cs (all_of (candidate_named candidates) ids)) (some-marked field rest some)
-    ∙ behind-none (candidate_named candidates) cs field (marked rest) e)
-
-pub chosen-end : (candidates preferences : List Id) (cs : List ℕ) → ChosenSoFar candidates preferences cs [] →
-    ranking_of candidates preferences ≡ Some (firsts cs)
-chosen-end candidates preferences cs so_far = ap (option_map firsts) (so_far ∙ behind-end (candidate_named candidates) cs)
 
 some_of : {X : Type 0} (o : Option X) → is_some o ≡ true → (x : X) × (o ≡ Some x)
 some_of None h = absurd cc

@@ -66,11 +66,6 @@ pub record ContestsSoFar (n : ℕ) (rows : List Fields) (contests : List Contest
   pub counted : length contests ≡ i
   pub differ : all_differ (contest_ids contests) ≡ true
 
-pub contests-none : (n : ℕ) (rows : List Fields) → ContestsSoFar n rows [] 0 rows
-contests-none n rows =
-    let e : n ≡ n - 0 = omega arith in
-    record { split = ap (λ m. contests_in m [] 2 rows) e; dropped = ap (λ m. drop m rows) e; counted = refl; differ = refl }
-
 next : (n i : ℕ) → i < n → n - i ≡ suc (n - (i + 1))
 next n i less = omega (arith, less)
 
@@ -99,12 +94,6 @@ contests-broken n rows contests i row rest rule so_far less h =
 pub contests-missing : (n : ℕ) (rows : List Fields) (contests : List Contest) (i : ℕ) → ContestsSoFar n rows contests i [] → i < n →
     contests_in n [] 2 rows ≡ refused B2 (2 + i)
 contests-missing n rows contests i so_far less = so_far.split ∙ ap (λ m. contests_in m contests (2 + i) []) (next n i less)
-
-pub contests-end : (n : ℕ) (rows : List Fields) (contests : List Contest) (rest : List Fields) → ContestsSoFar n rows contests n rest →
-    (contests_in n [] 2 rows ≡ Ok contests) × (rest ≡ drop n rows)
-contests-end n rows contests rest so_far =
-    let z : n - n ≡ 0 = omega arith in
-    (so_far.split ∙ ap (λ m. contests_in m contests (2 + n) rest) z, sym (so_far.dropped ∙ ap (λ m. drop m rest) z))
 
 -- ---- what holds of contests that are read
 

@@ -89,13 +89,6 @@ are_ballots contests wanted ballots kept k chosen is there =
       distinct = apart.distinct;
     }
 
-pub audited-size : (contest : Contest) → IsTrue (has_audited_size contest.candidates) →
-    (FEWEST_CANDIDATES ≤ length contest.candidates) × (length contest.candidates ≤ MOST_CANDIDATES)
-audited-size contest sized =
-    let n = length contest.candidates in
-    let (few, most) = and_parts (nat_le FEWEST_CANDIDATES n) (nat_le n MOST_CANDIDATES) sized in
-    (leb-true FEWEST_CANDIDATES n few, leb-true n MOST_CANDIDATES most)
-
 pub within-ids : (ids : List (List Id)) (contests : List Contest) (ballots : List Ballot) (k : ℕ) → ids ≡ noted ballots contests → k < length contests →
     k < length ids
 within-ids ids contests ballots k e l =
@@ -132,20 +125,6 @@ own_taken contests k ballots kept contest ids part is there e f =
 pub sized-only : (contests : List Contest) (k : ℕ) (chosen : Contest) → WantsAudited contests (One k) → slice_get contests k ≡ Some chosen →
     IsTrue (has_audited_size chosen.candidates)
 sized-only contests k chosen sized there = sized k chosen there (eq-eqb k k refl)
-
-pub wants-only : (contests : List Contest) (k : ℕ) (chosen : Contest) → slice_get contests k ≡ Some chosen → IsTrue (has_audited_size chosen.candidates) →
-    WantsAudited contests (One k)
-wants-only contests k chosen there sized place contest at wanted =
-    let e : place ≡ k = eqb-true place k wanted in
-    let same = same_at contests k contest chosen (sym (ap (slice_get contests) e) ∙ at) there in
-    subst (λ (c : Contest). IsTrue (has_audited_size c.candidates)) (sym same) sized
-
-pub audited-sized : (o : Option Contest) (chosen : Contest) → audited_contest o ≡ Ok chosen → IsTrue (has_audited_size chosen.candidates)
-audited-sized None chosen h = absurd cc
-audited-sized (Some c) chosen h = by (has_audited_size c.candidates) refl h where
-  by : (b : Bool) → has_audited_size c.candidates ≡ b → (if b then Ok c else refused B3 c.at) ≡ Ok chosen → IsTrue (has_audited_size chosen.candidates)
-  by true e g = let s : c ≡ chosen = cc in ap (λ (x : Contest). has_audited_size x.candidates) (sym s) ∙ e
-  by false e g = absurd cc
 
 pub all-wanted : (contests all : List Contest) → unless_unsized all (find (λ (c : Contest). not (has_audited_size c.candidates)) contests) ≡ Ok all →
     WantsAudited contests EachContest

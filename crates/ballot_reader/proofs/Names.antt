@@ -13,9 +13,6 @@ pub record NamesSoFar (ids names rest : List Id) : Type 0 where
   pub valid : list_all is_name names ≡ true
   pub differ : all_differ names ≡ true
 
-pub names-none : (ids : List Id) → NamesSoFar ids [] ids
-names-none ids = record { split = refl; valid = refl; differ = refl }
-
 pub names-more : (ids names : List Id) (name : Id) (rest : List Id) → NamesSoFar ids names (name ∷ rest) → is_name name ≡ true → is_among names name ≡ false
     → NamesSoFar ids (names ++ name ∷ []) rest
 names-more ids names name rest so_far valid new = record {
@@ -36,10 +33,6 @@ names-repeated ids names name rest so_far again =
 pub names-invalid : (ids names : List Id) (field : Id) (rest : List Id) → NamesSoFar ids names (field ∷ rest) → is_name field ≡ false → names_of ids ≡ None
 names-invalid ids names field rest so_far invalid =
     ap names_of so_far.split ∙ rw (list_all-append is_name names (field ∷ rest), so_far.valid, invalid) refl
-
-pub names-end : (ids names : List Id) → NamesSoFar ids names [] → names_of ids ≡ Some names
-names-end ids names so_far =
-    ap names_of (so_far.split ∙ Rattle.std.proofs.lemmas.List.append-nil names) ∙ rw (so_far.valid, so_far.differ) refl
 
 -- ---- the first so many fields, one after the other
 

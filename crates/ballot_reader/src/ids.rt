@@ -60,7 +60,7 @@ impl Ids {
         false
     }
 
-    // Puts the id last. Ids of more than 2 ^ 32 bytes in all are want of memory.
+    // Puts the id last. More than `u32::MAX` bytes in all are want of memory.
     pub(crate) fn push(&mut self, id: &[u8]) -> Result<(), Memory>
         ensures pushed { OnOk result (self.new ≡ self.old ++ id.now ∷ []) }
         ensures same { OnErr result (self.new ≡ self.old) }

@@ -139,25 +139,6 @@ module _ (bag : Kept) (nodes : ℕ) (tails : List Suffix) (race : SharedRace) (s
     spent = spent_now;
   }
 
--- nobody yet
-pub join_none : (bag : Kept) (nodes : ℕ) (tails : List Suffix) (race : SharedRace) (start : Best) (j : Joined) → j.seats.items ≡ [] → j.ends.items ≡ [] →
-    j.reports.items ≡ [] → j.best ≡ start → j.spent ≡ None →
-    IsJoined bag nodes tails race start j
-join_none bag nodes tails race start j seats ends reports best spent = record {
-  of_race = All-same (λ (s : Seated). s.race ≡ race.id) j.seats.items [] seats (All-nil (λ (s : Seated). s.race ≡ race.id));
-  done = All-same (λ (s : Seated). 1 ≤ s.view.ends) j.seats.items [] seats (All-nil (λ (s : Seated). 1 ≤ s.view.ends));
-  count = ap length reports ∙ sym (ap length seats);
-  paced = All-same IsPaced j.reports.items [] reports (All-nil IsPaced);
-  least = λ fits. ap (λ (b : Best). b.margin) best ∙ sym (ap (λ (xs : List Seated). least_posted start.margin (views_of xs)) seats);
-  best = inl best;
-  took = ap (map (λ (p : PieceEnd). p.piece)) ends ∙ sym (ap (λ (xs : List Seated). taken_pieces (views_of xs)) seats);
-  entries = All-same (IsEntryOfOne bag race.terms.first nodes (length j.reports.items) tails) j.ends.items [] ends
-      (All-nil (IsEntryOfOne bag race.terms.first nodes (length j.reports.items) tails));
-  reports = λ w d low. absurd (let none = ap length reports in omega arith);
-  spent = subst (λ o. MatchOption o (All (IsClosedUnder bag j.seats.items) j.ends.items) (IsCostly bag race.terms.first nodes tails)) (sym spent)
-      (All-same (IsClosedUnder bag j.seats.items) j.ends.items [] ends (All-nil (IsClosedUnder bag j.seats.items)));
-}
-
 -- ---- the next of the team
 middle : {X : Type 0} (before rest : List X) (x d : X) → get_or (before ++ x ∷ rest) (length before) d ≡ x
 middle [] rest x d = refl

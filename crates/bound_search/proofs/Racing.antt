@@ -37,15 +37,6 @@ IsUnder bag first f = (done : List (List ℕ)) × IsAfter bag done f × ((record
 pub under_front : (bag : Kept) (first : ℕ) (f : Frontier) → IsUnder bag first f → IsFront bag f
 under_front bag first f (done, k, below) = (done, k)
 
-pub under_start : (bag : Kept) (first : ℕ) (f : Frontier) → IsFront bag f → f.expanded ≡ 0 → IsUnder bag first f
-under_start bag first f (done, k) none =
-    let empty : done ≡ [] = nil_from_length done (k.count ∙ none) in (
-      done,
-      k,
-      λ records of. subst (All (λ s. low bag.n records s < work_limit bag.n records first f.piece.list)) (sym empty)
-          (All-nil (λ s. low bag.n records s < work_limit bag.n records first f.piece.list)),
-    )
-
 -- what is below the bound and within the orders of the piece is in its work
 in_work : (bag : Kept) (records : List (List ℕ)) (first bound : ℕ) (piece s : List ℕ) → is_suffix bag.n piece ≡ true → bound ≤ first →
     low bag.n records s < bound → IsWithin bag records piece s →

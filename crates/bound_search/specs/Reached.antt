@@ -24,11 +24,6 @@ pub record IsReached (bag : Kept) (winner : ℕ) (e : Best) : Type 0 where
   pub alternative : IsAlternative bag.n winner e.order
   pub hardness : (records : List (List ℕ)) → IsOf bag records → low bag.n records e.order ≡ e.margin
 
--- the margin is no more than the hardness of the start order
-abbrev pub IsUpper : Kept → List ℕ → ℕ → Type 0
-IsUpper bag order margin =
-    (records : List (List ℕ)) → IsOf bag records → margin ≤ first_bound bag.n records order
-
 -- no order of the piece is less hard than the margin
 abbrev pub IsLeastOf : Kept → List ℕ → ℕ → Type 0
 IsLeastOf bag piece margin =

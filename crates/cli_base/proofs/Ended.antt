@@ -13,19 +13,6 @@ use Rattle.cli_base.proofs.AmongKinds.{among, is_among}
 
 -- ---- a file that is refused
 
-pub refusal_of : {A Why : Type 0} (told : Why → Verdict) (name : List ℕ) (read : Result A Why) (why : Why) (rule text : List ℕ) (at : ℕ) (refusal : Refusal) →
-    read ≡ Err why → outcome (told why) ≡ file_refusal Input name (broken_at rule at) →
-    text ≡ rule → IsOrMemory (file_refusal Input name (broken_at text at)) (due_refusal refusal) → IsReadAs told read (Err refusal)
-refusal_of told name read why rule text at refusal is shown named (inl due) =
-    inl (why, is, due ∙ ap (λ t. file_refusal Input name (broken_at t at)) named ∙ sym shown)
-refusal_of told name read why rule text at refusal is shown named (inr memory) = inr memory
-
-pub refused_in : {A Why : Type 0} (told : Why → Verdict) (ends : Result A Why → Verdict → Type 0) (read : Result A Why) (refusal : Refusal) →
-    ((why : Why) → ends (Err why) (told why)) →
-    IsReadAs told read (Err refusal) → IsOneOrMemory (ends read) (due_refusal refusal)
-refused_in told ends read refusal each (inl (why, is, due)) = inl (told why, subst (λ r. ends r (told why)) (sym is) (each why), due)
-refused_in told ends read refusal each (inr memory) = inr memory
-
 -- ---- the bytes of a text
 
 pub bytes_of : (bytes : Vec ℕ Global) (text : String Global) → bytes ≡ string_vec text → bytes.items ≡ string_bytes text
@@ -39,9 +26,6 @@ told_as verdicts verdict due holds (inl (v, is, ends)) = inl (verdict, holds, en
 told_as verdicts verdict due holds (inr memory) = inr memory
 
 -- ---- answers of a kind
-
-pub ended_as : (verdicts : Verdict → Type 0) (verdict : Verdict) → verdicts verdict → IsOneOrMemory verdicts (outcome verdict)
-ended_as verdicts verdict holds = inl (verdict, holds, refl)
 
 pub one-same : (texts : List ℕ → Type 0) (kind : AnswerKind) → ((text other : List ℕ) → texts text → texts other → text ≡ other) → (v w : Verdict) →
     One texts kind v → One texts kind w → v ≡ w

@@ -14,10 +14,6 @@ status_in due = due.status
 pub differ : (m n : ℕ) → m ≡ n → nat_eq m n ≡ false → ⊥
 differ m n e test = let yes : nat_eq m n ≡ true = eq-eqb m n e in cc (yes, test)
 
--- the end isn't of this status
-pub not_so : (m n : ℕ) (verdict : Verdict) (due : Outcome) → due ≡ outcome verdict → status_in (outcome verdict) ≡ m → due.status ≡ n → nat_eq m n ≡ false → ⊥
-not_so m n verdict due ends is ended other = differ m n (sym is ∙ sym (ap status_in ends) ∙ ended) other
-
 pub free : (n : ℕ) → nat_eq n 7 ≡ false → nat_eq n 8 ≡ false → nat_eq n 9 ≡ false → IsUndone n → ⊥
 free n a b c (inl e) = differ n 7 e a
 free n a b c (inr (inl e)) = differ n 8 e b

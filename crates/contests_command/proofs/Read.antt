@@ -78,12 +78,3 @@ pub contests_are : (bytes : List ℕ) (list : List BallotFile) → contests_of b
 contests_are bytes list h = contests-from (numbered_records bytes) list h
 
 -- ---- what is seen
-
-pub one_for_each : (batches : Batches) (list : List BallotFile) (bytes : List ℕ) (seen : List (List Entry)) → seen_by batches list bytes ≡ Ok seen →
-    length seen ≡ length list
-one_for_each batches list bytes seen h = by _ h where
-  by : (o : Result (List ContestEntry) Refusal) → for_each_contest list o ≡ Ok seen → length seen ≡ length list
-  by (Ok entries) g =
-      let is : map (λ (ballots : BallotFile). entries_for ballots.contest entries) list ≡ seen = cc in
-      sym (ap length is) ∙ length-map list (λ (ballots : BallotFile). entries_for ballots.contest entries)
-  by (Err refusal) g = absurd cc

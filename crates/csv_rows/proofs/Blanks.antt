@@ -39,12 +39,6 @@ blank-front b [] h = refl
 blank-front b (field ∷ []) h = rw h refl
 blank-front b (field ∷ next ∷ rest) h = refl
 
-pub blank-more : (b : ℕ) (text : List ℕ) → is_line_end b ≡ false → is_blank b ≡ true → blank (b ∷ text) ≡ blank text
-blank-more b text on h = rw (on, blank-comma b h) (blank-front b (fields_in text) h)
-
-pub blank-end : (b : ℕ) (text : List ℕ) → is_line_end b ≡ true → blank (b ∷ text) ≡ true
-blank-end b text line = rw line refl
-
 stays : (b : ℕ) (field : List ℕ) → is_blank b ≡ false → trimmed (b ∷ field) ≡ b ∷ trimmed_end field
 stays b field h = ap trimmed_end (start h) ∙ end h where
   start : is_blank b ≡ false → trimmed_start (b ∷ field) ≡ b ∷ field
@@ -73,9 +67,3 @@ count-front b (field ∷ fields) = refl
 
 pub count-end : (b : ℕ) (text : List ℕ) → is_line_end b ≡ true → length (fields_in (b ∷ text)) ≡ 1
 count-end b text line = rw line refl
-
-pub count-comma : (b : ℕ) (text : List ℕ) → b ≡ 44 → length (fields_in (b ∷ text)) ≡ length (fields_in text) + 1
-count-comma b text h = subst (λ n. length (fields_in (n ∷ text)) ≡ length (fields_in text) + 1) (sym h) (omega arith)
-
-pub count-more : (b : ℕ) (text : List ℕ) → is_line_end b ≡ false → (b == 44) ≡ false → length (fields_in (b ∷ text)) ≡ length (fields_in text)
-count-more b text on other = rw (on, other) (count-front b (fields_in text))

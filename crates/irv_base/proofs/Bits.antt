@@ -10,7 +10,7 @@ use Rattle.irv_base.specs.Candidates.{has}
 pub one_bit : (c : ℕ) → c < 32 → 1 * 2 ^ c % 4294967296 ≡ 2 ^ c
 one_bit c l = let small : 1 * 2 ^ c < 4294967296 = omega (arith, pow_below c 32 l) in mod-eq_of_lt small ∙ omega arith
 
-or-false : (b : Bool) → (b || false) ≡ b
+pub or-false : (b : Bool) → (b || false) ≡ b
 or-false true = refl
 or-false false = refl
 
@@ -57,12 +57,4 @@ has-without s c d h =
           let bit : bit_at (bit_xor s (2 ^ c)) d ≡ bit_at s d = bit_at_xor s (2 ^ c) d ∙ ap (λ x. (bit_at s d + x) % 2) none ∙ mod-eq_of_lt small
           ∙ omega arith in
           ap (λ x. x == 1) bit ∙ sym (ap (λ b. has s d && not b) (ne_eqb d c ne) ∙ and-true (has s d))
-    ]
-
--- of no member
-pub has-stays : (s c d : ℕ) → has s c ≡ false → has s d ≡ (has s d && not (d == c))
-has-stays s c d h =
-    elim (cases_eq d c) [
-      | inl e ↦ let out : has s d ≡ false = ap (has s) e ∙ h in out ∙ sym (ap (λ b. b && not (d == c)) out)
-      | inr ne ↦ sym (ap (λ b. has s d && not b) (ne_eqb d c ne) ∙ and-true (has s d))
     ]

@@ -6,6 +6,7 @@ use Rattle.std.proofs.lemmas.List.{append-nil, take_more}
 use Rattle.std.proofs.lemmas.List.Elements.{filter-append}
 use Rattle.irv_base.specs.Candidates.{is_in, is_distinct}
 use Rattle.irv_base.specs.Records.{firsts}
+use Rattle.irv_base.proofs.Bits.{or-false as or-none}
 
 or-false : (a b : Bool) → (a || b) ≡ false → (a ≡ false) × (b ≡ false)
 or-false false b h = (refl, h)
@@ -87,12 +88,8 @@ firsts-distinct (c ∷ cs) h =
 
 -- ---- one more
 
-none-more : (b : Bool) → (b || false) ≡ b
-none-more true = refl
-none-more false = refl
-
 pub is_in-push : (cs : List ℕ) (c d : ℕ) → is_in (cs ++ c ∷ []) d ≡ (is_in cs d || (d == c))
-is_in-push [] c d = none-more (c == d) ∙ eqb-sym c d
+is_in-push [] c d = or-none (c == d) ∙ eqb-sym c d
 is_in-push (x ∷ cs) c d = ap (λ b. (x == d) || b) (is_in-push cs c d) ∙ in_turn (x == d) where
   in_turn : (b : Bool) → (b || (is_in cs d || (d == c))) ≡ ((b || is_in cs d) || (d == c))
   in_turn true = refl

@@ -80,9 +80,3 @@ set_of_is s cs d h = same_from_bits s (set_of cs) (λ c. same_bit (bit_at s c) (
           | inl t ↦ eqb-true a 1 (e ∙ t) ∙ sym (eqb-true b 1 t)
           | inr f ↦ let na = eqb-false a 1 (e ∙ f) in let nb = eqb-false b 1 f in omega arith
         ]
-
--- `set | 1 << c`
-pub set_of-push : (cs : List ℕ) (c : ℕ) → Distinct cs → (Member c cs → ⊥) → set_of (cs ++ c ∷ []) ≡ bit_or (set_of cs) (2 ^ c)
-set_of-push cs c d out =
-    let apart : bit_and (set_of cs) (2 ^ c) ≡ 0 = and_pow (set_of cs) c ∙ ap (λ x. x * 2 ^ c) (bit_at-out cs c d out) ∙ omega arith in
-    sum_by_push (λ c. 2 ^ c) cs c ∙ sym (or_disjoint (set_of cs) (2 ^ c) apart)

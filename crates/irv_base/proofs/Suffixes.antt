@@ -72,11 +72,6 @@ drop-zeros (suc n) t = drop-zeros n t
 pub suffix-long : (start set : ℕ) (places now : List ℕ) → IsSuffix start places set → drop start places ≡ now → start + length now ≡ ROOM
 suffix-long start set places now s same = omega (arith, s.few, s.long, ap length same)
 
-pub places-long : (start set : ℕ) (places : List ℕ) → IsSuffix start places set → length places ≡ ROOM
-places-long start set places s =
-    ap length s.padded ∙ length-append (replicate start 0) (drop start places)
-    ∙ omega (arith, length-replicate {A = ℕ} start 0, suffix-long start set places (drop start places) s refl)
-
 -- ---- one more candidate in front
 suffix-proper : (start mask : ℕ) (places now : List ℕ) → IsSuffix start places mask → drop start places ≡ now → is_suffix ROOM now ≡ true
 suffix-proper start mask places now s same = ap (is_suffix ROOM) (sym same) ∙ s.proper

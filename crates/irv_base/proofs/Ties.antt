@@ -73,11 +73,6 @@ tie_and_none n records order o t (round, tied, votes, some, tie) none =
     let same : tie.order ≡ order = tabulated_is_one n records tie.order order tie.permutation tie.tabulated o t in
     both_ways (is_tied records (drop (round - 1) order)) (none (round - 1)) (subst (λ xs. is_tied records (drop (round - 1) xs) ≡ true) same tie.shared)
 
-pub record SameTie (round tied votes round' tied' votes' : ℕ) : Type 0 where
-  pub rounds : round ≡ round'
-  pub who : tied ≡ tied'
-  pub with : votes ≡ votes'
-
 pub first_tie_is_one : (n : ℕ) (records : List (List ℕ)) (round tied votes round' tied' votes' : ℕ) → 1 ≤ round → 1 ≤ round' →
     IsFirstTie n records round tied votes → IsFirstTie n records round' tied' votes' → (round ≡ round') × (tied ≡ tied') × (votes ≡ votes')
 first_tie_is_one n records round tied votes round' tied' votes' l l' t t' =

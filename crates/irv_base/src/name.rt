@@ -108,7 +108,8 @@ impl Name {
         ensures same { result.now ≡ self.now }
         ensures valid { IsTrue (is_name self.now) }
     {
-        str::from_utf8(self.bytes()).unwrap()
+        // ASCII is UTF-8.
+        unsafe { str::from_utf8_unchecked(self.bytes()) }
     }
 }
 

@@ -1,15 +1,13 @@
 // The ranking of a ballot.
 ghost use Rattle.std.specs.Prelude.{◌≡◌, ◌<◌, ◌≤◌, ◌++◌, ◌∷◌, ◌==◌, ◌↔◌, [], true, false, length, position, IsTrue, All};
 ghost use Rattle.std.proofs.Common.{rules};
-ghost use Rattle.std.specs.Hash as fed;
-ghost use Rattle.std.specs.Cmp.Rules.{comparing, hashing};
+ghost use Rattle.std.specs.Cmp.Rules.{comparing};
 ghost use Rattle.std.specs.Cmp.Lexicographic.{pointwise};
 ghost use Rattle.irv_base.specs.Candidates.{is_in, is_distinct};
 ghost use Rattle.irv_base.specs.Records.{firsts, top};
 ghost use Rattle.irv_base.specs.declared.limits.TheConstants.{ROOM};
 
 use crate::{CandSet, Candidate, ROOM};
-use std::hash::{Hash, Hasher};
 use std::marker::Model;
 
 /// The ranking of a ballot: distinct candidates, the most preferred first, possibly none.
@@ -137,14 +135,4 @@ impl PartialEq for Ranking {
 
 impl Eq for Ranking {
     ghost laws = { Prim.search (comparing, rules) };
-}
-
-impl Hash for Ranking {
-    ghost hash_input = { fed.slice fed.u8 };
-
-    ghost respects_eq = { Prim.search (hashing, rules) };
-
-    fn hash<H: Hasher>(&self, state: &mut H) {
-        self.candidates().hash(state);
-    }
 }

@@ -82,9 +82,6 @@ placed (b ∷ ids) (n ∷ counts) i c l v d k h =
           let e : i ≡ n + (i - n) = omega (arith, more) in
           later more (ih (sym (in_rest b 1 n (i - n) (cards_in ids counts)) ∙ ap (slice_get (cards_in (b ∷ ids) (n ∷ counts))) (sym e) ∙ h))
 
-card_of_pair : (card : Card) → card ≡ record { batch = card.batch; k = card.k }
-card_of_pair c = refl
-
 at_place : (batches : Batches) (i : ℕ) (c : Card) → AreBatches batches.ids batches.counts → slice_get (cards_of batches) i ≡ Some c →
     position (has_id (card_id c)) (cards_of batches) ≡ Some i
 at_place batches i c m h = (placed batches.ids batches.counts i c m.a_count_each m.named m.differ m.counted h).placed

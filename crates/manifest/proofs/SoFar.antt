@@ -128,10 +128,6 @@ end_some : (ids : List Id) (counts : List ℕ) → 1 ≤ length ids → at_end i
 end_some [] counts h = absurd (omega (arith, h))
 end_some (id ∷ ids) counts h = refl
 
-pub ends_empty : (rows : List Fields) (ids : List Id) (counts firsts : List ℕ) (cards : ℕ) → BatchesSoFar rows ids counts firsts cards [] →
-    length counts ≡ 0 → batches_after [] [] 2 rows ≡ refused M6 1
-ends_empty rows ids counts firsts cards so_far h = so_far.split ∙ end_none ids counts (omega (arith, so_far.batches.a_count_each, h))
-
 pub ends : (rows : List Fields) (ids : List Id) (counts firsts : List ℕ) (cards : ℕ) → BatchesSoFar rows ids counts firsts cards [] → 1 ≤ length counts
     → (batches_after [] [] 2 rows ≡ Ok (record { ids = ids; counts = counts })) × IsManifest ids counts firsts cards
 ends rows ids counts firsts cards so_far h =

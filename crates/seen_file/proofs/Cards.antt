@@ -96,13 +96,3 @@ absent (e ∷ entries) card none m = elim (member_cases m) [
     | inr f ↦ absent entries card (sym (ap (λ b. cond b (Some e.1) (lookup (nat_eq card) entries)) f) ∙ none) there
   ]
 ]
-
--- cards are numbered from 1
-pub place_within : (cards : List Card) (id : Id) (place : ℕ) → place_of cards id ≡ Some place → (1 ≤ place) × (place ≤ length cards)
-place_within cards id place h = by (position (λ card. is_same (card_id card) id) cards) refl h where
-  by : (o : Option ℕ) → position (λ card. is_same (card_id card) id) cards ≡ o → option_map (λ i. i + 1) o ≡ Some place → (1 ≤ place) × (place ≤ length cards)
-  by None e f = absurd cc
-  by (Some i) e f =
-      let is : i + 1 ≡ place = cc in
-      let below = (position-Some (λ card. is_same (card_id card) id) cards i (record { batch = []; k = 0 }) e).0 in
-      (omega arith, omega arith)

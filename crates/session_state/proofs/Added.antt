@@ -40,29 +40,6 @@ added content round sound is later most =
       };
     }
 
--- a session that begins is sound
-pub begun-sound : (contest : Id) (cards : ℕ) (margins seed : List ℕ) (limit gamma : ℕ) (digests : Digests) →
-    1 ≤ length margins → All (λ margin. (1 ≤ margin) × (margin ≤ cards)) margins → cards ≤ MOST_CARDS →
-    1 ≤ limit → limit ≤ GREATEST_LIMIT → 1 ≤ gamma → gamma ≤ GREATEST_GAMMA → IsSound (begun_with contest cards margins seed limit gamma digests)
-begun-sound contest cards margins seed limit gamma digests some fit few some_limit most_limit some_gamma most_gamma =
-    let session = (begun_with contest cards margins seed limit gamma digests).session in
-    record {
-      limits = record {
-        most_cards = few;
-        some_limit = some_limit;
-        most_limit = most_limit;
-        some_gamma = some_gamma;
-        most_gamma = most_gamma;
-        most_draws = All-nil (λ round. round.draws ≤ MOST_DRAWS);
-      };
-      session = record {
-        some = some;
-        margins = fit;
-        rising = λ i j d before within. absurd (omega arith);
-        rounds = All-nil (IsRound session);
-      };
-    }
-
 -- the margins of a file are at least one vote
 pub margins-fit : (cards n records : ℕ) (file : FileContent) → All (λ claim. claim.margin ≤ cards) file.claims → All (IsSoundClaim n records) file.claims →
     All (λ margin. (1 ≤ margin) × (margin ≤ cards)) (margins_of file)

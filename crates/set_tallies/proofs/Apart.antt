@@ -119,9 +119,6 @@ single (x ∷ []) h =
     ap (λ v. v ∷ []) (sym one)
 single (x ∷ y ∷ rest) h = absurd (omega arith)
 
-pub long-sums : (table : List ℕ) → length (sums_of table) ≡ length table
-long-sums table = length-map-range_with_len (λ s. apart s table) 0 (length table)
-
 pub sum-at : (table : List ℕ) (i : ℕ) → i < length table → get_or (sums_of table) i 0 ≡ apart i table
 sum-at table i l = get_or-map-range_with_len (λ s. apart s table) 0 (length table) i i 0 (omega (arith, l)) (omega arith)
 

@@ -29,19 +29,6 @@ count-none p [] h = refl
 count-none p (x ∷ xs) h = sum_by-cons (λ y. cond (p y) 1 0) x xs ∙ ap₂ (λ b n. cond b 1 0 + n) (h x) (count-none p xs h)
 
 -- ---- the entries of each candidate
-pub lists-say : (n : ℕ) (lists : List (List Entry)) (records : List (List ℕ)) → length lists ≡ n → AllCounted lists records → (set c : ℕ) → c < n →
-    missing set (get_or lists c []) ≡ count_by (has_missed set c) records
-lists-say n lists records long h set c l = (h c (omega (arith, long, l))).missing set
-
-pub are-entries : (n : ℕ) (lists : List (List Entry)) (records : List (List ℕ)) → length lists ≡ n → AllCounted lists records →
-    AreEntries n (length records) lists
-are-entries n lists records long h = record {
-  one_each = long;
-  few = λ k d l. subst (λ es. total es ≤ length records) (get_or_default lists k [] d l) (h k l).few;
-}
-
-pub more-entries : (n a b : ℕ) (lists : List (List Entry)) → a ≤ b → AreEntries n a lists → AreEntries n b lists
-more-entries n a b lists le h = record { one_each = h.one_each; few = λ k d l. omega (arith, h.few k d l, le) }
 
 -- ---- what the numbers of a bag say
 pub votes-read : (n : ℕ) (f : ℕ → ℕ → ℕ) (set c : ℕ) → set < 2 ^ n → c < n → get_or (get_or (all_votes n f) set []) c 0 ≡ f set c

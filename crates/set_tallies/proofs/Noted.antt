@@ -67,10 +67,6 @@ one-counted n lists others records i ranking long l at noted h c m = record {
         ∙ ap₂ (λ x y. x + cond (has_missed set c y) 1 0) ((h c own).missing set) at
         ∙ sym (sum_by_more (λ r. cond (has_missed set c r) 1 0) records i ranking l)
 
-pub few-noted : (most : ℕ) (lists : List (List Entry)) (records : List (List ℕ)) → length records ≤ most → AllCounted lists records →
-    All (λ entries. total entries ≤ most) lists
-few-noted most lists records le h k d l = omega (arith, ap total (get_or_default lists k [] d l), (h k l).few, le)
-
 -- ---- joined
 pub next-few : {X : Type 0} (P : List Entry → Type 0) (f : X → List Entry) (xs before rest : List X) (x : X) → xs ≡ before ++ x ∷ rest → All P (map f xs) → P (f x)
 next-few P f xs before rest x whole h =
@@ -90,13 +86,3 @@ joined-push lists others entries joined h last = record {
         (subst (SayTheSame entries) (sym (get_or_push others joined [] c (h.each ∙ at))) last)
   ];
 }
-
-pub counted-joined : (lists others : List (List Entry)) (records : List (List ℕ)) → AllSayTheSame lists others → AllCounted lists records →
-    AllCounted others records
-counted-joined lists others records same h c l =
-    let own : c < length lists = omega (arith, l, same.each) in
-    let joined = same.same c own in
-    record {
-      missing = λ set. joined.missing set ∙ (h c own).missing set;
-      few = omega (arith, joined.total, (h c own).few);
-    }

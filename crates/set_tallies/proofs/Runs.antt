@@ -51,9 +51,6 @@ joined entries runs run i all h = record {
   total = h.total ∙ ap total (take_all i entries all);
 }
 
-pub total-push : (entries : List Entry) (run : Entry) → total (entries ++ run ∷ []) ≡ total entries + run.count
-total-push entries run = sum_by_push (λ e. e.count) entries run
-
 -- the votes so far and the next count are within the total
 pub votes-within : (set : ℕ) (entries : List Entry) (i : ℕ) (d : Entry) → i < length entries →
     missing set (take i entries) + (get_or entries i d).count ≤ total entries
@@ -64,10 +61,6 @@ votes-within set entries i d l =
     part true n = omega arith
     part false n = omega arith
 
--- the counts so far and the next one are within the total
-pub counts-within : (entries : List Entry) (i : ℕ) (d : Entry) → i < length entries → total (take i entries) + (get_or entries i d).count ≤ total entries
-counts-within entries i d l = sum_by_more_le_part (λ e. e.count) (λ e. e.count) entries i d l (λ e. omega arith)
-
 -- ---- sorted and joined
 pub sorted-same : (entries sorted seen runs : List Entry) → IsPermutation entries sorted → seen ≡ sorted → SayTheSame seen runs → SayTheSame entries runs
 sorted-same entries sorted seen runs p s same = record {
@@ -76,21 +69,6 @@ sorted-same entries sorted seen runs p s same = record {
 }
 
 -- ---- one ballot more
-
--- in the entry of the set
-pub one-here : (entries : List Entry) (i before : ℕ) (e : Entry) → i < length entries → e ≡ get_or entries i e → e.before ≡ before →
-    HasOneMore before entries (set entries i (record { before = e.before; count = e.count + 1 }))
-one-here entries i before e l at same s =
-    let apiece : votes s longer ≡ votes s e + cond (misses s before) 1 0 = both (misses s e.before) e.count
-    ∙ ap (λ b. votes s e + cond (misses s b) 1 0) same in
-    omega (arith, sum_by-set (votes s) entries i longer e l, ap (votes s) at, apiece)
-  where
-    longer : Entry
-    longer = record { before = e.before; count = e.count + 1 }
-
-    both : (b : Bool) (m : ℕ) → cond b (m + 1) 0 ≡ cond b m 0 + cond b 1 0
-    both true m = refl
-    both false m = refl
 
 -- in a new entry
 pub one-new : (entries others : List Entry) (before : ℕ) → others ≡ entries ++ record { before = before; count = 1 } ∷ [] → HasOneMore before entries others

@@ -125,6 +125,3 @@ join_allowed t id other v w left s h at apart there =
     let there' : slice_get s.views other ≡ Some w = sym (slice_get-set_other s.views id other (joined v w) apart)
     ∙ at_place (set s.views id (joined v w)) other w there in
     (h.0, h.1, join_keeps t h.1 (moment_of s) id v h.2 here other w there' apart left)
-
-pub opening_allowed : (t : Terms) → AreTerms t → 1 ≤ t.workers → Holds t (opening (0 ∷ t.first ∷ []) [] (new_view t.workers))
-opening_allowed t fits some_worker = (refl, fits, opening_keeps t fits some_worker)

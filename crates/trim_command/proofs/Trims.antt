@@ -162,17 +162,6 @@ done-answer budget ballots file due (inr memory) zero' =
     let nine : due.status ≡ 9 = ap (λ (o : Outcome). o.status) memory in
     absurd (omega (arith, nine, zero'))
 
-pub other-due : (budget : Budget) (ballots : BallotFile) (file : Content) (due : Outcome) → IsOneOrMemory (Checks budget ballots file) due → due.status ≢ 0 →
-    IsOneOrMemory (Trims budget ballots file) due
-other-due budget ballots file due (inl (verdict, checks, e)) ne =
-    inl (verdict, other-checked budget ballots file verdict checks (λ zero'. ne (ap (λ (o : Outcome). o.status) e ∙ zero')), e)
-other-due budget ballots file due (inr memory) ne = inr memory
-
-pub accepted-due : (budget : Budget) (ballots : BallotFile) (file : Content) (due : Outcome) → IsAnswer budget ballots file (Ok Accepted) →
-    IsOneOrMemory (λ verdict. trim_verdict file (trimmed budget file) ≡ Some verdict) due → IsOneOrMemory (Trims budget ballots file) due
-accepted-due budget ballots file due is (inl (verdict, told, e)) = inl (verdict, (Ok Accepted, is, told), e)
-accepted-due budget ballots file due is (inr memory) = inr memory
-
 -- what is told of a file that was read
 pub told-ok : {A Why : Type 0} (words : Why → Verdict) (read : Result A Why) (value : A) → told words read ≡ Ok value → read ≡ Ok value
 told-ok words (Ok other) value e = let same : other ≡ value = cc in ap Ok same

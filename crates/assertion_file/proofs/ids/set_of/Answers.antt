@@ -6,7 +6,8 @@ use Rattle.irv_base.specs.Names.{is_among, is_same}
 use Rattle.irv_base.proofs.Distinct.{distinct-from_test}
 use Rattle.irv_base.proofs.Sets.{set_of_is}
 use Rattle.assertion_file.specs.Ids.{number_of, numbers_of}
-use Rattle.assertion_file.proofs.Differ.{in-more, repeats-more}
+use Rattle.irv_base.proofs.Firsts.{is_in-push}
+use Rattle.assertion_file.proofs.Differ.{repeats-more}
 use Rattle.irv_base.proofs.Positions.{stands_at, stands_nowhere}
 use Rattle.assertion_file.proofs.Listed.{texts, next, outside, one_more, map-next, all_taken}
 use Rattle.assertion_file.proofs.ids.set_of.Goals as goal
@@ -32,7 +33,7 @@ loop-id-preserved c =
       among = one_more (is_among names) all i _ n c.loop-id.invariant.among (ap (is_among names) (sym c.text_of.ensures) ∙ stands.among);
       members = λ d.
           c.with-set.ensures.members d ∙ ap (λ b. b || (d == c.in-Some.c)) (c.loop-id.invariant.members d)
-          ∙ sym (ap (λ cs. is_in cs d) numbers ∙ in-more so_far c.in-Some.c d);
+          ∙ sym (ap (λ cs. is_in cs d) numbers ∙ is_in-push so_far c.in-Some.c d);
       repeated =
           repeats-more so_far c.in-Some.c c.loop-id.repeats c.has-repeats.result c.loop-id.invariant.repeated (c.has-repeats.ensures
           ∙ c.loop-id.invariant.members c.in-Some.c)

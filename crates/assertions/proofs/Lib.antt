@@ -30,3 +30,5 @@ pub mod Scored
 pub mod Few
 pub mod Rows
 pub mod Counts
+pub mod Agreeing
+pub mod Anew

@@ -8,4 +8,5 @@ pub mod Certificate
 pub mod Assorter
 pub mod Scores
 pub mod Contests
+pub mod Steps
 pub mod Laws

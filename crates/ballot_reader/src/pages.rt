@@ -1,8 +1,9 @@
 // Ids on pages, that can be told from many others without a comparison.
-ghost use Rattle.std.specs.Prelude.{◌≡◌, ◌<◌, ℕ, IfOk, OnOk, IsTrue, false, not};
+ghost use Rattle.std.specs.Prelude.{◌≡◌, ◌<◌, ◌≤◌, ℕ, IfOk, OnOk, IsTrue, false, length, not};
 ghost use Rattle.irv_base.specs.Names.{Id};
 ghost use Rattle.ballot_reader.specs.Ids.{bit_of, counted, digest, is_marked_on, is_paged, number_behind, page_number};
 ghost use Rattle.ballot_reader.specs.declared.page.TheConstants.{PAGE_BITS};
+ghost use Rattle.ballot_reader.specs.declared.pages.TheConstants.{COUNTED_BYTES};
 
 use crate::page::{PAGE_BITS, Page};
 use irv_base::Memory;
@@ -45,11 +46,29 @@ fn number_of(bytes: &[u8]) -> u64
     n
 }
 
+// The number that the last `COUNTED_BYTES` bytes are. The loop has a known end, so it is none once it is built.
+fn number_of_last(id: &[u8]) -> u64
+    requires { COUNTED_BYTES ≤ length id.now }
+    ensures { result ≡ counted id.now }
+{
+    let first = id.len() - COUNTED_BYTES;
+    let mut n: u64 = 0;
+    for i in 0..COUNTED_BYTES {
+        n = n
+            .wrapping_mul(1 << 8)
+            .wrapping_add(u64::from(id[first + i]));
+    }
+    n
+}
+
 // What the last bytes of an id count.
 fn counted(id: &[u8]) -> u64
     ensures { result ≡ counted id.now }
 {
-    number_of(&id[id.len().saturating_sub(COUNTED_BYTES)..])
+    if id.len() < COUNTED_BYTES {
+        return number_of(id);
+    }
+    number_of_last(id)
 }
 
 // The number of the page of an id whose last bytes count so much.

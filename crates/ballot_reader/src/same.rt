@@ -28,6 +28,18 @@ fn number_of_8(bytes: &[u8], at: usize) -> u64
     ])
 }
 
+// Whether two ids of the same 1 to 3 bytes are the same: their first is, the one in the middle, and their last.
+fn is_same_by_1(a: &[u8], b: &[u8]) -> bool
+    requires long { length a.now ≡ length b.now }
+    requires fewest { 1 ≤ length a.now }
+    requires most { length a.now ≤ 3 }
+    ensures { result ≡ is_same a.now b.now }
+{
+    let middle = a.len() / 2;
+    let last = a.len() - 1;
+    a[0] == b[0] && a[middle] == b[middle] && a[last] == b[last]
+}
+
 // Whether two ids of the same 4 to 8 bytes are the same: their first four are, and their last.
 fn is_same_by_4(a: &[u8], b: &[u8]) -> bool
     requires long { length a.now ≡ length b.now }
@@ -57,6 +69,9 @@ pub fn is_same(a: &[u8], b: &[u8]) -> bool
     let n = a.len();
     if n != b.len() {
         return false;
+    }
+    if (1..=3).contains(&n) {
+        return is_same_by_1(a, b);
     }
     if (4..=8).contains(&n) {
         return is_same_by_4(a, b);

@@ -15,7 +15,7 @@ use Rattle.assertions.specs.Hardness.{low, refuter}
 use Rattle.assertions.specs.Scores.{score_of}
 use Rattle.assertions.specs.Certificate.{claim_of}
 use Rattle.assertions.proofs.Sorted.{Sorted, none, more}
-use Rattle.assertions.proofs.FixedOrders.{Before, before-either}
+use Rattle.assertions.proofs.FixedOrders.{Before, before-either, before-not_both}
 use Rattle.assertions.proofs.Ords.{cmp-Less, cmp-Equal, fixed_order_is_total}
 use Rattle.assertions.proofs.Lows.{from_refuter}
 use Rattle.certifier.specs.Gathered.{with_margin, gathered, with_all, claim_at}
@@ -70,6 +70,26 @@ insert-sorted (x ∷ xs) k (more first r) = go (order k x) refl (insert-sorted x
       let l : Before x k = order-after k x e in
       more {x = x} {xs = insert_key order xs k} (λ y m. elim (from_insert xs k y m) [ inl s ↦ subst (Before x) s l | inr n ↦ first y n ]) ih
 
+-- one that is there already
+insert-stays : (ks : List Assertion) (k : Assertion) → Sorted Before ks → Member k ks → insert_key order ks k ≡ ks
+insert-stays [] k none m = absurd (member_nil m)
+insert-stays (x ∷ xs) k (more first r) m = go (order k x) refl (insert-stays xs k r) where
+  go : (o : Ordering) → order k x ≡ o → (Member k xs → insert_key order xs k ≡ xs) →
+      match_ordering o (k ∷ x ∷ xs) (x ∷ xs) (x ∷ insert_key order xs k) ≡ x ∷ xs
+  go Less e ih =
+      let l : Before k x = (cmp-Less k x).0 e in
+      elim (member_cases m) [
+        | inl same ↦ absurd (before-not_both k x l (subst (λ z. Before z k) (sym same) (subst (Before k) same l)))
+        | inr later ↦ absurd (before-not_both k x l (first k later))
+      ]
+  go Equal e ih = refl
+  go Greater e ih =
+      let l : Before x k = order-after k x e in
+      elim (member_cases m) [
+        | inl same ↦ absurd (before-not_both x k l (subst (Before k) (sym same) (subst (λ z. Before z k) same l)))
+        | inr later ↦ ap (λ r. x ∷ r) (ih later)
+      ]
+
 -- ---- putting in the refuters of suffixes
 abbrev with_key : List Assertion → Option Assertion → List Assertion
 with_key ks None = ks
@@ -104,6 +124,14 @@ module _ {X : Type 0} (by : X → Option Assertion) where
     go : (o : Option Assertion) → Member a (with_key ks o)
     go None = m
     go (Some b) = insert-keeps ks b a m
+
+  pub keys-stay : (ks : List Assertion) (xs : List X) → Sorted Before ks → ((x : X) (a : Assertion) → Member x xs → by x ≡ Some a → Member a ks) →
+      keys_of ks xs ≡ ks
+  keys-stay ks [] r h = refl
+  keys-stay ks (x ∷ xs) r h = ap (λ js. keys_of js xs) (go (by x) refl) ∙ keys-stay ks xs r (λ y a m. h y a (there m)) where
+    go : (o : Option Assertion) → by x ≡ o → with_key ks o ≡ ks
+    go None e = refl
+    go (Some a) e = insert-stays ks a r (h x a here e)
 
   pub keys-member : (ks : List Assertion) (xs : List X) (s : X) (a : Assertion) → Member s xs → by s ≡ Some a → Member a (keys_of ks xs)
   keys-member ks [] s a m e = absurd (member_nil m)
@@ -141,6 +169,13 @@ module _ (n : ℕ) (records : List (List ℕ)) where
   gathered-marked ks [] = refl
   gathered-marked ks (s ∷ suffixes) =
       ap (λ es. gathered order (score_of n records) es suffixes) (margin-marked ks s) ∙ gathered-marked (with_key ks (refuter n records s)) suffixes
+
+  -- the entries have one list of keys
+  pub marked-one : (ks js : List Assertion) → map marked ks ≡ map marked js → ks ≡ js
+  marked-one ks js e = sym (firsts ks) ∙ ap (map (λ (entry : Assertion × ℕ). entry.0)) e ∙ firsts js where
+    firsts : (is : List Assertion) → map (λ (entry : Assertion × ℕ). entry.0) (map marked is) ≡ is
+    firsts [] = refl
+    firsts (i ∷ is) = ap (λ r. i ∷ r) (firsts is)
 
   pub map-marked : (ks : List Assertion) → map claim_at (map marked ks) ≡ map (claim_of records) ks
   map-marked [] = refl

@@ -17,7 +17,7 @@ use Rattle.irv_base.proofs.Suffixes.{suffix_more, suffix-head}
 use Rattle.suffix_walk.specs.Kept.{is_parent_kept, all_ending}
 use Rattle.suffix_walk.proofs.Runs.{child, all_ending-step, all_ending-whole}
 use Rattle.certifier.specs.Gathered.{with_score, gathered}
-use Rattle.certifier.specs.Walks.{is_under, ends_in}
+use Rattle.certifier.specs.Walks.{is_under, ends_in, kept_ends}
 
 filter-none : (p : List ℕ → Bool) (xs : List (List ℕ)) → ((x : List ℕ) → Member x xs → p x ≡ false) → filter p xs ≡ []
 filter-none p [] h = refl
@@ -27,18 +27,18 @@ module _ (n : ℕ) (records : List (List ℕ)) (limit : ℕ) where
   pub grows : (c : ℕ) (s : List ℕ) → is_suffix n (c ∷ s) ≡ true → low n records s ≤ low n records (c ∷ s)
   grows c s proper = low_grows n records s c (suffix-head n c s proper).1
 
-  end-yes : (t : List ℕ) → 0 < length t → is_parent_kept (is_under n records limit) t ≡ true → limit ≤ low n records t → is_end (low n records) limit t ≡ true
+  pub end-yes : (t : List ℕ) → 0 < length t → is_parent_kept (is_under n records limit) t ≡ true → limit ≤ low n records t → is_end (low n records) limit t ≡ true
   end-yes [] some h le = absurd (omega arith)
   end-yes (c ∷ []) some h le = le-leb limit (low n records (c ∷ [])) le
   end-yes (c ∷ d ∷ t) some h le = and_from (nat_le limit (low n records (c ∷ d ∷ t))) (nat_lt (low n records (d ∷ t)) limit)
       (le-leb limit (low n records (c ∷ d ∷ t)) le) h
 
-  end-no : (t : List ℕ) → low n records t < limit → is_end (low n records) limit t ≡ false
+  pub end-no : (t : List ℕ) → low n records t < limit → is_end (low n records) limit t ≡ false
   end-no [] l = refl
   end-no (c ∷ []) l = lt-leb limit (low n records (c ∷ [])) l
   end-no (c ∷ d ∷ t) l = and_left (nat_le limit (low n records (c ∷ d ∷ t))) (nat_lt (low n records (d ∷ t)) limit) (lt-leb limit (low n records (c ∷ d ∷ t)) l)
 
-  end-past : (c : ℕ) (t : List ℕ) → 0 < length t → limit ≤ low n records t → is_end (low n records) limit (c ∷ t) ≡ false
+  pub end-past : (c : ℕ) (t : List ℕ) → 0 < length t → limit ≤ low n records t → is_end (low n records) limit (c ∷ t) ≡ false
   end-past c [] some le = absurd (omega arith)
   end-past c (d ∷ t) some le = and_right (nat_le limit (low n records (c ∷ d ∷ t))) (nat_lt (low n records (d ∷ t)) limit)
       (le-ltb (low n records (d ∷ t)) limit le)
@@ -108,3 +108,28 @@ module _ (n : ℕ) (records : List (List ℕ)) (limit : ℕ) where
   gathered-append cmp score entries xs ys =
       ap (gathered cmp score entries) (filter-append (is_end (low n records) limit) xs ys)
       ∙ fold-append (λ so_far suffix. with_score cmp so_far (score suffix)) entries (ends_in n records limit xs) (ends_in n records limit ys)
+
+  -- ---- of those that a walk keeps
+  module _ (cmp : Assertion → Assertion → Ordering) (score : List ℕ → Score) (entries : List (Assertion × ℕ)) where
+    abbrev pub kept_in : Bool → List (List ℕ) → List (Assertion × ℕ)
+    kept_in keeps xs = gathered cmp score entries (kept_ends keeps n records limit xs)
+
+    pub kept-here : (keeps : Bool) (x : ℕ) (t : List ℕ) → x ≡ low n records t → 0 < length t → is_suffix n t ≡ true →
+        is_parent_kept (is_under n records limit) t ≡ true → limit ≤ x →
+        kept_in keeps (all_ending n t) ≡ (if keeps then with_score cmp entries (score t) else entries)
+    kept-here true x t known some proper parent le = gathered-here cmp score entries x t known some proper parent le
+    kept-here false x t known some proper parent le = refl
+
+    pub kept-none : (keeps : Bool) → kept_in keeps [] ≡ entries
+    kept-none true = refl
+    kept-none false = refl
+
+    pub kept-enters : (keeps : Bool) (x : ℕ) (t : List ℕ) → x ≡ low n records t → x < limit → length t < n →
+        kept_in keeps (all_ending n t) ≡ kept_in keeps (flat_map (child n t) (candidates n))
+    kept-enters true x t known lt short = gathered-enters cmp score entries x t known lt short
+    kept-enters false x t known lt short = refl
+
+    pub kept-append : (keeps : Bool) (xs ys : List (List ℕ)) →
+        kept_in keeps (xs ++ ys) ≡ gathered cmp score (kept_in keeps xs) (kept_ends keeps n records limit ys)
+    kept-append true xs ys = gathered-append cmp score entries xs ys
+    kept-append false xs ys = refl

@@ -1,6 +1,8 @@
 pub mod Walking
 pub mod Ends
+pub mod Alike
 pub mod Agreement
+pub mod Knowing
 pub mod Budgets
 pub mod Claiming
 pub mod Searching

@@ -1,5 +1,5 @@
 -- A walk through scored suffixes, as far as their low is below a limit.
-use Rattle.std.specs.Prelude.{◌≡◌, ◌<◌, ℕ, Bool, nat_lt, List, length, filter, Result, Ok, Err, IsTrue, ⊤}
+use Rattle.std.specs.Prelude.{◌≡◌, ◌<◌, ◌≤◌, ◌+◌, ℕ, Bool, nat_lt, nat_le, List, [], length, filter, if◌then◌else◌, Result, Ok, Err, IsTrue, ⊤}
 use Rattle.assertions.specs.declared.assertion.Assertion.{Assertion}
 use Rattle.assertions.specs.contracts.assertion.AssertionOrd.TheImpl.{ghosts}
 use Rattle.irv_base.specs.Suffixes.{is_suffix}
@@ -39,6 +39,11 @@ walk_of reach s records count =
     walked s.tail.n reach.nodes (is_under s.tail.n records reach.limit) count
     (all_ending s.tail.n s.tail.list)
 
+-- a walk at this count, where so many more count, and no whole order comes
+abbrev pub walked_on : ℕ → ℕ → ℕ → Result ℕ stop.Stop
+walked_on nodes count number =
+    if nat_le (count + number) nodes then Ok (count + number) else Err stopped.Spent
+
 -- the answer is how that walk ends; of want of memory nothing is said
 abbrev pub IsWalk : ℕ → Result WalkEnd CertFault → Result ℕ stop.Stop → Type 0
 IsWalk last (Ok (Counted count)) walk = walk ≡ Ok count
@@ -51,14 +56,23 @@ abbrev pub OnCounted : WalkEnd → Type 0 → Type 0
 OnCounted (Counted count) fact = fact
 OnCounted (Found order) fact = ⊤
 
+-- what it counts is added
+abbrev pub IsFrom : ℕ → WalkEnd → Type 0
+IsFrom count (Counted more) = count ≤ more
+IsFrom count (Found order) = ⊤
+
 -- the ends among these suffixes: the first that reach the limit
 abbrev pub ends_in : ℕ → List (List ℕ) → ℕ → List (List ℕ) → List (List ℕ)
 ends_in n records limit suffixes = filter (is_end (low n records) limit) suffixes
 
--- the refuters of the ends among the suffixes that end in this one are put in
-abbrev pub HasGathered : Kept → ℕ → Scored → List (Assertion × ℕ) → List (Assertion × ℕ) → Type 0
-HasGathered bag limit s before after =
+-- those of which a walk keeps the refuters
+abbrev pub kept_ends : Bool → ℕ → List (List ℕ) → ℕ → List (List ℕ) → List (List ℕ)
+kept_ends keeps n records limit suffixes = if keeps then ends_in n records limit suffixes else []
+
+-- the refuters of the ends among the suffixes that end in this one are put in, where the walk keeps them
+abbrev pub HasGathered : Kept → Reach → Scored → List (Assertion × ℕ) → List (Assertion × ℕ) → Type 0
+HasGathered bag reach s before after =
     (records : List (List ℕ)) → IsOf bag records →
     after
     ≡ gathered ghosts.cmp (score_of s.tail.n records) before
-    (ends_in s.tail.n records limit (all_ending s.tail.n s.tail.list))
+    (kept_ends reach.keeps s.tail.n records reach.limit (all_ending s.tail.n s.tail.list))

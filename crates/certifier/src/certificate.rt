@@ -54,8 +54,9 @@ pub fn listed(alloc: Global, claims: &BTreeMap<Assertion, u32>) -> Result<Vec<Cl
 /// certificate's order, both read backwards. The answer is `Spent`, with the least alternative winner for whom a count
 /// is above `nodes`, exactly where there is one. The other error is want of memory.
 ///
-/// The alternative winners are divided among the workers, each with tallies of its own. Besides its claims a worker holds,
-/// at one time, one suffix of each length.
+/// The alternative winners are divided among the workers, each with tallies of its own. A worker goes into each set of candidates once for the
+/// one count and once for the other, whichever the last candidate. Besides its claims it holds the numbers that it counted from these sets on
+/// and, at one time, one suffix of each length.
 pub fn certify<R: AllocGlobal + Threads + Sync>(
     rt: &R,
     counted: &Counted,

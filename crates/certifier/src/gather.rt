@@ -1,10 +1,12 @@
 // What one worker finds among the suffixes that end in its candidates.
-ghost use Rattle.std.specs.Prelude.{◌≡◌, ◌<◌, ◌≤◌, ◌+◌, ◌∷◌, [], ℕ, List, IfOk};
+ghost use Rattle.std.specs.Prelude.{◌≡◌, ◌<◌, ◌≤◌, ◌+◌, ◌∷◌, [], ℕ, List, true, false, None, IfOk};
 ghost use Rattle.set_tallies.specs.Bags.{IsOf};
 ghost use Rattle.certifier.specs.Walks.{CanWalk};
 ghost use Rattle.certifier.specs.OneCandidate.{IsTask, IsCovered, IsNextEnd, order_walk, IsNext};
 ghost use Rattle.certifier.specs.Parts.{IsPartOfSeveral, is_dealt};
+ghost use Rattle.certifier.specs.Known.{AreKnown, HasKnown};
 
+use crate::counts::Counts;
 use crate::fault::CertFault;
 use crate::part::{OrderEnd, Part};
 use crate::walk::{Reach, WalkEnd, walk};
@@ -35,28 +37,43 @@ pub struct Dealt {
     pub workers: u32,
 }
 
+/// The sets that the walks of a worker have gone through. The count of a set doesn't hang on who stands last, so the walks of all its
+/// candidates share them.
+#[derive(Drop)]
+pub struct Known {
+    /// By the walks for the assertions.
+    pub covers: Counts,
+    /// By the walks for the order.
+    pub orders: Counts,
+}
+
 // The walk for the assertions of the certificate, through the suffixes that end in `last`: puts them among the claims, or says
 // that it is over the budget.
 fn cover(
     alone: &Scored,
     last: Candidate,
     task: &Task,
+    counts: &mut Counts,
     claims: &mut BTreeMap<Assertion, u32>,
     tallies: &mut Tallies,
 ) -> Result<bool, Memory>
     requires ready { CanWalk tallies.old.bag task.now.best alone.now }
     requires alone { alone.now.tail.list ≡ last ∷ [] }
+    requires known { AreKnown tallies.old.bag task.now.best true counts.old claims.old.entries }
     ensures covered { (records : List (List ℕ)) → IsOf tallies.old.bag records
         → IfOk result (IsCovered tallies.old.bag.n records task.now last
         claims.old.entries claims.new.entries) }
+    ensures known { IfOk result (λ over. over ≡ false
+        → AreKnown tallies.old.bag task.now.best true counts.new claims.new.entries) }
     ensures same { tallies.new ≡ tallies.old }
 {
     let reach = Reach {
         last,
         limit: u64::from(task.best),
         nodes: task.nodes,
+        keeps: true,
     };
-    match walk(alone, &reach, 0, claims, tallies) {
+    match walk(alone, &reach, 0, counts, claims, tallies) {
         Ok(_end) => Ok(false),
         Err(fault) => match fault {
             CertFault::Spent { .. } => Ok(true),
@@ -73,13 +90,18 @@ fn next_end(
     last: Candidate,
     task: &Task,
     earlier: Option<OrderEnd>,
+    counts: &mut Counts,
     tallies: &mut Tallies,
 ) -> Result<Option<OrderEnd>, Memory>
     requires ready { CanWalk tallies.old.bag (task.now.best + 1) alone.now }
     requires alone { alone.now.tail.list ≡ last ∷ [] }
+    requires known { earlier ≡ None
+        → AreKnown tallies.old.bag (task.now.best + 1) false counts.old [] }
     ensures end { (records : List (List ℕ)) → IsOf tallies.old.bag records
         → IfOk result (λ end. IsNextEnd last earlier end
         (order_walk tallies.old.bag.n records task.now last)) }
+    ensures known { IfOk result (λ end. end ≡ None
+        → AreKnown tallies.old.bag (task.now.best + 1) false counts.new []) }
     ensures same { tallies.new ≡ tallies.old }
 {
     if earlier.is_some() {
@@ -89,10 +111,11 @@ fn next_end(
         last,
         limit: u64::from(task.best) + 1,
         nodes: task.nodes,
+        keeps: false,
     };
-    // The refuters of its ends are none of the certificate's.
-    let mut refuters = BTreeMap::new(alloc);
-    match walk(alone, &reach, 0, &mut refuters, tallies) {
+    // The refuters of its ends are none of the certificate's, so none is put in.
+    let mut none = BTreeMap::new(alloc);
+    match walk(alone, &reach, 0, counts, &mut none, tallies) {
         Ok(end) => match end {
             WalkEnd::Counted(_count) => Ok(None),
             WalkEnd::Found(order) => Ok(Some(OrderEnd {
@@ -113,11 +136,15 @@ fn gather_candidate(
     last: Candidate,
     task: &Task,
     part: Part,
+    known: &mut Known,
     tallies: &mut Tallies,
 ) -> Result<Part, Memory>
-    requires { last < tallies.old.bag.n }
+    requires below { last < tallies.old.bag.n }
+    requires open { part.over ≡ None }
+    requires known { HasKnown tallies.old.bag task.now part known.old }
     ensures next { (records : List (List ℕ)) → IsOf tallies.old.bag records
         → IfOk result (IsNext tallies.old.bag.n records task.now last part) }
+    ensures known { IfOk result (λ next. HasKnown tallies.old.bag task.now next known.new) }
     ensures same { tallies.new ≡ tallies.old }
 {
     let Part {
@@ -126,14 +153,14 @@ fn gather_candidate(
         ..
     } = part;
     let alone = score(&Tail::last(tallies.candidates(), last), tallies)?;
-    if cover(&alone, last, task, &mut claims, tallies)? {
+    if cover(&alone, last, task, &mut known.covers, &mut claims, tallies)? {
         return Ok(Part {
             claims,
             over: Some(last),
             end,
         });
     }
-    let end = next_end(alloc, &alone, last, task, end, tallies)?;
+    let end = next_end(alloc, &alone, last, task, end, &mut known.orders, tallies)?;
     Ok(Part {
         claims,
         over: None,
@@ -166,13 +193,17 @@ pub fn gather(
     ensures same { tallies.new ≡ tallies.old }
 {
     let mut part = Part::new(alloc);
+    let mut known = Known {
+        covers: Counts::new(alloc),
+        orders: Counts::new(alloc),
+    };
     for c in 0..tallies.candidates() {
         if part.over.is_some() {
             return Ok(part);
         }
         let last = Candidate(c as u8);
         if dealt.has(c) && last != task.winner {
-            part = gather_candidate(alloc, last, task, part, tallies)?;
+            part = gather_candidate(alloc, last, task, part, &mut known, tallies)?;
         }
     }
     Ok(part)

@@ -3,6 +3,7 @@
 #![tactic(auto)]
 
 mod certificate;
+mod counts;
 mod fault;
 mod gather;
 pub mod laws;

@@ -1,9 +1,11 @@
 // A walk through the suffixes that end in one, as far as their low is below a limit.
-ghost use Rattle.std.specs.Prelude.{◌≡◌, ℕ, List, IfOk, OnOk};
+ghost use Rattle.std.specs.Prelude.{◌≡◌, ◌≤◌, ℕ, List, if◌then◌else◌, IfOk, OnOk};
 ghost use Rattle.set_tallies.specs.Bags.{IsOf};
-ghost use Rattle.certifier.specs.Walks.{CanWalk, IsWalk, walk_of, OnCounted, HasGathered};
+ghost use Rattle.certifier.specs.Walks.{CanWalk, IsWalk, walk_of, walked_on, OnCounted, IsFrom, HasGathered};
 ghost use Rattle.certifier.specs.Gathered.{with_score};
+ghost use Rattle.certifier.specs.Known.{AreKnown};
 
+use crate::counts::Counts;
 use crate::fault::CertFault;
 use assertions::Assertion;
 use irv_base::{Candidate, Memory, Order};
@@ -20,6 +22,8 @@ pub struct Reach {
     pub limit: u64,
     /// How many may count.
     pub nodes: u32,
+    /// Whether the refuters of its ends are put among the claims.
+    pub keeps: bool,
 }
 
 /// How a walk ends.
@@ -31,37 +35,62 @@ pub enum WalkEnd {
     Found(Order),
 }
 
-// Puts the refuter of the suffix, with its margin, among the claims.
-fn put(claims: &mut BTreeMap<Assertion, u32>, s: &Scored) -> Result<(), Memory>
+// Puts the refuter of the suffix, with its margin, among the claims, where the walk keeps them.
+fn put(claims: &mut BTreeMap<Assertion, u32>, reach: &Reach, s: &Scored) -> Result<(), Memory>
     ensures { OnOk result (claims.new.entries
-        ≡ with_score ⟦<Assertion as Ord>⟧.cmp claims.old.entries
-        (record { low = s.now.low; by = s.now.by })) }
+        ≡ (if reach.now.keeps
+        then with_score ⟦<Assertion as Ord>⟧.cmp claims.old.entries
+        (record { low = s.now.low; by = s.now.by })
+        else claims.old.entries)) }
 {
+    if !reach.keeps {
+        return Ok(());
+    }
     if let Some(by) = s.by {
         claims.insert(by, s.low)?;
     }
     Ok(())
 }
 
+// How a walk ends at a suffix from which on so many count, without going in.
+fn pass(reach: &Reach, count: u32, number: u32) -> Result<WalkEnd, CertFault>
+    requires { count ≤ reach.now.nodes }
+    ensures walk { IsWalk reach.now.last result (walked_on reach.now.nodes count number) }
+    ensures counted { IfOk result (IsFrom count) }
+{
+    if number > reach.nodes - count {
+        return Err(CertFault::Spent { last: reach.last });
+    }
+    Ok(WalkEnd::Counted(count + number))
+}
+
 /// Walks the suffixes that end in this one, as far as their low is below the limit, to the first whole order, and adds
 /// those that it passes to the count. The refuters of the ends, the first suffixes that reach the limit, are put among
-/// the claims.
+/// the claims, where the walk keeps them.
+///
+/// It goes into each set of candidates once: of a set that is noted it adds the count, and the refuters of the ends are among the claims.
 pub fn walk(
     s: &Scored,
     reach: &Reach,
     count: u32,
+    counts: &mut Counts,
     claims: &mut BTreeMap<Assertion, u32>,
     tallies: &mut Tallies,
 ) -> Result<WalkEnd, CertFault>
-    requires { CanWalk tallies.old.bag reach.now.limit s.now }
+    requires ready { CanWalk tallies.old.bag reach.now.limit s.now }
+    requires known { AreKnown tallies.old.bag reach.now.limit reach.now.keeps counts.old
+        claims.old.entries }
     ensures walk { (records : List (List ℕ)) → IsOf tallies.old.bag records
         → IsWalk reach.now.last result (walk_of reach.now s.now records count) }
     ensures claims { IfOk result (λ walk. OnCounted walk
-        (HasGathered tallies.old.bag reach.now.limit s.now claims.old.entries claims.new.entries)) }
+        (HasGathered tallies.old.bag reach.now s.now claims.old.entries claims.new.entries)) }
+    ensures known { OnOk result (AreKnown tallies.old.bag reach.now.limit reach.now.keeps
+        counts.new claims.new.entries) }
+    ensures counted { IfOk result (IsFrom count) }
     ensures same { tallies.new ≡ tallies.old }
 {
     if u64::from(s.low) >= reach.limit {
-        put(claims, s)?;
+        put(claims, reach, s)?;
         return Ok(WalkEnd::Counted(count));
     }
     if let Some(order) = s.tail.whole() {
@@ -70,16 +99,21 @@ pub fn walk(
     if count >= reach.nodes {
         return Err(CertFault::Spent { last: reach.last });
     }
+    let set = s.tail.set();
+    if let Some(number) = counts.of(set) {
+        return pass(reach, count, number);
+    }
     let mut seen = count + 1;
     for c in 0..s.tail.candidates() {
         let front = Candidate(c as u8);
         if !s.tail.has(front) {
             let longer = child(s, front, tallies)?;
-            match walk(&longer, reach, seen, claims, tallies)? {
+            match walk(&longer, reach, seen, counts, claims, tallies)? {
                 WalkEnd::Counted(more) => seen = more,
                 WalkEnd::Found(order) => return Ok(WalkEnd::Found(order)),
             }
         }
     }
+    counts.note(set, seen - count)?;
     Ok(WalkEnd::Counted(seen))
 }

@@ -20,7 +20,7 @@ use Rattle.assertions.proofs.Shortest.{certificate_refutes}
 use Rattle.assertions.proofs.Sums.{true_margin_is}
 use Rattle.suffix_walk.specs.Search.{is_passed}
 use Rattle.suffix_walk.proofs.Counts.{count-same}
-use Rattle.set_walk.specs.Steps.{step}
+use Rattle.assertions.specs.Steps.{step}
 use Rattle.set_walk.specs.Walks.{standing, passes}
 use Rattle.set_walk.proofs.Counted.{counted_stand}
 use Rattle.set_walk.proofs.Orders.{standing_by_sets}

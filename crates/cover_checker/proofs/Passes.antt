@@ -3,7 +3,7 @@ use Rattle.std.proofs.Common.{◌≡◌, ℕ, ◌+◌, ◌^◌, not, List, refl,
 use Rattle.std.specs.List.{list_any}
 use Rattle.assertions.specs.declared.assertion.Assertion.{Assertion}
 use Rattle.assertions.specs.declared.assertion.Assertion.TheVariants.{Neb, Nen}
-use Rattle.set_walk.specs.Steps.{more, is_anew}
+use Rattle.assertions.specs.Steps.{more, is_anew}
 use Rattle.set_walk.specs.Walks.{passes}
 use Rattle.cover_checker.specs.Indexed.{is_new}
 use Rattle.cover_checker.proofs.New.{any-same}

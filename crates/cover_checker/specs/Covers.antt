@@ -8,7 +8,7 @@ use Rattle.assertions.specs.Certificate.{cover_count}
 use Rattle.assertions.specs.Hardness.{low}
 use Rattle.assertions.specs.Suffixes.{alternative_orders, parts_ending, factorial}
 use Rattle.suffix_walk.specs.Search.{is_passed}
-use Rattle.set_walk.specs.Steps.{step}
+use Rattle.assertions.specs.Steps.{step}
 use Rattle.set_walk.specs.Walks.{counted, standing, passes}
 use Rattle.cover_checker.specs.declared.cover.Verdict.{Verdict}
 use Rattle.cover_checker.specs.declared.cover.Verdict.TheVariants.{Covered, Stands}

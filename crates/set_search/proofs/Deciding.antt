@@ -13,7 +13,7 @@ use Rattle.assertions.proofs.Alternatives.{best-le}
 use Rattle.assertions.proofs.Endings.{from_alternative}
 use Rattle.set_walk.specs.Answers.{first_within}
 use Rattle.set_walk.specs.Bests.{best_by_sets, order_by_sets}
-use Rattle.set_walk.specs.Steps.{step}
+use Rattle.assertions.specs.Steps.{step}
 use Rattle.set_walk.specs.Walks.{counted, first_by_sets, is_standing, standing, walks}
 use Rattle.set_walk.specs.declared.walk.WalkFault.TheVariants.{Spent}
 use Rattle.set_walk.proofs.Bests.{best_by_sets_is}

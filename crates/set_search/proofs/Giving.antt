@@ -15,7 +15,7 @@ use Rattle.certifier.specs.Gathered.{claim_at, with_margin}
 use Rattle.certifier.proofs.Agreement.{order, marked, keys_of, keys-sorted, from_keys, keys-keep, keys-member, all-marked, map-marked}
 use Rattle.suffix_tree.proofs.Offered.{range-next}
 use Rattle.set_walk.specs.Bests.{gives_from, is_given}
-use Rattle.set_walk.specs.Steps.{anew, outside, step, step_refuter}
+use Rattle.assertions.specs.Steps.{anew, outside, step, step_refuter}
 use Rattle.set_walk.specs.Walks.{standing}
 use Rattle.set_walk.proofs.Bests.{best_by_sets_is}
 use Rattle.set_walk.proofs.Claims.{certificate_by_sets}

@@ -18,11 +18,10 @@ use Rattle.assertions.specs.Hardness.{low}
 use Rattle.assertions.specs.Suffixes.{alternative_orders}
 use Rattle.assertions.proofs.Alternatives.{best-le, best_is}
 use Rattle.assertions.proofs.Endings.{alternative-member, from_alternative}
-use Rattle.set_walk.specs.Steps.{more, outside, step}
+use Rattle.assertions.specs.Steps.{more, outside, step}
 use Rattle.set_walk.specs.Walks.{standing}
-use Rattle.set_walk.proofs.Anew.{low_by_steps, low-alone}
+use Rattle.assertions.proofs.Anew.{low_by_steps, low-alone, same-long}
 use Rattle.set_walk.proofs.Claims.{alone-elected, more-elects, rest-elects}
-use Rattle.set_walk.proofs.Exact.{same-long}
 use Rattle.set_walk.proofs.Orders.{alternative-suffix}
 use Rattle.set_walk.proofs.Standing.{Other, standing-member}
 use Rattle.set_walk.proofs.Walking.{within-walks}

@@ -12,7 +12,7 @@ use Rattle.irv_base.proofs.Members.{candidate-member, from_filter, member-filter
 use Rattle.irv_base.proofs.Sames.{distinct-filter}
 use Rattle.irv_base.proofs.Sets.{has-member, member-from_has}
 use Rattle.irv_base.proofs.Suffixes.{suffix-below, suffix-distinct}
-use Rattle.set_walk.specs.Steps.{more}
+use Rattle.assertions.specs.Steps.{more}
 
 pub more-with : (set c : ℕ) → has set c ≡ false → more set c ≡ bit_or set (2 ^ c)
 more-with set c out = let e = with-number set c out in omega (arith, e)

@@ -8,7 +8,7 @@ use Rattle.assertions.specs.Assertions.{true_margin}
 use Rattle.assertions.specs.Scores.{Score, offered, all_offered}
 use Rattle.suffix_tree.proofs.Offered.{range-next}
 use Rattle.set_tallies.specs.Bags.{HasTallies}
-use Rattle.set_walk.specs.Steps.{more}
+use Rattle.assertions.specs.Steps.{more}
 use Rattle.set_search.specs.Offers.{offer_of}
 use Rattle.set_search.proofs.Mores.{has-more}
 use Rattle.std.proofs.lemmas.Bool.{or_left, or_right, eq-eqb}

@@ -13,8 +13,8 @@ use Rattle.assertions.proofs.Listed.{assertion-member, assertion-proper}
 use Rattle.assertions.proofs.Proper.{nen_facts, nen_test, pair_facts, pair_test}
 use Rattle.assertions.proofs.Scored.{Held, IsScore, all_offered-score, only_score}
 use Rattle.assertions.proofs.Sorted.{find-first, sorted-filter}
-use Rattle.set_walk.specs.Steps.{anew, is_anew, more, step, step_refuter}
-use Rattle.set_walk.proofs.Anew.{step-anew}
+use Rattle.assertions.specs.Steps.{anew, is_anew, more, step, step_refuter}
+use Rattle.assertions.proofs.Anew.{step-anew}
 use Rattle.set_search.specs.Offers.{offer_of, offers, step_score}
 use Rattle.set_search.proofs.Mores.{has-more, more-below}
 

@@ -4,7 +4,7 @@ use Rattle.std.specs.declared.cmp.Ordering.{Ordering}
 use Rattle.assertions.specs.declared.assertion.Assertion.{Assertion}
 use Rattle.assertions.specs.Scores.{Score}
 use Rattle.certifier.specs.Gathered.{with_margin}
-use Rattle.set_walk.specs.Steps.{outside}
+use Rattle.assertions.specs.Steps.{outside}
 use Rattle.set_walk.specs.Walks.{standing}
 use Rattle.set_search.specs.Limits.{within}
 use Rattle.set_search.specs.Offers.{step_score}

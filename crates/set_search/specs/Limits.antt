@@ -1,6 +1,6 @@
 -- How far a walk goes.
 use Rattle.std.specs.Prelude.{ℕ, Bool, nat_lt, nat_le, List}
-use Rattle.set_walk.specs.Steps.{step}
+use Rattle.assertions.specs.Steps.{step}
 use Rattle.set_search.specs.declared.by_margin.Limit.{Limit}
 use Rattle.set_search.specs.declared.by_margin.Limit.TheVariants.{Below, AtMost}
 

@@ -4,7 +4,7 @@ use Rattle.irv_base.specs.Candidates.{all_but, has}
 use Rattle.assertions.specs.declared.assertion.Assertion.{Assertion}
 use Rattle.assertions.specs.declared.assertion.Assertion.TheVariants.{Neb, Nen}
 use Rattle.assertions.specs.Scores.{Score}
-use Rattle.set_walk.specs.Steps.{more, step, step_refuter}
+use Rattle.assertions.specs.Steps.{more, step, step_refuter}
 
 -- its NEN over one in the set, with just the set and itself left, or the NEB over it of one outside
 abbrev pub offer_of : ℕ → ℕ → ℕ → Assertion

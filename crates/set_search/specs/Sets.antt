@@ -1,7 +1,7 @@
 -- How many sets of candidates a search by sets needs.
 use Rattle.std.specs.Prelude.{ℕ, max, nat_lt, nat_le, List, length}
 use Rattle.assertions.specs.Hardness.{low, best_margin}
-use Rattle.set_walk.specs.Steps.{step}
+use Rattle.assertions.specs.Steps.{step}
 use Rattle.set_walk.specs.Walks.{standing, counted}
 
 abbrev pub best_of : ℕ → List (List ℕ) → ℕ → ℕ

@@ -3,7 +3,7 @@ use Rattle.std.specs.Prelude.{◌≡◌, ◌⊎◌, ℕ, ◌<◌, ◌^◌, false
 use Rattle.std.specs.declared.cmp.Ordering.{Ordering}
 use Rattle.std.specs.Ordering.{flip_args, nat_cmp, on}
 use Rattle.irv_base.specs.Candidates.{has}
-use Rattle.set_walk.specs.Steps.{more, step}
+use Rattle.assertions.specs.Steps.{more, step}
 use Rattle.set_search.specs.declared.waiting.Waiting.{Waiting}
 
 -- that of the least margin is the greatest

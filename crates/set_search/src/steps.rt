@@ -5,7 +5,7 @@ ghost use Rattle.irv_base.specs.declared.limits.TheConstants.{ROOM};
 ghost use Rattle.assertions.specs.Assertions.{true_margin};
 ghost use Rattle.assertions.specs.Scores.{offered, all_offered, no_score};
 ghost use Rattle.set_tallies.specs.Bags.{IsOf, AreOf, HasTallies};
-ghost use Rattle.set_walk.specs.Steps.{more};
+ghost use Rattle.assertions.specs.Steps.{more};
 ghost use Rattle.set_search.specs.Offers.{offer_of, offers, step_score};
 
 use assertions::Assertion;

@@ -16,7 +16,7 @@ use Rattle.set_walk.specs.Walks.{walks, first_by_sets, counted, counts, is_passe
 use Rattle.set_walk.specs.Dives.{Seen, dives, walked}
 use Rattle.set_walk.specs.declared.walk.Stop.TheVariants.{Found, Spent, Memory}
 use Rattle.set_walk.specs.declared.walk.WalkFault.TheVariants.{Spent as SpentFault}
-use Rattle.set_walk.proofs.Agreeing.{filter-same, any-same}
+use Rattle.assertions.proofs.Agreeing.{filter-same, any-same}
 use Rattle.set_walk.proofs.Exact.{Walks, Inv, AtFound, AtSpent, Before, Outcome, outcome}
 use Rattle.set_walk.proofs.Firsts.{first_is}
 use Rattle.set_walk.proofs.Orders.{alternative-suffix}

@@ -8,7 +8,7 @@ use Rattle.assertions.proofs.Alternatives.{best-le, best_is}
 use Rattle.assertions.proofs.Certificates.{certificate_covers}
 use Rattle.irv_base.proofs.Members.{Member, find-member, from_find, contains-from_member, member-filter, candidate-member}
 use Rattle.irv_base.proofs.Suffixes.{suffix-head, suffix-rest, suffix-short, suffix-has}
-use Rattle.set_walk.specs.Steps.{outside, step}
+use Rattle.assertions.specs.Steps.{outside, step}
 use Rattle.set_walk.specs.Walks.{walks, passes, counted, standing, is_standing, first_by_sets}
 use Rattle.set_walk.specs.Bests.{best_by_sets, order_by_sets}
 use Rattle.set_walk.specs.Answers.{first_within}
@@ -19,7 +19,7 @@ use Rattle.set_walk.proofs.Firsts.{first_is}
 use Rattle.set_walk.proofs.Orders.{alternative-suffix, covers_by_sets}
 use Rattle.set_walk.proofs.Standing.{Other, certificate_stands, from_standing, standing-member, from_test, test-stands}
 use Rattle.set_walk.proofs.Claims.{alone-elected, rest-elects}
-use Rattle.set_walk.proofs.Agreeing.{same_tests, filter-same}
+use Rattle.assertions.proofs.Agreeing.{same_tests, filter-same}
 use Rattle.irv_base.specs.Candidates.{candidates, all_but, has, set_of}
 use Rattle.irv_base.specs.Suffixes.{is_suffix}
 use Rattle.irv_base.proofs.Distinct.{distinct-le, distinct-range}

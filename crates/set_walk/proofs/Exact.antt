@@ -4,17 +4,18 @@ use Rattle.std.specs.List.{range_with_len}
 use Rattle.std.proofs.lemmas.Bool.{cases_Bool, cases_eq, cases_lt, and_parts, and_from, both_ways}
 use Rattle.assertions.specs.Lists.{stands_before}
 use Rattle.assertions.specs.Suffixes.{comes_before}
+use Rattle.assertions.proofs.Anew.{same-long}
 use Rattle.assertions.proofs.Endings.{Suffix, suffix_facts}
 use Rattle.assertions.proofs.Enumerated.{suffix-rest}
 use Rattle.irv_base.specs.Candidates.{candidates, is_in, has, set_of}
 use Rattle.irv_base.specs.Orders.{EndsIn, Elects}
 use Rattle.irv_base.specs.Suffixes.{is_suffix}
-use Rattle.irv_base.proofs.Distinct.{Distinct, distinct-le, distinct-push, distinct-head}
+use Rattle.irv_base.proofs.Distinct.{Distinct, distinct-push, distinct-head}
 use Rattle.irv_base.proofs.Distinct as distinct
 use Rattle.irv_base.proofs.Members.{Member, here, there, member_cases, member_nil, member-append_left, member-append_right, member-append_cases, from_list_any, list_any-member, find-member, from_find, out-from_none, none-from_out}
 use Rattle.irv_base.proofs.Orders.{last_split}
-use Rattle.irv_base.proofs.Sets.{set_of-cons, has-member, member-from_has}
-use Rattle.irv_base.proofs.Suffixes.{suffix_more, suffix-head, suffix-rest as tail-suffix, suffix-has, suffix-distinct}
+use Rattle.irv_base.proofs.Sets.{set_of-cons}
+use Rattle.irv_base.proofs.Suffixes.{suffix_more, suffix-head, suffix-rest as tail-suffix, suffix-has}
 use Rattle.set_walk.specs.Walks.{walks}
 use Rattle.set_walk.specs.Dives.{Seen, dive, dives, over, on_seen, is_seen}
 use Rattle.set_walk.specs.declared.walk.Stop.TheVariants.{Found, Spent, Memory}
@@ -85,15 +86,6 @@ elects-in-front (d ∷ u) t c e = more-elects d c (u ++ t) (elects-in-front u t 
 walks-rest : (goes : ℕ → ℕ → Bool) (b t : List ℕ) → walks goes (b ++ t) ≡ true → walks goes t ≡ true
 walks-rest goes [] t h = h
 walks-rest goes (c ∷ b) t h = walks-rest goes b t (and_parts (goes (set_of (b ++ t)) c) (walks goes (b ++ t)) h).1
-
--- suffixes of the same set are equally long
-pub same-long : (n : ℕ) (t t' : List ℕ) → is_suffix n t ≡ true → is_suffix n t' ≡ true → set_of t ≡ set_of t' → length t ≡ length t'
-same-long n t t' p p' e =
-    let d = suffix-distinct n t p in
-    let d' = suffix-distinct n t' p' in
-    let a = distinct-le t t' d (λ z m. member-from_has t' z d' (ap (λ s. has s z) (sym e) ∙ has-member d m)) in
-    let b = distinct-le t' t d' (λ z m. member-from_has t z d (ap (λ s. has s z) e ∙ has-member d' m)) in
-    omega (arith, a, b)
 
 module _ (n winner sets : ℕ) (goes : ℕ → ℕ → Bool) where
   abbrev pub W : List ℕ → Type 0

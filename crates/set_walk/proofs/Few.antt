@@ -14,7 +14,7 @@ use Rattle.set_walk.specs.Answers.{first_within}
 use Rattle.set_walk.specs.Walks.{standing, is_standing, first_by_sets}
 use Rattle.set_walk.proofs.Counted.{counted_stand}
 use Rattle.set_walk.proofs.Enough.{enough}
-use Rattle.set_walk.proofs.Exact.{same-long}
+use Rattle.assertions.proofs.Anew.{same-long}
 use Rattle.set_walk.proofs.Standing.{from_standing}
 
 module _ (n winner : ℕ) (goes : ℕ → ℕ → Bool) (low : winner < n) (two : 1 < n) where

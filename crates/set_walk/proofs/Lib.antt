@@ -1,5 +1,3 @@
-pub mod Agreeing
-pub mod Anew
 pub mod Walking
 pub mod Firsts
 pub mod Bests

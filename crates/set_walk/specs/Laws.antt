@@ -8,7 +8,7 @@ use Rattle.assertions.specs.Suffixes.{is_suffix, alternative_orders}
 use Rattle.assertions.specs.Refutation.{refutes, covers}
 use Rattle.assertions.specs.Hardness.{low, refuter, best_margin}
 use Rattle.assertions.specs.Certificate.{certificate_order, certificate_assertions}
-use Rattle.set_walk.specs.Steps.{outside, step, step_refuter}
+use Rattle.assertions.specs.Steps.{outside, step, step_refuter}
 use Rattle.set_walk.specs.Walks.{standing, counted, first_by_sets, passes}
 use Rattle.set_walk.specs.Dives.{dives, walked}
 use Rattle.set_walk.specs.Answers.{first_within}

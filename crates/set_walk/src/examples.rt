@@ -1,7 +1,7 @@
 //! Worked examples: the definitions at small contests, computed by the checker.
 ghost use Rattle.std.specs.Prelude.{◌≡◌, [], ◌∷◌, Some, None, Ok, Err, length};
 ghost use Rattle.assertions.specs.Contests as contests;
-ghost use Rattle.set_walk.specs.Steps.{step, step_refuter};
+ghost use Rattle.assertions.specs.Steps.{step, step_refuter};
 ghost use Rattle.set_walk.specs.Walks.{passes, standing, counted};
 ghost use Rattle.set_walk.specs.Answers.{first_within};
 ghost use Rattle.set_walk.specs.Bests.{best_by_sets, order_by_sets, assertions_by_sets};

@@ -1,8 +1,10 @@
-use Rattle.std.proofs.Common.{◌<◌, ◌+◌, inl, inr, refl, sym, subst, arith, ◌∙◌}
+use Rattle.std.proofs.Common.{◌<◌, ◌+◌, inl, inr, refl, sym, subst, subst₂, arith, ◌∙◌}
 use Rattle.set_tallies.specs.Bags.{IsOf}
 use Rattle.suffix_walk.proofs.Scans.{differs, agrees}
 use Rattle.certifier.specs.OneCandidate.{IsNext}
 use Rattle.certifier.specs.Parts.{IsPart}
+use Rattle.certifier.specs.Known.{HasKnown}
+use Rattle.certifier.proofs.Knowing.{known-starts}
 use Rattle.certifier.proofs.Dealing.{dealt_before, deal-none, deal-next, deal-passes, deal-ends, deal-stops}
 use Rattle.certifier.proofs.gather.gather.Goals as goal
 use Rattle.certifier.proofs.gather.gather.Goals.{then-has+then-ne+in_ok-part, else-has, else-has-via-then-has+else-ne, else-has-via-else-has}
@@ -10,6 +12,8 @@ use Rattle.certifier.proofs.gather.gather.Goals.{then-has+then-ne+in_ok-part, el
 pub loop-c-init : goal.loop-c-init
 loop-c-init c = record {
   same = refl;
+  known = known-starts c.args.tallies.now.bag c.args.task.now c.new-part.result (record { covers = c.new.result; orders = c.new-2.result })
+      c.new-part.ensures.claims c.new.ensures c.new-2.ensures;
   part = λ records h is. deal-none c.args.tallies.now.bag.n records c.args.task.now c.args.dealt.now.workers c.args.dealt.now.number c.new-part.result
       c.new-part.ensures.claims c.new-part.ensures.over c.new-part.ensures.end;
 }
@@ -23,6 +27,8 @@ loop-c-preserved c =
     elim c.if-has.branch [
       | then-has+then-ne+in_ok-part w ↦ record {
         same = w.tallies-is ∙ w.gather_candidate.ensures.same ∙ c.loop-c.invariant.same;
+        known = subst₂ (HasKnown c.args.tallies.now.bag task) (sym w.part-is) (sym w.known-is)
+            (subst (λ t. HasKnown t.bag task w.in_ok-part.part w.gather_candidate.new.known) c.loop-c.invariant.same w.in_ok-part.ensures.known);
         part = λ records h is.
             let next : IsNext c.args.tallies.now.bag.n records c.args.task.now c.loop-c.c c.loop-c.part c.if-has.part =
             subst (λ t. IsNext t.bag.n records task c.loop-c.c c.loop-c.part c.if-has.part) c.loop-c.invariant.same
@@ -35,6 +41,7 @@ loop-c-preserved c =
       }
       | else-has w ↦ record {
         same = w.tallies-is ∙ c.loop-c.invariant.same;
+        known = subst₂ (HasKnown c.args.tallies.now.bag task) (sym w.part-is) (sym w.known-is) c.loop-c.invariant.known;
         part = λ records h is.
             subst (IsPart n records task (dealt_before dealt.workers dealt.number (c.loop-c.c + 1))) (sym w.part-is)
             (deal-passes n records task dealt.workers dealt.number c.loop-c.c c.loop-c.part (elim w.else-has.branch [

@@ -1,30 +1,59 @@
-use Rattle.std.proofs.Common.{◌≡◌, ℕ, ◌+◌, ◌<◌, ◌≤◌, List, None, Ok, Err, false, true, sym, ap, subst, subst₂, arith, rules, ◌∙◌}
+use Rattle.std.proofs.Common.{◌≡◌, ℕ, ◌+◌, ◌-◌, ◌<◌, ◌≤◌, ◌==◌, List, if◌then◌else◌, Some, None, Ok, Err, false, true, sym, ap, subst, subst₂, arith, rules, ◌∙◌}
 use Rattle.irv_base.specs.Candidates.{is_in}
 use Rattle.set_tallies.specs.Bags.{IsOf}
 use Rattle.suffix_tree.specs.Scores.{IsScoredOver}
-use Rattle.certifier.specs.Walks.{CanWalk, IsWalk, walk_of, OnCounted, HasGathered}
-use Rattle.certifier.proofs.Walking.{IsGoing, dropped, gathered-dropped, spent, child-ready, fewer-left, going-starts, going-passes, going-goes, going-finds, going-fails, going-ends, gathered-ends}
+use Rattle.certifier.specs.Walks.{CanWalk, IsWalk, walk_of, OnCounted, IsFrom, HasGathered}
+use Rattle.certifier.specs.Known.{AreKnown}
+use Rattle.certifier.specs.Counts.{count_of}
+use Rattle.certifier.proofs.Walking.{IsGoing, dropped, gathered-dropped, known-put, spent, walk-passed, gathered-passed, where-counted, known-noted, child-ready, fewer-left, going-starts, going-passes, going-goes, going-finds, going-fails, going-ends, gathered-ends}
 use Rattle.certifier.proofs.walk.+walk.Goals as goal
 use Rattle.certifier.proofs.walk.+walk.Goals.{then-not-has+in_ok-longer+in_ok-more+in-Counted, else-not-has}
 
 pub returns-then-from-reach-clause-walk : goal.returns-then-from-reach-clause-walk
-returns-then-from-reach-clause-walk t c = dropped c.args.tallies.now.bag c.args.reach.now c.args.s.now c.args.count c.requires
+returns-then-from-reach-clause-walk t c = dropped c.args.tallies.now.bag c.args.reach.now c.args.s.now c.args.count c.requires.ready
     (omega (arith, c.from.ensures, c.if-from-reach.true))
 
 pub returns-then-from-reach-clause-claims : goal.returns-then-from-reach-clause-claims
 returns-then-from-reach-clause-claims t c = λ records h.
-    c.in_ok-put.ensures ∙ gathered-dropped c.args.tallies.now.bag c.args.reach.now c.args.s.now c.args.count c.requires c.args.claims.now.entries
+    c.in_ok-put.ensures ∙ gathered-dropped c.args.tallies.now.bag c.args.reach.now c.args.s.now c.args.count c.requires.ready c.args.claims.now.entries
     (omega (arith, c.from.ensures, c.if-from-reach.true)) records h
+
+pub returns-then-from-reach-clause-known : goal.returns-then-from-reach-clause-known
+returns-then-from-reach-clause-known t c =
+    known-put c.args.tallies.now.bag c.args.reach.now c.args.s.now c.requires.ready c.args.counts.now c.args.claims.now.entries c.requires.known
+    c.put.new.claims.entries
+    (λ records h. c.in_ok-put.ensures ∙ gathered-dropped c.args.tallies.now.bag c.args.reach.now c.args.s.now c.args.count c.requires.ready
+    c.args.claims.now.entries (omega (arith, c.from.ensures, c.if-from-reach.true)) records h)
 
 pub returns-then-count-reach-clause-walk : goal.returns-then-count-reach-clause-walk
 returns-then-count-reach-clause-walk t c =
-    spent c.args.tallies.now.bag c.args.reach.now c.args.s.now c.args.count c.requires (omega (arith, c.from.ensures, c.if-from-reach.false))
+    spent c.args.tallies.now.bag c.args.reach.now c.args.s.now c.args.count c.requires.ready (omega (arith, c.from.ensures, c.if-from-reach.false))
     (sym c.whole.ensures ∙ c.in_default.is) (omega (arith, c.if-count-reach.true))
+
+pub returns-in-Some-of-clause-walk : goal.returns-in-Some-of-clause-walk
+returns-in-Some-of-clause-walk t c = λ records h.
+    let s = c.args.s.now in
+    let reach = c.args.reach.now in
+    subst (IsWalk reach.last c.pass.result) (sym (walk-passed c.args.tallies.now.bag reach s c.requires.ready c.args.counts.now c.args.claims.now.entries
+    c.requires.known (omega (arith, c.from.ensures, c.if-from-reach.false)) c.in-Some-of.number
+    (ap (count_of c.args.counts.now) (sym c.set-set.ensures) ∙ sym c.of.ensures ∙ c.in-Some-of.is) c.args.count (omega (arith, c.if-count-reach.false)) records
+    h)) c.pass.ensures.walk
+
+pub returns-in-Some-of-clause-claims : goal.returns-in-Some-of-clause-claims
+returns-in-Some-of-clause-claims t c =
+    let s = c.args.s.now in
+    let reach = c.args.reach.now in
+    where-counted c.pass.result (HasGathered c.args.tallies.now.bag reach s c.args.claims.now.entries c.args.claims.now.entries)
+    (gathered-passed c.args.tallies.now.bag reach s c.requires.ready c.args.counts.now c.args.claims.now.entries c.requires.known
+    (omega (arith, c.from.ensures, c.if-from-reach.false)) c.in-Some-of.number
+    (ap (count_of c.args.counts.now) (sym c.set-set.ensures) ∙ sym c.of.ensures ∙ c.in-Some-of.is))
 
 pub loop-c-init : goal.loop-c-init
 loop-c-init t c = record {
   same = Rattle.std.proofs.Common.refl;
-  going = going-starts c.args.tallies.now.bag c.args.reach.now c.args.s.now c.args.count c.args.claims.now.entries c.requires
+  more = omega arith;
+  known = c.requires.known;
+  going = going-starts c.args.tallies.now.bag c.args.reach.now c.args.s.now c.args.count c.args.claims.now.entries c.requires.ready
       (omega (arith, c.from.ensures, c.if-from-reach.false)) (sym c.whole.ensures ∙ c.in_default.is) (omega (arith, c.if-count-reach.false));
 }
 
@@ -38,9 +67,13 @@ walk-requires t c =
     let low : s.low < c.args.reach.now.limit = omega (arith, c.from.ensures, c.if-from-reach.false) in
     let below : c.loop-c.c < s.tail.n = omega (arith, c.loop-c-test.true, c.candidates-c-end.ensures.same) in
     let out : is_in s.tail.list c.loop-c.c ≡ false = sym c.has.ensures ∙ c.if-not-has.true in
-    let ready = child-ready bag c.args.reach.now.limit s x c.loop-c.c c.requires low below out c.in_ok-longer.ensures.tail scored in (
-      omega (arith, c.decreases, fewer-left bag c.args.reach.now.limit s x c.loop-c.c c.requires low below out c.in_ok-longer.ensures.tail ready),
-      subst (λ m. CanWalk m.bag c.args.reach.now.limit x) (sym (c.child.ensures.same ∙ c.loop-c.invariant.same)) ready,
+    let ready = child-ready bag c.args.reach.now.limit s x c.loop-c.c c.requires.ready low below out c.in_ok-longer.ensures.tail scored in (
+      omega (arith, c.decreases, fewer-left bag c.args.reach.now.limit s x c.loop-c.c c.requires.ready low below out c.in_ok-longer.ensures.tail ready),
+      (
+        subst (λ m. CanWalk m.bag c.args.reach.now.limit x) (sym (c.child.ensures.same ∙ c.loop-c.invariant.same)) ready,
+        subst (λ m. AreKnown m.bag c.args.reach.now.limit c.args.reach.now.keeps c.loop-c.counts c.loop-c.claims.entries)
+            (sym (c.child.ensures.same ∙ c.loop-c.invariant.same)) c.loop-c.invariant.known,
+      ),
     )
 
 pub returns-in_err-more-clause-walk : goal.returns-in_err-more-clause-walk
@@ -80,17 +113,22 @@ loop-c-preserved t c =
           let own = sym (w.child.ensures.same ∙ c.loop-c.invariant.same) in
           record {
             same = w.tallies-is ∙ w.walk.ensures.same ∙ w.child.ensures.same ∙ c.loop-c.invariant.same;
+            more = omega (arith, c.loop-c.invariant.more, w.seen-is, subst (IsFrom c.loop-c.seen) w.in-Counted.is w.in_ok-more.ensures.counted);
+            known = subst₂ (AreKnown bag reach.limit reach.keeps) (sym w.counts-is) (ap (λ m. m.entries) (sym w.claims-is))
+                (subst (λ m. AreKnown m.bag reach.limit reach.keeps w.walk.new.counts w.walk.new.claims.entries) (sym own) w.in_ok-more.ensures.known);
             going = subst₂ (IsGoing bag reach s c.args.count before (c.loop-c.c + 1)) (sym w.seen-is) (ap (λ m. m.entries) (sym w.claims-is))
                 (going-goes bag reach s c.args.count before c.loop-c.c c.loop-c.seen c.loop-c.claims.entries going below (sym c.has.ensures
                 ∙ w.if-not-has.true) x w.in_ok-longer.ensures.tail
                 w.in-Counted.more w.walk.new.claims.entries
                 (λ records h. subst (λ e. IsWalk reach.last (Ok e) (walk_of reach x records c.loop-c.seen)) w.in-Counted.is
                 (w.in_ok-more.ensures.walk records (subst (λ m. IsOf m.bag records) own h)))
-                (λ records h. subst (λ e. OnCounted e (HasGathered w.child.new.tallies.bag reach.limit x c.loop-c.claims.entries w.walk.new.claims.entries))
+                (λ records h. subst (λ e. OnCounted e (HasGathered w.child.new.tallies.bag reach x c.loop-c.claims.entries w.walk.new.claims.entries))
                 w.in-Counted.is w.in_ok-more.ensures.claims records (subst (λ m. IsOf m.bag records) own h)));
           }
       | else-not-has w ↦ record {
         same = w.tallies-is ∙ c.loop-c.invariant.same;
+        more = omega (arith, c.loop-c.invariant.more, w.seen-is);
+        known = subst₂ (AreKnown bag reach.limit reach.keeps) (sym w.counts-is) (ap (λ m. m.entries) (sym w.claims-is)) c.loop-c.invariant.known;
         going = subst₂ (IsGoing bag reach s c.args.count before (c.loop-c.c + 1)) (sym w.seen-is) (ap (λ m. m.entries) (sym w.claims-is))
             (going-passes bag reach s c.args.count before c.loop-c.c c.loop-c.seen c.loop-c.claims.entries going below (sym c.has.ensures
             ∙ w.if-not-has.false));
@@ -108,3 +146,18 @@ returns-clause-claims t c =
     gathered-ends c.args.tallies.now.bag c.args.reach.now c.args.s.now c.args.count c.args.claims.now.entries c.loop-c.c c.loop-c.seen c.loop-c.claims.entries
     c.loop-c.invariant.going
     (omega (arith, c.loop-c-test.false, c.candidates-c-end.ensures.same))
+
+pub returns-clause-known : goal.returns-clause-known
+returns-clause-known t c =
+    let bag = c.args.tallies.now.bag in
+    let s = c.args.s.now in
+    let reach = c.args.reach.now in
+    known-noted bag reach s c.requires.ready c.args.counts.now c.args.claims.now.entries c.requires.known
+    (omega (arith, c.from.ensures, c.if-from-reach.false)) c.args.count c.loop-c.seen c.loop-c.counts c.note.new.self c.loop-c.claims.entries
+    (going-ends bag reach s c.args.count c.args.claims.now.entries c.loop-c.c c.loop-c.seen c.loop-c.claims.entries c.loop-c.invariant.going
+    (omega (arith, c.loop-c-test.false, c.candidates-c-end.ensures.same)))
+    (gathered-ends bag reach s c.args.count c.args.claims.now.entries c.loop-c.c c.loop-c.seen c.loop-c.claims.entries c.loop-c.invariant.going
+    (omega (arith, c.loop-c-test.false, c.candidates-c-end.ensures.same)))
+    c.loop-c.invariant.known
+    (λ other. subst (λ m. count_of c.note.new.self other ≡ (if m == other then Some (c.loop-c.seen - c.args.count) else count_of c.loop-c.counts other))
+    c.set-set.ensures (c.in_ok-note.ensures other))

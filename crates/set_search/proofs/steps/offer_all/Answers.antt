@@ -1,7 +1,7 @@
 use Rattle.std.proofs.Common.{◌+◌, ap, subst, sym, ◌∙◌}
 use Rattle.assertions.specs.Scores.{all_offered}
 use Rattle.set_tallies.specs.Bags.{HasTallies}
-use Rattle.set_walk.specs.Steps.{more}
+use Rattle.assertions.specs.Steps.{more}
 use Rattle.set_search.proofs.Offering.{offers_from, offer-taken, offer-left}
 use Rattle.set_search.proofs.steps.offer_all.Goals as goal
 use Rattle.set_search.proofs.steps.offer_all.Goals.{then-ne, else-ne}

@@ -1,7 +1,7 @@
 use Rattle.std.proofs.Common.{◌≡◌, ℕ, List}
 use Rattle.assertions.specs.Scores.{all_offered, no_score}
 use Rattle.set_tallies.specs.Bags.{AreOf, HasTallies}
-use Rattle.set_walk.specs.Steps.{more}
+use Rattle.assertions.specs.Steps.{more}
 use Rattle.set_search.proofs.Offering.{offers_from}
 use Rattle.set_search.proofs.steps.offer_all.Given as goal
 

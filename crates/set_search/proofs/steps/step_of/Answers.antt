@@ -2,7 +2,7 @@ use Rattle.std.proofs.Common.{◌≡◌, ap, arith, subst, sym, ◌∙◌}
 use Rattle.assertions.specs.Scores.{all_offered, no_score}
 use Rattle.set_tallies.specs.Bags.{AreOf, HasTallies, IsOf, Source}
 use Rattle.set_tallies.proofs.Filled.{has-tallies}
-use Rattle.set_walk.specs.Steps.{more}
+use Rattle.assertions.specs.Steps.{more}
 use Rattle.set_search.specs.Offers.{offers}
 use Rattle.set_search.proofs.Mores.{more-below}
 use Rattle.set_search.proofs.Stepping.{step_offered}

@@ -5,7 +5,7 @@ use Rattle.std.proofs.lemmas.List.Sorted.{All-permutation}
 use Rattle.irv_base.specs.Candidates.{has}
 use Rattle.set_tallies.specs.Bags.{IsOf, Source}
 use Rattle.assertions.specs.Scores.{Score}
-use Rattle.set_walk.specs.Steps.{more, step}
+use Rattle.assertions.specs.Steps.{more, step}
 use Rattle.set_search.specs.Offers.{step_score}
 use Rattle.set_search.specs.Waits.{AreAddedUpTo, AreBelow, least_first, waiting_at}
 use Rattle.set_search.specs.declared.waiting.Waiting.{Waiting}

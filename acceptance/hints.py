@@ -33,6 +33,7 @@ ASSERTIONS = (
     '"contest":"9","margin":1,"order":["Ann","Ben"],"records":3,"version":1,"winner":"Ann"}\n'
 )
 CHANGED = ASSERTIONS.replace
+MOST_NUMBER = 4294967295  # of an assertion file
 CLAIM = '{"kind":"NEN","loser":"Ben","margin":1,"rest":["Ann","Ben"],"winner":"Ann"}'
 PLANNED = CHANGED('"version":1', '"version":2').replace('"contest"', '"cards":4,"gamma":100,"limit":50000,"contest"').replace('{"kind"', '{"draws":null,"kind"').replace
 MANY = json.dumps([f"c{c}" for c in range(limits.MOST_CANDIDATES + 1)])
@@ -43,6 +44,11 @@ OF_BALLOTS = [
     (MANIFEST, "B1", 'It begins with "batch,cards", as a manifest does'),
     (ASSERTIONS, "B1", 'It begins with "{"assertions":[{"kind":"NEN","loser":"Ben","margin":1,"rest":["Ann",..", as an assertion file does'),
     ("1;\nContest;9;2;Ann;Ben\n", "B1", 'It begins with "1;"; its semicolons have to be commas'),
+    ("contest,ballot,first\n9,b_1,Ann\n", "B1", 'It begins with "contest,ballot,first"; a ballot file has no header: its first record is the number of contests'),
+    ("Contest,9,2,Ann,Ben\n9,b_1,Ann\n", "B1", 'It begins with "Contest,9,2,Ann,Ben"; a ballot file has no header: its first record is the number of contests'),
+    ("65\n", "B1", 'It begins with "65"'),
+    ("PK\x03\x04\n", "B1", r'It begins with "PK\x03\x04"'),
+    (SEEN, "B1", 'It begins with "b_1,ballot,Ann", as a file of seen cards does'),
     ("1\nContest;9;2\n", "B2", '"Contest;9;2" stands where "Contest" has to; its semicolons have to be commas. Record 2, line 2: Contest;9;2'),
     ("1\ncontest,9,2,Ann,Ben\n", "B2", '"contest" stands where "Contest" has to. Record 2, line 2: contest,9,2,Ann,Ben'),
     ("2\n\nContest,9,2,Ann,Ben\n", "B2", "The file ends before record 3"),
@@ -55,22 +61,32 @@ OF_BALLOTS = [
     ('1\nContest,9,2,"Lee, Ann",Ben\n', "B4", '"Lee, Ann" is no id; "Lee Ann" would be one. Record 2, line 2: Contest,9,2,"Lee, Ann",Ben'),
     ("1\nContest,9,2,Ann,Ann\n", "B4", '"Ann" stands twice. Record 2, line 2: Contest,9,2,Ann,Ann'),
     (HEAD + "9,,Ann\n", "B4", "The id is empty. Record 3, line 3: 9,,Ann"),
+    (HEAD + f"9,{'b' * 65},Ann\n", "B4", f'"{"b" * 65}" has 65 bytes, and 64 are the most. Record 3, line 3: 9,{"b" * 65},Ann'),
+    (HEAD + '9,b_1,Ann\n9,"b_2,Ben\n9,b_3,Ann\n', "B4",
+     '"b_2,Ben\\n9,b_3,Ann" is no id. A quote in line 4 isn\'t closed in that line. Record 4, line 4: 9,"b_2,Ben\\n9,b_3,Ann'),
+    (HEAD + '9,"b\r1",Ann\n', "B4", '"b\\r1" is no id. A quote in line 3 isn\'t closed in that line. Record 3, line 3: 9,"b\\r1",Ann'),
     ("2\nContest,9,2,Ann,Ben\nContest,10,2,Cy,Di\n", "B5", 'The file has the contests "9", "10". --contest says which is meant'),
     (HEAD + "\n  \n9\n", "B6", "Record 3, line 5: 9"),
+    (HEAD + '9,b_1,Ann\n"9,b_2,Ben\n9,b_3,Ann\n', "B6", 'A quote in line 4 isn\'t closed in that line. Record 4, line 4: "9,b_2,Ben\\n9,b_3,Ann'),
     (HEAD + "90,b_1,Ann\n", "B7", '"90" is no contest; the file has "9". Record 3, line 3: 90,b_1,Ann'),
+    (HEAD + "Contest,8,2,Cy,Di\n", "B7", "The number of contests in the first record, 1, is too small. Record 3, line 3: Contest,8,2,Cy,Di"),
     (HEAD + "9,b_1,Ben,ANN\n", "B8", '"ANN" is no candidate; the contest has "Ann". Record 3, line 3: 9,b_1,Ben,ANN'),
     (HEAD + "9,b_1,Ben\r9,b_2,\x1b[2J\r", "B8", r'"\x1b[2J" is no candidate; the contest has "Ann", "Ben". Record 4, line 4: 9,b_2,\x1b[2J'),
     (HEAD + "9,b_1,Ben\n\n9,b_1,Ann\n", "B9", '"b_1" stood in record 3, line 3. Record 4, line 5: 9,b_1,Ann'),
 ]
 # A manifest, by `sample`.
 OF_MANIFEST = [
-    ("Batch,Cards\nb,3\n", "M1", 'It begins with "Batch,Cards"'),
+    ("Batch,Cards\nb,3\n", "M1", 'It begins with "Batch,Cards"; its letters have to be small'),
+    ("batch,number\nb,3\n", "M1", 'It begins with "batch,number"'),
     (BALLOTS, "M1", 'It begins with "1", as a ballot file does'),
     ("batch;cards\nb;3\n", "M1", 'It begins with "batch;cards"; its semicolons have to be commas'),
     ("batch,cards\nb;3\n", "M2", "It has 1 field; its semicolons have to be commas. Record 2, line 2: b;3"),
     ("batch,cards\nb,1,200\n", "M2", "It has 3 fields; without commas the number would be 1200. Record 2, line 2: b,1,200"),
+    ('batch,cards\n"b,3\nc,4\n', "M2", 'It has 1 field. A quote in line 2 isn\'t closed in that line. Record 2, line 2: "b,3\\nc,4'),
     ("batch,cards\nb,1.200\n", "M3", '"1.200" is no number of cards; 1200 would be one. Record 2, line 2: b,1.200'),
     ("batch,cards\nb,1\n\nb,2\n", "M4", '"b" stood in record 2, line 2. Record 3, line 4: b,2'),
+    (f"batch,cards\n{'b' * 57},2\n", "M4", f'"{"b" * 57}" has 57 bytes, and 56 are the most. Record 2, line 2: {"b" * 57},2'),
+    (f"batch,cards\n{'b' * 65},2\n", "M4", f'"{"b" * 65}" has 65 bytes, and 56 are the most. Record 2, line 2: {"b" * 65},2'),
     ("batch,cards\nZoë,2\n", "M4", '"Zoë" is no id; "Zoe" would be one. Record 2, line 2: Zoë,2'),
     ("batch,cards\n" + "".join(f"b{number},1000000\n" for number in range(11)), "M5", "Record 12, line 12: b10,1000000"),
     ("batch,cards\n", "M6", ""),
@@ -80,6 +96,14 @@ OF_ASSERTIONS = [
     (BALLOTS, "F1", 'It begins with "1", as a ballot file does'),
     (ASSERTIONS[:60], "F1", "The file ends before the object does"),
     (CHANGED('"margin":1,"rest"', '"rest"'), "F2", 'It lacks "margin". Assertion 1: {"kind":"NEN","loser":"Ben","rest":["Ann","Ben"],"winner":"Ann"}'),
+    (CHANGED('"winner":"Ann"}\n', '"winner":5}\n'), "F2", 'Its "winner" is 5, and a text in quotes is looked for'),
+    (CHANGED('"order":["Ann","Ben"]', '"order":["Ann",5]'), "F2", 'Its "order" is ["Ann", 5], and a list of texts in quotes is looked for'),
+    *[(CHANGED(CLAIM, changed), "F2", f"{told} is looked for. Assertion 1: {changed}") for changed, told in [
+        (CLAIM.replace('"NEN"', '"nen"'), 'Its "kind" is "nen", and "NEB" or "NEN"'),
+        (CLAIM.replace('"loser":"Ben"', '"loser":5'), 'Its "loser" is 5, and a text in quotes'),
+        (CLAIM.replace('"margin":1', '"margin":"1"'), f'Its "margin" is "1", and 0 to {MOST_NUMBER}, in digits alone,'),
+        (CLAIM.replace('["Ann","Ben"]', '"Ann"'), 'Its "rest" is "Ann", and a list of texts in quotes'),
+    ]],
     (CHANGED('"version":1', '"version":3'), "F3", "It says version 3"),
     (CHANGED('"loser":"Ben"', '"loser":"ben"'), "F4", '"ben" is no candidate; the file has "Ben". Assertion 1: {"kind":"NEN","loser":"ben","margin":1,"rest":["Ann","Ben"],"winner":"Ann"}'),
     (CHANGED('"rest":["Ann","Ben"]', '"rest":["Ann"]'), "F5", 'The rest lacks "Ben". Assertion 1: {"kind":"NEN","loser":"Ben","margin":1,"rest":["Ann"],"winner":"Ann"}'),
@@ -101,17 +125,17 @@ OF_ASSERTIONS = [
     (CHANGED('"records":3', '"records":0'), "F6", "It says 0 records"),
     *[(PLANNED(*change), rule, told) for change, rule, told in [
         (('"cards":4,', ""), "F2", 'It lacks "cards"'), (('"draws":null,', ""), "F2", f'It lacks "draws". Assertion 1: {CLAIM}'),
-        (('"draws":null,', '"draws":"4",'), "F2", f'Its draws are "4", and null or 1 to 100,000, in digits alone, is looked for. Assertion 1: {{"draws":"4",{CLAIM[1:]}'),
+        (('"draws":null,', '"draws":"4",'), "F2", f'Its draws are "4", and null or 1 to 100000, in digits alone, is looked for. Assertion 1: {{"draws":"4",{CLAIM[1:]}'),
         (('"draws":null,', '"draws":4294967296,'), "F2",
-         f'Its draws are 4294967296, and null or 1 to 100,000, in digits alone, is looked for. Assertion 1: {{"draws":4294967296,{CLAIM[1:]}'),
-        (('"cards":4', '"cards":4.0'), "F2", 'Its "cards" is 4.0, and 0 to 4,294,967,295, in digits alone, is looked for'),
-        (('"limit":50000', '"limit":null'), "F2", 'Its "limit" is null, and 0 to 4,294,967,295, in digits alone, is looked for'),
-        (('"version":2', '"version":5000000000'), "F2", 'Its "version" is 5000000000, and 0 to 4,294,967,295, in digits alone, is looked for'),
-        (('"version":2', '"version":"2"'), "F2", 'Its "version" is "2", and 0 to 4,294,967,295, in digits alone, is looked for'),
+         f'Its draws are 4294967296, and null or 1 to 100000, in digits alone, is looked for. Assertion 1: {{"draws":4294967296,{CLAIM[1:]}'),
+        (('"cards":4', '"cards":4.0'), "F2", f'Its "cards" is 4.0, and 0 to {MOST_NUMBER}, in digits alone, is looked for'),
+        (('"limit":50000', '"limit":null'), "F2", f'Its "limit" is null, and 0 to {MOST_NUMBER}, in digits alone, is looked for'),
+        (('"version":2', '"version":5000000000'), "F2", f'Its "version" is 5000000000, and 0 to {MOST_NUMBER}, in digits alone, is looked for'),
+        (('"version":2', '"version":"2"'), "F2", f'Its "version" is "2", and 0 to {MOST_NUMBER}, in digits alone, is looked for'),
         (('"draws":null,', '"draws":0,'), "F6", f'Its draws are 0. Assertion 1: {{"draws":0,{CLAIM[1:]}'),
         (('"draws":null,', '"draws":100001,'), "F6", f'Its draws are 100,001. Assertion 1: {{"draws":100001,{CLAIM[1:]}'),
         (('"cards":4', '"cards":2'), "F6", "It says 2 cards for 3 records"), (('"cards":4', '"cards":10000001'), "F6", "It says 10,000,001 cards"),
-        (('"limit":50000', '"limit":0'), "F6", "Its limit is 0, and 1 to 999,999 is looked for"),
+        (('"limit":50000', '"limit":0'), "F6", "Its limit is 0, and 1 to 999999 is looked for"),
         (('"gamma":100', '"gamma":501'), "F6", "Its gamma is 501, and 1 to 500 is looked for"),
     ]],
     (CHANGED('"records":3', '"records":5'), "F7", "The assertions are about 5 ballots, and the manifest has 4 cards"),
@@ -151,6 +175,13 @@ OF_WORDS = [
     *[([script, "x"], f'"{script}" is no command; it is a script of its own: ./{script}') for script in SCRIPTS],
     (["audit", "--draw", "5"], '"--draw" is no option of audit; nearly right is "--draws"'),
     (["search", "-x", "b"], '"-x" is no option of search; it has --contest, --workers, --nodes, --sets, --floor, --cards, --limit, --gamma'),
+    (["search", "--help"], '"--help" is no option of search; its page: ./raire help search'),
+    (["report", "s", "-h"], '"-h" is no option of report; its page: ./raire help report'),
+    (["search", "-"], '"-" is no file; standard input is the file /dev/stdin'),
+    (["tabulate", "-x.raire"], '"-x.raire" is no option of tabulate; it has --contest, --nodes; the file of this name is "./-x.raire"'),
+    (["report", "my", "session.json"], '"session.json" is a word too many: report takes SESSION; a name with blanks wants quotes: "my session.json"'),
+    (["check", "my", "session.json", "a"], '"a" is a word too many: check takes BALLOTS ASSERTIONS; a name with blanks wants quotes: "my session.json"'),
+    (["report", "my", "other.json"], '"other.json" is a word too many: report takes SESSION'),
     (["search", "b", "--gamma=100"], "search takes --gamma only together with --cards"),
     (["search", "b", "--cards=9", "--limit", "0.05"], '"0.05" is no value of --limit, which is 1 to 999999 millionths, such as 50000 for 5 percent'),
     (["search", "b", "--cards=9", "--gamma", "501"], '"501" is no value of --gamma, which is 1 to 500 thousandths'),
@@ -229,6 +260,8 @@ def rules_are_told(tried):
     stand = {match[1] for cells in table.rows("faults.md") if len(cells) == 4 and (match := table.KEYS.match(cells[1]))}
     tried.see("each rule stands in faults.md", rules == {key for key in stand if re.fullmatch("[BFMSV][0-9]+", key)}, sorted(stand))
     known = {name: number for name, number in vars(limits).items() if name.isupper()}
+    for rule in ("M3", "M5"):
+        tried.see(f"a number stands in {rule} as in a manifest", re.search("[0-9]{7}", table.causes()[rule]) and not re.search("[0-9],[0-9]", table.causes()[rule]))
     for name, number in table.limits().items():
         tried.see(f"{name} is {number}", known.get(name, int(number.replace(",", ""))) == int(number.replace(",", "")))
 
@@ -304,6 +337,8 @@ def pluralities_are_told(tried):
 
 
 def words_are_told(tried):
+    for name in ("-x.raire", "my session.json"):
+        write(name, "")
     for words, told in OF_WORDS:
         tried.says(words, f"{told}. {POINTER}")
     tried.says(["tabulate", "ballot.raire"], f'no such file: {table.causes()["no such file"]}. Nearly right is "ballots.raire". {END}')

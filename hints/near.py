@@ -2,7 +2,7 @@
 import difflib
 import unicodedata
 
-from records import quoted, shown
+from records import has_line_end, quoted, shown
 
 MOST_NAME_BYTES = 64
 MOST_LOOKED_AT = 5_000
@@ -34,11 +34,11 @@ def in_plain_letters(text):
     return plain if is_id(plain) else None
 
 
-def why_no_id(text):
-    """Why this text is no id."""
+def why_no_id(text, most=MOST_NAME_BYTES):
+    """Why this text is no id of so many bytes at most. One of several lines was none that somebody meant, so nothing is offered for it."""
     if text == "":
         return "The id is empty"
-    if len(text) > MOST_NAME_BYTES:
-        return f"{quoted(text)} has {len(text)} bytes"
-    plain = in_plain_letters(text)
+    if len(text) > most:
+        return f"{quoted(text)} has {len(text)} bytes, and {most} are the most"
+    plain = None if has_line_end(text) else in_plain_letters(text)
     return f"{quoted(text)} is no id" + (f'; "{plain}" would be one' if plain else "")

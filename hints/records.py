@@ -49,6 +49,11 @@ def record_at(data, number):
     return next((record for record in records(data) if record.number == number), None)
 
 
+def has_line_end(text):
+    """Of a field: it goes on behind the end of a line, so its quote isn't closed in that line."""
+    return "\n" in text or "\r" in text
+
+
 def shown(text, most=120):
     """A text of a file on one line: as UTF-8 where it is that, nothing that a terminal obeys, and no longer than `most`."""
     try:

@@ -10,7 +10,7 @@ import re
 import sys
 
 from near import is_id, nearest, why_no_id
-from records import listed, quoted, record_at, records, shown
+from records import has_line_end, listed, quoted, record_at, records, shown
 from table import limits
 
 MOST_UNREAD = 1_000
@@ -23,7 +23,8 @@ def data_of(path):
 
 
 def where(record):
-    return f"Record {record.number}, line {record.line}: {shown(record.text)}"
+    told = f"A quote in line {record.line} isn't closed in that line. " if any(map(has_line_end, record.fields)) else ""
+    return told + f"Record {record.number}, line {record.line}: {shown(record.text)}"
 
 
 def looks_like(data):
@@ -36,7 +37,7 @@ def looks_like(data):
         return None
     if first.fields == ["batch", "cards"]:
         return "a manifest"
-    if {"ballot", "missing"} & set(first.fields[1:3]):
+    if {"ballot", "missing"} & set(first.fields[1:3]) and "_" in first.fields[0]:
         return "a file of seen cards"
     second = record_at(data[:65_536], 2)
     return "a ballot file" if second and second.fields[0] == "Contest" else None
@@ -49,12 +50,26 @@ def begins(data, wanted):
     kind = looks_like(data)
     first = record_at(data[:65_536], 1)
     told = f"It begins with {quoted(first.text if first else data[:60].decode('latin-1'))}"
-    return told + (f", as {kind} does" if kind and kind != wanted else "" if kind else semicolons(first))
+    if kind and kind != wanted:
+        return told + f", as {kind} does"
+    return told + (semicolons(first) or no_header(first, wanted) or capitals(first, wanted))
 
 
 def semicolons(record):
     """Where a record has semicolons and no comma, that these stand where commas have to."""
     return "; its semicolons have to be commas" if record and ";" in record.text and "," not in record.text else ""
+
+
+def no_header(record, wanted):
+    """B1 of a record that is the header of a table, or a contest's."""
+    is_header = wanted == "a ballot file" and record and is_id(record.fields[0]) and not re.search("[0-9]", record.fields[0])
+    return "; a ballot file has no header: its first record is the number of contests" if is_header else ""
+
+
+def capitals(record, wanted):
+    """M1"""
+    is_meant = wanted == "a manifest" and record and [text.lower() for text in record.fields] == ["batch", "cards"]
+    return "; its letters have to be small" if is_meant else ""
 
 
 def json_members(data):
@@ -67,6 +82,10 @@ def json_members(data):
 
 def plural(number, one):
     return f"{number:,} {one}{'s' * (number != 1)}"
+
+
+def most_of(name):
+    return int(limits()[name].replace(",", ""))
 
 
 def is_number(text, low, most):
@@ -149,8 +168,10 @@ def short_ballot(data, at):
 
 def other_contest(data, at):
     """B7"""
-    record = record_at(data, at)
-    return [is_none("contest", record.fields[0], heads_of(data), "the file has"), where(record)]
+    record, heads = record_at(data, at), heads_of(data)
+    if record.fields[0] == "Contest":
+        return [f"The number of contests in the first record, {len(heads)}, is too small", where(record)]
+    return [is_none("contest", record.fields[0], heads, "the file has"), where(record)]
 
 
 def is_none(what, text, names, who_has):
@@ -225,7 +246,7 @@ def batch_id(data, at):
     had = next(had for had in records(data) if had.fields[0] == name and had.number > 1)
     if had.number < at:
         return [f"{quoted(name)} stood in record {had.number}, line {had.line}", where(record)]
-    return [f"{quoted(name)} has {len(name)} bytes" if is_id(name) else why_no_id(name), where(record)]
+    return [why_no_id(name, most_of("MOST_BATCH_BYTES")), where(record)]
 
 
 def batches_of(data):
@@ -347,12 +368,36 @@ def is_counted(value):
     return type(value) is int and 0 <= value <= most_of("MOST_NUMBER")
 
 
+def is_text(value):
+    return isinstance(value, str)
+
+
+def are_texts(value):
+    return isinstance(value, list) and all(map(is_text, value))
+
+
+def kinds():
+    """Of each member what it may be, in words, and whether a value is that. The draws of an assertion may be null besides, and have words of their own."""
+    return {
+        "assertions": ("a list", lambda value: isinstance(value, list)), "kind": ('"NEB" or "NEN"', lambda value: value in ("NEB", "NEN")),
+        **dict.fromkeys(("contest", "loser", "winner"), ("a text in quotes", is_text)),
+        **dict.fromkeys(("candidates", "order", "rest"), ("a list of texts in quotes", are_texts)),
+        **dict.fromkeys(NUMBERS, (f"0 to {most_of('MOST_NUMBER')}, in digits alone,", is_counted)),
+    }
+
+
+def wrong_member(value, members):
+    """F2: a member that isn't there, or is of another kind."""
+    told = missing(value, members)
+    if told:
+        return told
+    wrong = [(name, wanted) for name, (wanted, is_kind) in kinds().items() if name in members and not is_kind(value[name])]
+    return next((f"Its {quoted(name)} is {shown(json.dumps(value[name]), 70)}, and {wanted} is looked for" for name, wanted in wrong), None)
+
+
 def wrong_kind(file):
-    """F2 at 0: a member that isn't there, or a number that is none."""
-    members = MEMBERS + TERMS * is_2(file)
-    wrong = [name for name in members if name in NUMBERS and name in file and not is_counted(file[name])]
-    told = f"Its {quoted(wrong[0])} is {shown(json.dumps(file[wrong[0]]), 70)}, and 0 to {most_of('MOST_NUMBER'):,}, in digits alone, is looked for" if wrong else None
-    return missing(file, members) or told
+    """F2 at 0"""
+    return wrong_member(file, MEMBERS + TERMS * is_2(file))
 
 
 def assertion(data, rule, at):
@@ -390,10 +435,6 @@ def wrong_order(names, wanted, what):
     return f"The {what} lacks {listed(lacks)}" if lacks else None
 
 
-def most_of(name):
-    return int(limits()[name].replace(",", ""))
-
-
 def is_2(file):
     return isinstance(file, dict) and file.get("version") == 2
 
@@ -417,7 +458,7 @@ def wrong_terms(file):
         return f"It says {plural(file['cards'], 'card')}"
     most = {"gamma": most_of("GREATEST_GAMMA"), "limit": most_of("GREATEST_LIMIT")}
     name = next((name for name in most if not 1 <= file[name] <= most[name]), None)
-    return name and f"Its {name} is {file[name]:,}, and 1 to {most[name]:,} is looked for"
+    return name and f"Its {name} is {file[name]:,}, and 1 to {most[name]} is looked for"
 
 
 def wrong_draws(file, one):
@@ -425,14 +466,14 @@ def wrong_draws(file, one):
     if not is_2(file) or not isinstance(one, dict) or one.get("draws") is None:
         return None
     if not is_counted(one["draws"]):
-        return f"Its draws are {shown(json.dumps(one['draws']), 70)}, and null or 1 to {most_of('MOST_DRAWS'):,}, in digits alone, is looked for"
+        return f"Its draws are {shown(json.dumps(one['draws']), 70)}, and null or 1 to {most_of('MOST_DRAWS')}, in digits alone, is looked for"
     return None if 1 <= one["draws"] <= most_of("MOST_DRAWS") else f"Its draws are {one['draws']:,}"
 
 
-def lacking(file, one):
-    """F2 of an assertion: the members that it lacks."""
+def wrong_part(file, one):
+    """F2 of an assertion"""
     is_nen = isinstance(one, dict) and one.get("kind") == "NEN"
-    return missing(one, OF_ASSERTION + ("rest",) * is_nen + ("draws",) * is_2(file))
+    return wrong_member(one, OF_ASSERTION + ("rest",) * is_nen + ("draws",) * is_2(file)) or wrong_draws(file, one)
 
 
 def wrong_name(file, one):
@@ -446,7 +487,7 @@ OF_HEAD = {
     "F5": lambda file: wrong_order(file["order"], file["candidates"], "order"), "F6": lambda file: wrong_margin(file, file["margin"]) or wrong_terms(file),
 }
 OF_ONE = {
-    "F2": lambda file, one: lacking(file, one) or wrong_draws(file, one), "F4": wrong_name,
+    "F2": wrong_part, "F4": wrong_name,
     "F5": lambda file, one: wrong_order(one["rest"], [one["winner"], one["loser"]], "rest"),
     "F6": lambda file, one: wrong_margin(file, one["margin"]) or wrong_draws(file, one),
 }

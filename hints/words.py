@@ -131,10 +131,15 @@ def call_by(form, command, words):
 def option_in(word, rest, command, form):
     """The option of this word with its value, which may be the next word."""
     name, has_value, text = word[2:].partition("=")
+    if word in ("--help", "-h"):
+        raise Wrong(f"{quoted(word)} is no option of {command}; its page: ./raire help {command}")
+    if word == "-":
+        raise Wrong('"-" is no file; standard input is the file /dev/stdin')
     if not word.startswith("--") or name not in form.options:
         all_told = "it has " + (", ".join(f"--{name}" for name in form.options) or "none")
         told = meant(name.strip("-"), form.options, all_told, "--")
-        raise Wrong(f"{quoted(word)} is no option of {command}; {told}")
+        file = f"; the file of this name is {quoted(f'./{word}')}" if os.path.exists(word) else ""
+        raise Wrong(f"{quoted(word)} is no option of {command}; {told}{file}")
     option = form.options[name]
     if not has_value:
         if not rest or rest[0].startswith("-"):
@@ -153,10 +158,16 @@ def judge_files(files, command, form, options):
     if len(files) > len(form.files):
         more = files[len(form.files)]
         quotes = '; a seed of several words wants quotes, as in --seed "2 6 1 4"' if "seed" in options else ""
+        quotes += "".join(f"; a name with blanks wants quotes: {quoted(name)}" for name in split_names(files)[:1])
         raise Wrong(f"{quoted(more)} is a word too many: {command} takes {told_files(form)}{quotes}")
     if len(files) < len(form.files):
         few = f"{len(files)} of these stand{'s' * (len(files) == 1)}" if files else "none of these stands"
         raise Wrong(f"{command} takes {told_files(form)}, and {few} here")
+
+
+def split_names(files):
+    """Files whose names two words are, one behind the other, with a blank between."""
+    return [name for name in map(" ".join, zip(files, files[1:])) if os.path.exists(name)]
 
 
 def told_files(form):

@@ -2,11 +2,12 @@
 use Rattle.std.proofs.Common.{◌≡◌, ◌++◌, ◌∷◌, [], ◌∙◌, ◌||◌, ◌==◌, ℕ, true, false, Option, Some, None, List, length, refl, sym, ap, inl, inr, arith}
 use Rattle.std.specs.Prelude.{option_map, is_some, filter}
 use Rattle.std.specs.List.{list_all, list_any}
+use Rattle.std.proofs.lemmas.Nat.Bits.{bit_at-zero}
 use Rattle.std.proofs.lemmas.Bool.{and_parts, cases_Bool, both_ways, eqb-true, eqb-false}
-use Rattle.irv_base.specs.Candidates.{is_in}
+use Rattle.irv_base.specs.Candidates.{has, is_in}
 use Rattle.irv_base.specs.Names.{Id, is_name, is_same, is_among, all_differ, candidate_named}
 use Rattle.irv_base.specs.Records.{firsts}
-use Rattle.irv_base.proofs.Firsts.{firsts-again, firsts-more}
+use Rattle.irv_base.proofs.Firsts.{firsts-again, firsts-more, is_in-push}
 use Rattle.ballot_reader.specs.Grammar.{all_of, are_names, is_marked, ranking_of}
 use Rattle.ballot_reader.proofs.AllOf.{behind, behind-more, behind-none, behind-end}
 use Rattle.ballot_reader.proofs.Differing.{among-set}
@@ -87,3 +88,75 @@ ranked-more candidates preferences field c rest old new (cs, so_far, ranked) som
       | inl t ↦ kept t ∙ ranked ∙ sym (firsts-again cs c (ap (λ r. is_in r c) (sym ranked) ∙ t))
       | inr f ↦ added f ∙ ap (λ r. r ++ c ∷ []) ranked ∙ sym (firsts-more cs c (ap (λ r. is_in r c) (sym ranked) ∙ f))
     ]
+
+pub ranked-whole : (candidates preferences : List Id) (ranking : List ℕ) → RankedSoFar candidates preferences ranking [] →
+    ranking_of candidates preferences ≡ Some ranking
+ranked-whole candidates preferences ranking (cs, so_far, ranked) =
+    ap (option_map firsts) (so_far ∙ behind-end (candidate_named candidates) cs) ∙ ap Some (sym ranked)
+
+pub ranked-unknown : (candidates preferences : List Id) (ranking : List ℕ) (field : Id) (rest : List Id) →
+    RankedSoFar candidates preferences ranking (field ∷ rest) → (length field == 0) ≡ false → candidate_named candidates field ≡ None →
+    ranking_of candidates preferences ≡ None
+ranked-unknown candidates preferences ranking field rest (cs, so_far, ranked) some e =
+    ap (option_map firsts) (so_far ∙ ap (λ ids. behind cs (all_of (candidate_named candidates) ids)) (some-marked field rest some)
+    ∙ behind-none (candidate_named candidates) cs field (marked rest) e)
+
+-- ---- the ranking so far, which stands last among the rankings
+
+has-none : (c : ℕ) → has 0 c ≡ false
+has-none c = ap (λ bit. bit == 1) (bit_at-zero c)
+
+pub record IsLast (candidates preferences : List Id) (old new : List (List ℕ)) (seen : ℕ) (rest : List Id) : Type 0 where
+  pub ranking : List ℕ
+  pub last : new ≡ old ++ ranking ∷ []
+  pub ranked : RankedSoFar candidates preferences ranking rest
+  pub seen_all : (c : ℕ) → has seen c ≡ is_in ranking c
+
+pub last-none : (candidates preferences : List Id) (old new : List (List ℕ)) → new ≡ old ++ [] ∷ [] → IsLast candidates preferences old new 0 preferences
+last-none candidates preferences old new e = record {
+  ranking = [];
+  last = e;
+  ranked = ([], sym (all-behind (chosen candidates preferences)), refl);
+  seen_all = has-none;
+}
+  where
+    all-behind : (o : Option (List ℕ)) → behind [] o ≡ o
+    all-behind None = refl
+    all-behind (Some cs) = refl
+
+-- a blank preference is passed over
+pub last-blank : (candidates preferences : List Id) (old new : List (List ℕ)) (seen : ℕ) (field : Id) (rest : List Id) →
+    IsLast candidates preferences old new seen (field ∷ rest) → (length field == 0) ≡ true → IsLast candidates preferences old new seen rest
+last-blank candidates preferences old new seen [] rest l blank = record {
+  ranking = l.ranking;
+  last = l.last;
+  ranked = l.ranked;
+  seen_all = l.seen_all;
+}
+last-blank candidates preferences old new seen (b ∷ field) rest l blank = absurd (omega (arith, eqb-true (length (b ∷ field)) 0 blank))
+
+-- so is a candidate who was seen
+pub last-again : (candidates preferences : List Id) (old new : List (List ℕ)) (seen : ℕ) (field : Id) (rest : List Id) (c : ℕ) →
+    IsLast candidates preferences old new seen (field ∷ rest) → (length field == 0) ≡ false → candidate_named candidates field ≡ Some c →
+    has seen c ≡ true → IsLast candidates preferences old new seen rest
+last-again candidates preferences old new seen field rest c l some e again = record {
+  ranking = l.ranking;
+  last = l.last;
+  ranked = ranked-more candidates preferences field c rest l.ranking l.ranking l.ranked some e
+      (λ absent. absurd (both_ways (has seen c) (l.seen_all c ∙ absent) again)) (λ there. refl);
+  seen_all = l.seen_all;
+}
+
+-- another is put last
+pub last-more : (candidates preferences : List Id) (old new longer : List (List ℕ)) (seen more : ℕ) (field : Id) (rest : List Id) (c : ℕ) →
+    IsLast candidates preferences old new seen (field ∷ rest) → (length field == 0) ≡ false → candidate_named candidates field ≡ Some c →
+    has seen c ≡ false →
+    ((earlier : List (List ℕ)) (last : List ℕ) → new ≡ earlier ++ last ∷ [] → longer ≡ earlier ++ (last ++ c ∷ []) ∷ []) →
+    ((d : ℕ) → has more d ≡ (has seen d || (d == c))) → IsLast candidates preferences old longer more rest
+last-more candidates preferences old new longer seen more field rest c l some e fresh put with = record {
+  ranking = l.ranking ++ c ∷ [];
+  last = put old l.ranking l.last;
+  ranked = ranked-more candidates preferences field c rest l.ranking (l.ranking ++ c ∷ []) l.ranked some e
+      (λ absent. refl) (λ there. absurd (both_ways (has seen c) fresh (l.seen_all c ∙ there)));
+  seen_all = λ d. with d ∙ ap (λ b. b || (d == c)) (l.seen_all d) ∙ sym (is_in-push l.ranking c d);
+}

@@ -2,47 +2,92 @@
 ghost use Rattle.std.specs.Prelude.{◌≤◌, length};
 ghost use Rattle.irv_base.specs.declared.limits.TheConstants.{ROOM};
 
+use crate::same::number_of_4;
 use irv_base::{Memory, Name};
 use std::alloc::Global;
 
-// How many guesses there are. With so many, few names share one.
-const GUESSES: usize = 4_096;
+// How many guesses there are. With so many, a factor by which no two names share one is soon found.
+const GUESSES: usize = 256;
+
+// How many factors are tried. Each is the one before, times the first, which is odd.
+const TRIES: usize = 200;
+
+const FIRST_FACTOR: u64 = 0x9E37_79B9_7F4A_7C15;
+
+// No name's place
+const NOWHERE: u8 = u8::MAX;
 
 /// For each look that an id may have, the place of a name that has it. It is a guess: whoever asks compares.
 #[derive(Drop)]
 pub struct Guesses {
+    factor: u64,
     places: Vec<u8>,
 }
 
-// What an id looks like: of its first byte, its last and the one before that the low bits.
-fn look(id: &[u8]) -> usize {
+// What an id looks like: its first bytes and its last, and where these are few, how many there are.
+#[inline(always)]
+fn look(id: &[u8]) -> u64 {
     let n = id.len();
-    if n < 2 {
-        return match id.first() {
-            Some(only) => usize::from(*only),
-            None => 0,
-        };
+    if n >= 4 {
+        return u64::from(number_of_4(id, 0)) | u64::from(number_of_4(id, n - 4)) << 32;
     }
-    usize::from(id[n - 1]) ^ usize::from(id[n - 2]) << 4 ^ usize::from(id[0]) << 7
+    if n == 0 {
+        return 0;
+    }
+    let bytes = u64::from(id[0]) | u64::from(id[n / 2]) << 8 | u64::from(id[n - 1]) << 16;
+    bytes | (n as u64) << 24
+}
+
+// Which guess is made of an id: the highest bits of its look times the factor.
+#[inline(always)]
+fn guess_of(factor: u64, id: &[u8]) -> usize {
+    (look(id).wrapping_mul(factor) >> 56) as usize
 }
 
 impl Guesses {
+    // No guesses, by a factor.
+    fn nothing(alloc: Global, factor: u64) -> Result<Guesses, Memory> {
+        Ok(Guesses {
+            factor,
+            places: vec![in alloc; NOWHERE; GUESSES]?,
+        })
+    }
+
+    // Puts the places of these names in, and tells whether no two share a guess.
+    fn put(&mut self, names: &[Name]) -> bool
+        requires { length names.now ≤ ROOM }
+    {
+        let mut apart = true;
+        for i in 0..names.len() {
+            if let Some(place) = self.places.get_mut(guess_of(self.factor, names[i].bytes())) {
+                apart = apart && *place == NOWHERE;
+                *place = i as u8;
+            }
+        }
+        apart
+    }
+
     /// The places of these names.
     pub fn of(alloc: Global, names: &[Name]) -> Result<Guesses, Memory>
         requires { length names.now ≤ ROOM }
     {
-        let mut places = vec![in alloc; 0u8; GUESSES]?;
-        for i in 0..names.len() {
-            if let Some(place) = places.get_mut(look(names[i].bytes()) % GUESSES) {
-                *place = i as u8;
+        let mut factor = FIRST_FACTOR;
+        for _ in 0..TRIES {
+            let mut guesses = Guesses::nothing(alloc, factor)?;
+            if guesses.put(names) {
+                return Ok(guesses);
             }
+            factor = factor.wrapping_mul(FIRST_FACTOR);
         }
-        Ok(Guesses { places })
+        let mut guesses = Guesses::nothing(alloc, factor)?;
+        guesses.put(names);
+        Ok(guesses)
     }
 
     /// Where the id may stand.
+    #[inline(always)]
     pub fn place(&self, id: &[u8]) -> usize {
-        match self.places.get(look(id) % GUESSES) {
+        match self.places.get(guess_of(self.factor, id)) {
             Some(place) => usize::from(*place),
             None => 0,
         }

@@ -6,6 +6,9 @@ use irv_base::{Lists, Memory};
 use std::alloc::Global;
 use std::marker::Model;
 
+// How many bytes an id has, or about that. Room is made for so many first, and for more when they come.
+const ID_BYTES: usize = 16;
+
 /// A list of ids. It takes as many bytes as they have, and four for each.
 ///
 /// To a contract it is the list.
@@ -24,12 +27,12 @@ impl Model for Ids {
 }
 
 impl Ids {
-    /// No ids, with room for the ends of `room`.
+    /// No ids, with room for so many.
     pub(crate) fn nothing(alloc: Global, room: usize) -> Result<Ids, Memory>
         ensures { IfOk result (λ ids. ids ≡ []) }
     {
         Ok(Ids {
-            ids: Lists::nothing(alloc, room, 0)?,
+            ids: Lists::nothing(alloc, room, room.saturating_mul(ID_BYTES))?,
         })
     }
 

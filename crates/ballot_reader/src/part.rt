@@ -5,7 +5,7 @@ ghost use Rattle.ballot_reader.specs.Kept.{KeptPart, with_ballot};
 
 use crate::contest::Contest;
 use crate::guesses::Guesses;
-use crate::preferences::{are_candidates, ranking_guessed};
+use crate::preferences::{are_candidates, rank};
 use csv_rows::Fields;
 use irv_base::{Memory, Rankings};
 use std::alloc::Global;
@@ -58,13 +58,13 @@ impl Part {
             → ranking_of contest.now.candidates preferences.entry ≡ Some ranking
             → self.new ≡ with_ballot self.old at ranking) }
     {
-        let candidates = contest.candidates.as_slice();
-        let Some(ranking) = ranking_guessed(candidates, Some(&self.guesses), preferences) else {
-            return Ok(false);
-        };
         self.places.push(at)?;
-        self.rankings.push(&ranking)?;
-        Ok(true)
+        rank(
+            contest.candidates.as_slice(),
+            &self.guesses,
+            preferences,
+            &mut self.rankings,
+        )
     }
 }
 

@@ -1,6 +1,5 @@
 // The preferences of a ballot.
-ghost use Rattle.std.specs.Prelude.{◌≡◌, ◌≤◌, ◌++◌, ◌∷◌, [], ℕ, true, false, IfSome, IsTrue, is_some, length};
-ghost use Rattle.irv_base.specs.Candidates.{has, is_in};
+ghost use Rattle.std.specs.Prelude.{◌≡◌, ◌≤◌, ◌++◌, ◌∷◌, [], ℕ, List, Some, IfOk, IsTrue, is_some, length};
 ghost use Rattle.irv_base.specs.declared.limits.TheConstants.{ROOM};
 ghost use Rattle.irv_base.specs.Names.{all_differ, candidate_named};
 ghost use Rattle.ballot_reader.specs.Grammar.{are_names, ranking_of};
@@ -9,57 +8,52 @@ use crate::guesses::Guesses;
 use crate::same::is_same;
 use csv_rows::Fields;
 use indexmap::IndexSet;
-use irv_base::{CandSet, Candidate, Name, Ranking, candidate_named};
+use irv_base::{CandSet, Candidate, Memory, Name, Ranking, Rankings, candidate_named};
 
 // The candidate with that id, first sought where it is guessed to stand.
-fn candidate_of(candidates: &[Name], guesses: Option<&Guesses>, id: &[u8]) -> Option<Candidate>
+fn candidate_of(candidates: &[Name], guesses: &Guesses, id: &[u8]) -> Option<Candidate>
     requires few { length candidates.now ≤ ROOM }
-    requires differ { IfSome guesses (λ _. IsTrue (all_differ candidates.now)) }
+    requires differ { IsTrue (all_differ candidates.now) }
     ensures { result ≡ candidate_named candidates.now id.now }
 {
-    if let Some(guesses) = guesses {
-        let guess = guesses.place(id);
-        if guess < candidates.len() && is_same(candidates[guess].bytes(), id) {
-            return Some(Candidate(guess as u8));
-        }
+    let guess = guesses.place(id);
+    if guess < candidates.len() && is_same(candidates[guess].bytes(), id) {
+        return Some(Candidate(guess as u8));
     }
     candidate_named(candidates, id)
 }
 
-// Ranks a candidate last, unless it was seen. It answers with those that are seen then.
-fn rank(ranking: &mut Ranking, seen: CandSet, c: Candidate) -> CandSet
-    requires { (d : ℕ) → has seen d ≡ is_in ranking.old d }
-    ensures added { is_in ranking.old c ≡ false → ranking.new ≡ ranking.old ++ c ∷ [] }
-    ensures kept { is_in ranking.old c ≡ true → ranking.new ≡ ranking.old }
-    ensures seen { (d : ℕ) → has result d ≡ is_in ranking.new d }
-{
-    if seen.has(c) {
-        return seen;
-    }
-    ranking.push_new(c);
-    seen.with(c)
-}
-
-/// The ranking of these preferences, as `ranking_of` gives it. Guesses save time, and need candidates that are all different.
-pub(crate) fn ranking_guessed(
+/// Puts the ranking of these preferences last, as `ranking_of` gives it, and tells whether there is one. Where there is none, what
+/// is put last isn't told. Guesses save time, and need candidates that are all different.
+pub(crate) fn rank(
     candidates: &[Name],
-    guesses: Option<&Guesses>,
+    guesses: &Guesses,
     preferences: Fields<'_>,
-) -> Option<Ranking>
+    rankings: &mut Rankings,
+) -> Result<bool, Memory>
     requires few { length candidates.now ≤ ROOM }
-    requires differ { IfSome guesses (λ _. IsTrue (all_differ candidates.now)) }
-    ensures { result ≡ ranking_of candidates.now preferences.entry }
+    requires differ { IsTrue (all_differ candidates.now) }
+    ensures known { IfOk result (λ known.
+        known ≡ is_some (ranking_of candidates.now preferences.entry)) }
+    ensures ranked { IfOk result (λ _. (ranking : List ℕ)
+        → ranking_of candidates.now preferences.entry ≡ Some ranking
+        → rankings.new ≡ rankings.old ++ ranking ∷ []) }
 {
-    let mut ranking = Ranking::empty();
+    rankings.begin()?;
     let mut seen = CandSet::empty();
     for preference in preferences {
         if preference.is_empty() {
             continue;
         }
-        let candidate = candidate_of(candidates, guesses, preference)?;
-        seen = rank(&mut ranking, seen, candidate);
+        let Some(candidate) = candidate_of(candidates, guesses, preference) else {
+            return Ok(false);
+        };
+        if !seen.has(candidate) {
+            rankings.lengthen(candidate)?;
+            seen = seen.with(candidate);
+        }
     }
-    Some(ranking)
+    Ok(true)
 }
 
 /// The ranking of these preferences, if each that isn't blank is the id of one of a few candidates. A repeated candidate counts at
@@ -68,7 +62,14 @@ pub fn ranking_of(candidates: &[Name], preferences: Fields<'_>) -> Option<Rankin
     requires { length candidates.now ≤ ROOM }
     ensures { result ≡ ranking_of candidates.now preferences.entry }
 {
-    ranking_guessed(candidates, None, preferences)
+    let mut ranking = Ranking::empty();
+    for preference in preferences {
+        if preference.is_empty() {
+            continue;
+        }
+        ranking.push(candidate_named(candidates, preference)?);
+    }
+    Some(ranking)
 }
 
 fn is_candidate(candidates: &IndexSet<Name>, id: &[u8]) -> bool

@@ -3,8 +3,9 @@ ghost use Rattle.std.specs.Prelude.{◌≡◌, ◌+◌, ◌*◌, ◌≤◌, leng
 ghost use Rattle.std.specs.Int.{w32, w64, to_le_bytes};
 ghost use Rattle.irv_base.specs.Names.{is_same};
 
-// The four bytes from a place on, as a number.
-fn number_of_4(bytes: &[u8], at: usize) -> u32
+/// The four bytes from a place on, as a number.
+#[inline(always)]
+pub fn number_of_4(bytes: &[u8], at: usize) -> u32
     requires { at + 4 ≤ length bytes.now }
     ensures { to_le_bytes w32 result ≡ take 4 (drop at bytes.now) }
 {

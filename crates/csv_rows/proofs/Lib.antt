@@ -7,3 +7,4 @@ pub mod Numbers
 pub mod Plain
 pub mod Single
 pub mod Marks
+pub mod Bare

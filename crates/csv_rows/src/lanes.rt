@@ -9,8 +9,8 @@ use std::simd::prelude::*;
 /// So many bytes are looked at side by side where the end of a field is sought.
 pub const FIELD_LANES: usize = 16;
 
-/// So many where the end of a line is.
-pub const LINE_LANES: usize = 32;
+/// So many where the end of a line is: most lines end within one look.
+pub const LINE_LANES: usize = 64;
 
 // The place of the lowest bit that is set, or `lanes` where none is.
 #[inline(always)]
@@ -42,8 +42,8 @@ pub fn bytes_in_line(text: &[u8], at: usize) -> usize
     requires { at + LINE_LANES ≤ length text.now }
     ensures { result ≡ before_first (is_byte2 0x0D 0x0A) (take LINE_LANES (drop at text.now)) }
 {
-    let bytes = u8x32::from_slice(&text[at..]);
-    let ends = bytes.simd_eq(u8x32::splat(CARRIAGE_RETURN))
-        | bytes.simd_eq(u8x32::splat(LINE_FEED));
+    let bytes = u8x64::from_slice(&text[at..]);
+    let ends = bytes.simd_eq(u8x64::splat(CARRIAGE_RETURN))
+        | bytes.simd_eq(u8x64::splat(LINE_FEED));
     first_set(ends.to_bitmask(), LINE_LANES)
 }

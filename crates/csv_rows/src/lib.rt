@@ -2,6 +2,7 @@
 //! blanks round a field.
 #![tactic(auto)]
 
+mod cut;
 pub mod examples;
 mod fields;
 mod lanes;
@@ -14,6 +15,7 @@ mod read_rows;
 mod record_fields;
 mod records;
 mod rows;
+mod stops;
 mod trim;
 
 pub use fields::Fields;

@@ -4,8 +4,9 @@ ghost use Rattle.std.specs.Iterator.{YieldsFirstRef, item_count};
 ghost use Rattle.csv_rows.specs.Fields.{trimmed_fields};
 ghost use Rattle.csv_rows.specs.Lines.{fields_in};
 
-use crate::lines::{cut_field, field_count};
-use crate::trim::trimmed;
+use crate::cut::cut_marked;
+use crate::lines::field_count;
+use crate::stops::marks_of;
 use std::marker::Model;
 
 /// The fields of a line that are still to come, without the spaces and tabs round them.
@@ -13,16 +14,22 @@ use std::marker::Model;
 pub struct LineFields<'t> {
     // The text from the next field on. None where the last field had no comma behind it.
     left: Option<&'t [u8]>,
+    // Which of its first bytes are stops, as far as they were looked at.
+    marks: u64,
 }
 
 impl<'t> Model for LineFields<'t> {
+    ghost use Rattle.std.specs.Prelude.{IfSome};
     ghost use Rattle.csv_rows.specs.Rows.{Fields};
     ghost use Rattle.csv_rows.specs.Fields.{trimmed_fields};
+    ghost use Rattle.csv_rows.specs.Lanes.{AreMarks};
     ghost use Rattle.csv_rows.specs.Lines.{fields_behind};
 
     ghost Value = { Fields };
 
     ghost view = { λ fields. trimmed_fields (fields_behind fields.left) };
+
+    ghost invariant = { λ fields. IfSome fields.left (λ text. AreMarks fields.marks text.now) };
 }
 
 impl<'t> LineFields<'t> {
@@ -30,7 +37,10 @@ impl<'t> LineFields<'t> {
     pub fn of(text: &'t [u8]) -> LineFields<'t>
         ensures { result ≡ trimmed_fields (fields_in text.now) }
     {
-        LineFields { left: Some(text) }
+        LineFields {
+            left: Some(text),
+            marks: marks_of(text),
+        }
     }
 
     /// How many are still to come.
@@ -53,8 +63,13 @@ impl<'t> Iterator for LineFields<'t> {
 
     #[inline(always)]
     fn next(&mut self) -> Option<&'t [u8]> {
-        let (field, left) = cut_field(self.left?);
+        let text = self.left?;
+        if self.marks == 0 {
+            self.marks = marks_of(text);
+        }
+        let (field, left, marks) = cut_marked(text, self.marks);
         self.left = left;
-        Some(trimmed(field))
+        self.marks = marks;
+        Some(field)
     }
 }

@@ -1,5 +1,5 @@
 // The lines of a plain text. Nothing of them is copied.
-ghost use Rattle.std.specs.Prelude.{◌≡◌, ◌≤◌, ◌∷◌, length};
+ghost use Rattle.std.specs.Prelude.{◌≡◌, ◌+◌, ◌≤◌, ◌∷◌, IfSome, drop, length};
 ghost use Rattle.memchr.specs.Find.{IsFirstByte, Nowhere, Passes, is_byte2, is_byte3};
 ghost use Rattle.csv_rows.specs.Fields.{is_blank_record, trimmed_fields};
 ghost use Rattle.csv_rows.specs.Lines.{behind_line, fields_behind, fields_in, is_line_end, is_plain};
@@ -28,7 +28,8 @@ pub fn is_plain(text: &[u8]) -> bool
         .is_none()
 }
 
-fn ends_field(b: u8) -> bool
+/// Whether a byte ends a field: a comma, or a line end.
+pub fn ends_field(b: u8) -> bool
     ensures { result ≡ is_byte3 0x2C 0x0D 0x0A b }
 {
     b == COMMA || b == CARRIAGE_RETURN || b == LINE_FEED
@@ -104,7 +105,8 @@ pub fn behind_line(text: &[u8]) -> &[u8]
 
 /// The first field of a line, and the text behind the comma that ends it, if one does.
 pub fn cut_field(text: &[u8]) -> (&[u8], Option<&[u8]>)
-    ensures { fields_in text.now ≡ result.0.now ∷ fields_behind result.1 }
+    ensures fields { fields_in text.now ≡ result.0.now ∷ fields_behind result.1 }
+    ensures behind { IfSome result.1 (λ left. left.now ≡ drop (length result.0.now + 1) text.now) }
 {
     let Some(end) = first_field_end(text) else {
         return (text, None);

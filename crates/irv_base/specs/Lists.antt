@@ -1,13 +1,18 @@
--- Lists that are kept one behind the other, in one list beside the places where they end.
-use Rattle.std.specs.Prelude.{◌≡◌, ◌≤◌, ◌-◌, ℕ, List, [], ◌∷◌, take, drop}
+-- Lists that are kept one behind the other, in one list beside the places where they begin.
+use Rattle.std.specs.Prelude.{◌≤◌, ◌-◌, ℕ, List, [], ◌∷◌, take, drop, length}
 
--- the first list begins at place a, each other where the one before it ends
-abbrev pub lists_between : {X : Type 0} → ℕ → List ℕ → List X → List (List X)
-lists_between a [] elements = []
-lists_between a (end ∷ ends) elements =
-    take (end - a) (drop a elements) ∷ lists_between end ends elements
+-- where a list ends behind which these begin, the last of them at place n
+abbrev pub end_before : List ℕ → ℕ → ℕ
+end_before [] n = n
+end_before (begin ∷ begins) n = begin
 
--- the ends rise from a to n
-abbrev pub AreEnds : ℕ → List ℕ → ℕ → Type 0
-AreEnds a [] n = a ≡ n
-AreEnds a (end ∷ ends) n = (a ≤ end) × AreEnds end ends n
+-- each list ends where the next one begins, and the last one with the elements
+abbrev pub lists_between : {X : Type 0} → List ℕ → List X → List (List X)
+lists_between [] elements = []
+lists_between (begin ∷ begins) elements =
+    take (end_before begins (length elements) - begin) (drop begin elements) ∷ lists_between begins elements
+
+-- the begins rise to n
+abbrev pub AreBegins : List ℕ → ℕ → Type 0
+AreBegins [] n = Unit {0}
+AreBegins (begin ∷ begins) n = (begin ≤ end_before begins n) × AreBegins begins n

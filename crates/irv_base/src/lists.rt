@@ -1,6 +1,6 @@
 // Lists, kept one behind the other.
-ghost use Rattle.std.specs.Prelude.{◌≡◌, ◌<◌, ◌≤◌, ◌-◌, ◌++◌, ◌∷◌, [], Some, IfOk, OnOk, OnErr, length, take, drop, slice_get, slice_index_or};
-ghost use Rattle.irv_base.specs.Lists.{AreEnds, lists_between};
+ghost use Rattle.std.specs.Prelude.{◌≡◌, ◌<◌, ◌≤◌, ◌+◌, ◌-◌, ◌++◌, ◌∷◌, [], List, Some, IfOk, OnOk, OnErr, length, take, drop, slice_get, slice_index_or};
+ghost use Rattle.irv_base.specs.Lists.{AreBegins, lists_between};
 
 use crate::Memory;
 use std::alloc::Global;
@@ -12,42 +12,52 @@ use std::marker::Model;
 #[derive(Drop)]
 pub struct Lists<T> {
     elements: Vec<T>,
-    // where each list ends
-    ends: Vec<u32>,
+    // where each list begins
+    begins: Vec<u32>,
 }
 
 impl<T> Model for Lists<T> {
     ghost use Rattle.std.specs.Prelude.{List, length};
-    ghost use Rattle.irv_base.specs.Lists.{AreEnds, lists_between};
+    ghost use Rattle.irv_base.specs.Lists.{AreBegins, lists_between};
 
     ghost Value = { List (List T) };
 
-    ghost view = { λ l. lists_between 0 l.ends.items l.elements.items };
+    ghost view = { λ l. lists_between l.begins.items l.elements.items };
 
-    ghost invariant = { λ l. AreEnds 0 l.ends.items (length l.elements.items) };
+    ghost invariant = { λ l. AreBegins l.begins.items (length l.elements.items) };
 }
 
-// Where the list with number i begins.
-fn begin_of(ends: &[u32], i: usize) -> u32
-    requires { i ≤ length ends.now }
-    ensures { result ≡ slice_index_or (0 ∷ ends.now) i 0 }
+// Where the list with number i ends, the last of them at place n.
+fn end_of(begins: &[u32], n: usize, i: usize) -> usize
+    requires { i < length begins.now }
+    ensures { result ≡ slice_index_or begins.now (i + 1) n }
 {
-    if i == 0 {
-        return 0;
+    match begins.get(i + 1) {
+        Some(end) => *end as usize,
+        None => n,
     }
-    ends[i - 1]
 }
 
 // Where the list with number i begins and ends among the elements.
-fn bounds<T>(ends: &[u32], elements: &[T], i: usize) -> (usize, usize)
-    requires ends { AreEnds 0 ends.now (length elements.now) }
-    requires within { i < length ends.now }
+fn bounds<T>(begins: &[u32], elements: &[T], i: usize) -> (usize, usize)
+    requires begins { AreBegins begins.now (length elements.now) }
+    requires within { i < length begins.now }
     ensures rise { result.0 ≤ result.1 }
     ensures last { result.1 ≤ length elements.now }
-    ensures list { slice_get (lists_between 0 ends.now elements.now) i
+    ensures list { slice_get (lists_between begins.now elements.now) i
         ≡ Some (take (result.1 - result.0) (drop result.0 elements.now)) }
 {
-    (begin_of(ends, i) as usize, ends[i] as usize)
+    (begins[i] as usize, end_of(begins, elements.len(), i))
+}
+
+// Where a list begins that is put behind so many elements.
+fn begin_behind(elements: usize) -> Result<u32, Memory>
+    ensures { IfOk result (λ begin. begin ≡ elements) }
+{
+    if elements > u32::MAX as usize {
+        return Err(Memory);
+    }
+    Ok(elements as u32)
 }
 
 impl<T: Copy> Lists<T> {
@@ -57,7 +67,7 @@ impl<T: Copy> Lists<T> {
     {
         Ok(Lists {
             elements: Vec::with_capacity(alloc, elements)?,
-            ends: Vec::with_capacity(alloc, lists)?,
+            begins: Vec::with_capacity(alloc, lists)?,
         })
     }
 
@@ -65,7 +75,7 @@ impl<T: Copy> Lists<T> {
     pub fn len(&self) -> usize
         ensures { result ≡ length self.now }
     {
-        self.ends.len()
+        self.begins.len()
     }
 
     /// The list with number `i`, from 0.
@@ -73,22 +83,41 @@ impl<T: Copy> Lists<T> {
         requires { i < length self.now }
         ensures { slice_get self.now i ≡ Some result.now }
     {
-        let (begin, end) = bounds(self.ends.as_slice(), self.elements.as_slice(), i);
+        let (begin, end) = bounds(self.begins.as_slice(), self.elements.as_slice(), i);
         &self.elements[begin..end]
     }
 
-    /// Puts a list last. More than `u32::MAX` elements in all are want of memory.
+    /// Puts a list last. More than `u32::MAX` elements before it are want of memory.
     pub fn push(&mut self, list: &[T]) -> Result<(), Memory>
         ensures pushed { OnOk result (self.new ≡ self.old ++ list.now ∷ []) }
         ensures same { OnErr result (self.new ≡ self.old) }
     {
-        let end = self.elements.len().saturating_add(list.len());
-        if end > u32::MAX as usize {
-            return Err(Memory);
-        }
-        self.ends.reserve(1)?;
+        let begin = begin_behind(self.elements.len())?;
+        self.begins.reserve(1)?;
         self.elements.extend_from_slice(list)?;
-        self.ends.push_reserved(end as u32);
+        self.begins.push_reserved(begin);
+        Ok(())
+    }
+
+    /// Puts an empty list last. More than `u32::MAX` elements before it are want of memory.
+    pub fn begin(&mut self) -> Result<(), Memory>
+        ensures begun { OnOk result (self.new ≡ self.old ++ [] ∷ []) }
+        ensures same { OnErr result (self.new ≡ self.old) }
+    {
+        let begin = begin_behind(self.elements.len())?;
+        self.begins.push(begin)?;
+        Ok(())
+    }
+
+    /// Puts an element at the end of the last list.
+    pub fn lengthen(&mut self, x: T) -> Result<(), Memory>
+        requires { 0 < length self.now }
+        ensures longer { OnOk result ((earlier : List (List T)) → (last : List T)
+            → self.old ≡ earlier ++ last ∷ [] → self.new ≡ earlier ++ (last ++ x ∷ []) ∷ []) }
+        ensures same { OnErr result (self.new ≡ self.old) }
+    {
+        self.elements.reserve(1)?;
+        self.elements.push_reserved(x);
         Ok(())
     }
 
@@ -98,7 +127,7 @@ impl<T: Copy> Lists<T> {
     {
         Ok(Lists {
             elements: Vec::from_slice(alloc, &self.elements)?,
-            ends: Vec::from_slice(alloc, &self.ends)?,
+            begins: Vec::from_slice(alloc, &self.begins)?,
         })
     }
 }

@@ -1,9 +1,9 @@
 // The rankings of ballots.
-ghost use Rattle.std.specs.Prelude.{◌≡◌, ◌<◌, ◌≤◌, ◌++◌, ◌∷◌, [], Some, IfOk, OnOk, OnErr, IsTrue, All, length, slice_get};
-ghost use Rattle.irv_base.specs.Candidates.{is_distinct};
+ghost use Rattle.std.specs.Prelude.{◌≡◌, ◌<◌, ◌≤◌, ◌++◌, ◌∷◌, [], ℕ, List, Some, IfOk, OnOk, OnErr, IsTrue, All, false, length, slice_get};
+ghost use Rattle.irv_base.specs.Candidates.{is_distinct, is_in};
 ghost use Rattle.irv_base.specs.declared.limits.TheConstants.{ROOM};
 
-use crate::{Candidate, Lists, Memory, Ranking};
+use crate::{Candidate, Lists, Memory, ROOM, Ranking};
 use std::alloc::Global;
 use std::marker::Model;
 
@@ -78,6 +78,28 @@ impl Rankings {
         ensures same { OnErr result (self.new ≡ self.old) }
     {
         self.lists.push(ranking.candidates())?;
+        Ok(())
+    }
+
+    /// Puts a ranking without candidates last.
+    pub fn begin(&mut self) -> Result<(), Memory>
+        ensures begun { OnOk result (self.new ≡ self.old ++ [] ∷ []) }
+        ensures same { OnErr result (self.new ≡ self.old) }
+    {
+        self.lists.begin()?;
+        Ok(())
+    }
+
+    /// Puts a candidate who isn't in the last ranking at its end. More than `u32::MAX` places in all are want of memory.
+    pub fn lengthen(&mut self, c: Candidate) -> Result<(), Memory>
+        requires { (earlier : List (List ℕ)) × (last : List ℕ)
+            × (self.now ≡ earlier ++ last ∷ []) × (is_in last c ≡ false) }
+        ensures longer { OnOk result ((earlier : List (List ℕ)) → (last : List ℕ)
+            → self.old ≡ earlier ++ last ∷ [] → self.new ≡ earlier ++ (last ++ c ∷ []) ∷ []) }
+        ensures same { OnErr result (self.new ≡ self.old) }
+    {
+        prove!(c.0 < ROOM);
+        self.lists.lengthen(c)?;
         Ok(())
     }
 

@@ -13,4 +13,4 @@ returns-then-is_same c =
     let name = c.index-candidates-guess.result in
     let there = slice_get_read candidates (length candidates) guess name refl c.if-guess-candidates.true c.index-candidates-guess.is in
     let same : name ≡ id = (bytes_decides name id).0 (ap (λ n. is_same n id) (sym c.bytes.ensures.same) ∙ sym c.is_same.ensures ∙ c.if-is_same.true) in
-    sym (position-at candidates guess id (rw c.in-Some.is at c.requires.differ) (there ∙ ap Some same))
+    sym (position-at candidates guess id c.requires.differ (there ∙ ap Some same))

@@ -1,17 +1,14 @@
-use Rattle.std.proofs.Common.{◌∙◌, ◌-◌, Some, length, take, drop, sym, ap, arith, get_or}
-use Rattle.irv_base.proofs.Between.{between-at}
+use Rattle.irv_base.proofs.Between.{list-at}
 use Rattle.irv_base.proofs.lists.bounds.Goals as goal
 
 pub returns-clause-rise : goal.returns-clause-rise
 returns-clause-rise g c =
-    let b = between-at 0 c.args.ends.now c.args.elements.now c.args.i (length c.args.elements.now) c.requires.ends c.requires.within in
-    omega (arith, b.rise, c.begin_of.ensures)
+    (list-at c.args.begins.now c.args.elements.now c.args.i c.end_of.result c.requires.begins c.requires.within c.end_of.ensures).rise
 
 pub returns-clause-last : goal.returns-clause-last
 returns-clause-last g c =
-    (between-at 0 c.args.ends.now c.args.elements.now c.args.i (length c.args.elements.now) c.requires.ends c.requires.within).within
+    (list-at c.args.begins.now c.args.elements.now c.args.i c.end_of.result c.requires.begins c.requires.within c.end_of.ensures).within
 
 pub returns-clause-list : goal.returns-clause-list
 returns-clause-list g c =
-    let b = between-at 0 c.args.ends.now c.args.elements.now c.args.i (length c.args.elements.now) c.requires.ends c.requires.within in
-    b.is ∙ ap (λ begin. Some (take (get_or c.args.ends.now c.args.i 0 - begin) (drop begin c.args.elements.now))) (sym c.begin_of.ensures)
+    (list-at c.args.begins.now c.args.elements.now c.args.i c.end_of.result c.requires.begins c.requires.within c.end_of.ensures).is

@@ -8,6 +8,6 @@ bounds-begin-requires-clause-within g c =
       arith,
       c.requires,
       ap length c.self.view_is,
-      length-between 0 c.self.inside.ends.items c.self.inside.elements.items,
+      length-between c.self.inside.begins.items c.self.inside.elements.items,
       ap length c.as_slice.ensures.value,
     )

@@ -8,6 +8,6 @@ returns g c =
       arith,
       c.len.ensures,
       ap length c.self.view_is,
-      length-between 0 c.self.inside.ends.items c.self.inside.elements.items,
-      c.self.inside.ends.ok,
+      length-between c.self.inside.begins.items c.self.inside.elements.items,
+      c.self.inside.begins.ok,
     )

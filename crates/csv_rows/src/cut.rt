@@ -1,0 +1,59 @@
+// The fields of a line, cut off one after the other without the blanks round them.
+ghost use Rattle.std.specs.Prelude.{◌≡◌, ◌∷◌, IfSome};
+ghost use Rattle.csv_rows.specs.Fields.{trimmed_fields};
+ghost use Rattle.csv_rows.specs.Lanes.{AreMarks, IsBareEnd};
+ghost use Rattle.csv_rows.specs.Lines.{fields_behind, fields_in};
+
+use crate::lines::{COMMA, cut_field, ends_field};
+use crate::stops::marks_behind;
+use crate::trim::trimmed;
+
+// The place of the first comma or line end, where the marks tell it and no blank stands before it.
+#[inline(always)]
+fn bare_end(text: &[u8], marks: u64) -> Option<usize>
+    requires { AreMarks marks text.now }
+    ensures { IfSome result (IsBareEnd text.now) }
+{
+    if marks == 0 {
+        return None;
+    }
+    let end = marks.trailing_zeros() as usize;
+    if !ends_field(text[end]) {
+        return None;
+    }
+    Some(end)
+}
+
+// As `cut_marked`, for a field that may have blanks, or lies behind the marks.
+#[inline(never)]
+fn cut_any(text: &[u8], marks: u64) -> (&[u8], Option<&[u8]>, u64)
+    requires { AreMarks marks text.now }
+    ensures fields { trimmed_fields (fields_in text.now)
+        ≡ result.0.now ∷ trimmed_fields (fields_behind result.1) }
+    ensures marks { IfSome result.1 (λ left. AreMarks result.2 left.now) }
+{
+    let (field, left) = cut_field(text);
+    (trimmed(field), left, marks_behind(marks, field.len()))
+}
+
+/// The first field of a line without the blanks round it, the text behind the comma that ends it, if one does, and the marks of that
+/// text.
+#[inline(always)]
+pub fn cut_marked(text: &[u8], marks: u64) -> (&[u8], Option<&[u8]>, u64)
+    requires { AreMarks marks text.now }
+    ensures fields { trimmed_fields (fields_in text.now)
+        ≡ result.0.now ∷ trimmed_fields (fields_behind result.1) }
+    ensures marks { IfSome result.1 (λ left. AreMarks result.2 left.now) }
+{
+    let Some(end) = bare_end(text, marks) else {
+        return cut_any(text, marks);
+    };
+    if text[end] != COMMA {
+        return (&text[..end], None, 0);
+    }
+    (
+        &text[..end],
+        Some(&text[end + 1..]),
+        marks_behind(marks, end),
+    )
+}

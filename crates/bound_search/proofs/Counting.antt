@@ -14,7 +14,8 @@ use Rattle.assertions.proofs.Endings.{Suffix, suffix_facts}
 use Rattle.assertions.proofs.Enumerated.{suffix_test, from_suffixes_ending, suffixes_ending-member}
 use Rattle.set_tallies.specs.Bags.{Kept, IsOf}
 use Rattle.suffix_tree.specs.declared.scored.Scored.{Scored}
-use Rattle.bound_search.specs.Places.{EndsInOne, is_same, ends_in}
+use Rattle.irv_base.specs.Names.{is_same}
+use Rattle.bound_search.specs.Places.{EndsInOne, ends_in}
 use Rattle.bound_search.specs.Fronts.{Frontier, IsPart, IsOpen, IsAfter, IsFront, IsClosed, AreBelow}
 use Rattle.bound_search.specs.Race.{is_part_below, parts_below, suffixes_of}
 use Rattle.bound_search.proofs.Endings.{low_in, same-self, ends-self, same-from, one_place, distinct-filter, order_is_suffix}

@@ -16,7 +16,8 @@ use Rattle.assertions.proofs.Lows.{low_of_suffix}
 use Rattle.suffix_tree.specs.Suffixes.{Suffix, with_front, children}
 use Rattle.suffix_tree.specs.declared.scored.Scored.{Scored}
 use Rattle.suffix_tree.proofs.Tails.{suffix-short}
-use Rattle.bound_search.specs.Places.{is_same, ends_in}
+use Rattle.irv_base.specs.Names.{is_same}
+use Rattle.bound_search.specs.Places.{ends_in}
 
 -- ---- suffixes of suffixes
 -- a suffix that ends in t is t, or ends in one that is longer by one

@@ -11,7 +11,8 @@ use Rattle.assertions.proofs.Endings.{suffix_facts, one_alone}
 use Rattle.assertions.proofs.Enumerated.{suffix_test, child, from_suffixes_ending}
 use Rattle.assertions.proofs.Greatest.{greatest-le}
 use Rattle.assertions.proofs.Listings.{parts_ending_are}
-use Rattle.bound_search.specs.Places.{is_same, ends_in}
+use Rattle.irv_base.specs.Names.{is_same}
+use Rattle.bound_search.specs.Places.{ends_in}
 use Rattle.bound_search.specs.Race.{is_part_below, suffixes_of, value_of, work, work_for, pieces_electing}
 use Rattle.bound_search.proofs.Counting.{no_more_than, listed_once, filter_counts, at_most_one}
 

@@ -16,7 +16,8 @@ use Rattle.suffix_tree.specs.Scores.{IsScoredOver, first_is_greatest}
 use Rattle.suffix_tree.proofs.Compared.{not_sooner}
 use Rattle.suffix_tree.specs.declared.scored.Scored.{Scored}
 use Rattle.suffix_tree.proofs.Tails.{suffix_more, suffix-short}
-use Rattle.bound_search.specs.Places.{EndsInOne, is_same, ends_in}
+use Rattle.irv_base.specs.Names.{is_same}
+use Rattle.bound_search.specs.Places.{EndsInOne, ends_in}
 use Rattle.bound_search.specs.Fronts.{Frontier, IsPart, IsOpen, IsAfter, IsFirstOf, IsFront, IsFound}
 use Rattle.bound_search.specs.Sifted.{IsPlaced, IsFoundWithin, IsOpenChild, IsFoundChild, IsPut, IsNewlyFound, IsExpanded, IsFirst, least_after}
 use Rattle.bound_search.proofs.Endings.{bit, grows, low_in, whole_ends, whole_is_order, ends_more, child-of, child-at, places_of_children}

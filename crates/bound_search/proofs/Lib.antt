@@ -1,6 +1,7 @@
 pub mod Endings
 pub mod Sifting
 pub mod Keeping
+pub mod Below
 pub mod Turns
 pub mod Counting
 pub mod Works

@@ -9,7 +9,8 @@ use Rattle.set_tallies.specs.Bags.{Kept, IsOf}
 use Rattle.suffix_tree.specs.Suffixes.{Suffix, children}
 use Rattle.suffix_tree.specs.Scores.{IsScoredOver}
 use Rattle.suffix_tree.specs.declared.scored.Scored.{Scored}
-use Rattle.bound_search.specs.Places.{EndsInOne, is_same, ends_in}
+use Rattle.irv_base.specs.Names.{is_same}
+use Rattle.bound_search.specs.Places.{EndsInOne, ends_in}
 use Rattle.bound_search.specs.declared.limits.TheConstants.{MOST_EXPANDED}
 use Rattle.bound_search.specs.declared.turn.Turn.{Turn}
 use Rattle.bound_search.specs.declared.turn.Turn.TheVariants.{Closed, Found, More, Spent}

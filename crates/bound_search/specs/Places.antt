@@ -1,17 +1,12 @@
 -- The places of suffixes: which other suffixes they end in.
-use Rattle.std.specs.Prelude.{ℕ, Bool, true, false, ◌&&◌, ◌||◌, ◌==◌, List, [], ◌∷◌, Contains}
+use Rattle.std.specs.Prelude.{ℕ, Bool, ◌||◌, List, [], ◌∷◌, Contains}
+use Rattle.irv_base.specs.Names.{is_same}
 use Rattle.irv_base.specs.Orders.{EndsIn}
 use Rattle.suffix_tree.specs.declared.scored.Scored.{Scored}
 
 -- the suffix ends in one of these
 abbrev pub EndsInOne : List Scored → List ℕ → Type 0
 EndsInOne scored s = (o : Scored) × Contains scored o × EndsIn s o.tail.list
-
-abbrev pub is_same : List ℕ → List ℕ → Bool
-is_same [] [] = true
-is_same [] (y ∷ t) = false
-is_same (x ∷ s) [] = false
-is_same (x ∷ s) (y ∷ t) = (x == y) && is_same s t
 
 -- EndsIn, as a test
 abbrev pub ends_in : List ℕ → List ℕ → Bool

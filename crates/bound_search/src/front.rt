@@ -93,6 +93,13 @@ impl Front {
         self.bound = bound;
     }
 
+    // The bound of the last turn.
+    pub(crate) fn bound(&self) -> u32
+        ensures { result ≡ self.now.bound }
+    {
+        self.bound
+    }
+
     // What the front has at its head.
     pub(crate) fn look(&self) -> Look
         ensures { IsLook self.now result }

@@ -12,7 +12,7 @@ use irv_base::{Memory, Order, Steps};
 use set_tallies::Tallies;
 use std::alloc::Global;
 use std::sync::ledger::Ledger;
-use suffix_tree::{Scored, expand};
+use suffix_tree::{Scored, expand_below};
 
 /// How a turn ends.
 #[derive(Clone, Copy)]
@@ -57,7 +57,7 @@ impl Front {
         ensures step { steps.new ≡ steps.old + 1 }
         ensures same { tallies.new ≡ tallies.old }
     {
-        let children = expand(alloc, self.first(), tallies, steps)?;
+        let children = expand_below(alloc, self.first(), self.bound(), tallies, steps)?;
         self.put(alloc, children)
     }
 

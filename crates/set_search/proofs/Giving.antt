@@ -13,7 +13,7 @@ use Rattle.assertions.proofs.FixedOrders.{Before, before-not_both, sorted-assert
 use Rattle.assertions.proofs.Sorted.{Sorted, none, sorted-filter, sorted-same}
 use Rattle.certifier.specs.Gathered.{claim_at, with_margin}
 use Rattle.certifier.proofs.Agreement.{order, marked, keys_of, keys-sorted, from_keys, keys-keep, keys-member, all-marked, map-marked}
-use Rattle.suffix_tree.proofs.Offered.{range-next}
+use Rattle.irv_base.proofs.Ranges.{range-step}
 use Rattle.set_walk.specs.Bests.{gives_from, is_given}
 use Rattle.assertions.specs.Steps.{anew, outside, step, step_refuter}
 use Rattle.set_walk.specs.Walks.{standing}
@@ -56,7 +56,7 @@ outside_from closed c n = filter (λ d. not (has closed d)) (range_with_len c (n
 
 outside-next : (closed c n : ℕ) → c < n → outside_from closed c n ≡ cond (not (has closed c)) (c ∷ outside_from closed (c + 1) n)
     (outside_from closed (c + 1) n)
-outside-next closed c n l = ap (filter (λ d. not (has closed d))) (range-next c n l)
+outside-next closed c n l = ap (filter (λ d. not (has closed d))) (range-step c n l)
 
 module _ (n : ℕ) (records : List (List ℕ)) (margin : ℕ) (entries : List (Assertion × ℕ)) (set closed c : ℕ) (l : c < n) where
   pub each-taken : has closed c ≡ false →

@@ -6,7 +6,7 @@ use Rattle.assertions.specs.declared.assertion.Assertion.{Assertion}
 use Rattle.assertions.specs.declared.assertion.Assertion.TheVariants.{Neb, Nen}
 use Rattle.assertions.specs.Assertions.{true_margin}
 use Rattle.assertions.specs.Scores.{Score, offered, all_offered}
-use Rattle.suffix_tree.proofs.Offered.{range-next}
+use Rattle.irv_base.proofs.Ranges.{range-step}
 use Rattle.set_tallies.specs.Bags.{HasTallies}
 use Rattle.assertions.specs.Steps.{more}
 use Rattle.set_search.specs.Offers.{offer_of}
@@ -32,7 +32,7 @@ offers_from set c d n = map (offer_of set c) (filter (λ e. not (e == c)) (range
 
 offers-next : (set c d n : ℕ) → d < n → offers_from set c d n ≡ cond (not (d == c)) (offer_of set c d ∷ offers_from set c (d + 1) n)
     (offers_from set c (d + 1) n)
-offers-next set c d n l = ap (λ s. map (offer_of set c) (filter (λ e. not (e == c)) s)) (range-next d n l) ∙ go (not (d == c)) where
+offers-next set c d n l = ap (λ s. map (offer_of set c) (filter (λ e. not (e == c)) s)) (range-step d n l) ∙ go (not (d == c)) where
   rest : List ℕ
   rest = filter (λ e. not (e == c)) (range_with_len (d + 1) (n - (d + 1)))
 

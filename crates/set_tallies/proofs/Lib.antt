@@ -5,5 +5,6 @@ pub mod Apart
 pub mod Columns
 pub mod Tables
 pub mod Filled
+pub mod Winners
 pub mod Noted
 pub mod Sharing

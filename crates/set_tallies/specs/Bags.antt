@@ -1,6 +1,6 @@
 -- What is kept of the records of a contest, and what it has to say of them: how many ballots have a candidate with nobody of a set
 -- before.
-use Rattle.std.specs.Prelude.{◌≡◌, ℕ, ◌<◌, ◌≤◌, ◌-◌, ◌^◌, Bool, true, ◌==◌, if◌then◌else◌, List, [], length, map, sum_by, count_by, get_or, All, bit_and}
+use Rattle.std.specs.Prelude.{◌≡◌, ℕ, ◌<◌, ◌≤◌, ◌-◌, ◌^◌, nat_lt, Bool, true, ◌==◌, if◌then◌else◌, List, [], length, map, filter, sum_by, count_by, get_or, All, bit_and}
 use Rattle.irv_base.specs.Candidates.{candidates, has}
 use Rattle.irv_base.specs.Records.{tally, is_first, is_ahead}
 use Rattle.irv_base.specs.declared.limits.TheConstants.{FEWEST_CANDIDATES, ROOM, MOST_RECORDS}
@@ -92,6 +92,16 @@ pub record IsTable (counts : Counts) : Type 0 where
   pub long : length counts.firsts ≡ counts.n
   pub wide : length counts.ahead ≡ counts.n
   pub square : All (λ row. length row ≡ counts.n) counts.ahead
+
+-- whoever is first on more ballots than a loser has without it ahead, by the row of the loser: the winners of true NEBs
+abbrev pub winners_in : List ℕ → List ℕ → List ℕ
+winners_in firsts row =
+    filter (λ w. nat_lt (get_or row w 0) (get_or firsts w 0)) (candidates (length firsts))
+
+-- a table with the winners of the true NEBs over each candidate
+pub record AreAhead (counts : Counts) (winners : List (List ℕ)) : Type 0 where
+  pub table : IsTable counts
+  pub each : winners ≡ map (winners_in counts.firsts) counts.ahead
 
 -- what tallies are made from
 pub record Source : Type 0 where

@@ -11,9 +11,11 @@ use Rattle.assertions.specs.Assertions.{true_margin}
 use Rattle.assertions.specs.Suffixes.{is_suffix}
 use Rattle.assertions.specs.Hardness.{low, refuter}
 use Rattle.assertions.specs.Scores.{Score, offered, all_offered, score_of, nebs_against, nens_for}
+use Rattle.assertions.proofs.Lows.{refuter_is_none}
 use Rattle.assertions.proofs.Scored.{score_of_more, score_of_none}
 use Rattle.set_tallies.specs.Bags.{Kept}
 use Rattle.suffix_tree.specs.declared.scored.Scored.{Scored}
+use Rattle.suffix_tree.specs.Offers.{IsSomeByMargin}
 use Rattle.suffix_tree.specs.Suffixes.{Suffix, with_front}
 use Rattle.suffix_tree.specs.Scores.{IsScored, IsScoredOver}
 use Rattle.suffix_tree.proofs.Tails.{suffix-has}
@@ -46,6 +48,9 @@ score-more n c set records t from with_nebs with_nens h same e e1 e2 =
 
 pub score-from : (records : List (List ℕ)) (s : Scored) → IsScored records s → record { low = s.low; by = s.by } ≡ score_of s.tail.n records s.tail.list
 score-from records s h = ap (λ x. record { low = x; by = s.by }) h.low_is ∙ ap (λ x. record { low = low s.tail.n records s.tail.list; by = x }) h.by_is
+
+pub some-by-margin : (records : List (List ℕ)) (n : ℕ) (t : List ℕ) (score : Score) → score ≡ score_of n records t → IsSomeByMargin score
+some-by-margin records n t score is none = ap (λ s. s.by) is ∙ refuter_is_none n records t (sym (ap (λ s. s.low) is) ∙ none)
 
 pub scored-child : (records : List (List ℕ)) (t tail : Suffix) (c : ℕ) (score : Score) → tail ≡ with_front t c → score ≡ score_of t.n records (c ∷ t.list) →
     IsScored records (record { tail = tail; low = score.low; by = score.by })

@@ -1,4 +1,5 @@
 pub mod Tails
 pub mod Offered
 pub mod Children
+pub mod Limited
 pub mod Compared

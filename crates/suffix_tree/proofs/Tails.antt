@@ -1,6 +1,7 @@
 -- The parts of suffixes.
 use Rattle.std.proofs.Common.{◌≡◌, ℕ, zero, suc, ◌+◌, ◌-◌, ◌<◌, ◌≤◌, ◌^◌, true, false, List, [], ◌∷◌, ◌++◌, length, drop, get_or, All, sym, ap, subst, arith, length-append, ◌∙◌}
 use Rattle.std.proofs.lemmas.List.{drop_more, get_or_append_left}
+use Rattle.std.proofs.lemmas.List.Sums.{sum_by-cons}
 use Rattle.irv_base.specs.Candidates.{is_in, has, set_of}
 use Rattle.irv_base.specs.Suffixes.{is_suffix}
 use Rattle.irv_base.proofs.Members.{Member, here, there, in-from_member}
@@ -23,6 +24,13 @@ suffix-all n t h k d l = below-from_test n t (suffix-below n t h) (get_or t k d)
 -- the set of a suffix: it has those of the suffix
 pub suffix-small : (n m set : ℕ) (t : List ℕ) → n ≡ m → is_suffix n t ≡ true → set ≡ set_of t → set < 2 ^ m
 suffix-small n m set t same h is = subst (λ k. set < 2 ^ k) same (subst (λ x. x < 2 ^ n) (sym is) (suffix-set n t h))
+
+-- the set of the suffix with one more candidate in front
+pub set-more : (n c set wider : ℕ) (t : List ℕ) → is_suffix n t ≡ true → is_in t c ≡ false → set ≡ set_of t →
+    (has set c ≡ false → wider ≡ set + 2 ^ c) → wider ≡ set_of (c ∷ t)
+set-more n c set wider t h out is more =
+    let none : has set c ≡ false = ap (λ s. has s c) is ∙ suffix-has n t c h ∙ out in
+    omega (arith, more none, is, sum_by-cons (λ d. 2 ^ d) c t)
 
 pub suffix-member : (n x set : ℕ) (t : List ℕ) → is_suffix n t ≡ true → set ≡ set_of t → Member x t → has set x ≡ true
 suffix-member n x set t h same m = ap (λ s. has s x) same ∙ suffix-has n t x h ∙ in-from_member m

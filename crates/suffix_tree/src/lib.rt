@@ -3,10 +3,12 @@
 //! from, and one row of tallies.
 #![tactic(auto)]
 
+mod below;
 mod offers;
 mod scored;
 mod tail;
 
+pub use below::{child_below, expand_below};
 pub use offers::{Score, neb_margin, offer};
-pub use scored::{Scored, child, expand, score};
+pub use scored::{Scored, child, score};
 pub use tail::Tail;

@@ -1,11 +1,11 @@
 // What a suffix has against it, and more assertions that are offered to it.
-ghost use Rattle.std.specs.Prelude.{◌≡◌, ℕ, ◌<◌, ◌≤◌, true, not, List, map, filter, get_or, All};
+ghost use Rattle.std.specs.Prelude.{◌≡◌, ℕ, ◌<◌, true, not, List, map, filter, get_or, All};
 ghost use Rattle.irv_base.specs.Candidates.{candidates, has};
-ghost use Rattle.irv_base.specs.declared.limits.TheConstants.{ROOM};
 ghost use Rattle.assertions.specs.declared.assertion.Assertion.TheVariants.{Neb};
 ghost use Rattle.assertions.specs.Assertions.{true_margin};
 ghost use Rattle.assertions.specs.Scores.{offered, all_offered, nens_for};
 ghost use Rattle.set_tallies.specs.Bags.{AreOf, HasTallies};
+ghost use Rattle.suffix_tree.specs.Offers.{IsSomeByMargin, with_nens, below};
 
 use assertions::{Assertion, before};
 use irv_base::{CandSet, Candidate};
@@ -61,22 +61,20 @@ pub fn neb_margin(ahead: &Ahead, w: Candidate, l: Candidate) -> u32
     ahead.first(w).saturating_sub(ahead.ahead(l, w))
 }
 
-/// The score after the NEBs of those outside the set over `c`.
-pub fn offer_nebs(start: Score, c: Candidate, set: CandSet, n: u32, ahead: &Ahead) -> Score
-    requires same { n ≡ ahead.now.n }
-    requires room { n ≤ ROOM }
-    requires below { c < n }
-    ensures { (records : List (List ℕ)) → AreOf ahead.now records
+/// The score after the NEBs of those outside the set over `c`. Only true ones are offered: the others have no margin, and no score
+/// that has none has an assertion.
+pub fn offer_nebs(start: Score, c: Candidate, set: CandSet, ahead: &Ahead) -> Score
+    requires below { c < ahead.now.n }
+    ensures { (records : List (List ℕ)) → AreOf ahead.now records → IsSomeByMargin start
         → result
         ≡ all_offered records start
-        (map (λ w. Neb w c) (filter (λ w. not (has set w)) (candidates n))) }
+        (map (λ w. Neb w c) (filter (λ w. not (has set w)) (candidates ahead.now.n))) }
 {
     let mut score = start;
-    for w in 0..n {
-        let winner = Candidate(w as u8);
-        if !set.has(winner) {
-            let claim = Assertion::Neb { w: winner, l: c };
-            score = offer(score, neb_margin(ahead, winner, c), claim);
+    for w in ahead.neb_winners(c) {
+        if !set.has(*w) {
+            let claim = Assertion::Neb { w: *w, l: c };
+            score = offer(score, neb_margin(ahead, *w, c), claim);
         }
     }
     score
@@ -116,4 +114,31 @@ pub fn offer_nens(
         score = offer(score, for_winner.saturating_sub(votes(row, *l)), claim);
     }
     score
+}
+
+/// The score after the NENs of `c` over those behind it, if it is below the limit. No more of them are looked at once it isn't.
+pub fn offer_nens_below(
+    start: Score,
+    c: Candidate,
+    behind: &[Candidate],
+    set: CandSet,
+    limit: u32,
+    row: &[u32],
+) -> Option<Score>
+    ensures { result ≡ below limit (with_nens row.now c set start behind.now) }
+{
+    let for_winner = votes(row, c);
+    let mut score = start;
+    for l in behind {
+        if score.low >= limit {
+            return None;
+        }
+        let claim = Assertion::Nen {
+            w: c,
+            l: *l,
+            rest: set,
+        };
+        score = offer(score, for_winner.saturating_sub(votes(row, *l)), claim);
+    }
+    if score.low < limit { Some(score) } else { None }
 }

@@ -1,22 +1,20 @@
 // Suffixes with their low and their refuter.
-ghost use Rattle.std.specs.Prelude.{◌≡◌, ◌<◌, ◌+◌, map, reverse, IfOk, IsFalse, All};
+ghost use Rattle.std.specs.Prelude.{◌≡◌, ◌<◌, reverse, IfOk, IsFalse};
 ghost use Rattle.std.proofs.Common.{refl};
 ghost use Rattle.std.specs.Cmp.{eq_by_cmp_equiv, partial_equiv_from_equiv, partial_order_from_agreeing_total};
 ghost use Rattle.std.specs.Cmp.Lexicographic.{slice_cmp};
 ghost use Rattle.std.specs.Ordering.{as_partial_cmp, eq_by_cmp, nat_cmp};
 ghost use Rattle.irv_base.specs.Candidates.{is_in};
-ghost use Rattle.suffix_tree.specs.Suffixes.{with_front, children};
+ghost use Rattle.suffix_tree.specs.Suffixes.{with_front};
 ghost use Rattle.suffix_tree.specs.Compared.{search_total};
 ghost use Rattle.suffix_tree.specs.Scores.{IsScoredOver, search_cmp, first_is_greatest};
 
 use crate::offers::{Score, offer_nebs, offer_nens};
 use crate::tail::Tail;
 use assertions::Assertion;
-use irv_base::{Candidate, Memory, Steps};
+use irv_base::{Candidate, Memory};
 use set_tallies::Tallies;
-use std::alloc::Global;
 use std::cmp::Ordering;
-use std::sync::ledger::Ledger;
 
 /// A suffix, the greatest margin of a true assertion that refutes it, and the first assertion, in the fixed order, that
 /// has it. Where nothing true refutes the suffix, they are 0 and none.
@@ -106,9 +104,8 @@ pub fn child(parent: &Scored, c: Candidate, tallies: &mut Tallies) -> Result<Sco
         low: parent.low,
         by: parent.by,
     };
-    let n = tail.candidates();
     let set = tail.set();
-    let with_nebs = offer_nebs(from_parent, c, set, n, tallies.ahead());
+    let with_nebs = offer_nebs(from_parent, c, set, tallies.ahead());
     let score = match tallies.row(set) {
         Some(row) => offer_nens(with_nebs, c, behind, set, row),
         None => {
@@ -143,32 +140,4 @@ pub fn score(t: &Tail, tallies: &mut Tallies) -> Result<Scored, Memory>
         scored = child(&scored, list[at], tallies)?;
     }
     Ok(scored)
-}
-
-/// The suffixes that are longer than that of `s` by one candidate, in candidate order, each with its score. One step.
-///
-/// `s` is scored over the records of the tallies. A whole order has no longer ones. The one error is want of memory.
-pub fn expand<L: Ledger>(
-    alloc: Global,
-    s: &Scored,
-    tallies: &mut Tallies,
-    steps: &mut Steps<L>,
-) -> Result<Vec<Scored>, Memory>
-    requires contest { s.now.tail.n ≡ tallies.old.bag.n }
-    requires scored { IsScoredOver tallies.old.bag s.now }
-    ensures tails { IfOk result
-        (λ longer. map (λ child. child.tail) longer.items ≡ children s.now.tail) }
-    ensures scored { IfOk result (λ longer. All (IsScoredOver tallies.old.bag) longer.items) }
-    ensures step { steps.new ≡ steps.old + 1 }
-    ensures same { tallies.new ≡ tallies.old }
-{
-    steps.tick();
-    let mut longer = Vec::with_capacity(alloc, s.tail.candidates() as usize)?;
-    for c in 0..s.tail.candidates() {
-        let candidate = Candidate(c as u8);
-        if !s.tail.has(candidate) {
-            longer.push(child(s, candidate, tallies)?)?;
-        }
-    }
-    Ok(longer)
 }

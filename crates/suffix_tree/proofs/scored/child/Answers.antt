@@ -7,7 +7,7 @@ use Rattle.set_tallies.specs.Bags.{AreOf}
 use Rattle.set_tallies.proofs.Filled.{has-tallies}
 use Rattle.assertions.specs.Suffixes.{is_suffix}
 use Rattle.suffix_tree.proofs.Tails.{suffix_more, suffix-all, suffix-small, suffix-member, suffix-members}
-use Rattle.suffix_tree.proofs.Children.{score-more, score-from, scored-child}
+use Rattle.suffix_tree.proofs.Children.{score-more, score-from, some-by-margin, scored-child}
 use Rattle.suffix_tree.proofs.scored.child.Goals as goal
 use Rattle.suffix_tree.proofs.scored.child.Goals.{in-Some, in-None+in_ok-row-in-None}
 
@@ -30,11 +30,13 @@ returns-clause-scored c = λ records h.
     let t = c.args.parent.now.tail in
     let longer : is_suffix t.n (c.args.c ∷ t.list) ≡ true = suffix_more t.n c.args.c t.list c.requires.below c.requires.other c.list-behind.ensures.suffix in
     let set : c.set-set.result ≡ set_of (c.args.c ∷ t.list) = c.set-set.ensures ∙ ap (λ s. set_of s.list) c.front-tail.ensures in
-    let n : c.candidates-n.result ≡ t.n = c.candidates-n.ensures.same ∙ ap (λ s. s.n) c.front-tail.ensures in
     let bag = c.args.tallies.now.bag in
+    let n : c.ahead.result.now.n ≡ t.n =
+    ap (λ a. a.n) c.ahead.ensures.same ∙ c.ahead.ensures.own.same ∙ sym c.requires.contest in
     let from = score-from records c.args.parent.now (c.requires.scored records h) in
     let counts = subst (λ a. AreOf a records) (sym c.ahead.ensures.same) (c.ahead.ensures.own.own records h) in
-    let nebs = c.offer_nebs-with_nebs.ensures records counts
+    let none = some-by-margin records t.n t.list (record { low = c.args.parent.now.low; by = c.args.parent.now.by }) from in
+    let nebs = c.offer_nebs-with_nebs.ensures records counts none
     ∙ ap (λ k. all_offered records (record { low = c.args.parent.now.low; by = c.args.parent.now.by })
     (map (λ w. Neb w c.args.c) (filter (λ w. not (has c.set-set.result w)) (candidates k)))) n in
     let below : c.args.c < bag.n = subst (λ k. c.args.c < k) c.requires.contest c.requires.below in

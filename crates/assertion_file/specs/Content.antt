@@ -1,5 +1,5 @@
 -- What an assertion file says of a contest.
-use Rattle.std.specs.Prelude.{◌≡◌, ◌<◌, ◌≤◌, ℕ, List, length, Option, All, IfSome, IsTrue}
+use Rattle.std.specs.Prelude.{◌≡◌, ◌<◌, ◌≤◌, ℕ, List, length, map, Option, All, IfSome, IsTrue}
 use Rattle.std.specs.List.{list_all}
 use Rattle.irv_base.specs.Names.{Id, all_differ, is_name}
 use Rattle.irv_base.specs.Orders.{is_order}
@@ -28,6 +28,10 @@ pub record Content : Type 0 where
 
 abbrev pub candidate_count : Content → ℕ
 candidate_count file = length file.candidates
+
+-- in votes, a margin a claim
+abbrev pub margins_of : Content → List ℕ
+margins_of file = map (λ claim. claim.margin) file.claims
 
 -- a margin in votes, where there are so many records
 pub record IsMargin (records margin : ℕ) : Type 0 where

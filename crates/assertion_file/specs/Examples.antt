@@ -1,5 +1,5 @@
 -- The worked examples.
-use Rattle.std.specs.Prelude.{[], ◌∷◌, Some, None, codes}
+use Rattle.std.specs.Prelude.{ℕ, [], ◌∷◌, Some, None, codes}
 use Rattle.assertions.specs.declared.assertion.Assertion.TheVariants.{Neb, Nen}
 use Rattle.assertion_file.specs.Content.{Content}
 
@@ -20,41 +20,32 @@ three_candidates = record {
   plan = None;
 }
 
--- three ballots for A\1 and two for B
-abbrev pub two_candidates : Content
-two_candidates = record {
-  contest = codes "7";
-  candidates = codes "A\\1" ∷ codes "B" ∷ [];
-  records = 5;
+-- of two candidates, of whom the first has this many votes more than the second, among so many records
+abbrev pub led_by : ℕ → ℕ → Content
+led_by margin records = record {
+  contest = codes "1";
+  candidates = codes "1" ∷ codes "2" ∷ [];
+  records = records;
   winner = 0;
-  margin = 1;
+  margin = margin;
   order = 0 ∷ 1 ∷ [];
-  claims = record { assertion = Neb 0 1; margin = 1 } ∷ [];
+  claims = record { assertion = Neb 0 1; margin = margin } ∷ [];
   plan = None;
 }
 
+-- three ballots for A\1 and two for B
+abbrev pub two_candidates : Content
+two_candidates =
+    record (led_by 1 5) { contest = codes "7"; candidates = codes "A\\1" ∷ codes "B" ∷ [] }
+
 -- five ballots 1, among as many cards
 abbrev pub planned : Content
-planned = record {
-  contest = codes "1";
-  candidates = codes "1" ∷ codes "2" ∷ [];
-  records = 5;
-  winner = 0;
-  margin = 5;
-  order = 0 ∷ 1 ∷ [];
-  claims = record { assertion = Neb 0 1; margin = 5 } ∷ [];
+planned = record (led_by 5 5) {
   plan = Some (record { cards = 5; gamma = 100; limit = 50000; draws = Some 5 ∷ [] });
 }
 
 -- one ballot among a thousand cards: a full count
 abbrev pub full_count : Content
-full_count = record {
-  contest = codes "1";
-  candidates = codes "1" ∷ codes "2" ∷ [];
-  records = 1;
-  winner = 0;
-  margin = 1;
-  order = 0 ∷ 1 ∷ [];
-  claims = record { assertion = Neb 0 1; margin = 1 } ∷ [];
+full_count = record (led_by 1 1) {
   plan = Some (record { cards = 1000; gamma = 100; limit = 50000; draws = None ∷ [] });
 }

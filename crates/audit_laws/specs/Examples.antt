@@ -1,9 +1,10 @@
 -- The files and cards of the worked examples.
-use Rattle.std.specs.Prelude.{ℕ, List, [], ◌∷◌, codes, None}
+use Rattle.std.specs.Prelude.{ℕ, List, [], ◌∷◌, codes}
 use Rattle.assertions.specs.declared.assertion.Assertion.{Assertion}
-use Rattle.assertions.specs.declared.assertion.Assertion.TheVariants.{Neb, Nen}
+use Rattle.assertions.specs.declared.assertion.Assertion.TheVariants.{Nen}
 use Rattle.ballot_reader.specs.Ballots.{BallotFile}
 use Rattle.assertion_file.specs.Content.{Content as FileContent}
+use Rattle.assertion_file.specs.Examples as files
 use Rattle.manifest.specs.Cards.{Batches}
 use Rattle.manifest.specs.declared.recorded.Recorded.{Recorded}
 use Rattle.manifest.specs.declared.recorded.Recorded.TheVariants.{Ranked}
@@ -17,7 +18,7 @@ two_batches = record { ids = codes "b" ∷ []; counts = 2 ∷ [] }
 
 abbrev pub two_ballots : BallotFile
 two_ballots = record {
-  contest = codes "7";
+  contest = codes "1";
   candidates = codes "1" ∷ codes "2" ∷ [];
   ids = codes "b_1" ∷ codes "b_2" ∷ [];
   places = 3 ∷ 4 ∷ [];
@@ -25,16 +26,7 @@ two_ballots = record {
 }
 
 abbrev pub two_file : FileContent
-two_file = record {
-  contest = codes "7";
-  candidates = codes "1" ∷ codes "2" ∷ [];
-  records = 2;
-  winner = 0;
-  margin = 2;
-  order = 0 ∷ 1 ∷ [];
-  claims = record { assertion = Neb 0 1; margin = 2 } ∷ [];
-  plan = None;
-}
+two_file = files.led_by 2 2
 
 abbrev pub two_records : List Recorded
 two_records = Ranked (0 ∷ []) ∷ Ranked (0 ∷ []) ∷ []

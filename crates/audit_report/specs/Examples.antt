@@ -1,8 +1,9 @@
 -- The worked examples.
-use Rattle.std.specs.Prelude.{ℕ, List, [], ◌∷◌, replicate, codes, None}
+use Rattle.std.specs.Prelude.{ℕ, List, [], ◌∷◌, map, replicate, codes}
 use Rattle.assertions.specs.declared.assertion.Assertion.TheVariants.{Neb}
 use Rattle.assertions.specs.declared.assertion.Claim.{Claim}
 use Rattle.assertion_file.specs.Content.{Content as FileContent}
+use Rattle.assertion_file.specs.Examples as files
 use Rattle.session_state.specs.Content.{Content}
 use Rattle.session_state.specs.Sessions.{Round}
 use Rattle.km_risk.specs.Counts.{clean}
@@ -11,17 +12,11 @@ use Rattle.km_risk.specs.Counts.{clean}
 abbrev pub claim_of : ℕ → Claim
 claim_of margin = record { assertion = Neb 0 1; margin = margin }
 
--- of candidates A and B
-abbrev pub file_of : List Claim → FileContent
-file_of claims = record {
-  contest = codes "c";
+-- of candidates A and B, with such a claim for each of these margins
+abbrev pub file_of : List ℕ → FileContent
+file_of margins = record (files.led_by 1 12) {
   candidates = codes "A" ∷ codes "B" ∷ [];
-  records = 12;
-  winner = 0;
-  margin = 1;
-  order = 0 ∷ 1 ∷ [];
-  claims = claims;
-  plan = None;
+  claims = map claim_of margins;
 }
 
 -- a round of one claim, without a discrepancy

@@ -17,10 +17,10 @@ pub fn one_card()
 /// Plans over twelve cards, at a limit of 0.2 and gamma 0.1: a margin of six votes needs seven draws, and one of twelve three.
 pub fn twelve_cards()
     ensures two { plan_table
-        (examples.file_of (examples.claim_of 6 ∷ examples.claim_of 12 ∷ [])) 12 100 200000 ≡
+        (examples.file_of (6 ∷ 12 ∷ [])) 12 100 200000 ≡
         codes "NEB A B margin 6: 7 draws\nNEB A B margin 12: 3 draws\nall: 7 draws\n" }
     ensures close { plan_table
-        (examples.file_of (examples.claim_of 1 ∷ examples.claim_of 12 ∷ [])) 12 100 200000 ≡
+        (examples.file_of (1 ∷ 12 ∷ [])) 12 100 200000 ≡
         codes "NEB A B margin 1: full count\nNEB A B margin 12: 3 draws\nall: full count\n" }
     ensures none { plan_table (examples.file_of []) 12 100 200000 ≡ codes "all: 0 draws\n" }
 {}

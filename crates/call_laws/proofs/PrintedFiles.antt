@@ -6,7 +6,6 @@ use Rattle.std.proofs.lemmas.List.{append_cancel_left}
 use Rattle.sha2.specs.Sha256.{sha256}
 use Rattle.desk.specs.Desk.{File, held_bytes}
 use Rattle.irv_base.specs.Names.{Id}
-use Rattle.assertions.specs.declared.assertion.Claim.{Claim}
 use Rattle.assertion_file.specs.Content.{Content, IsSoundPlan}
 use Rattle.assertion_file.specs.Reading.{assertion_file_of}
 use Rattle.session_state.specs.declared.digests.Digests.{Digests}
@@ -33,7 +32,7 @@ use Rattle.command_line.proofs.Checked.{are_checked}
 use Rattle.check_command.specs.Check.{Checks, after_ballots, yes_text}
 use Rattle.check_command.proofs.Checks.{accepted_is_yes}
 use Rattle.contest_search.proofs.Accepted.{accepted_with, IsTaken}
-use Rattle.contest_search.proofs.Plans.{plan_sound}
+use Rattle.contest_search.proofs.Plans.{plan_clean, plan_sound}
 use Rattle.input_files.specs.Cards.{cards_for}
 use Rattle.input_files.specs.Judged.{told, then_judged, unless}
 use Rattle.input_files.specs.Refusals.{no_card, refused_assertions, refused_ballots, refused_manifest}
@@ -107,7 +106,7 @@ file_of plan has = printed plan has.file
 
 -- the plan that is printed can be one, and has the clean draws of the claims
 sound_by : (plan : Option PlanTerms) (ballots : BallotFile) (file : Content) → file.records ≡ length ballots.rankings → IfSome plan AreWithinLimits →
-    has_cards plan ballots ≡ true → IfSome (option_map (plan_by file.claims) plan) (IsSoundPlan file.records (length file.claims))
+    has_cards plan ballots ≡ true → IfSome (option_map (plan_by file) plan) (IsSoundPlan file.records (length file.claims))
 sound_by None ballots file same limits cards = tt
 sound_by (Some terms) ballots file same limits cards =
     let enough : length ballots.rankings ≤ terms.cards = leb-true (length ballots.rankings) terms.cards cards in
@@ -120,9 +119,9 @@ sound_by (Some terms) ballots file same limits cards =
       most_limit = limits.limit.1;
     })
 
-clean_by : (plan : Option PlanTerms) (claims : List Claim) → IfSome (option_map (plan_by claims) plan) (IsPlanOf claims)
-clean_by None claims = tt
-clean_by (Some terms) claims = refl
+clean_by : (plan : Option PlanTerms) (file : Content) → IfSome (option_map (plan_by file) plan) (IsPlanOf file.claims)
+clean_by None file = tt
+clean_by (Some terms) file = plan_clean terms.cards terms.gamma terms.limit file.claims
 
 -- it reads back, and is accepted
 module _ (budget : Budget) (least : ℕ) (plan : Option PlanTerms) (limits : IfSome plan AreWithinLimits) (bytes : List ℕ) (contest : Option Id) (ballots : BallotFile)
@@ -132,8 +131,8 @@ module _ (budget : Budget) (least : ℕ) (plan : Option PlanTerms) (limits : IfS
     taken =
         let file = has.file in
         let records : file.records ≡ length ballots.rankings = ap (λ (f : Content). f.records) has.is.is in
-        accepted_with budget bytes contest ballots file (option_map (plan_by file.claims) plan) read (record { is = has.is; within = has.within })
-        (sound_by plan ballots file records limits cards) (clean_by plan file.claims)
+        accepted_with budget bytes contest ballots file (option_map (plan_by file) plan) read (record { is = has.is; within = has.within })
+        (sound_by plan ballots file records limits cards) (clean_by plan file)
 
     printed_reads : assertion_file_of text ≡ Ok (file_of plan has)
     printed_reads = subst (λ t. assertion_file_of t ≡ Ok (file_of plan has)) (sym has.shown)

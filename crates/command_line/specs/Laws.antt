@@ -21,6 +21,17 @@ use Rattle.command_line.specs.declared.commands.Command.{Command}
 use Rattle.command_line.specs.declared.commands.Command.TheVariants.{Search, Tabulate, Check, Trim, Sample, Plan, Open, Audit, Report, Poll, OpenPlurality, AuditPlurality, Contests, Trial}
 use Rattle.budget.specs.declared.budget.Budget.TheVariants as budget_of
 use Rattle.budget.specs.declared.limits.TheConstants.{DEFAULT_NODES}
+use Rattle.command.specs.declared.tabulate.TabulateTask.{TabulateTask}
+use Rattle.command.specs.declared.search.SearchTask.{SearchTask}
+use Rattle.command.specs.declared.check.CheckTask.{CheckTask}
+use Rattle.command.specs.declared.trim.TrimTask.{TrimTask}
+use Rattle.command.specs.declared.plan.PlanTask.{PlanTask}
+use Rattle.command.specs.declared.open.OpenTask.{OpenTask}
+use Rattle.command.specs.declared.audit.AuditTask.{AuditTask}
+use Rattle.command.specs.declared.poll.PollTask.{PollTask}
+use Rattle.command.specs.declared.open_plurality.OpenPluralityTask.{OpenPluralityTask}
+use Rattle.command.specs.declared.contests.ContestsTask.{ContestsTask}
+use Rattle.command.specs.declared.trial.TrialTask.{TrialTask}
 use Rattle.command.specs.declared.limits.TheConstants.{DEFAULT_WORKERS, DEFAULT_FLOOR, DEFAULT_LIMIT, DEFAULT_GAMMA, DEFAULT_CANDIDATES, DEFAULT_BALLOTS}
 use Rattle.command_line.specs.declared.table.CommandName.{CommandName}
 use Rattle.command_line.specs.declared.table.OptionName.{OptionName}
@@ -164,20 +175,124 @@ pub record Trials : Type 0 where
       (codes "--nodes=9" ∷ codes "--workers=8" ∷ codes "--ballots=1" ∷ codes "--candidates=32"
       ∷ codes "--number=0" ∷ [])) ≡ true
 
+-- ---- what a line asks for that gives what it has to, and leaves all else out
+
+abbrev pub default_tabulate : TabulateTask
+default_tabulate = record { ballots = codes "b"; contest = None; nodes = DEFAULT_NODES }
+
+abbrev pub default_search : SearchTask
+default_search = record {
+  ballots = codes "b";
+  contest = None;
+  workers = DEFAULT_WORKERS;
+  budget = budget_of.Nodes DEFAULT_NODES;
+  floor = DEFAULT_FLOOR;
+  plan = None;
+}
+
+abbrev pub default_check : CheckTask
+default_check = record {
+  ballots = codes "b";
+  assertions = codes "a";
+  contest = None;
+  budget = budget_of.Nodes DEFAULT_NODES;
+}
+
+abbrev pub default_trim : TrimTask
+default_trim = record {
+  ballots = codes "b";
+  assertions = codes "a";
+  contest = None;
+  budget = budget_of.Nodes DEFAULT_NODES;
+}
+
+abbrev pub default_plan : PlanTask
+default_plan = record {
+  manifest = codes "m";
+  assertions = codes "a";
+  limit = DEFAULT_LIMIT;
+  gamma = DEFAULT_GAMMA;
+}
+
+abbrev pub default_open : OpenTask
+default_open = record {
+  ballots = codes "b";
+  manifest = codes "m";
+  assertions = codes "a";
+  seed = codes "s";
+  contest = None;
+  limit = DEFAULT_LIMIT;
+  gamma = DEFAULT_GAMMA;
+  budget = budget_of.Nodes DEFAULT_NODES;
+}
+
+abbrev pub default_audit : AuditTask
+default_audit = record {
+  session = codes "s";
+  ballots = codes "b";
+  manifest = codes "m";
+  assertions = codes "a";
+  seen = codes "t";
+  draws = 2;
+  budget = budget_of.Nodes DEFAULT_NODES;
+}
+
+abbrev pub default_poll : PollTask
+default_poll = record {
+  manifest = codes "m";
+  assertions = codes "a";
+  seen = codes "t";
+  seed = codes "s";
+  draws = 2;
+  limit = DEFAULT_LIMIT;
+  gamma = DEFAULT_GAMMA;
+  nodes = DEFAULT_NODES;
+}
+
+abbrev pub default_open_plurality : OpenPluralityTask
+default_open_plurality = record {
+  ballots = codes "b";
+  manifest = codes "m";
+  seed = codes "s";
+  contest = None;
+  limit = DEFAULT_LIMIT;
+  gamma = DEFAULT_GAMMA;
+}
+
+abbrev pub default_contests : ContestsTask
+default_contests = record {
+  ballots = codes "b";
+  manifest = codes "m";
+  seen = codes "t";
+  seed = codes "s";
+  draws = 2;
+  limit = DEFAULT_LIMIT;
+  gamma = DEFAULT_GAMMA;
+  workers = DEFAULT_WORKERS;
+  nodes = DEFAULT_NODES;
+}
+
+abbrev pub default_trial : TrialTask
+default_trial = record {
+  number = 0;
+  candidates = DEFAULT_CANDIDATES;
+  ballots = DEFAULT_BALLOTS;
+  workers = DEFAULT_WORKERS;
+  budget = budget_of.Nodes DEFAULT_NODES;
+}
+
 -- a line of each command, with all its options, and with those alone that it needs
 pub record Meanings : Type 0 where
   pub tabulate :
       command_of (codes "tabulate" ∷ codes "b" ∷ codes "--contest=c" ∷ codes "--nodes=2" ∷ [])
-      ≡ Some (Tabulate (record { ballots = codes "b"; contest = Some (codes "c"); nodes = 2 }))
+      ≡ Some (Tabulate (record default_tabulate { contest = Some (codes "c"); nodes = 2 }))
   pub tabulate_left_out :
-      command_of (codes "tabulate" ∷ codes "b" ∷ [])
-      ≡ Some (Tabulate (record { ballots = codes "b"; contest = None; nodes = DEFAULT_NODES }))
+      command_of (codes "tabulate" ∷ codes "b" ∷ []) ≡ Some (Tabulate default_tabulate)
   pub search :
       command_of (codes "search" ∷ codes "b" ∷ codes "--contest=c" ∷ codes "--workers=2"
       ∷ codes "--nodes=3" ∷ codes "--floor=4" ∷ codes "--cards=5" ∷ codes "--limit=6"
       ∷ codes "--gamma=7" ∷ [])
-      ≡ Some (Search (record {
-        ballots = codes "b";
+      ≡ Some (Search (record default_search {
         contest = Some (codes "c");
         workers = 2;
         budget = budget_of.Nodes 3;
@@ -186,80 +301,41 @@ pub record Meanings : Type 0 where
       }))
   pub search_of_cards :
       command_of (codes "search" ∷ codes "b" ∷ codes "--cards=5" ∷ [])
-      ≡ Some (Search (record {
-        ballots = codes "b";
-        contest = None;
-        workers = DEFAULT_WORKERS;
-        budget = budget_of.Nodes DEFAULT_NODES;
-        floor = DEFAULT_FLOOR;
+      ≡ Some (Search (record default_search {
         plan = Some (record { cards = 5; limit = DEFAULT_LIMIT; gamma = DEFAULT_GAMMA });
       }))
   pub search_left_out :
-      command_of (codes "search" ∷ codes "b" ∷ [])
-      ≡ Some (Search (record {
-        ballots = codes "b";
-        contest = None;
-        workers = DEFAULT_WORKERS;
-        budget = budget_of.Nodes DEFAULT_NODES;
-        floor = DEFAULT_FLOOR;
-        plan = None;
-      }))
+      command_of (codes "search" ∷ codes "b" ∷ []) ≡ Some (Search default_search)
   pub check :
       command_of (codes "check" ∷ codes "b" ∷ codes "a" ∷ codes "--contest=c"
       ∷ codes "--nodes=2" ∷ [])
-      ≡ Some (Check (record {
-        ballots = codes "b";
-        assertions = codes "a";
+      ≡ Some (Check (record default_check {
         contest = Some (codes "c");
         budget = budget_of.Nodes 2;
       }))
   pub check_left_out :
-      command_of (codes "check" ∷ codes "b" ∷ codes "a" ∷ [])
-      ≡ Some (Check (record {
-        ballots = codes "b";
-        assertions = codes "a";
-        contest = None;
-        budget = budget_of.Nodes DEFAULT_NODES;
-      }))
+      command_of (codes "check" ∷ codes "b" ∷ codes "a" ∷ []) ≡ Some (Check default_check)
   pub trim :
       command_of (codes "trim" ∷ codes "b" ∷ codes "a" ∷ codes "--contest=c"
       ∷ codes "--nodes=2" ∷ [])
-      ≡ Some (Trim (record {
-        ballots = codes "b";
-        assertions = codes "a";
+      ≡ Some (Trim (record default_trim {
         contest = Some (codes "c");
         budget = budget_of.Nodes 2;
       }))
   pub trim_left_out :
-      command_of (codes "trim" ∷ codes "b" ∷ codes "a" ∷ [])
-      ≡ Some (Trim (record {
-        ballots = codes "b";
-        assertions = codes "a";
-        contest = None;
-        budget = budget_of.Nodes DEFAULT_NODES;
-      }))
+      command_of (codes "trim" ∷ codes "b" ∷ codes "a" ∷ []) ≡ Some (Trim default_trim)
   pub sample :
       command_of (codes "sample" ∷ codes "m" ∷ codes "--seed=s" ∷ codes "--draws=2" ∷ [])
       ≡ Some (Sample (record { manifest = codes "m"; seed = codes "s"; draws = 2 }))
   pub plan :
       command_of (codes "plan" ∷ codes "m" ∷ codes "a" ∷ codes "--limit=2" ∷ codes "--gamma=3" ∷ [])
-      ≡ Some (Plan (record { manifest = codes "m"; assertions = codes "a"; limit = 2; gamma = 3 }))
+      ≡ Some (Plan (record default_plan { limit = 2; gamma = 3 }))
   pub plan_left_out :
-      command_of (codes "plan" ∷ codes "m" ∷ codes "a" ∷ [])
-      ≡ Some (Plan (record {
-        manifest = codes "m";
-        assertions = codes "a";
-        limit = DEFAULT_LIMIT;
-        gamma = DEFAULT_GAMMA;
-      }))
+      command_of (codes "plan" ∷ codes "m" ∷ codes "a" ∷ []) ≡ Some (Plan default_plan)
   pub open_all :
       command_of (codes "open" ∷ codes "b" ∷ codes "m" ∷ codes "a" ∷ codes "--seed=s"
       ∷ codes "--contest=c" ∷ codes "--limit=2" ∷ codes "--gamma=3" ∷ codes "--nodes=4" ∷ [])
-      ≡ Some (Open (record {
-        ballots = codes "b";
-        manifest = codes "m";
-        assertions = codes "a";
-        seed = codes "s";
+      ≡ Some (Open (record default_open {
         contest = Some (codes "c");
         limit = 2;
         gamma = 3;
@@ -267,90 +343,37 @@ pub record Meanings : Type 0 where
       }))
   pub open_left_out :
       command_of (codes "open" ∷ codes "b" ∷ codes "m" ∷ codes "a" ∷ codes "--seed=s" ∷ [])
-      ≡ Some (Open (record {
-        ballots = codes "b";
-        manifest = codes "m";
-        assertions = codes "a";
-        seed = codes "s";
-        contest = None;
-        limit = DEFAULT_LIMIT;
-        gamma = DEFAULT_GAMMA;
-        budget = budget_of.Nodes DEFAULT_NODES;
-      }))
+      ≡ Some (Open default_open)
   pub audit :
       command_of (codes "audit" ∷ codes "s" ∷ codes "b" ∷ codes "m" ∷ codes "a" ∷ codes "t"
       ∷ codes "--draws=2" ∷ codes "--nodes=3" ∷ [])
-      ≡ Some (Audit (record {
-        session = codes "s";
-        ballots = codes "b";
-        manifest = codes "m";
-        assertions = codes "a";
-        seen = codes "t";
-        draws = 2;
-        budget = budget_of.Nodes 3;
-      }))
+      ≡ Some (Audit (record default_audit { budget = budget_of.Nodes 3 }))
   pub audit_left_out :
       command_of (codes "audit" ∷ codes "s" ∷ codes "b" ∷ codes "m" ∷ codes "a" ∷ codes "t"
       ∷ codes "--draws=2" ∷ [])
-      ≡ Some (Audit (record {
-        session = codes "s";
-        ballots = codes "b";
-        manifest = codes "m";
-        assertions = codes "a";
-        seen = codes "t";
-        draws = 2;
-        budget = budget_of.Nodes DEFAULT_NODES;
-      }))
+      ≡ Some (Audit default_audit)
   pub report :
       command_of (codes "report" ∷ codes "s" ∷ [])
       ≡ Some (Report (record { session = codes "s" }))
   pub poll :
       command_of (codes "poll" ∷ codes "m" ∷ codes "a" ∷ codes "t" ∷ codes "--seed=s"
       ∷ codes "--draws=2" ∷ codes "--limit=3" ∷ codes "--gamma=4" ∷ codes "--nodes=5" ∷ [])
-      ≡ Some (Poll (record {
-        manifest = codes "m";
-        assertions = codes "a";
-        seen = codes "t";
-        seed = codes "s";
-        draws = 2;
-        limit = 3;
-        gamma = 4;
-        nodes = 5;
-      }))
+      ≡ Some (Poll (record default_poll { limit = 3; gamma = 4; nodes = 5 }))
   pub poll_left_out :
       command_of (codes "poll" ∷ codes "m" ∷ codes "a" ∷ codes "t" ∷ codes "--seed=s"
       ∷ codes "--draws=2" ∷ [])
-      ≡ Some (Poll (record {
-        manifest = codes "m";
-        assertions = codes "a";
-        seen = codes "t";
-        seed = codes "s";
-        draws = 2;
-        limit = DEFAULT_LIMIT;
-        gamma = DEFAULT_GAMMA;
-        nodes = DEFAULT_NODES;
-      }))
+      ≡ Some (Poll default_poll)
   pub open_plurality :
       command_of (codes "plurality" ∷ codes "b" ∷ codes "m" ∷ codes "--seed=s"
       ∷ codes "--contest=c" ∷ codes "--limit=2" ∷ codes "--gamma=3" ∷ [])
-      ≡ Some (OpenPlurality (record {
-        ballots = codes "b";
-        manifest = codes "m";
-        seed = codes "s";
+      ≡ Some (OpenPlurality (record default_open_plurality {
         contest = Some (codes "c");
         limit = 2;
         gamma = 3;
       }))
   pub open_plurality_left_out :
       command_of (codes "plurality" ∷ codes "b" ∷ codes "m" ∷ codes "--seed=s" ∷ [])
-      ≡ Some (OpenPlurality (record {
-        ballots = codes "b";
-        manifest = codes "m";
-        seed = codes "s";
-        contest = None;
-        limit = DEFAULT_LIMIT;
-        gamma = DEFAULT_GAMMA;
-      }))
+      ≡ Some (OpenPlurality default_open_plurality)
   pub audit_plurality :
       command_of (codes "plurality" ∷ codes "s" ∷ codes "b" ∷ codes "m" ∷ codes "t"
       ∷ codes "--draws=2" ∷ [])
@@ -365,12 +388,7 @@ pub record Meanings : Type 0 where
       command_of (codes "contests" ∷ codes "b" ∷ codes "m" ∷ codes "t" ∷ codes "--seed=s"
       ∷ codes "--draws=2" ∷ codes "--limit=3" ∷ codes "--gamma=4" ∷ codes "--workers=5"
       ∷ codes "--nodes=6" ∷ [])
-      ≡ Some (Contests (record {
-        ballots = codes "b";
-        manifest = codes "m";
-        seen = codes "t";
-        seed = codes "s";
-        draws = 2;
+      ≡ Some (Contests (record default_contests {
         limit = 3;
         gamma = 4;
         workers = 5;
@@ -379,17 +397,7 @@ pub record Meanings : Type 0 where
   pub contests_left_out :
       command_of (codes "contests" ∷ codes "b" ∷ codes "m" ∷ codes "t" ∷ codes "--seed=s"
       ∷ codes "--draws=2" ∷ [])
-      ≡ Some (Contests (record {
-        ballots = codes "b";
-        manifest = codes "m";
-        seen = codes "t";
-        seed = codes "s";
-        draws = 2;
-        limit = DEFAULT_LIMIT;
-        gamma = DEFAULT_GAMMA;
-        workers = DEFAULT_WORKERS;
-        nodes = DEFAULT_NODES;
-      }))
+      ≡ Some (Contests default_contests)
   pub trial :
       command_of (codes "trial" ∷ codes "--number=2" ∷ codes "--candidates=3"
       ∷ codes "--ballots=4" ∷ codes "--workers=5" ∷ codes "--nodes=6" ∷ [])
@@ -401,14 +409,7 @@ pub record Meanings : Type 0 where
         budget = budget_of.Nodes 6;
       }))
   pub trial_left_out :
-      command_of (codes "trial" ∷ codes "--number=0" ∷ [])
-      ≡ Some (Trial (record {
-        number = 0;
-        candidates = DEFAULT_CANDIDATES;
-        ballots = DEFAULT_BALLOTS;
-        workers = DEFAULT_WORKERS;
-        budget = budget_of.Nodes DEFAULT_NODES;
-      }))
+      command_of (codes "trial" ∷ codes "--number=0" ∷ []) ≡ Some (Trial default_trial)
   pub two_words :
       command_of (codes "plan" ∷ codes "--gamma" ∷ codes "3" ∷ codes "m" ∷ codes "--limit"
       ∷ codes "2" ∷ codes "a" ∷ [])
@@ -427,64 +428,24 @@ pub record Meanings : Type 0 where
 pub record SetsMeanings : Type 0 where
   pub search :
       command_of (codes "search" ∷ codes "b" ∷ codes "--sets=8" ∷ [])
-      ≡ Some (Search (record {
-        ballots = codes "b";
-        contest = None;
-        workers = DEFAULT_WORKERS;
-        budget = budget_of.Sets 8;
-        floor = DEFAULT_FLOOR;
-        plan = None;
-      }))
+      ≡ Some (Search (record default_search { budget = budget_of.Sets 8 }))
   pub check :
       command_of (codes "check" ∷ codes "--sets" ∷ codes "8" ∷ codes "b" ∷ codes "a" ∷ [])
-      ≡ Some (Check (record {
-        ballots = codes "b";
-        assertions = codes "a";
-        contest = None;
-        budget = budget_of.Sets 8;
-      }))
+      ≡ Some (Check (record default_check { budget = budget_of.Sets 8 }))
   pub trim :
       command_of (codes "trim" ∷ codes "b" ∷ codes "a" ∷ codes "--sets=8" ∷ [])
-      ≡ Some (Trim (record {
-        ballots = codes "b";
-        assertions = codes "a";
-        contest = None;
-        budget = budget_of.Sets 8;
-      }))
+      ≡ Some (Trim (record default_trim { budget = budget_of.Sets 8 }))
   pub open_session :
       command_of (codes "open" ∷ codes "b" ∷ codes "m" ∷ codes "a" ∷ codes "--seed=s"
       ∷ codes "--sets=8" ∷ [])
-      ≡ Some (Open (record {
-        ballots = codes "b";
-        manifest = codes "m";
-        assertions = codes "a";
-        seed = codes "s";
-        contest = None;
-        limit = DEFAULT_LIMIT;
-        gamma = DEFAULT_GAMMA;
-        budget = budget_of.Sets 8;
-      }))
+      ≡ Some (Open (record default_open { budget = budget_of.Sets 8 }))
   pub audit :
       command_of (codes "audit" ∷ codes "s" ∷ codes "b" ∷ codes "m" ∷ codes "a" ∷ codes "t"
       ∷ codes "--draws=2" ∷ codes "--sets=8" ∷ [])
-      ≡ Some (Audit (record {
-        session = codes "s";
-        ballots = codes "b";
-        manifest = codes "m";
-        assertions = codes "a";
-        seen = codes "t";
-        draws = 2;
-        budget = budget_of.Sets 8;
-      }))
+      ≡ Some (Audit (record default_audit { budget = budget_of.Sets 8 }))
   pub trial :
       command_of (codes "trial" ∷ codes "--sets=8" ∷ codes "--number=0" ∷ [])
-      ≡ Some (Trial (record {
-        number = 0;
-        candidates = DEFAULT_CANDIDATES;
-        ballots = DEFAULT_BALLOTS;
-        workers = DEFAULT_WORKERS;
-        budget = budget_of.Sets 8;
-      }))
+      ≡ Some (Trial (record default_trial { budget = budget_of.Sets 8 }))
 
 -- words that are no line
 pub record NoLines : Type 0 where

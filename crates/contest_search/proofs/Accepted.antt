@@ -28,10 +28,10 @@ use Rattle.contest_search.specs.Certificate.{low_of, margin_of, order_of, certif
 use Rattle.contest_search.specs.Contest.{candidate_count, IsWon, IsElected}
 use Rattle.contest_search.specs.Found.{IsFoundIn}
 use Rattle.contest_search.specs.Laws.{FoundIsAccepted, PlannedIsAccepted}
-use Rattle.contest_search.specs.Planned.{plan_over}
+use Rattle.contest_search.specs.Planned.{plan_of}
 use Rattle.contest_search.proofs.Contests.{winner-below}
 use Rattle.contest_search.proofs.Findings.{best-margin, claim-sound}
-use Rattle.contest_search.proofs.Plans.{plan_sound}
+use Rattle.contest_search.proofs.Plans.{plan_clean, plan_sound}
 use Rattle.contest_search.proofs.ReadBallots.{IsFit, ballots_fit}
 
 -- it is the certificate of these ballots, reads back from its text, and is accepted
@@ -125,5 +125,5 @@ found_is_accepted budget bytes asked ballots file read found =
 
 pub planned_is_accepted : PlannedIsAccepted
 planned_is_accepted cards gamma limit budget bytes asked ballots file can read found =
-    accepted_with budget bytes asked ballots file (Some (plan_over cards gamma limit file.claims)) read found
-    (plan_sound cards gamma limit file.records file.claims can) refl
+    accepted_with budget bytes asked ballots file (Some (plan_of cards gamma limit file)) read found
+    (plan_sound cards gamma limit file.records file.claims can) (plan_clean cards gamma limit file.claims)

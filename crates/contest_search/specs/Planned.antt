@@ -1,22 +1,25 @@
 -- A certificate with the draws of a clean audit.
-use Rattle.std.specs.Prelude.{◌≤◌, ℕ, List, Some}
+use Rattle.std.specs.Prelude.{◌≤◌, ℕ, List, map, Some}
 use Rattle.irv_base.specs.declared.limits.TheConstants.{GREATEST_GAMMA, GREATEST_LIMIT, MOST_CARDS}
-use Rattle.assertions.specs.declared.assertion.Claim.{Claim}
-use Rattle.assertion_file.specs.Content.{Content, Plan}
-use Rattle.cover_checker.specs.Draws.{clean_draws_for}
+use Rattle.assertion_file.specs.Content.{Content, Plan, margins_of}
+use Rattle.km_risk.specs.Clean.{clean_draws}
 
--- of these claims, over so many cards, with gamma in thousandths and the risk limit in millionths
-abbrev pub plan_over : ℕ → ℕ → ℕ → List Claim → Plan
-plan_over cards gamma limit claims = record {
+-- for claims of these margins, over so many cards, with gamma in thousandths and the risk limit in millionths
+abbrev pub plan_over : ℕ → ℕ → ℕ → List ℕ → Plan
+plan_over cards gamma limit margins = record {
   cards = cards;
   gamma = gamma;
   limit = limit;
-  draws = clean_draws_for cards gamma limit claims;
+  draws = map (λ margin. clean_draws cards margin gamma limit) margins;
 }
 
+-- for the claims of a file
+abbrev pub plan_of : ℕ → ℕ → ℕ → Content → Plan
+plan_of cards gamma limit file =
+    plan_over cards gamma limit (margins_of file)
+
 abbrev pub planned : ℕ → ℕ → ℕ → Content → Content
-planned cards gamma limit file =
-    record file { plan = Some (plan_over cards gamma limit file.claims) }
+planned cards gamma limit file = record file { plan = Some (plan_of cards gamma limit file) }
 
 -- a contest of so many records can be planned for
 pub record CanBePlanned (cards gamma limit records : ℕ) : Type 0 where

@@ -5,13 +5,12 @@ use Rattle.std.proofs.lemmas.List.Elements.{All-map}
 use Rattle.budget.specs.declared.budget.Budget.{Budget}
 use Rattle.irv_base.specs.Names.{all_differ}
 use Rattle.irv_base.specs.declared.limits.TheConstants.{GREATEST_GAMMA, MOST_CARDS}
-use Rattle.assertion_file.specs.Content.{Content, IsSoundClaim}
+use Rattle.assertion_file.specs.Content.{Content, IsSoundClaim, margins_of}
 use Rattle.ballot_reader.specs.Ballots.{BallotFile}
 use Rattle.manifest.proofs.FewBallots.{few_ballots}
 use Rattle.manifest.specs.Cards.{Batches, cards_of}
 use Rattle.manifest.specs.Linked.{first_without_card, linked_of, recorded_of}
 use Rattle.km_risk.specs.Factor.{IsSetting}
-use Rattle.session_state.specs.Claims.{margins_of}
 use Rattle.contest_search.specs.Found.{IsFoundIn}
 
 -- each margin is within the limits of an audit

@@ -12,7 +12,7 @@ use Rattle.cli_base.specs.declared.outcome.AnswerKind.TheVariants.{Done, Tie, Un
 use Rattle.input_files.specs.Judged.{then_judged, unless, go_on}
 use Rattle.plurality.specs.Plural.{Outcome, values_of}
 use Rattle.session_rounds.specs.Refusals.{other_digest, without_facts}
-use Rattle.session_rounds.specs.Rounds.{same_ballots, same_manifest, session_to_go_on, with_seen}
+use Rattle.session_rounds.specs.Rounds.{session_to_go_on, with_ballots, with_manifest, with_seen}
 use Rattle.plurality_commands.specs.Outcome.{if_won}
 
 module _ (task : AuditPluralityTask) where
@@ -50,13 +50,12 @@ module _ (task : AuditPluralityTask) where
   after_manifest session ballots batches = if_won ballots (after_count session ballots batches)
 
   abbrev pub after_ballots : Content → BallotFile → Script
-  after_ballots session ballots = Read task.manifest (λ bytes.
-      go_on (same_manifest task.ballots task.manifest session ballots bytes)
-      (after_manifest session ballots))
+  after_ballots session =
+      with_manifest task.ballots task.manifest session (after_manifest session)
 
   abbrev pub after_session : Content → Script
-  after_session session = Read task.ballots (λ bytes.
-      go_on (same_ballots task.ballots session bytes) (after_ballots session))
+  after_session session =
+      with_ballots task.ballots task.manifest session (after_manifest session)
 
   abbrev pub script : Script
   script = Read task.session (λ bytes. go_on (plural_session bytes) after_session)

@@ -1,26 +1,18 @@
 -- The polls of the worked examples.
-use Rattle.std.specs.Prelude.{ℕ, List, [], ◌∷◌, codes, None}
+use Rattle.std.specs.Prelude.{ℕ, List, map}
 use Rattle.assertions.specs.declared.assertion.Assertion.TheVariants.{Neb}
 use Rattle.assertions.specs.declared.assertion.Claim.{Claim}
 use Rattle.assertion_file.specs.Content.{Content}
+use Rattle.assertion_file.specs.Examples as files
 use Rattle.polling.specs.declared.counts.PollCounts.{PollCounts}
 
 -- the first of three candidates has more votes than this one, by one vote
 abbrev pub leads : ℕ → Claim
 leads other = record { assertion = Neb 0 other; margin = 1 }
 
--- these claims are to prove that the first candidate wins
-abbrev pub file_of : List Claim → Content
-file_of claims = record {
-  contest = codes "7";
-  candidates = codes "1" ∷ codes "2" ∷ codes "3" ∷ [];
-  records = 1;
-  winner = 0;
-  margin = 1;
-  order = 1 ∷ 0 ∷ 2 ∷ [];
-  claims = claims;
-  plan = None;
-}
+-- that it leads these is to prove that it wins
+abbrev pub file_of : List ℕ → Content
+file_of others = record files.three_candidates { winner = 0; claims = map leads others }
 
 -- so many draws are for the winner
 abbrev pub for_the_winner : ℕ → PollCounts

@@ -18,13 +18,13 @@ head_lines cards draws limit gamma =
 -- ---- a claim
 
 -- how many draws have each seen value, from 0 to 2
-abbrev pub counts_text : PollCounts → List ℕ
-counts_text counts =
+abbrev pub seen_counts_text : PollCounts → List ℕ
+seen_counts_text counts =
     decimal counts.n0 ++ codes " " ++ decimal counts.n1 ++ codes " " ++ decimal counts.n2
 
 abbrev pub claim_line : List ℕ → PollCounts → ℕ → Bool → List ℕ
 claim_line assertion counts risk confirmed =
-    assertion ++ codes " counts " ++ counts_text counts ++ codes " risk " ++ risk_text risk
+    assertion ++ codes " counts " ++ seen_counts_text counts ++ codes " risk " ++ risk_text risk
     ++ state_end confirmed
 
 -- by these ids; it is confirmed where the risk is at most limit millionths

@@ -8,7 +8,7 @@ ghost use Rattle.poll_command.specs.Table.{poll_table};
 
 /// A claim that five draws confirm at a limit of 0.05, beside one that a missing card doesn't.
 pub fn two_claims()
-    ensures { poll_table (examples.file_of (examples.leads 1 ∷ examples.leads 2 ∷ []))
+    ensures { poll_table (examples.file_of (1 ∷ 2 ∷ []))
         1 5 50000 100
         (examples.for_the_winner 5 ∷ examples.against_the_winner 5 ∷ [])
         (48282842081079907 ∷ 1000000000000000000 ∷ []) false ≡
@@ -21,10 +21,10 @@ pub fn two_claims()
 /// That the first of three candidates has more votes than the second doesn't prove it wins: 2,1,3 stands. For the third candidate the
 /// suffixes 3 and 1,3 count, so that one node doesn't suffice. That it has more votes than the third too proves it.
 pub fn three_candidates()
-    ensures stands { uncovered 2 (examples.file_of (examples.leads 1 ∷ [])) ≡
+    ensures stands { uncovered 2 (examples.file_of (1 ∷ [])) ≡
         Some (Answered Differs (codes "no: order 2,1,3 stands\n")) }
-    ensures spent { uncovered 1 (examples.file_of (examples.leads 1 ∷ [])) ≡
+    ensures spent { uncovered 1 (examples.file_of (1 ∷ [])) ≡
         Some (Answered Spent (codes "spent\ncandidate 3\n")) }
-    ensures proved { uncovered 1 (examples.file_of (examples.leads 1 ∷ examples.leads 2 ∷ []))
+    ensures proved { uncovered 1 (examples.file_of (1 ∷ 2 ∷ []))
         ≡ None }
 {}

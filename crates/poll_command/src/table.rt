@@ -3,7 +3,7 @@ ghost use Rattle.std.specs.Prelude.{◌≡◌, ◌≤◌, ◌++◌, length, code
 ghost use Rattle.irv_base.specs.declared.limits.TheConstants.{GREATEST_LIMIT, ROOM};
 ghost use Rattle.assertions.specs.Assertions.{is_proper};
 ghost use Rattle.report.specs.Claims.{claim_lines};
-ghost use Rattle.poll_command.specs.Table.{claim_line, counts_text, head_lines, last_line, line_of, poll_table};
+ghost use Rattle.poll_command.specs.Table.{claim_line, seen_counts_text, head_lines, last_line, line_of, poll_table};
 
 use assertion_file::AssertionFile;
 use assertions::Claim;
@@ -32,7 +32,7 @@ fn add_head(
 // Adds how many draws have each seen value, from 0 to 2, between the assertion and its risk.
 fn add_counts(text: &mut String, assertion: &str, c: &PollCounts) -> Result<(), AllocError>
     ensures { IfOk result (λ _. string_bytes text.new ≡ string_bytes text.old
-        ++ (assertion.now ++ codes " counts " ++ counts_text c.now ++ codes " risk ")) }
+        ++ (assertion.now ++ codes " counts " ++ seen_counts_text c.now ++ codes " risk ")) }
 {
     let PollCounts { n0, n1, n2 } = *c;
     write!(text, "{assertion} counts {n0} {n1} {n2} risk ")

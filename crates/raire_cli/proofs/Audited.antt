@@ -8,7 +8,7 @@ use Rattle.budget.specs.declared.budget.Budget.{Budget}
 use Rattle.ballot_reader.specs.Ballots.{BallotFile}
 use Rattle.manifest.specs.Cards.{Batches, cards_of}
 use Rattle.manifest.specs.Linked.{linked_of, recorded_of}
-use Rattle.assertion_file.specs.Content.{Content as FileContent}
+use Rattle.assertion_file.specs.Content.{Content as FileContent, margins_of}
 use Rattle.assertion_file.specs.Reading.{assertion_file_of}
 use Rattle.assertion_file.proofs.SoundFiles.{read_is_sound}
 use Rattle.cover_checker.specs.Checks.{IsAnswer}
@@ -16,7 +16,7 @@ use Rattle.cover_checker.specs.declared.checked.Checked.TheVariants.{Accepted}
 use Rattle.cover_checker.proofs.Held.{accepted_iff_holds}
 use Rattle.seen_file.specs.Reading.{seen_of}
 use Rattle.seen_file.specs.Seen.{Entry}
-use Rattle.session_state.specs.Claims.{audited_by, margins_of, values_of}
+use Rattle.session_state.specs.Claims.{audited_by, values_of}
 use Rattle.session_state.specs.Content.{Content}
 use Rattle.session_state.specs.Inputs.{HasFacts, has_facts}
 use Rattle.session_state.proofs.Claims.{audited-file, file-assorters}

@@ -78,9 +78,18 @@ has_nodes (Sets sets) = false
 abbrev pub is_open : Command → Bool
 is_open (Search task) = has_nodes task.budget
 is_open (Tabulate task) = true
+is_open (Check task) = false
+is_open (Trim task) = false
+is_open (Sample task) = false
+is_open (Plan task) = false
+is_open (Open task) = false
+is_open (Audit task) = false
+is_open (Report task) = false
 is_open (Trial task) = has_nodes task.budget
+is_open (Poll task) = false
+is_open (OpenPlurality task) = false
+is_open (AuditPlurality task) = false
 is_open (Contests task) = true
-is_open _ = false
 
 -- it audits all contests of a file, each of which has a budget of its own
 abbrev pub is_of_contests : Command → Bool

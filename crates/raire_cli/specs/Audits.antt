@@ -4,11 +4,12 @@ use Rattle.desk.specs.Desk.{File, held_bytes}
 use Rattle.manifest.specs.Cards.{cards_of}
 use Rattle.manifest.specs.Linked.{linked_of}
 use Rattle.manifest.specs.declared.recorded.Recorded.{Recorded}
+use Rattle.assertion_file.specs.Content.{margins_of}
 use Rattle.seen_file.specs.Reading.{seen_of}
 use Rattle.seen_file.specs.Seen.{Entry}
 use Rattle.session_state.specs.Content.{Content}
 use Rattle.session_state.specs.Draws.{Audited}
-use Rattle.session_state.specs.Claims.{audited, margins_of}
+use Rattle.session_state.specs.Claims.{audited}
 use Rattle.session_state.specs.Inputs.{HasFacts}
 use Rattle.session_state.specs.Sessions.{is_signed_off}
 use Rattle.audit_session.specs.Going.{drawn_cards}

@@ -81,7 +81,7 @@ pub record ConfirmsAsked (words : List (List ℕ)) (files : List File) (file : C
   pub floor : asks.search.task.floor ≤ file.margin
   pub confirms : Confirms (candidate_count ballots) ballots.rankings winner file
   -- it has the clean draws of its assertions, where the words give a number of cards
-  pub plan : file.plan ≡ option_map (plan_by file.claims) asks.search.task.plan
+  pub plan : file.plan ≡ option_map (plan_by file) asks.search.task.plan
 
 -- this is a text that gives an order as reason for a full count: it elects another candidate than the winner of the contest that was
 -- asked for, whom each way of breaking its ties elects, and no true assertion whose margin reaches the floor refutes it

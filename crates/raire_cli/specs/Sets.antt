@@ -21,7 +21,7 @@ use Rattle.command.specs.declared.audit.AuditTask.{AuditTask}
 use Rattle.command.specs.declared.open.OpenTask.{OpenTask}
 use Rattle.command_line.specs.Line.{command_of}
 use Rattle.command_line.specs.declared.commands.Command.{Command}
-use Rattle.command_line.specs.declared.commands.Command.TheVariants.{Search, Check, Trim, Open, Audit, Trial}
+use Rattle.command_line.specs.declared.commands.Command.TheVariants.{Search, Tabulate, Check, Trim, Sample, Plan, Open, Audit, Report, Trial, Poll, OpenPlurality, AuditPlurality, Contests}
 use Rattle.contest_search.specs.Budget.{sets_of}
 use Rattle.contest_search.specs.Contest.{candidate_count, IsWon}
 use Rattle.input_files.specs.Cards.{cards_for}
@@ -95,7 +95,7 @@ pub record AreOfRound (files : List File) (task : AuditTask) (ballots : BallotFi
 abbrev pub MoreCount : List File → Command → ℕ → Type 0
 MoreCount files (Search task) sets =
     (ballots : BallotFile) × IsAbout files (Search task) ballots × NeedsMore sets ballots
-MoreCount files (Trial task) sets = NeedsMore sets (contest_of task)
+MoreCount files (Tabulate task) sets = ⊥
 MoreCount files (Check task) sets =
     (ballots : BallotFile) × (file : Content)
     × AreChecked files task.ballots task.assertions task.contest ballots file
@@ -110,7 +110,14 @@ MoreCount files (Open task) sets =
 MoreCount files (Audit task) sets =
     (ballots : BallotFile) × (file : Content) × AreOfRound files task ballots file
     × CountsMore sets ballots file
-MoreCount files _ sets = ⊥
+MoreCount files (Sample task) sets = ⊥
+MoreCount files (Plan task) sets = ⊥
+MoreCount files (Report task) sets = ⊥
+MoreCount files (Trial task) sets = NeedsMore sets (contest_of task)
+MoreCount files (Poll task) sets = ⊥
+MoreCount files (OpenPlurality task) sets = ⊥
+MoreCount files (AuditPlurality task) sets = ⊥
+MoreCount files (Contests task) sets = ⊥
 
 -- ---- what `run` promises
 

@@ -1,17 +1,14 @@
 -- What it means that a trim prints an assertion file.
-use Rattle.std.specs.Prelude.{◌≡◌, ℕ, List, ◌∷◌, ◌++◌, map, Option, Some, IfSome, Ok, IsTrue}
+use Rattle.std.specs.Prelude.{◌≡◌, ℕ, List, Option, Some, IfSome, Ok}
 use Rattle.desk.specs.Desk.{File, held_bytes}
-use Rattle.assertions.specs.declared.assertion.Claim.{Claim}
-use Rattle.assertions.specs.Suffixes.{IsAlternative}
 use Rattle.ballot_reader.specs.Ballots.{BallotFile}
 use Rattle.ballot_reader.specs.Grammar.{ballots_of}
-use Rattle.assertion_file.specs.Content.{Content, candidate_count}
+use Rattle.assertion_file.specs.Content.{Content}
 use Rattle.assertion_file.specs.Reading.{assertion_file_of}
 use Rattle.assertion_file.specs.Text.{assertion_file_text, told_of}
 use Rattle.cover_checker.specs.Checks.{IsAnswer}
-use Rattle.cover_checker.specs.Covers.{stands}
 use Rattle.cover_checker.specs.declared.checked.Checked.TheVariants.{Accepted}
-use Rattle.trimmer.specs.Laws.{IsPartOf, IsPlannedAlike}
+use Rattle.trimmer.specs.Laws.{IsIrredundant, IsPartOf, IsPlannedAlike}
 use Rattle.cli_base.specs.Ends.{Writing, Took}
 use Rattle.command.specs.declared.trim.TrimTask.{TrimTask}
 use Rattle.command_line.specs.Line.{command_of}
@@ -32,12 +29,6 @@ pub record AreTrimFiles (task : TrimTask) (files : List File) (ballots : BallotF
   pub held : held_bytes task.assertions files ≡ Some bytes
   pub say : assertion_file_of bytes ≡ Ok file
 
--- without this claim an order stands that elects another candidate
-abbrev pub IsNeeded : Content → List Claim → List Claim → Type 0
-IsNeeded file before behind =
-    (order : List ℕ) × IsAlternative (candidate_count file) file.winner order
-    × IsTrue (stands (map (λ claim. claim.assertion) (before ++ behind)) order)
-
 -- this is the assertion file of the words, trimmed
 pub record IsTrimmedOf (words : List (List ℕ)) (files : List File) (left : Content) : Type 0 where
   pub asks : AsksForTrim words
@@ -56,8 +47,7 @@ pub record IsTrimmedOf (words : List (List ℕ)) (files : List File) (left : Con
   pub terms : IsPlannedAlike file.plan left.plan
   pub same : left ≡ record file { claims = left.claims; plan = left.plan }
   -- each of its claims is needed
-  pub needed : (before : List Claim) (claim : Claim) (behind : List Claim) →
-      left.claims ≡ before ++ claim ∷ behind → IsNeeded file before behind
+  pub needed : IsIrredundant left
 
 -- ---- what `run` promises
 

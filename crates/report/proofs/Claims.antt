@@ -1,15 +1,14 @@
 -- The lines of claims, one claim at a time.
 use Rattle.std.proofs.Common.{◌≡◌, ℕ, ◌+◌, ◌<◌, List, ◌∷◌, ◌++◌, drop, get_or, length, sym, ap, ◌∙◌, append_assoc}
 use Rattle.std.proofs.lemmas.List.{drop_more}
-use Rattle.assertions.specs.declared.assertion.Claim.{Claim}
 use Rattle.report.specs.Claims.{claim_lines}
 
-module _ {Counts : Type 0} (line : Claim → Counts → ℕ → List ℕ) (claims : List Claim) (counts : List Counts) (risks : List ℕ) where
+module _ {A Counts : Type 0} (line : A → Counts → ℕ → List ℕ) (claims : List A) (counts : List Counts) (risks : List ℕ) where
   -- those of the claims from index j on
   abbrev pub lines_from : ℕ → List ℕ
   lines_from j = claim_lines line (drop j claims) (drop j counts) (drop j risks)
 
-  pub line_more : (j : ℕ) (claim : Claim) (n : Counts) (risk : ℕ) (text told whole : List ℕ) →
+  pub line_more : (j : ℕ) (claim : A) (n : Counts) (risk : ℕ) (text told whole : List ℕ) →
       j < length claims → j < length counts → j < length risks →
       claim ≡ get_or claims j claim → n ≡ get_or counts j n → risk ≡ get_or risks j risk →
       told ≡ text ++ line claim n risk → text ++ lines_from j ≡ whole → told ++ lines_from (j + 1) ≡ whole

@@ -4,7 +4,6 @@ use Rattle.std.specs.Fmt.{decimal}
 use Rattle.budget.specs.declared.budget.Budget.{Budget}
 use Rattle.ballot_reader.specs.Ballots.{BallotFile}
 use Rattle.ballot_reader.specs.Grammar.{ballots_of}
-use Rattle.assertions.specs.declared.assertion.Claim.{Claim}
 use Rattle.assertion_file.specs.Content.{Content, Plan}
 use Rattle.assertion_file.specs.Text.{assertion_file_text}
 use Rattle.report.specs.Texts.{order_text}
@@ -18,7 +17,7 @@ use Rattle.input_files.specs.Judged.{told, go_on}
 use Rattle.input_files.specs.Refusals.{refused_ballots}
 use Rattle.contest_search.specs.Budget.{IsInBudget}
 use Rattle.contest_search.specs.Certificate.{IsCertificateOfDecided}
-use Rattle.contest_search.specs.Planned.{plan_over}
+use Rattle.contest_search.specs.Planned.{plan_of}
 use Rattle.search_commands.specs.Ends.{HasTieIn, HasSpent}
 
 -- ---- the text of a full count
@@ -34,13 +33,13 @@ full_count_text file floor =
 
 -- ---- the draws of a clean audit
 
--- of these claims, by these terms
-abbrev pub plan_by : List Claim → PlanTerms → Plan
-plan_by claims terms = plan_over terms.cards terms.gamma terms.limit claims
+-- for the claims of a file, by these terms
+abbrev pub plan_by : Content → PlanTerms → Plan
+plan_by file terms = plan_of terms.cards terms.gamma terms.limit file
 
 -- a certificate as it is printed: with them, where there are terms for them
 abbrev pub printed : Option PlanTerms → Content → Content
-printed plan file = record file { plan = option_map (plan_by file.claims) plan }
+printed plan file = record file { plan = option_map (plan_by file) plan }
 
 -- there are at least as many cards as ballots, where a number of cards is given
 abbrev pub has_cards : Option PlanTerms → BallotFile → Bool

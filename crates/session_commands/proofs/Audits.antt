@@ -4,9 +4,9 @@ use Rattle.budget.specs.declared.budget.Budget.{Budget}
 use Rattle.ballot_reader.specs.Ballots.{BallotFile}
 use Rattle.manifest.specs.Cards.{Batches, cards_of}
 use Rattle.manifest.specs.Linked.{linked_of}
-use Rattle.assertion_file.specs.Content.{Content as FileContent}
+use Rattle.assertion_file.specs.Content.{Content as FileContent, margins_of}
 use Rattle.assertion_file.specs.Reading.{assertion_file_of}
-use Rattle.session_state.specs.Claims.{margins_of, values_of}
+use Rattle.session_state.specs.Claims.{values_of}
 use Rattle.session_state.specs.Content.{Content}
 use Rattle.check_command.specs.Check as check
 use Rattle.check_command.specs.Check.{Checks}

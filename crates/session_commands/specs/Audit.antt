@@ -3,9 +3,9 @@ use Rattle.std.specs.Prelude.{ℕ, List, [], ◌∷◌, length, Result, Ok}
 use Rattle.ballot_reader.specs.Ballots.{BallotFile}
 use Rattle.manifest.specs.Cards.{Batches, cards_of}
 use Rattle.manifest.specs.Linked.{linked_of}
-use Rattle.assertion_file.specs.Content.{Content as FileContent}
+use Rattle.assertion_file.specs.Content.{Content as FileContent, margins_of}
 use Rattle.assertion_file.specs.Reading.{assertion_file_of}
-use Rattle.session_state.specs.Claims.{margins_of, values_of}
+use Rattle.session_state.specs.Claims.{values_of}
 use Rattle.session_state.specs.Content.{Content}
 use Rattle.command.specs.declared.audit.AuditTask.{AuditTask}
 use Rattle.cli_base.specs.Outcome.{Verdict}
@@ -16,7 +16,7 @@ use Rattle.input_files.specs.Judged.{told, unless, go_on}
 use Rattle.input_files.specs.Refusals.{refused_assertions}
 use Rattle.session_commands.specs.Accepted.{if_accepted}
 use Rattle.session_rounds.specs.Refusals.{other_digest, without_facts}
-use Rattle.session_rounds.specs.Rounds.{same_ballots, same_manifest, session_to_go_on, with_seen}
+use Rattle.session_rounds.specs.Rounds.{session_to_go_on, with_ballots, with_manifest, with_seen}
 
 module _ (task : AuditTask) where
   -- ---- the assertions, and whether the session is one of them and of the cards
@@ -53,13 +53,12 @@ module _ (task : AuditTask) where
       go_on (same_assertions session bytes) (after_assertions session ballots batches))
 
   abbrev pub after_ballots : Content → BallotFile → Script
-  after_ballots session ballots = Read task.manifest (λ bytes.
-      go_on (same_manifest task.ballots task.manifest session ballots bytes)
-      (after_manifest session ballots))
+  after_ballots session =
+      with_manifest task.ballots task.manifest session (after_manifest session)
 
   abbrev pub after_session : Content → Script
-  after_session session = Read task.ballots (λ bytes.
-      go_on (same_ballots task.ballots session bytes) (after_ballots session))
+  after_session session =
+      with_ballots task.ballots task.manifest session (after_manifest session)
 
   abbrev pub script : Script
   script = Read task.session (λ bytes. go_on (session_to_go_on task.session task.draws bytes) after_session)

@@ -1,6 +1,6 @@
 // The assertions of a session: the file has the digest that the session has of it, before it is read, and the session has its facts.
 ghost use Rattle.std.specs.Prelude.{◌≡◌, None, IfOk, IfErr};
-ghost use Rattle.session_state.specs.Claims.{margins_of};
+ghost use Rattle.assertion_file.specs.Content.{margins_of};
 ghost use Rattle.session_state.specs.Inputs.{HasFacts};
 ghost use Rattle.cli_base.specs.Due.{due_refusal};
 ghost use Rattle.input_files.specs.Judged.{IsJudged, IsTold};

@@ -61,6 +61,17 @@ same_manifest name manifest session ballots bytes =
     unless (other_digest manifest session.digests.manifest bytes)
     (cards_for name ballots manifest bytes)
 
+-- both are read, and the session goes on by what they say
+module _ (ballots manifest : List ℕ) (session : Content)
+    (next : BallotFile → Batches → Script) where
+  abbrev pub with_manifest : BallotFile → Script
+  with_manifest cast = Read manifest (λ bytes.
+      go_on (same_manifest ballots manifest session cast bytes) (next cast))
+
+  abbrev pub with_ballots : Script
+  with_ballots = Read ballots (λ bytes.
+      go_on (same_ballots ballots session bytes) with_manifest)
+
 -- ---- the round
 
 -- what is recorded of the cards of the ballots, and what is seen of them

@@ -4,9 +4,8 @@ use Rattle.std.proofs.lemmas.List.Elements.{All-nil, All-cons, All-append, All-m
 use Rattle.std.proofs.lemmas.List.Quantifiers.{all_pairs_push}
 use Rattle.irv_base.specs.declared.limits.TheConstants.{GREATEST_GAMMA, GREATEST_LIMIT, MOST_CARDS, MOST_DRAWS}
 use Rattle.irv_base.specs.Names.{Id}
-use Rattle.assertion_file.specs.Content.{Content as FileContent, IsSoundClaim}
+use Rattle.assertion_file.specs.Content.{Content as FileContent, IsSoundClaim, margins_of}
 use Rattle.session_state.specs.declared.digests.Digests.{Digests}
-use Rattle.session_state.specs.Claims.{margins_of}
 use Rattle.session_state.specs.Content.{Content, IsSound, begun_with, with_round}
 use Rattle.session_state.specs.Sessions.{Round, Session, IsRound}
 

@@ -4,9 +4,9 @@ use Rattle.std.proofs.lemmas.List.Elements.{All-nil, All-cons, All-head, All-tai
 use Rattle.assertions.specs.declared.assertion.Claim.{Claim}
 use Rattle.assertions.specs.Assorter.{assorter_value}
 use Rattle.assertions.proofs.Sums.{assorter-is}
-use Rattle.assertion_file.specs.Content.{Content as FileContent}
+use Rattle.assertion_file.specs.Content.{Content as FileContent, margins_of}
 use Rattle.assorters.specs.Cards.{IsAssorter}
-use Rattle.session_state.specs.Claims.{audited, audited_by, audited_claim, margins_of, values_of}
+use Rattle.session_state.specs.Claims.{audited, audited_by, audited_claim, values_of}
 use Rattle.session_state.specs.Draws.{Audited}
 
 -- those of a file are its claims

@@ -16,10 +16,6 @@ audited_by values margins =
 abbrev pub values_of : FileContent → List (List ℕ → ℕ)
 values_of file = map (λ claim. assorter_value claim.assertion) file.claims
 
--- in votes
-abbrev pub margins_of : FileContent → List ℕ
-margins_of file = map (λ claim. claim.margin) file.claims
-
 abbrev pub audited_claim : Claim → Audited
 audited_claim claim = record { value = assorter_value claim.assertion; margin = claim.margin }
 

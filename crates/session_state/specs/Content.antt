@@ -2,9 +2,8 @@
 use Rattle.std.specs.Prelude.{ℕ, ◌≤◌, List, [], ◌∷◌, ◌++◌, All}
 use Rattle.irv_base.specs.Names.{Id}
 use Rattle.irv_base.specs.declared.limits.TheConstants.{GREATEST_GAMMA, GREATEST_LIMIT, MOST_CARDS, MOST_DRAWS}
-use Rattle.assertion_file.specs.Content.{Content as FileContent}
+use Rattle.assertion_file.specs.Content.{Content as FileContent, margins_of}
 use Rattle.session_state.specs.declared.digests.Digests.{Digests}
-use Rattle.session_state.specs.Claims.{margins_of}
 use Rattle.session_state.specs.Sessions.{Round, Session, IsSession}
 
 pub record Content : Type 0 where

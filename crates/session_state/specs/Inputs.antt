@@ -2,11 +2,10 @@
 use Rattle.std.specs.Prelude.{◌≡◌, ◌≢◌, ◌==◌, ◌&&◌, ℕ, ◌+◌, Bool, List, [], ◌∷◌, ◌⊎◌}
 use Rattle.std.specs.Cmp.Lexicographic.{pointwise}
 use Rattle.irv_base.specs.Names.{Id, is_same}
-use Rattle.assertion_file.specs.Content.{Content as FileContent}
+use Rattle.assertion_file.specs.Content.{Content as FileContent, margins_of}
 use Rattle.session_state.specs.declared.digests.Digests.{Digests}
 use Rattle.session_state.specs.declared.inputs.InputFault.{InputFault}
 use Rattle.session_state.specs.declared.inputs.InputFault.TheVariants.{Differs, Facts}
-use Rattle.session_state.specs.Claims.{margins_of}
 use Rattle.session_state.specs.Content.{Content}
 
 -- ---- the digests

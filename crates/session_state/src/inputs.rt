@@ -3,7 +3,7 @@ ghost use Rattle.std.specs.Prelude.{◌≡◌, ◌≢◌, ◌==◌, ◌&&◌, �
 ghost use Rattle.std.specs.Bool.{OnTrue, OnFalse};
 ghost use Rattle.std.specs.Option.{MatchOption};
 ghost use Rattle.irv_base.specs.Names.{is_same};
-ghost use Rattle.session_state.specs.Claims.{margins_of};
+ghost use Rattle.assertion_file.specs.Content.{margins_of};
 ghost use Rattle.session_state.specs.Inputs.{AreSameDigests, HasFacts, IsFault, IsInputFault, IsOf, IsOfInputs, IsOtherDigest, has_facts};
 
 use crate::digests::Digests;

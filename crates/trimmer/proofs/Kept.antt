@@ -13,7 +13,7 @@ use Rattle.assertion_file.specs.Content.{Content, candidate_count}
 use Rattle.cover_checker.specs.Covers.{stands}
 use Rattle.cover_checker.specs.declared.cover.Verdict.TheVariants.{Covered, Stands}
 use Rattle.cover_checker.proofs.Verdicts.{covered_iff_covers, stands_is_least}
-use Rattle.trimmer.specs.Laws.{IsPartOf, nothing, kept, dropped}
+use Rattle.trimmer.specs.Laws.{IsIrredundant, IsPartOf, nothing, kept, dropped}
 use Rattle.trimmer.specs.Trimmed.{covered_by, left_of, trimmed}
 use Rattle.trimmer.proofs.Draws.{plan-stays}
 use Rattle.trimmer.proofs.Lefts.{assertion_in, fate, from_trimmed}
@@ -129,17 +129,18 @@ part_lacks (kept {x = first} {part} {whole} p) ne =
 part_lacks (dropped {x = first} {part} {whole} p) ne = ([], first, whole, refl, part-member p)
 
 -- ---- the laws
-pub trimmed_is_irredundant : (budget : Budget) (file left : Content) → trimmed budget file ≡ Ok left → (before : List Claim) (claim : Claim) (behind : List Claim) →
-    left.claims ≡ before ++ claim ∷ behind → Standing budget file (before ++ behind)
+pub trimmed_is_irredundant : (budget : Budget) (file left : Content) → trimmed budget file ≡ Ok left → IsIrredundant left
 trimmed_is_irredundant budget file left e before claim behind split =
-    left-needed budget file [] file.claims left.claims (from_trimmed budget file left e).claims before claim behind split
+    let t = from_trimmed budget file left e in
+    subst (λ (content : Content). Standing budget content (before ++ behind)) (sym t.same)
+    (left-needed budget file [] file.claims left.claims t.claims before claim behind split)
 
 pub no_part_covers : (budget : Budget) (file left : Content) → trimmed budget file ≡ Ok left → (part : List Claim) → IsPartOf part left.claims → part ≢ left.claims →
     covers (candidate_count file) file.winner (map assertion_in part) ≡ false
 no_part_covers budget file left e part p ne =
     let (before, claim, behind, split, within) = part_lacks p ne in
-    let (order, alternative, h) =
-    standing-fewer budget file (before ++ behind) part within (trimmed_is_irredundant budget file left e before claim behind split) in
+    let (order, alternative, h) = standing-fewer budget file (before ++ behind) part within
+    (left-needed budget file [] file.claims left.claims (from_trimmed budget file left e).claims before claim behind split) in
     stands-uncovered (candidate_count file) file.winner part order alternative h
 
 pub trimmed_stays : (budget : Budget) (file left again : Content) → trimmed budget file ≡ Ok left → trimmed budget left ≡ Ok again → again ≡ left
@@ -148,8 +149,7 @@ trimmed_stays budget file left again e f =
     let u = from_trimmed budget left again f in
     let needed : AreNeeded budget left left.claims = (λ before claim behind split.
     let (order, alternative, h) = trimmed_is_irredundant budget file left e before claim behind split in
-    subst (λ (content : Content). covers (candidate_count content) content.winner (map assertion_in (before ++ behind)) ≡ false) (sym t.same)
-    (stands-uncovered (candidate_count file) file.winner (before ++ behind) order alternative h)) in
+    stands-uncovered (candidate_count left) left.winner (before ++ behind) order alternative h) in
     let claims : again.claims ≡ left.claims = needed-stay budget left left.claims needed [] left.claims again.claims refl u.claims in
     let whole : left_of budget left [] left.claims ≡ Ok left.claims = u.claims ∙ ap Ok claims in
     let plan : again.plan ≡ left.plan = u.plan ∙ plan-stays budget file left t.claims t.plan whole in

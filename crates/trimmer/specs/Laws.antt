@@ -47,14 +47,18 @@ TrimmedIsPart =
     × IsPlannedAlike file.plan left.plan
     × (left ≡ record file { claims = left.claims; plan = left.plan })
 
--- for each claim an alternative order stands that no other claim refutes
-abbrev pub TrimmedIsIrredundant : Type 0
-TrimmedIsIrredundant =
-    (budget : Budget) (file left : Content) → trimmed budget file ≡ Ok left →
+-- each claim is needed: without it an order stands that elects another candidate, since no other claim refutes it
+abbrev pub IsIrredundant : Content → Type 0
+IsIrredundant file =
     (before : List Claim) (claim : Claim) (behind : List Claim) →
-    left.claims ≡ before ++ claim ∷ behind →
+    file.claims ≡ before ++ claim ∷ behind →
     (order : List ℕ) × IsAlternative (candidate_count file) file.winner order
     × IsTrue (stands (map (λ other. other.assertion) (before ++ behind)) order)
+
+-- no claim is left that isn't needed
+abbrev pub TrimmedIsIrredundant : Type 0
+TrimmedIsIrredundant =
+    (budget : Budget) (file left : Content) → trimmed budget file ≡ Ok left → IsIrredundant left
 
 -- no other part of the claims than all of them refutes each alternative order
 abbrev pub NoPartCovers : Type 0

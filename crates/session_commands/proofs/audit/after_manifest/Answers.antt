@@ -1,7 +1,7 @@
 use Rattle.std.proofs.Common.{◌≡◌, ◌≢◌, refl, inr, Ok, None, IfSome, ap, is_none, length, subst, sym, ◌∙◌}
 use Rattle.std.proofs.lemmas.Result.{err_from_is_err_and}
 use Rattle.manifest.specs.Cards.{cards_of}
-use Rattle.session_state.specs.Claims.{margins_of}
+use Rattle.assertion_file.specs.Content.{margins_of}
 use Rattle.cli_base.specs.Due.{due, due_refusal, IsOneOrMemory}
 use Rattle.cli_base.proofs.Steps.{accounted_on, ended_accounted}
 use Rattle.check_command.specs.Check.{Checks}

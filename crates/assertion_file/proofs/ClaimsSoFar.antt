@@ -6,12 +6,13 @@ use Rattle.serde_json.specs.View.{view}
 use Rattle.serde_json.specs.declared.value.Value.{Value}
 use Rattle.assertion_file.specs.declared.claims.Planned.{Planned}
 use Rattle.irv_base.specs.Names.{Id}
-use Rattle.assertion_file.specs.Reading.{Refusal, claim_of, claims_from, located, ◌>>=◌}
-use Rattle.assertion_file.specs.Faults.{Refuses}
-use Rattle.assertion_file.specs.declared.fault.FileFault.{FileFault}
-use Rattle.assertion_file.specs.declared.fault.FileFault.TheVariants.{Refused, Memory}
+use Rattle.assertion_file.specs.Reading.{claim_of, claims_from, located, ◌>>=◌}
+use Rattle.file_fault.specs.Refusals.{Refusal, Refuses}
+use Rattle.file_fault.specs.declared.fault.Fault.{Fault}
+use Rattle.assertion_file.specs.declared.fault.FRule.{FRule}
+use Rattle.file_fault.specs.declared.fault.Fault.TheVariants.{Refused, Memory}
 
-abbrev pub after : List Planned → Result (List Planned) Refusal → Result (List Planned) Refusal
+abbrev pub after : List Planned → Result (List Planned) (Refusal FRule) → Result (List Planned) (Refusal FRule)
 after before (Ok claims) = Ok (before ++ claims)
 after before (Err refusal) = Err refusal
 
@@ -21,11 +22,11 @@ pub record SoFar (ids : List Id) (records : ℕ) (planned : Bool) (i : ℕ) (cla
 
 pub at-first : (ids : List Id) (records : ℕ) (planned : Bool) (values : List Data) → SoFar ids records planned 0 [] values
 at-first ids records planned values = record { left = by (claims_from ids records planned 1 values); count = refl } where
-  by : (r : Result (List Planned) Refusal) → r ≡ after [] r
+  by : (r : Result (List Planned) (Refusal FRule)) → r ≡ after [] r
   by (Ok claims) = refl
   by (Err refusal) = refl
 
-more-first : (before : List Planned) (claim : Planned) (r : Result (List Planned) Refusal) →
+more-first : (before : List Planned) (claim : Planned) (r : Result (List Planned) (Refusal FRule)) →
     after before (r >>= λ claims. Ok (claim ∷ claims)) ≡ after (before ++ claim ∷ []) r
 more-first before claim (Ok claims) = ap Ok (sym (append_assoc before (claim ∷ []) claims))
 more-first before claim (Err refusal) = refl
@@ -49,7 +50,7 @@ goes_on ids records planned i claims values value claim h within is said = recor
   count = omega (arith, length-append claims (claim ∷ []), h.count);
 }
 
-pub breaks : (ids : List Id) (records : ℕ) (planned : Bool) (i : ℕ) (claims : List Planned) (values : List Value) (value : Value) (fault : FileFault) →
+pub breaks : (ids : List Id) (records : ℕ) (planned : Bool) (i : ℕ) (claims : List Planned) (values : List Value) (value : Value) (fault : Fault FRule) →
     SoFar ids records planned i claims (map view values) →
     i < length values → value ≡ get_or values i value → Refuses (located (i + 1) (claim_of ids records planned (view value))) fault →
     Refuses (claims_from ids records planned 1 (map view values)) fault

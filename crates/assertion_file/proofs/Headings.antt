@@ -13,18 +13,18 @@ use Rattle.irv_base.specs.Names.{Id, all_differ, is_among, is_name, is_same}
 use Rattle.irv_base.specs.Orders.{is_order}
 use Rattle.irv_base.specs.declared.limits.TheConstants.{FEWEST_CANDIDATES, MOST_CANDIDATES, MOST_RECORDS}
 use Rattle.assertion_file.specs.Content.{IsMargin, Plan}
-use Rattle.assertion_file.specs.Faults.{Refuses}
+use Rattle.file_fault.specs.Refusals.{Refuses}
 use Rattle.assertion_file.specs.Ids.{number_of, numbers_of}
 use Rattle.assertion_file.specs.Stated.{Heading, heading_in}
 use Rattle.assertion_file.specs.Reading.{are_candidates, are_terms, assertion_file_of, claim_in, claims_in, content_of, content_with, plan_with, is_margin, is_record_count, is_version, judged, judged_heading, heading_rules, id_rules, named_rules, order_rules, count_rules, located, ◌>>=◌}
 use Rattle.assertion_file.specs.declared.fault.FRule.{FRule}
 use Rattle.assertion_file.specs.declared.fault.FRule.TheVariants.{F1, F2, F4, F5, F6}
-use Rattle.assertion_file.specs.declared.fault.FileFault.{FileFault}
-use Rattle.assertion_file.specs.declared.fault.FileFault.TheVariants.{Refused, Memory}
+use Rattle.file_fault.specs.declared.fault.Fault.{Fault}
+use Rattle.file_fault.specs.declared.fault.Fault.TheVariants.{Refused, Memory}
 use Rattle.irv_base.proofs.Positions.{any-within}
 use Rattle.assertion_file.proofs.Judged.{AllHold, all-hold}
 
-pub refuse : {A : Type 0} (said : Result A FRule) (rule : FRule) (fault : FileFault) → said ≡ Err rule → fault ≡ Refused rule 0 → Refuses (located 0 said) fault
+pub refuse : {A : Type 0} (said : Result A FRule) (rule : FRule) (fault : Fault FRule) → said ≡ Err rule → fault ≡ Refused rule 0 → Refuses (located 0 said) fault
 refuse said rule fault h e = subst (Refuses (located 0 said)) (sym e) (ap (located 0) h)
 
 -- ---- some rules after others
@@ -34,7 +34,7 @@ kept-first [] more x y h = refl
 kept-first ((true, rule) ∷ rules) more x y h = kept-first rules more x y h
 kept-first ((false, rule) ∷ rules) more x y h = absurd cc
 
-refused-first : {A B : Type 0} (rules more : List (Bool × FRule)) (x : A) (y : B) (fault : FileFault) → Refuses (located 0 (judged rules x)) fault →
+refused-first : {A B : Type 0} (rules more : List (Bool × FRule)) (x : A) (y : B) (fault : Fault FRule) → Refuses (located 0 (judged rules x)) fault →
     Refuses (located 0 (judged (rules ++ more) y)) fault
 refused-first rules more x y Memory r = tt
 refused-first [] more x y (Refused rule at) r = absurd cc
@@ -42,7 +42,7 @@ refused-first ((true, broken) ∷ rules) more x y (Refused rule at) r = refused-
 refused-first ((false, broken) ∷ rules) more x y (Refused rule at) r = let e : record { rule = broken; at = 0 } ≡ record { rule = rule; at = at } = cc in
     ap Err e
 
-pub ids-refused : (heading : Heading) (fault : FileFault) → Refuses (located 0 (judged (id_rules heading) heading)) fault →
+pub ids-refused : (heading : Heading) (fault : Fault FRule) → Refuses (located 0 (judged (id_rules heading) heading)) fault →
     Refuses (located 0 (judged_heading heading)) fault
 unfolding judged_heading
 ids-refused heading fault r = refused-first (id_rules heading) (named_rules heading ++ order_rules heading ++ count_rules heading) heading heading fault r
@@ -57,7 +57,7 @@ after-ids : (heading : Heading) → judged (id_rules heading) heading ≡ Ok hea
 unfolding judged_heading
 after-ids heading ids = kept-first (id_rules heading) (named_rules heading ++ order_rules heading ++ count_rules heading) heading heading ids
 
-pub named-refused : (heading : Heading) (fault : FileFault) → judged (id_rules heading) heading ≡ Ok heading →
+pub named-refused : (heading : Heading) (fault : Fault FRule) → judged (id_rules heading) heading ≡ Ok heading →
     Refuses (located 0 (judged (named_rules heading) heading)) fault →
     Refuses (located 0 (judged_heading heading)) fault
 named-refused heading fault ids r =
@@ -195,7 +195,7 @@ content-some value heading h =
     ap (λ o. located 0 (ok_or o F2 >>= judged_heading) >>= λ heading. claims_in heading >>= λ claims. Ok
     (content_with heading claims)) h
 
-pub refused_heading : (value : Data) (heading : Heading) (fault : FileFault) → heading_in value ≡ Some heading →
+pub refused_heading : (value : Data) (heading : Heading) (fault : Fault FRule) → heading_in value ≡ Some heading →
     Refuses (located 0 (judged_heading heading)) fault → Refuses (content_of value) fault
 refused_heading value heading (Refused rule at) h r =
     content-some value heading h ∙ ap (λ said. said >>= λ kept. claims_in kept >>= λ claims. Ok
@@ -208,7 +208,7 @@ content-kept value heading h k =
     content-some value heading h ∙ ap (λ said. located 0 said >>= λ kept. claims_in kept >>= λ claims. Ok
     (content_with kept claims)) k
 
-pub refused_claims : (value : Data) (heading : Heading) (fault : FileFault) → heading_in value ≡ Some heading → judged_heading heading ≡ Ok heading →
+pub refused_claims : (value : Data) (heading : Heading) (fault : Fault FRule) → heading_in value ≡ Some heading → judged_heading heading ≡ Ok heading →
     Refuses (claims_in heading) fault → Refuses (content_of value) fault
 refused_claims value heading (Refused rule at) h k r = content-kept value heading h k ∙ ap (λ said. said >>= λ claims. Ok (content_with heading claims)) r
 refused_claims value heading Memory h k r = tt

@@ -17,7 +17,8 @@ use Rattle.irv_base.proofs.Sets.{has-set_of, set_of-lt}
 use Rattle.assertion_file.specs.Content.{IsSoundClaim, IsDrawCount}
 use Rattle.assertion_file.specs.Ids.{number_of, numbers_of}
 use Rattle.assertion_file.specs.Stated.{Entry, entry_in}
-use Rattle.assertion_file.specs.Reading.{Refusal, are_draws, assertion_with, claim_in, claim_of, claim_with, claims_from, entry_rules, is_rest, judged, located, ◌>>=◌}
+use Rattle.assertion_file.specs.Reading.{are_draws, assertion_with, claim_in, claim_of, claim_with, claims_from, entry_rules, is_rest, judged, located, ◌>>=◌}
+use Rattle.file_fault.specs.Refusals.{Refusal}
 use Rattle.assertion_file.specs.declared.fault.FRule.{FRule}
 use Rattle.irv_base.specs.declared.limits.TheConstants.{MOST_DRAWS}
 use Rattle.assertion_file.proofs.Entries.{claim-none, claim-some}
@@ -124,7 +125,7 @@ module _ (ids : List Id) (records : ℕ) (planned : Bool) where
   claims-sound at (value ∷ values) claims h =
       by (claim_of ids records planned value) (claims_from ids records planned (at + 1) values) refl h (λ more e. claims-sound (at + 1) values more e)
     where
-      by : (r : Result Planned FRule) (o : Result (List Planned) Refusal) → claim_of ids records planned value ≡ r →
+      by : (r : Result Planned FRule) (o : Result (List Planned) (Refusal FRule)) → claim_of ids records planned value ≡ r →
           (located at r >>= λ claim. o >>= λ more. Ok (claim ∷ more)) ≡ Ok claims →
           ((more : List Planned) → o ≡ Ok more → All (IsSoundPlanned (length ids) records) more) → All (IsSoundPlanned (length ids) records) claims
       by (Err rule) o e g ih = absurd cc

@@ -8,12 +8,13 @@ use Rattle.irv_base.specs.declared.limits.TheConstants.{MOST_CARDS, GREATEST_GAM
 use Rattle.assertion_file.specs.declared.claims.Planned.{Planned}
 use Rattle.assertion_file.specs.declared.members.Terms.{Terms}
 use Rattle.assertion_file.specs.Content.{Content, IsSound, IsSoundClaim, IsSoundPlan, IsDrawCount, HasNames, candidate_count}
-use Rattle.assertion_file.specs.Reading.{Refusal, are_terms, assertion_file_of, claim_in, claims_in, content_of, content_with, plan_with, heading_rules, judged_heading, located, ◌>>=◌}
+use Rattle.assertion_file.specs.Reading.{are_terms, assertion_file_of, claim_in, claims_in, content_of, content_with, plan_with, heading_rules, judged_heading, located, ◌>>=◌}
+use Rattle.file_fault.specs.Refusals.{Refusal}
 use Rattle.assertion_file.specs.Stated.{Heading, heading_in}
 use Rattle.assertion_file.specs.Text.{assertion_file_text, json_of}
 use Rattle.assertion_file.specs.declared.fault.FRule.{FRule}
 use Rattle.assertion_file.specs.declared.fault.FRule.TheVariants.{F1}
-use Rattle.assertion_file.specs.declared.fault.FileFault.TheVariants.{Refused}
+use Rattle.file_fault.specs.declared.fault.Fault.TheVariants.{Refused}
 use Rattle.assertion_file.proofs.Headings.{content-kept, content-none, refused_heading, sound}
 use Rattle.assertion_file.proofs.Judged.{all-hold}
 use Rattle.assertion_file.proofs.Printed.{printed_reads_back}
@@ -65,7 +66,7 @@ abbrev pub Kept : Content → Type 0
 Kept file = IsSound file × HasNames file
 
 module _ (value : _) (file : Content) (read : content_of value ≡ Ok file) where
-  with_claims : (heading : Heading) → judged_heading heading ≡ Ok heading → (claims : Result (List Planned) Refusal) →
+  with_claims : (heading : Heading) → judged_heading heading ≡ Ok heading → (claims : Result (List Planned) (Refusal FRule)) →
       claims_in heading ≡ claims →
       (claims >>= λ claims. Ok (content_with heading claims)) ≡ Ok file → Kept file
   with_claims heading kept (Err refusal) c e = absurd cc

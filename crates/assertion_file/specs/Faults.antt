@@ -1,16 +1,9 @@
--- Why an assertion file isn't read, and how the rules are named.
-use Rattle.std.specs.Prelude.{◌≡◌, ℕ, List, Result, Err, codes}
-use Rattle.assertion_file.specs.Reading.{Refusal}
+-- The rules of an assertion file.
+use Rattle.std.specs.Prelude.{ℕ, List, codes}
 use Rattle.assertion_file.specs.declared.fault.FRule.{FRule}
 use Rattle.assertion_file.specs.declared.fault.FRule.TheVariants.{F1, F2, F3, F4, F5, F6}
-use Rattle.assertion_file.specs.declared.fault.FileFault.{FileFault}
-use Rattle.assertion_file.specs.declared.fault.FileFault.TheVariants.{Refused, Memory}
 
--- a file is refused by this rule at this place; memory may always be wanting
-abbrev pub Refuses : {A : Type 0} → Result A Refusal → FileFault → Type 0
-Refuses said (Refused rule at) = said ≡ Err (record { rule = rule; at = at })
-Refuses said Memory = Unit {0}
-
+-- the name of a rule in the text of a refusal
 abbrev pub rule_name : FRule → List ℕ
 rule_name F1 = codes "F1"
 rule_name F2 = codes "F2"

@@ -2,6 +2,7 @@
 use Rattle.std.specs.Prelude.{ℕ, ◌+◌, Bool, true, not, ◌&&◌, ◌||◌, ◌==◌, nat_le, if◌then◌else◌, List, [], ◌∷◌, ◌++◌, length, map, is_some, Option, Some, None, ok_or, option_map, unwrap_or, Result, Ok, Err}
 use Rattle.std.specs.List.{list_all}
 use Rattle.serde_json.specs.Data.{Data}
+use Rattle.file_fault.specs.Refusals.{Refusal, refused}
 use Rattle.irv_base.specs.Candidates.{is_distinct, is_in, set_of}
 use Rattle.irv_base.specs.Names.{Id, all_differ, is_among, is_name, is_same}
 use Rattle.irv_base.specs.Orders.{is_order}
@@ -147,17 +148,13 @@ claim_of ids records planned value = do
 
 -- ---- the file
 
--- a rule, and the assertion that breaks it, counted from 1, or 0 for the file's own members
-pub record Refusal : Type 0 where
-  pub rule : FRule
-  pub at : ℕ
-
-abbrev pub located : {A : Type 0} → ℕ → Result A FRule → Result A Refusal
+-- a rule is broken at an assertion, counted from 1, or at 0 by the file's own members
+abbrev pub located : {A : Type 0} → ℕ → Result A FRule → Result A (Refusal FRule)
 located at (Ok value) = Ok value
-located at (Err rule) = Err (record { rule = rule; at = at })
+located at (Err rule) = refused rule at
 
 -- the claims of a list of values, the first of which has the number at
-abbrev pub claims_from : List Id → ℕ → Bool → ℕ → List Data → Result (List Planned) Refusal
+abbrev pub claims_from : List Id → ℕ → Bool → ℕ → List Data → Result (List Planned) (Refusal FRule)
 claims_from ids records planned at [] = Ok []
 claims_from ids records planned at (value ∷ values) = do
   claim ← located at (claim_of ids records planned value)
@@ -165,7 +162,7 @@ claims_from ids records planned at (value ∷ values) = do
   Ok (claim ∷ claims)
 
 -- those of the file's object
-abbrev pub claims_in : Heading → Result (List Planned) Refusal
+abbrev pub claims_in : Heading → Result (List Planned) (Refusal FRule)
 claims_in heading =
     claims_from heading.candidates heading.records (is_some heading.terms) 1 heading.assertions
 
@@ -193,13 +190,13 @@ content_with heading claims = record {
   plan = plan_with heading.terms claims;
 }
 
-unfoldable pub content_of : Data → Result Content Refusal
+unfoldable pub content_of : Data → Result Content (Refusal FRule)
 content_of value = do
   heading ← located 0 (heading_of value)
   claims ← claims_in heading
   Ok (content_with heading claims)
 
-unfoldable pub assertion_file_of : List ℕ → Result Content Refusal
+unfoldable pub assertion_file_of : List ℕ → Result Content (Refusal FRule)
 assertion_file_of bytes = do
   value ← located 0 (ok_or (json_of bytes) F1)
   content_of value

@@ -2,7 +2,7 @@
 ghost use Rattle.std.specs.Prelude.{◌≡◌, ◌≤◌, ◌&&◌, Ok, Some, length, map, option_map, IfOk, IfErr};
 ghost use Rattle.serde_json.specs.View.{view};
 ghost use Rattle.irv_base.specs.declared.limits.TheConstants.{ROOM};
-ghost use Rattle.assertion_file.specs.Faults.{Refuses};
+ghost use Rattle.file_fault.specs.Refusals.{Refuses};
 ghost use Rattle.assertion_file.specs.Reading.{are_draws, claim_of, claims_from, is_margin, judged_assertion, located};
 ghost use Rattle.assertion_file.specs.Views.{stated_ids};
 

@@ -1,12 +1,7 @@
 // Why an assertion file isn't read.
-ghost use Rattle.std.specs.Prelude.{◌≡◌};
 ghost use Rattle.assertion_file.specs.Faults.{rule_name};
-ghost use Rattle.assertion_file.specs.declared.fault.FileFault.TheVariants.{Memory as WantOfMemory};
 
-use irv_base::Memory;
-use std::alloc::AllocFailed;
-use std::error::Error;
-use std::fmt;
+use file_fault::{Fault, Rule};
 
 /// The rules of an assertion file, as the text of a refusal names them.
 #[derive(Clone, Copy, Debug, PartialEq, Eq)]
@@ -25,11 +20,10 @@ pub enum FRule {
     F6,
 }
 
-impl FRule {
-    /// The rule's name, such as `F3`.
-    pub fn name(self) -> &'static str
-        ensures { result.now ≡ rule_name self }
-    {
+impl Rule for FRule {
+    ghost name = { rule_name };
+
+    fn name(self) -> &'static str {
         match self {
             FRule::F1 => "F1",
             FRule::F2 => "F2",
@@ -41,38 +35,5 @@ impl FRule {
     }
 }
 
-/// Why an assertion file isn't read.
-#[derive(Clone, Copy, Debug, PartialEq, Eq)]
-pub enum FileFault {
-    /// The file breaks `rule` at the assertion number `at`, counted from 1, or with 0 in the file's own members.
-    Refused { rule: FRule, at: u64 },
-    /// Memory could not be had.
-    Memory,
-}
-
-impl fmt::Display for FileFault {
-    fn fmt<W: fmt::Write>(&self, f: &mut fmt::Formatter<W>) -> fmt::Result {
-        match self {
-            FileFault::Refused { rule, at } => write!(f, "{} at {at}", rule.name()),
-            FileFault::Memory => write!(f, "out of memory"),
-        }
-    }
-}
-
-impl Error for FileFault {}
-
-impl From<Memory> for FileFault {
-    ghost from_gives = { λ _ fault. fault ≡ WantOfMemory };
-
-    fn from(_: Memory) -> Self {
-        FileFault::Memory
-    }
-}
-
-impl<T: Drop> From<AllocFailed<T>> for FileFault {
-    ghost from_gives = { λ _ fault. fault ≡ WantOfMemory };
-
-    fn from(_: AllocFailed<T>) -> Self {
-        FileFault::Memory
-    }
-}
+/// Why an assertion file isn't read: the place is an assertion's number from 1, or 0 for the file's own members.
+pub type FileFault = Fault<FRule>;

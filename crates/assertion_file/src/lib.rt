@@ -18,7 +18,7 @@ mod read;
 pub use fault::{FRule, FileFault};
 pub use file::{AssertionFile, Parts};
 pub use ids::id_of;
-pub use members::{list_in, number, number_in, text_in};
+pub use members::{Terms, list_in, number, number_in, terms_of, text_in};
 pub use plan::PlanFacts;
 pub use print::{PLAN_VERSION, VERSION, print_file};
 pub use read::read_file;

@@ -11,7 +11,7 @@ use serde_json::Value;
 /// The greatest number that a file may have.
 pub const MOST_NUMBER: u32 = u32::MAX;
 
-/// What a file plans its draws for.
+/// The terms of an audit, as a file states them.
 #[derive(Clone, Copy)]
 pub struct Terms {
     /// How many cards it says that the manifest has.
@@ -128,7 +128,8 @@ fn texts_in<'a>(value: &'a Value, name: &str) -> Option<&'a [Value]>
     Some(values)
 }
 
-fn terms_of(value: &Value) -> Option<Terms>
+/// The terms that the value states, if it is an object that has each of them.
+pub fn terms_of(value: &Value) -> Option<Terms>
     ensures { result ≡ terms_of (view value.now) }
 {
     Some(Terms {

@@ -3,11 +3,11 @@ ghost use Rattle.std.specs.Prelude.{◌≡◌, ◌<◌, ◌≤◌, ◌&&◌, fal
 ghost use Rattle.serde_json.specs.View.{view};
 ghost use Rattle.irv_base.specs.Orders.{is_order};
 ghost use Rattle.irv_base.specs.declared.limits.TheConstants.{ROOM};
-ghost use Rattle.assertion_file.specs.Faults.{Refuses};
+ghost use Rattle.file_fault.specs.Refusals.{Refuses};
 ghost use Rattle.assertion_file.specs.Ids.{number_of, numbers_of};
 ghost use Rattle.assertion_file.specs.Reading.{are_terms, assertion_file_of, claim_in, claims_in, content_of, id_rules, is_margin, is_record_count, is_version, judged, judged_heading, located, named_rules, plan_with};
 ghost use Rattle.assertion_file.specs.Views.{stated_heading, stated_ids};
-ghost use Rattle.assertion_file.specs.declared.fault.FileFault.TheVariants.{Refused};
+ghost use Rattle.file_fault.specs.declared.fault.Fault.TheVariants.{Refused};
 
 use crate::claims::{Planned, claims, is_margin};
 use crate::fault::{FRule, FileFault};

@@ -13,7 +13,7 @@ use Rattle.ballot_reader.specs.declared.fault.BRule.TheVariants.{B4, B6, B7, B8,
 use Rattle.ballot_laws.specs.Rows.{ballot_contest, ballot_id, ballots_for, candidates_for, contest_id, preferences}
 use Rattle.ballot_laws.specs.Breaking.{ballot_rule, first_broken}
 use Rattle.ballot_laws.proofs.Heads.{IsFound, IsLost, finds, head_of}
-use Rattle.ballot_laws.proofs.Walk.{Judges, as_judged, length-numbered, numbered, walk}
+use Rattle.ballot_laws.proofs.Walk.{Judges, and_then-same, as_judged, length-numbered, numbered, walk}
 
 -- ---- a ranking
 
@@ -154,11 +154,6 @@ judges_ballots contests a first before at row =
     by false = refl
 
 -- ---- all of them
-
-and_then-same : {A B : Type 0} (at : ℕ) (r : Result A BRule) (f g : A → Result B Rattle.ballot_reader.specs.Grammar.Refusal) → ((a : A) → f a ≡ g a)
-    → Rattle.ballot_reader.specs.Grammar.and_then at r f ≡ Rattle.ballot_reader.specs.Grammar.and_then at r g
-and_then-same at (Ok a) f g h = h a
-and_then-same at (Err rule) f g h = refl
 
 pub ballots-walk : (contests : List Contest) (before : List Ballot) (at : ℕ) (rows : List Fields) →
     ballots_after contests before at rows ≡ walk (ballot_of contests) before at rows

@@ -6,14 +6,15 @@ use Rattle.std.specs.Cmp.Lexicographic.{bytes_decides}
 use Rattle.csv_rows.specs.Numbers.{number_of}
 use Rattle.csv_rows.specs.Rows.{Fields}
 use Rattle.irv_base.specs.Names.{Id, all_differ, is_among, is_name, is_same}
-use Rattle.ballot_reader.specs.Grammar.{Contest, Refusal, and_then, contest_named, contest_of, contest_with, contests_in, has_id, listed, number_up_to, refused, then_on}
+use Rattle.ballot_reader.specs.Grammar.{Contest, contest_named, contest_of, contest_with, contests_in, has_id, listed, number_up_to, then_on}
+use Rattle.file_fault.specs.Refusals.{and_then, Refusal, refused}
 use Rattle.ballot_reader.specs.declared.fault.BRule.{BRule}
 use Rattle.ballot_reader.specs.declared.fault.BRule.TheVariants.{B2, B3, B4}
 use Rattle.ballot_reader.specs.declared.limits.TheConstants.{MOST_LISTED}
 use Rattle.ballot_laws.specs.Rows.{candidates_for, candidates_in, contest_id}
 use Rattle.manifest.specs.Spelling.{number_or_0}
 use Rattle.ballot_laws.specs.Breaking.{contest_rule, first_broken, lists_candidates, names_candidates}
-use Rattle.ballot_laws.proofs.Walk.{Judges, as_judged, numbered, walk}
+use Rattle.ballot_laws.proofs.Walk.{Judges, and_then-same, as_judged, numbered, walk}
 
 abbrev pub head_of : ℕ → Fields → Contest
 head_of at row = record { at = at; id = contest_id row; candidates = candidates_in row }
@@ -129,12 +130,8 @@ judges_contests first before at (word ∷ id ∷ number ∷ ids) =
 -- ---- all of them
 
 -- what n records come to, of which only so many are there
-abbrev pub if_all : ℕ → ℕ → ℕ → List Contest → Result (List Contest) Refusal
+abbrev pub if_all : ℕ → ℕ → ℕ → List Contest → Result (List Contest) (Refusal BRule)
 if_all n there at contests = if nat_lt there n then refused B2 at else Ok contests
-
-and_then-same : {A B : Type 0} (at : ℕ) (r : Result A BRule) (f g : A → Result B Refusal) → ((a : A) → f a ≡ g a) → and_then at r f ≡ and_then at r g
-and_then-same at (Ok a) f g h = h a
-and_then-same at (Err rule) f g h = refl
 
 pub contests-walk : (n : ℕ) (earlier : List Contest) (at : ℕ) (rows : List Fields)
     → contests_in n earlier at rows ≡ then_on (walk contest_of earlier at (take n rows)) (if_all n (length (take n rows)) (at + length (take n rows)))
@@ -149,7 +146,7 @@ contests-walk (suc n) earlier at (row ∷ rows) =
     (λ contest. contests-walk n (earlier ++ contest ∷ []) (at + 1) rows ∙ on (walk contest_of (earlier ++ contest ∷ []) (at + 1) (take n rows)))
     ∙ moved (contest_of earlier at row)
   where
-    last : List Contest → Result (List Contest) Refusal
+    last : List Contest → Result (List Contest) (Refusal BRule)
     last = if_all (suc n) (suc (length (take n rows))) (at + suc (length (take n rows)))
 
     nearer : (k m p q : ℕ) (contests : List Contest) → p ≡ q → if_all m k p contests ≡ if_all (suc m) (suc k) q contests
@@ -157,7 +154,7 @@ contests-walk (suc n) earlier at (row ∷ rows) =
         let s : nat_lt k m ≡ nat_lt (suc k) (suc m) = grind arith in
         ap (λ b. if b then refused B2 p else Ok contests) s ∙ ap (λ x. if nat_lt (suc k) (suc m) then refused B2 x else Ok contests) e
 
-    on : (r : Result (List Contest) Refusal) → then_on r (if_all n (length (take n rows)) (at + 1 + length (take n rows))) ≡ then_on r last
+    on : (r : Result (List Contest) (Refusal BRule)) → then_on r (if_all n (length (take n rows)) (at + 1 + length (take n rows))) ≡ then_on r last
     on (Ok contests) = nearer (length (take n rows)) n (at + 1 + length (take n rows)) (at + suc (length (take n rows))) contests (omega arith)
     on (Err refusal) = refl
 

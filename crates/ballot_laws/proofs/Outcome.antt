@@ -9,7 +9,8 @@ use Rattle.csv_rows.specs.Numbers.{number_of}
 use Rattle.csv_rows.specs.Rows.{Fields}
 use Rattle.irv_base.specs.Names.{Id}
 use Rattle.ballot_reader.specs.Ballots.{BallotFile}
-use Rattle.ballot_reader.specs.Grammar.{Ballot, Contest, Refusal, asked_for, ballot_of, ballots_after, ballots_behind, ballots_from, ballots_in, contest_count, contest_of, file_of, refused, audited_contest, then_on}
+use Rattle.ballot_reader.specs.Grammar.{Ballot, Contest, asked_for, ballot_of, ballots_after, ballots_behind, ballots_from, ballots_in, contest_count, contest_of, file_of, audited_contest, then_on}
+use Rattle.file_fault.specs.Refusals.{Refusal, refused}
 use Rattle.ballot_reader.specs.declared.fault.BRule.{BRule}
 use Rattle.ballot_reader.specs.declared.fault.BRule.TheVariants.{B1, B2, B3, B5}
 use Rattle.ballot_reader.specs.declared.limits.TheConstants.{MOST_CONTESTS}
@@ -44,7 +45,7 @@ counted asked first rest h =
 
 -- ---- the contests
 
-abbrev with_contests : Option Id → ℕ → List Fields → List Contest → Result BallotFile Refusal
+abbrev with_contests : Option Id → ℕ → List Fields → List Contest → Result BallotFile (Refusal BRule)
 with_contests asked n rest heads =
     then_on (audited_contest (asked_for heads asked)) (λ audited. then_on (ballots_after heads [] (2 + n) (drop n rest)) (λ bs. Ok (file_of audited bs)))
 
@@ -91,7 +92,7 @@ contests-read asked first rest has =
 pub own-record : (rows : List Fields) (own : ℕ) (asked : Option Id) (a : IsAsked asked (contests rows) own) → record_at rows own ≡ a.row
 own-record rows own asked a = ap (record_at rows) a.own_is ∙ contest-record rows a.k a.row a.there
 
-abbrev sized_by : List Fields → Option ℕ → Result Contest Refusal
+abbrev sized_by : List Fields → Option ℕ → Result Contest (Refusal BRule)
 sized_by rows None = refused B5 1
 sized_by rows (Some own) = if has_auditable_size (record_at rows own) then Ok (head_of own (record_at rows own)) else refused B3 own
 
@@ -148,7 +149,7 @@ choice-refused asked (first ∷ rest) rule at has h =
 
 -- ---- the ballots
 
-abbrev ballots_said : List Fields → Result (List Ballot) Refusal
+abbrev ballots_said : List Fields → Result (List Ballot) (Refusal BRule)
 ballots_said rows = walk (ballot_of (numbered head_of 2 (contests rows))) [] (2 + count rows) (ballots rows)
 
 with-choice : (asked : Option Id) (rows : List Fields) (own : ℕ) → HasContests rows → IsChosen asked rows own

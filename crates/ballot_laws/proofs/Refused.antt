@@ -2,7 +2,8 @@
 use Rattle.std.proofs.Common.{inl, inr, ◌≡◌, ◌∙◌, ℕ, List, Option, Err, sym, ap, subst}
 use Rattle.csv_rows.specs.Rows.{Fields}
 use Rattle.irv_base.specs.Names.{Id}
-use Rattle.ballot_reader.specs.Grammar.{Refusal, ballots_from, refused}
+use Rattle.ballot_reader.specs.Grammar.{ballots_from}
+use Rattle.file_fault.specs.Refusals.{Refusal, refused}
 use Rattle.ballot_reader.specs.Ballots.{BallotFile}
 use Rattle.ballot_reader.specs.declared.fault.BRule.{BRule}
 use Rattle.ballot_laws.specs.Breaking.{FirstBrokenRuleRefuses, IsRefused}
@@ -12,7 +13,7 @@ pub refusal-parts : (rule other : BRule) (at place : ℕ) → refused {A = Ballo
     (rule ≡ other) × (at ≡ place)
 refusal-parts rule other at place h =
     let e : record { rule = rule; at = at } ≡ record { rule = other; at = place } = cc in
-    (ap (λ (r : Refusal). r.rule) e, ap (λ (r : Refusal). r.at) e)
+    (ap (λ (r : Refusal BRule). r.rule) e, ap (λ (r : Refusal BRule). r.at) e)
 
 is-refused : (asked : Option Id) (rows : List Fields) (rule : BRule) (at : ℕ) → ballots_from asked rows ≡ Err (record { rule = rule; at = at }) →
     IsRefused asked rows rule at

@@ -5,14 +5,18 @@ use Rattle.std.proofs.lemmas.List.{append-nil}
 use Rattle.std.proofs.lemmas.Bool.{cases_Bool}
 use Rattle.csv_rows.specs.Broken.{IsFirstBroken}
 use Rattle.csv_rows.specs.Rows.{Fields}
-use Rattle.ballot_reader.specs.Grammar.{Refusal, and_then, refused}
+use Rattle.file_fault.specs.Refusals.{and_then, Refusal, refused}
 use Rattle.ballot_reader.specs.declared.fault.BRule.{BRule}
 use Rattle.ballot_laws.specs.Breaking.{AreUnbroken}
 
 -- what record by record is judged, each by what the ones before it came to
-abbrev pub walk : {A : Type 0} → (List A → ℕ → Fields → Result A BRule) → List A → ℕ → List Fields → Result (List A) Refusal
+abbrev pub walk : {A : Type 0} → (List A → ℕ → Fields → Result A BRule) → List A → ℕ → List Fields → Result (List A) (Refusal BRule)
 walk judge earlier at [] = Ok earlier
 walk judge earlier at (row ∷ rows) = and_then at (judge earlier at row) (λ a. walk judge (earlier ++ a ∷ []) (at + 1) rows)
+
+pub and_then-same : {A B : Type 0} (at : ℕ) (r : Result A BRule) (f g : A → Result B (Refusal BRule)) → ((a : A) → f a ≡ g a) → and_then at r f ≡ and_then at r g
+and_then-same at (Ok a) f g h = h a
+and_then-same at (Err rule) f g h = refl
 
 -- what each record says, the first of them having number at
 abbrev pub numbered : {A : Type 0} → (ℕ → Fields → A) → ℕ → List Fields → List A
@@ -137,7 +141,7 @@ module _ {A : Type 0} (judge : List A → ℕ → Fields → Result A BRule) (br
   begins : first + 0 ≡ first
   begins = omega arith
 
-  from_first : {r : Result (List A) Refusal} → walk judge [] (first + 0) rows ≡ r → walk judge [] first rows ≡ r
+  from_first : {r : Result (List A) (Refusal BRule)} → walk judge [] (first + 0) rows ≡ r → walk judge [] first rows ≡ r
   from_first h = ap (λ at. walk judge [] at rows) (sym begins) ∙ h
 
   abbrev pub FirstBroken : Type 0

@@ -19,6 +19,7 @@ use Rattle.command_line.specs.Table.{kind_of}
 use Rattle.command_line.specs.Values.{is_number, is_value}
 use Rattle.command_line.specs.declared.commands.Command.{Command}
 use Rattle.command_line.specs.declared.commands.Command.TheVariants.{Search, Tabulate, Check, Trim, Sample, Plan, Open, Audit, Report, Poll, OpenPlurality, AuditPlurality, Contests, Trial}
+use Rattle.budget.specs.declared.budget.Budget.{Budget}
 use Rattle.budget.specs.declared.budget.Budget.TheVariants as budget_of
 use Rattle.budget.specs.declared.limits.TheConstants.{DEFAULT_NODES}
 use Rattle.command.specs.declared.tabulate.TabulateTask.{TabulateTask}
@@ -177,6 +178,9 @@ pub record Trials : Type 0 where
 
 -- ---- what a line asks for that gives what it has to, and leaves all else out
 
+abbrev default_budget : Budget
+default_budget = budget_of.Nodes DEFAULT_NODES
+
 abbrev pub default_tabulate : TabulateTask
 default_tabulate = record { ballots = codes "b"; contest = None; nodes = DEFAULT_NODES }
 
@@ -185,26 +189,18 @@ default_search = record {
   ballots = codes "b";
   contest = None;
   workers = DEFAULT_WORKERS;
-  budget = budget_of.Nodes DEFAULT_NODES;
+  budget = default_budget;
   floor = DEFAULT_FLOOR;
   plan = None;
 }
 
 abbrev pub default_check : CheckTask
-default_check = record {
-  ballots = codes "b";
-  assertions = codes "a";
-  contest = None;
-  budget = budget_of.Nodes DEFAULT_NODES;
-}
+default_check =
+    record { ballots = codes "b"; assertions = codes "a"; contest = None; budget = default_budget }
 
 abbrev pub default_trim : TrimTask
-default_trim = record {
-  ballots = codes "b";
-  assertions = codes "a";
-  contest = None;
-  budget = budget_of.Nodes DEFAULT_NODES;
-}
+default_trim =
+    record { ballots = codes "b"; assertions = codes "a"; contest = None; budget = default_budget }
 
 abbrev pub default_plan : PlanTask
 default_plan = record {
@@ -223,7 +219,7 @@ default_open = record {
   contest = None;
   limit = DEFAULT_LIMIT;
   gamma = DEFAULT_GAMMA;
-  budget = budget_of.Nodes DEFAULT_NODES;
+  budget = default_budget;
 }
 
 abbrev pub default_audit : AuditTask
@@ -234,7 +230,7 @@ default_audit = record {
   assertions = codes "a";
   seen = codes "t";
   draws = 2;
-  budget = budget_of.Nodes DEFAULT_NODES;
+  budget = default_budget;
 }
 
 abbrev pub default_poll : PollTask
@@ -264,8 +260,8 @@ default_contests = record {
   ballots = codes "b";
   manifest = codes "m";
   seen = codes "t";
-  seed = codes "s";
   draws = 2;
+  seed = codes "s";
   limit = DEFAULT_LIMIT;
   gamma = DEFAULT_GAMMA;
   workers = DEFAULT_WORKERS;
@@ -278,7 +274,7 @@ default_trial = record {
   candidates = DEFAULT_CANDIDATES;
   ballots = DEFAULT_BALLOTS;
   workers = DEFAULT_WORKERS;
-  budget = budget_of.Nodes DEFAULT_NODES;
+  budget = default_budget;
 }
 
 -- a line of each command, with all its options, and with those alone that it needs

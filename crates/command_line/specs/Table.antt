@@ -21,117 +21,63 @@ pub record Form : Type 0 where
   pub together : List Together
   pub apart : List Apart
 
+-- options of which each stands by itself
+abbrev row : List ℕ → List (List ℕ) → List OptionName → Form
+row word files options =
+    record { word = word; files = files; options = options; together = []; apart = [] }
+
 -- a budget is of nodes or of sets
-abbrev pub budgets : List Apart
-budgets = record { option = option.Nodes; other = option.Sets } ∷ []
+abbrev budget_row : List ℕ → List (List ℕ) → List OptionName → Form
+budget_row word files options = record (row word files options) {
+  apart = record { option = option.Nodes; other = option.Sets } ∷ [];
+}
 
 abbrev pub form_of : CommandName → Form
-form_of Search = record {
-  word = codes "search";
-  files = codes "ballots" ∷ [];
-  options =
-      option.Contest ∷ option.Workers ∷ option.Nodes ∷ option.Sets ∷ option.Floor ∷ option.Cards
-      ∷ option.Limit ∷ option.Gamma ∷ [];
-  together = record { option = option.Limit; with = option.Cards }
-      ∷ record { option = option.Gamma; with = option.Cards } ∷ [];
-  apart = budgets;
-}
+form_of Search =
+    record (budget_row (codes "search") (codes "ballots" ∷ [])
+    (option.Contest ∷ option.Workers ∷ option.Nodes ∷ option.Sets ∷ option.Floor ∷ option.Cards
+    ∷ option.Limit ∷ option.Gamma ∷ [])) {
+      together = record { option = option.Limit; with = option.Cards }
+          ∷ record { option = option.Gamma; with = option.Cards } ∷ [];
+    }
 form_of Tabulate =
-    record {
-      word = codes "tabulate";
-      files = codes "ballots" ∷ [];
-      options = option.Contest ∷ option.Nodes ∷ [];
-      together = [];
-      apart = [];
-    }
+    row (codes "tabulate") (codes "ballots" ∷ []) (option.Contest ∷ option.Nodes ∷ [])
 form_of Check =
-    record {
-      word = codes "check";
-      files = codes "ballots" ∷ codes "assertions" ∷ [];
-      options = option.Contest ∷ option.Nodes ∷ option.Sets ∷ [];
-      together = [];
-      apart = budgets;
-    }
+    budget_row (codes "check") (codes "ballots" ∷ codes "assertions" ∷ [])
+    (option.Contest ∷ option.Nodes ∷ option.Sets ∷ [])
 form_of Trim =
-    record {
-      word = codes "trim";
-      files = codes "ballots" ∷ codes "assertions" ∷ [];
-      options = option.Contest ∷ option.Nodes ∷ option.Sets ∷ [];
-      together = [];
-      apart = budgets;
-    }
+    budget_row (codes "trim") (codes "ballots" ∷ codes "assertions" ∷ [])
+    (option.Contest ∷ option.Nodes ∷ option.Sets ∷ [])
 form_of Sample =
-    record {
-      word = codes "sample";
-      files = codes "manifest" ∷ [];
-      options = option.Seed ∷ option.Draws ∷ [];
-      together = [];
-      apart = [];
-    }
+    row (codes "sample") (codes "manifest" ∷ []) (option.Seed ∷ option.Draws ∷ [])
 form_of Plan =
-    record {
-      word = codes "plan";
-      files = codes "manifest" ∷ codes "assertions" ∷ [];
-      options = option.Limit ∷ option.Gamma ∷ [];
-      together = [];
-      apart = [];
-    }
-form_of Open = record {
-  word = codes "open";
-  files = codes "ballots" ∷ codes "manifest" ∷ codes "assertions" ∷ [];
-  options =
-      option.Seed ∷ option.Contest ∷ option.Limit ∷ option.Gamma ∷ option.Nodes ∷ option.Sets ∷ [];
-  together = [];
-  apart = budgets;
-}
-form_of Audit = record {
-  word = codes "audit";
-  files =
-      codes "session" ∷ codes "ballots" ∷ codes "manifest" ∷ codes "assertions"
-      ∷ codes "seen" ∷ [];
-  options = option.Draws ∷ option.Nodes ∷ option.Sets ∷ [];
-  together = [];
-  apart = budgets;
-}
-form_of Report = record { word = codes "report"; files = codes "session" ∷ []; options = []; together = []; apart = [] }
-form_of Poll = record {
-  word = codes "poll";
-  files = codes "manifest" ∷ codes "assertions" ∷ codes "seen" ∷ [];
-  options = option.Seed ∷ option.Draws ∷ option.Limit ∷ option.Gamma ∷ option.Nodes ∷ [];
-  together = [];
-  apart = [];
-}
-form_of OpenPlurality = record {
-  word = codes "plurality";
-  files = codes "ballots" ∷ codes "manifest" ∷ [];
-  options = option.Seed ∷ option.Contest ∷ option.Limit ∷ option.Gamma ∷ [];
-  together = [];
-  apart = [];
-}
-form_of AuditPlurality = record {
-  word = codes "plurality";
-  files = codes "session" ∷ codes "ballots" ∷ codes "manifest" ∷ codes "seen" ∷ [];
-  options = option.Draws ∷ [];
-  together = [];
-  apart = [];
-}
-form_of Contests = record {
-  word = codes "contests";
-  files = codes "ballots" ∷ codes "manifest" ∷ codes "seen" ∷ [];
-  options =
-      option.Seed ∷ option.Draws ∷ option.Limit ∷ option.Gamma ∷ option.Workers ∷ option.Nodes ∷ [];
-  together = [];
-  apart = [];
-}
-form_of Trial = record {
-  word = codes "trial";
-  files = [];
-  options =
-      option.Number ∷ option.Candidates ∷ option.Ballots ∷ option.Workers ∷ option.Nodes
-      ∷ option.Sets ∷ [];
-  together = [];
-  apart = budgets;
-}
+    row (codes "plan") (codes "manifest" ∷ codes "assertions" ∷ [])
+    (option.Limit ∷ option.Gamma ∷ [])
+form_of Open =
+    budget_row (codes "open") (codes "ballots" ∷ codes "manifest" ∷ codes "assertions" ∷ [])
+    (option.Seed ∷ option.Contest ∷ option.Limit ∷ option.Gamma ∷ option.Nodes ∷ option.Sets ∷ [])
+form_of Audit =
+    budget_row (codes "audit")
+    (codes "session" ∷ codes "ballots" ∷ codes "manifest" ∷ codes "assertions" ∷ codes "seen" ∷ [])
+    (option.Draws ∷ option.Nodes ∷ option.Sets ∷ [])
+form_of Report = row (codes "report") (codes "session" ∷ []) []
+form_of Poll =
+    row (codes "poll") (codes "manifest" ∷ codes "assertions" ∷ codes "seen" ∷ [])
+    (option.Seed ∷ option.Draws ∷ option.Limit ∷ option.Gamma ∷ option.Nodes ∷ [])
+form_of OpenPlurality =
+    row (codes "plurality") (codes "ballots" ∷ codes "manifest" ∷ [])
+    (option.Seed ∷ option.Contest ∷ option.Limit ∷ option.Gamma ∷ [])
+form_of AuditPlurality =
+    row (codes "plurality")
+    (codes "session" ∷ codes "ballots" ∷ codes "manifest" ∷ codes "seen" ∷ [])
+    (option.Draws ∷ [])
+form_of Contests =
+    row (codes "contests") (codes "ballots" ∷ codes "manifest" ∷ codes "seen" ∷ [])
+    (option.Seed ∷ option.Draws ∷ option.Limit ∷ option.Gamma ∷ option.Workers ∷ option.Nodes ∷ [])
+form_of Trial =
+    budget_row (codes "trial") []
+    (option.Number ∷ option.Candidates ∷ option.Ballots ∷ option.Workers ∷ option.Nodes
+    ∷ option.Sets ∷ [])
 
 abbrev pub commands : List CommandName
 commands =

@@ -12,7 +12,8 @@ use Rattle.manifest.proofs.CardAt.{sum-cons}
 use Rattle.manifest.specs.Cards.{AreBatches, is_batch_id, is_count}
 use Rattle.manifest.specs.Firsts.{firsts_from, IsManifest}
 use Rattle.csv_rows.specs.Numbers.{number_of}
-use Rattle.manifest.specs.Manifest.{and_then, at_end, batch_of, batch_with, batches_after, refused}
+use Rattle.manifest.specs.Manifest.{at_end, batch_of, batch_with, batches_after}
+use Rattle.file_fault.specs.Refusals.{and_then, refused}
 use Rattle.manifest.specs.declared.batch.Batch.{Batch}
 use Rattle.manifest.specs.declared.fault.MRule.{MRule}
 use Rattle.manifest.specs.declared.fault.MRule.TheVariants.{M6}
@@ -104,7 +105,7 @@ goes_on rows ids counts firsts cards row rest batch so_far h =
     let at : (2 + length counts) + 1 ≡ 2 + length (counts ++ batch.cards ∷ []) = omega (arith, length-append counts (batch.cards ∷ [])) in
     record {
       split = so_far.split
-          ∙ ap (λ o. and_then o (2 + length counts) (λ (b : Batch). batches_after (ids ++ b.id ∷ []) (counts ++ b.cards ∷ []) ((2 + length counts) + 1) rest))
+          ∙ ap (λ o. and_then (2 + length counts) o (λ (b : Batch). batches_after (ids ++ b.id ∷ []) (counts ++ b.cards ∷ []) ((2 + length counts) + 1) rest))
           judged
           ∙ ap (λ n. batches_after (ids ++ batch.id ∷ []) (counts ++ batch.cards ∷ []) n rest) at;
       batches = one_more ids counts batch so_far.batches next;
@@ -117,7 +118,7 @@ pub stops : (rows : List Fields) (ids : List Id) (counts firsts : List ℕ) (car
     → BatchesSoFar rows ids counts firsts cards (row ∷ rest) → batch_of ids cards row ≡ Err rule → batches_after [] [] 2 rows ≡ refused rule (2 + length counts)
 stops rows ids counts firsts cards row rest rule so_far h =
     let judged : batch_of ids (sum counts) row ≡ Err rule = ap (λ n. batch_of ids n row) (sym so_far.all) ∙ h in
-    so_far.split ∙ ap (λ o. and_then o (2 + length counts) (λ (b : Batch). batches_after (ids ++ b.id ∷ []) (counts ++ b.cards ∷ []) ((2 + length counts) + 1)
+    so_far.split ∙ ap (λ o. and_then (2 + length counts) o (λ (b : Batch). batches_after (ids ++ b.id ∷ []) (counts ++ b.cards ∷ []) ((2 + length counts) + 1)
     rest)) judged
 
 end_none : (ids : List Id) (counts : List ℕ) → length ids ≡ 0 → at_end ids counts ≡ refused M6 1

@@ -15,7 +15,8 @@ use Rattle.csv_rows.specs.Numbers.{number_of}
 use Rattle.csv_rows.specs.Rows.{Fields}
 use Rattle.irv_base.specs.Names.{Id, all_differ, is_among, is_same}
 use Rattle.manifest.specs.Cards.{AreBatches, Batches, is_batch_id, is_count}
-use Rattle.manifest.specs.Manifest.{Refusal, at_end, batches_after, is_header, manifest_in, refused}
+use Rattle.manifest.specs.Manifest.{at_end, batches_after, is_header, manifest_in}
+use Rattle.file_fault.specs.Refusals.{Refusal, refused}
 use Rattle.manifest.specs.Spelling.{FirstBrokenRuleRefuses, IsRefusedIn, RecordsSpellBatches, Spells, broken_rule, number_or_0, row_cards, row_id}
 use Rattle.manifest.specs.declared.fault.MRule.{MRule}
 use Rattle.manifest.specs.declared.fault.MRule.TheVariants.{M1, M3, M4, M5, M6}
@@ -197,10 +198,10 @@ spelled-is (header ∷ batches) b s =
 pub records_spell_batches : RecordsSpellBatches
 records_spell_batches rows b = (is-spelled rows b, spelled-is rows b)
 
-refusal-parts : (rule other : MRule) (at place : ℕ) → refused rule at ≡ Err (record { rule = other; at = place }) → (other ≡ rule) × (place ≡ at)
+refusal-parts : (rule other : MRule) (at place : ℕ) → refused {A = Batches} rule at ≡ Err (record { rule = other; at = place }) → (other ≡ rule) × (place ≡ at)
 refusal-parts rule other at place h =
     let e : record { rule = rule; at = at } ≡ record { rule = other; at = place } = cc in
-    (sym (ap (λ (r : Refusal). r.rule) e), sym (ap (λ (r : Refusal). r.at) e))
+    (sym (ap (λ (r : Refusal MRule). r.rule) e), sym (ap (λ (r : Refusal MRule). r.at) e))
 
 empty-end : (batches : List Fields) (rule : MRule) (at : ℕ) → at_end (map row_id batches) (map row_cards batches) ≡ Err (record { rule = rule; at = at })
     → (batches ≡ []) × (rule ≡ M6) × (at ≡ 1)
@@ -238,7 +239,7 @@ one-first batches broken k rule first = elim (cases_Bool (nat_lt k broken.k)) [
   ]
 ]
 
-refusal-of : (rule other : MRule) (at place : ℕ) → rule ≡ other → at ≡ place → refused other place ≡ Err (record { rule = rule; at = at })
+refusal-of : (rule other : MRule) (at place : ℕ) → rule ≡ other → at ≡ place → refused {A = Batches} other place ≡ Err (record { rule = rule; at = at })
 refusal-of rule other at place r a = ap (λ x. refused x place) (sym r) ∙ ap (refused rule) (sym a)
 
 refused-is : (rows : List Fields) (rule : MRule) (at : ℕ) → IsRefusedIn rows rule at → manifest_in rows ≡ Err (record { rule = rule; at = at })

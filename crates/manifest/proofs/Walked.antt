@@ -7,7 +7,8 @@ use Rattle.csv_rows.specs.Numbers.{number_of}
 use Rattle.csv_rows.specs.Rows.{Fields}
 use Rattle.irv_base.specs.Names.{Id, is_among}
 use Rattle.manifest.specs.Cards.{AreBatches, Batches, is_batch_id, is_count}
-use Rattle.manifest.specs.Manifest.{Refusal, and_then, at_end, batch_of, batch_with, batches_after, refused}
+use Rattle.manifest.specs.Manifest.{at_end, batch_of, batch_with, batches_after}
+use Rattle.file_fault.specs.Refusals.{and_then, Refusal, refused}
 use Rattle.manifest.specs.Spelling.{broken_rule, number_or_0, row_cards, row_id}
 use Rattle.manifest.specs.declared.batch.Batch.{Batch}
 use Rattle.manifest.specs.declared.fault.MRule.{MRule}
@@ -44,7 +45,7 @@ judged before (id ∷ number ∷ next ∷ rest) = refl
 abbrev pub AreSound : List Fields → Type 0
 AreSound rows = AreBatches (map row_id rows) (map row_cards rows)
 
-abbrev pub after : List Fields → List Fields → Result Batches Refusal
+abbrev pub after : List Fields → List Fields → Result Batches (Refusal MRule)
 after before rest = batches_after (map row_id before) (map row_cards before) (2 + length before) rest
 
 -- none of the rest breaks a rule
@@ -71,7 +72,7 @@ first-broken before row rest rule e = record {
   there = refl;
   broken = ap (λ b. broken_rule b row) (append-nil before) ∙ e;
   earlier = λ j other less there. absurd (omega (arith, less));
-  is = ap (λ o. and_then o (2 + length before) (λ (b : Batch). batches_after (map row_id before ++ b.id ∷ []) (map row_cards before ++ b.cards ∷ [])
+  is = ap (λ o. and_then (2 + length before) o (λ (b : Batch). batches_after (map row_id before ++ b.id ∷ []) (map row_cards before ++ b.cards ∷ [])
       ((2 + length before) + 1) rest))
       (judged before row ∙ ap (λ o. as_judged o (row_id row) (row_cards row)) e)
       ∙ ap (refused rule) (omega arith);
@@ -87,7 +88,7 @@ module _ (before : List Fields) (row : Fields) (rest : List Fields) (e : broken_
 
   steps : after before (row ∷ rest) ≡ after (before ++ row ∷ []) rest
   steps =
-      ap (λ o. and_then o (2 + length before) (λ (b : Batch). batches_after (map row_id before ++ b.id ∷ []) (map row_cards before ++ b.cards ∷ [])
+      ap (λ o. and_then (2 + length before) o (λ (b : Batch). batches_after (map row_id before ++ b.id ∷ []) (map row_cards before ++ b.cards ∷ [])
       ((2 + length before) + 1) rest)) accepted
       ∙ ap (λ ids. batches_after ids (map row_cards before ++ row_cards row ∷ []) ((2 + length before) + 1) rest) (sym (map-append row_id before (row ∷ [])))
       ∙ ap (λ counts. batches_after (map row_id (before ++ row ∷ [])) counts ((2 + length before) + 1) rest) (sym (map-append row_cards before (row ∷ [])))

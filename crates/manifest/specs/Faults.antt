@@ -1,16 +1,7 @@
--- Why a manifest isn't read.
-use Rattle.std.specs.Prelude.{◌≡◌, ℕ, List, Result, Err, codes}
-use Rattle.manifest.specs.Cards.{Batches}
-use Rattle.manifest.specs.Manifest.{Refusal}
-use Rattle.manifest.specs.declared.fault.ManifestFault.{ManifestFault}
-use Rattle.manifest.specs.declared.fault.ManifestFault.TheVariants.{Refused, Memory}
+-- The rules of a manifest.
+use Rattle.std.specs.Prelude.{ℕ, List, codes}
 use Rattle.manifest.specs.declared.fault.MRule.{MRule}
 use Rattle.manifest.specs.declared.fault.MRule.TheVariants.{M1, M2, M3, M4, M5, M6}
-
--- the manifest is refused by this rule at this record; memory may always be wanting
-abbrev pub Refuses : Result Batches Refusal → ManifestFault → Type 0
-Refuses said (Refused rule at) = said ≡ Err (record { rule = rule; at = at })
-Refuses said Memory = Unit {0}
 
 -- the name of a rule in the text of a refusal
 abbrev pub rule_name : MRule → List ℕ

@@ -4,6 +4,7 @@ use Rattle.std.specs.List.{sum}
 use Rattle.csv_rows.specs.Fields.{numbered_records}
 use Rattle.csv_rows.specs.Numbers.{number_of}
 use Rattle.csv_rows.specs.Rows.{Fields}
+use Rattle.file_fault.specs.Refusals.{Refusal, and_then, refused}
 use Rattle.irv_base.specs.Names.{Id, is_same, is_among}
 use Rattle.manifest.specs.Cards.{Batches, is_batch_id, is_count}
 use Rattle.manifest.specs.declared.batch.Batch.{Batch}
@@ -40,34 +41,20 @@ batch_of ids others (id ∷ number ∷ next ∷ rest) = Err M2
 
 -- ---- the file
 
--- a rule, and the record that breaks it, counted from 1
-pub record Refusal : Type 0 where
-  pub rule : MRule
-  pub at : ℕ
-
-abbrev pub refused : MRule → ℕ → Result Batches Refusal
-refused rule at = Err (record { rule = rule; at = at })
-
--- what follows the record number at, or its refusal
-abbrev pub and_then :
-    Result Batch MRule → ℕ → (Batch → Result Batches Refusal) → Result Batches Refusal
-and_then (Ok batch) at more = more batch
-and_then (Err rule) at more = refused rule at
-
-abbrev pub at_end : List Id → List ℕ → Result Batches Refusal
+abbrev pub at_end : List Id → List ℕ → Result Batches (Refusal MRule)
 at_end [] counts = refused M6 1
 at_end (id ∷ ids) counts = Ok (record { ids = id ∷ ids; counts = counts })
 
 -- after batches with these ids and numbers of cards come the records from number at on
-abbrev pub batches_after : List Id → List ℕ → ℕ → List Fields → Result Batches Refusal
+abbrev pub batches_after : List Id → List ℕ → ℕ → List Fields → Result Batches (Refusal MRule)
 batches_after ids counts at [] = at_end ids counts
 batches_after ids counts at (row ∷ rows) =
-    and_then (batch_of ids (sum counts) row) at (λ batch.
+    and_then at (batch_of ids (sum counts) row) (λ batch.
     batches_after (ids ++ batch.id ∷ []) (counts ++ batch.cards ∷ []) (at + 1) rows)
 
-abbrev pub manifest_in : List Fields → Result Batches Refusal
+abbrev pub manifest_in : List Fields → Result Batches (Refusal MRule)
 manifest_in [] = refused M1 1
 manifest_in (header ∷ rows) = if is_header header then batches_after [] [] 2 rows else refused M1 1
 
-abbrev pub manifest_of : List ℕ → Result Batches Refusal
+abbrev pub manifest_of : List ℕ → Result Batches (Refusal MRule)
 manifest_of bytes = manifest_in (numbered_records bytes)

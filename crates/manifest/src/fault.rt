@@ -1,12 +1,7 @@
 // Why a manifest isn't read.
-ghost use Rattle.std.specs.Prelude.{◌≡◌};
 ghost use Rattle.manifest.specs.Faults.{rule_name};
-ghost use Rattle.manifest.specs.declared.fault.ManifestFault.TheVariants.{Memory as WantOfMemory};
 
-use irv_base::Memory;
-use std::alloc::AllocFailed;
-use std::error::Error;
-use std::fmt;
+use file_fault::{Fault, Rule};
 
 /// The rules of a manifest, as the text of a refusal names them.
 #[derive(Clone, Copy, Debug, PartialEq, Eq)]
@@ -25,11 +20,10 @@ pub enum MRule {
     M6,
 }
 
-impl MRule {
-    /// The name of the rule in the text of a refusal, as `M3`.
-    pub fn name(self) -> &'static str
-        ensures { result.now ≡ rule_name self }
-    {
+impl Rule for MRule {
+    ghost name = { rule_name };
+
+    fn name(self) -> &'static str {
         match self {
             MRule::M1 => "M1",
             MRule::M2 => "M2",
@@ -41,38 +35,5 @@ impl MRule {
     }
 }
 
-/// Why a manifest isn't read.
-#[derive(Clone, Copy, Debug, PartialEq, Eq)]
-pub enum ManifestFault {
-    /// The file breaks `rule` in record `at`, counted from 1 without the blank ones.
-    Refused { rule: MRule, at: u32 },
-    /// Memory could not be had.
-    Memory,
-}
-
-impl fmt::Display for ManifestFault {
-    fn fmt<W: fmt::Write>(&self, f: &mut fmt::Formatter<W>) -> fmt::Result {
-        match self {
-            ManifestFault::Refused { rule, at } => write!(f, "{} at {at}", rule.name()),
-            ManifestFault::Memory => write!(f, "{Memory}"),
-        }
-    }
-}
-
-impl Error for ManifestFault {}
-
-impl From<Memory> for ManifestFault {
-    ghost from_gives = { λ _ fault. fault ≡ WantOfMemory };
-
-    fn from(_: Memory) -> Self {
-        ManifestFault::Memory
-    }
-}
-
-impl<T: Drop> From<AllocFailed<T>> for ManifestFault {
-    ghost from_gives = { λ _ fault. fault ≡ WantOfMemory };
-
-    fn from(_: AllocFailed<T>) -> Self {
-        ManifestFault::Memory
-    }
-}
+/// Why a manifest isn't read: the place is a record's number from 1, without the blank ones.
+pub type ManifestFault = Fault<MRule>;

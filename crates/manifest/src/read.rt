@@ -1,7 +1,7 @@
 // Reading a manifest.
 ghost use Rattle.std.specs.Prelude.{◌≡◌, [], Ok, IfOk, IfErr};
 ghost use Rattle.csv_rows.specs.Fields.{numbered};
-ghost use Rattle.manifest.specs.Faults.{Refuses};
+ghost use Rattle.file_fault.specs.Refusals.{Refuses};
 ghost use Rattle.manifest.specs.Manifest.{batches_after, manifest_of};
 
 use crate::batch::{batch_of, is_header};
@@ -37,10 +37,7 @@ fn batches_left(
         let batch = match batch_of(&ids, cards, row) {
             Ok(batch) => batch,
             Err(rule) => {
-                return Err(ManifestFault::Refused {
-                    rule,
-                    at: FIRST_BATCH + counts.len() as u32,
-                });
+                return Err(ManifestFault::at_record(rule, FIRST_BATCH + counts.len() as u32));
             }
         };
         ids.push(batch.id)?;
@@ -49,10 +46,7 @@ fn batches_left(
         cards += batch.cards;
     }
     if counts.is_empty() {
-        return Err(ManifestFault::Refused {
-            rule: MRule::M6,
-            at: 1,
-        });
+        return Err(ManifestFault::at_record(MRule::M6, 1));
     }
     Ok(Manifest::new(ids, counts, firsts, cards))
 }
@@ -74,10 +68,7 @@ pub fn read_manifest(alloc: Global, bytes: &[u8]) -> Result<Manifest, ManifestFa
     let mut rows = Rows::of(alloc, without_mark(bytes));
     let mut row = ByteRecord::new(alloc);
     if !rows.read_numbered(&mut row)? || !is_header(&row) {
-        return Err(ManifestFault::Refused {
-            rule: MRule::M1,
-            at: 1,
-        });
+        return Err(ManifestFault::at_record(MRule::M1, 1));
     }
     batches_left(alloc, bytes.len(), &mut rows, &mut row)
 }

@@ -9,7 +9,8 @@ use Rattle.irv_base.proofs.Distinct.{Distinct, distinct-push, distinct-le, lengt
 use Rattle.manifest.specs.Cards.{Batches, cards_of}
 use Rattle.assorters.specs.declared.seen.Seen.{Seen}
 use Rattle.seen_file.specs.Seen.{Entry, seen_in}
-use Rattle.seen_file.specs.Reading.{entry_of, read_after, and_then}
+use Rattle.seen_file.specs.Reading.{entry_of, read_after}
+use Rattle.file_fault.specs.Refusals.{and_then}
 use Rattle.seen_file.specs.declared.fault.VRule.{VRule}
 use Rattle.seen_file.proofs.Cards.{absent}
 
@@ -35,7 +36,7 @@ pub goes_on : (batches : Batches) (candidates : List Id) (rows : List Fields) (e
 goes_on batches candidates rows entries at row left card seen so_far is new first last =
     let cards = map-append (λ entry. entry.0) entries ((card, seen) ∷ []) in
     record {
-      rest = so_far.rest ∙ ap (λ said. and_then said at (λ entry. read_after (entry_of batches candidates) (entries ++ entry ∷ []) (at + 1) left)) is;
+      rest = so_far.rest ∙ ap (λ said. and_then at said (λ entry. read_after (entry_of batches candidates) (entries ++ entry ∷ []) (at + 1) left)) is;
       numbered = omega (arith, so_far.numbered, length-append entries ((card, seen) ∷ []));
       apart = subst Distinct (sym cards) (distinct-push (map (λ entry. entry.0) entries) card so_far.apart (absent entries card new));
       within = λ other m. elim (member-append_cases (map (λ entry. entry.0) entries) (card ∷ []) (subst (Member other) cards m)) [
@@ -49,4 +50,4 @@ pub refused : (batches : Batches) (candidates : List Id) (rows : List Fields) (e
     SeenSoFar batches candidates rows entries at (row ∷ left) → entry_of batches candidates entries row ≡ Err rule →
     read_after (entry_of batches candidates) [] 1 rows ≡ Err (record { rule = rule; at = at })
 refused batches candidates rows entries at row left rule so_far is =
-    so_far.rest ∙ ap (λ said. and_then said at (λ entry. read_after (entry_of batches candidates) (entries ++ entry ∷ []) (at + 1) left)) is
+    so_far.rest ∙ ap (λ said. and_then at said (λ entry. read_after (entry_of batches candidates) (entries ++ entry ∷ []) (at + 1) left)) is

@@ -3,6 +3,7 @@ use Rattle.std.specs.Prelude.{ℕ, ◌+◌, Bool, not, ◌&&◌, ◌||◌, if◌
 use Rattle.std.specs.List.{list_any}
 use Rattle.csv_rows.specs.Fields.{numbered_records}
 use Rattle.csv_rows.specs.Rows.{Fields}
+use Rattle.file_fault.specs.Refusals.{Refusal, and_then}
 use Rattle.irv_base.specs.Names.{Id, is_same}
 use Rattle.ballot_reader.specs.Grammar.{is_marked, ranking_of}
 use Rattle.manifest.specs.Cards.{Batches, cards_of, place_of}
@@ -59,27 +60,17 @@ entry_of batches candidates earlier (id ∷ word ∷ rest) =
 
 -- ---- the file
 
--- a rule, and the record that breaks it, counted from 1
-pub record Refusal : Type 0 where
-  pub rule : VRule
-  pub at : ℕ
-
-abbrev pub and_then :
-    {A B : Type 0} → Result A VRule → ℕ → (A → Result B Refusal) → Result B Refusal
-and_then (Ok value) at more = more value
-and_then (Err rule) at more = Err (record { rule = rule; at = at })
-
 -- after these entries come the records from number at on, each judged after those before
 abbrev pub read_after : {A : Type 0} → (List A → Fields → Result A VRule) → List A → ℕ →
-    List Fields → Result (List A) Refusal
+    List Fields → Result (List A) (Refusal VRule)
 read_after judged earlier at [] = Ok earlier
 read_after judged earlier at (row ∷ rows) =
-    and_then (judged earlier row) at
+    and_then at (judged earlier row)
     (λ entry. read_after judged (earlier ++ entry ∷ []) (at + 1) rows)
 
 -- what is seen by these records
-abbrev pub seen_by_records : Batches → List Id → List Fields → Result (List Entry) Refusal
+abbrev pub seen_by_records : Batches → List Id → List Fields → Result (List Entry) (Refusal VRule)
 seen_by_records batches candidates rows = read_after (entry_of batches candidates) [] 1 rows
 
-abbrev pub seen_of : Batches → List Id → List ℕ → Result (List Entry) Refusal
+abbrev pub seen_of : Batches → List Id → List ℕ → Result (List Entry) (Refusal VRule)
 seen_of batches candidates bytes = seen_by_records batches candidates (numbered_records bytes)

@@ -1,11 +1,7 @@
 // Why a seen file isn't read.
-ghost use Rattle.std.specs.Prelude.{◌≡◌};
 ghost use Rattle.seen_file.specs.Faults.{rule_name};
-ghost use Rattle.seen_file.specs.declared.fault.SeenFault.TheVariants.{Memory as WantOfMemory};
 
-use irv_base::Memory;
-use std::error::Error;
-use std::fmt;
+use file_fault::{Fault, Rule};
 
 /// The rules of a seen file, as the text of a refusal names them.
 #[derive(Clone, Copy, Debug, PartialEq, Eq)]
@@ -22,11 +18,10 @@ pub enum VRule {
     V6,
 }
 
-impl VRule {
-    /// The name of the rule in the text of a refusal, as `V3`.
-    pub fn name(self) -> &'static str
-        ensures { result.now ≡ rule_name self }
-    {
+impl Rule for VRule {
+    ghost name = { rule_name };
+
+    fn name(self) -> &'static str {
         match self {
             VRule::V1 => "V1",
             VRule::V2 => "V2",
@@ -37,36 +32,5 @@ impl VRule {
     }
 }
 
-/// Why a seen file isn't read.
-#[derive(Clone, Copy, Debug, PartialEq, Eq)]
-pub enum SeenFault {
-    /// The file breaks `rule` in record `at`, counted from 1 without the blank ones.
-    Refused { rule: VRule, at: u32 },
-    /// Memory could not be had.
-    Memory,
-}
-
-impl fmt::Display for VRule {
-    fn fmt<W: fmt::Write>(&self, f: &mut fmt::Formatter<W>) -> fmt::Result {
-        f.write_str(self.name())
-    }
-}
-
-impl fmt::Display for SeenFault {
-    fn fmt<W: fmt::Write>(&self, f: &mut fmt::Formatter<W>) -> fmt::Result {
-        match self {
-            SeenFault::Refused { rule, at } => write!(f, "{rule} at {at}"),
-            SeenFault::Memory => write!(f, "{Memory}"),
-        }
-    }
-}
-
-impl Error for SeenFault {}
-
-impl From<Memory> for SeenFault {
-    ghost from_gives = { λ _ fault. fault ≡ WantOfMemory };
-
-    fn from(_: Memory) -> Self {
-        SeenFault::Memory
-    }
-}
+/// Why a seen file isn't read: the place is a record's number from 1, without the blank ones.
+pub type SeenFault = Fault<VRule>;

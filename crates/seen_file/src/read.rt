@@ -1,7 +1,7 @@
 // Reading a seen file.
 ghost use Rattle.std.specs.Prelude.{◌≡◌, ◌≤◌, [], Ok, IfOk, IfErr, length};
 ghost use Rattle.irv_base.specs.declared.limits.TheConstants.{ROOM};
-ghost use Rattle.seen_file.specs.Faults.{Refuses};
+ghost use Rattle.file_fault.specs.Refusals.{Refuses};
 ghost use Rattle.seen_file.specs.Reading.{seen_of};
 
 use crate::fault::SeenFault;
@@ -41,7 +41,7 @@ pub fn read_seen(
     'records: while rows.read_numbered(&mut row)? {
         let (card, of) = match entry_of(manifest, candidates, &seen, &row) {
             Ok(entry) => entry,
-            Err(rule) => return Err(SeenFault::Refused { rule, at }),
+            Err(rule) => return Err(SeenFault::at_record(rule, at)),
         };
         seen.put(card, of)?;
         at += 1;

@@ -114,24 +114,22 @@ digests-from value ballots manifest assertions a b m = rw (a, b, m) refl
 abbrev heading_for : Content → Heading
 heading_for content = record {
   contest = content.contest;
-  cards = content.session.cards;
   margins = map whole_number content.session.margins;
   seed = content.seed;
-  limit = content.session.limit;
-  gamma = content.session.gamma;
-  digests = content.digests;
   rounds = map round_value content.session.rounds;
   signed_off = is_signed_off content.session;
   version = VERSION;
+  terms = record { cards = content.session.cards; gamma = content.session.gamma; limit = content.session.limit };
+  digests = content.digests;
 }
 
 heading-from : (value : Data) (h : Heading) →
-    text_in (codes "contest") value ≡ Some h.contest → number_in (codes "cards") value ≡ Some h.cards → list_in (codes "margins") value ≡ Some h.margins →
-    text_in (codes "seed") value ≡ Some h.seed → number_in (codes "limit") value ≡ Some h.limit → number_in (codes "gamma") value ≡ Some h.gamma →
+    text_in (codes "contest") value ≡ Some h.contest → number_in (codes "cards") value ≡ Some h.terms.cards → list_in (codes "margins") value ≡ Some h.margins →
+    text_in (codes "seed") value ≡ Some h.seed → number_in (codes "limit") value ≡ Some h.terms.limit → number_in (codes "gamma") value ≡ Some h.terms.gamma →
     digests_in value ≡ Some h.digests → list_in (codes "rounds") value ≡ Some h.rounds → member_as as_bool (codes "signed_off") value ≡ Some h.signed_off →
     number_in (codes "version") value ≡ Some h.version → heading_in value ≡ Some h
 unfolding heading_in
-heading-from value h n c m s l g d r o v = rw (n, c, m, s, l, g, d, r, o, v) refl
+heading-from value h n c m s l g d r o v = rw (n, m, s, r, o, v, c, g, l, d) refl
 
 digests-back : (content : Content) → HasForms content → digests_in (session_value content) ≡ Some content.digests
 unfolding session_value serde_json_on_literals

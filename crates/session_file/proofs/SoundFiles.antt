@@ -12,7 +12,7 @@ use Rattle.serde_json.specs.Data.{Data}
 use Rattle.serde_json.specs.Find.{as_bool, as_str, get}
 use Rattle.irv_base.specs.Names.{is_name}
 use Rattle.sampler.specs.Seeds.{is_seed}
-use Rattle.assertion_file.specs.Stated.{list_in, member_as, number, number_in, text_in}
+use Rattle.assertion_file.specs.Stated.{list_in, member_as, number, number_in, terms_of, text_in}
 use Rattle.assertion_file.specs.Text.{json_of}
 use Rattle.session_state.specs.Content.{Content, IsSound}
 use Rattle.session_state.specs.Sessions.{is_signed_off}
@@ -71,16 +71,14 @@ heading-digests : (value : Data) (heading : Heading) → heading_in value ≡ So
 unfolding heading_in
 heading-digests value heading h =
     option_and_then_some _ (text_in (codes "contest") value) heading h (λ contest _ h.
-    option_and_then_some _ (number_in (codes "cards") value) heading h (λ cards _ h.
     option_and_then_some _ (list_in (codes "margins") value) heading h (λ margins _ h.
     option_and_then_some _ (text_in (codes "seed") value) heading h (λ seed _ h.
-    option_and_then_some _ (number_in (codes "limit") value) heading h (λ limit _ h.
-    option_and_then_some _ (number_in (codes "gamma") value) heading h (λ gamma _ h.
-    option_and_then_some _ (digests_in value) heading h (λ digests found h.
     option_and_then_some _ (list_in (codes "rounds") value) heading h (λ rounds _ h.
     option_and_then_some _ (member_as as_bool (codes "signed_off") value) heading h (λ signed_off _ h.
     option_and_then_some _ (number_in (codes "version") value) heading h (λ version _ h.
-    found ∙ ap (λ o. option_digests o) h))))))))))
+    option_and_then_some _ (terms_of value) heading h (λ terms _ h.
+    option_and_then_some _ (digests_in value) heading h (λ digests found h.
+    found ∙ ap (λ o. option_digests o) h))))))))
   where
     option_digests : Option Heading → Option Digests
     option_digests None = None

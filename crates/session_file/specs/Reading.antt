@@ -17,10 +17,10 @@ content_with heading margins rounds = record {
   digests = heading.digests;
   session =
       record {
-        cards = heading.cards;
+        cards = heading.terms.cards;
         margins = margins;
-        limit = heading.limit;
-        gamma = heading.gamma;
+        limit = heading.terms.limit;
+        gamma = heading.terms.gamma;
         rounds = rounds;
       };
 }

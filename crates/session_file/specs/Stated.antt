@@ -4,7 +4,8 @@ use Rattle.std.specs.Result.{result_ok}
 use Rattle.hex.specs.Hex.{decode_sized}
 use Rattle.serde_json.specs.Data.{Data}
 use Rattle.serde_json.specs.Find.{as_bool, as_number, as_str, as_u64}
-use Rattle.assertion_file.specs.Stated.{◌>>=◌, list, list_in, member_as, number, number_in, text_in}
+use Rattle.assertion_file.specs.Stated.{◌>>=◌, list, list_in, member_as, number, number_in, terms_of, text_in}
+use Rattle.assertion_file.specs.declared.members.Terms.{Terms}
 use Rattle.km_risk.specs.declared.draws.Counts.{Counts}
 use Rattle.session_state.specs.declared.digests.Digests.{Digests}
 use Rattle.session_state.specs.Sessions.{Round}
@@ -74,15 +75,13 @@ round value = do
 -- its members, with the elements of its lists as they stand
 pub record Heading : Type 0 where
   pub contest : List ℕ
-  pub cards : ℕ
   pub margins : List Data
   pub seed : List ℕ
-  pub limit : ℕ
-  pub gamma : ℕ
-  pub digests : Digests
   pub rounds : List Data
   pub signed_off : Bool
   pub version : ℕ
+  pub terms : Terms
+  pub digests : Digests
 
 unfoldable pub digests_in : Data → Option Digests
 digests_in value = do
@@ -94,24 +93,20 @@ digests_in value = do
 unfoldable pub heading_in : Data → Option Heading
 heading_in value = do
   contest ← text_in (codes "contest") value
-  cards ← number_in (codes "cards") value
   margins ← list_in (codes "margins") value
   seed ← text_in (codes "seed") value
-  limit ← number_in (codes "limit") value
-  gamma ← number_in (codes "gamma") value
-  digests ← digests_in value
   rounds ← list_in (codes "rounds") value
   signed_off ← member_as as_bool (codes "signed_off") value
   version ← number_in (codes "version") value
+  terms ← terms_of value
+  digests ← digests_in value
   Some (record {
     contest = contest;
-    cards = cards;
     margins = margins;
     seed = seed;
-    limit = limit;
-    gamma = gamma;
-    digests = digests;
     rounds = rounds;
     signed_off = signed_off;
     version = version;
+    terms = terms;
+    digests = digests;
   })

@@ -15,13 +15,11 @@ stated_entry found = record {
 abbrev pub stated_heading : FoundHeading → Heading
 stated_heading found = record {
   contest = found.contest.now;
-  cards = found.cards;
   margins = map view found.margins.now;
   seed = found.seed.now;
-  limit = found.limit;
-  gamma = found.gamma;
-  digests = found.digests;
   rounds = map view found.rounds.now;
   signed_off = found.signed_off;
   version = found.version;
+  terms = found.terms;
+  digests = found.digests;
 }

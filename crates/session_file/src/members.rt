@@ -6,7 +6,7 @@ ghost use Rattle.assertion_file.specs.Stated.{member_as};
 ghost use Rattle.session_file.specs.Stated.{counts, counts_from, digest, digests_in, entry_in, heading_in, risk};
 ghost use Rattle.session_file.specs.Views.{stated_entry, stated_heading};
 
-use assertion_file::{list_in, number, number_in, text_in};
+use assertion_file::{Terms, list_in, number, number_in, terms_of, text_in};
 use hex::FromHex;
 use km_risk::Counts;
 use serde_json::Value;
@@ -17,24 +17,20 @@ use session_state::Digests;
 pub struct Heading<'a> {
     /// The id of the contest.
     pub contest: &'a str,
-    /// How many cards the manifest has.
-    pub cards: u32,
     /// The margin of each claim.
     pub margins: &'a [Value],
     /// The seed of the draws.
     pub seed: &'a str,
-    /// The risk limit, in millionths.
-    pub limit: u32,
-    /// Gamma, in thousandths.
-    pub gamma: u32,
-    /// The digests of the files.
-    pub digests: Digests,
     /// The rounds that are done.
     pub rounds: &'a [Value],
     /// Whether the file says that it is signed off.
     pub signed_off: bool,
     /// The version of the format.
     pub version: u32,
+    /// The terms of the audit.
+    pub terms: Terms,
+    /// The digests of the files.
+    pub digests: Digests,
 }
 
 /// The members of a round.
@@ -120,14 +116,12 @@ pub fn heading_in(value: &Value) -> Option<Heading<'_>>
 {
     Some(Heading {
         contest: text_in(value, "contest")?,
-        cards: number_in(value, "cards")?,
         margins: list_in(value, "margins")?,
         seed: text_in(value, "seed")?,
-        limit: number_in(value, "limit")?,
-        gamma: number_in(value, "gamma")?,
-        digests: digests_in(value)?,
         rounds: list_in(value, "rounds")?,
         signed_off: bool_in(value, "signed_off")?,
         version: number_in(value, "version")?,
+        terms: terms_of(value)?,
+        digests: digests_in(value)?,
     })
 }

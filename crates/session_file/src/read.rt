@@ -9,6 +9,7 @@ use crate::lists::list;
 use crate::members::{Heading, heading_in};
 use crate::sound::{are_limits, are_margins, are_rounds};
 use crate::{SessionFault, VERSION};
+use assertion_file::Terms;
 use irv_base::Name;
 use sampler::Seed;
 use serde_json::Value;
@@ -29,9 +30,12 @@ fn sound_session(
     }
     let contest = Name::read(heading.contest.as_bytes())?;
     let seed = Seed::read(heading.seed).ok()?;
-    let cards = heading.cards;
-    let gamma = heading.gamma;
-    if !are_limits(cards, heading.limit, gamma) {
+    let Terms {
+        cards,
+        gamma,
+        limit,
+    } = heading.terms;
+    if !are_limits(cards, limit, gamma) {
         return None;
     }
     if !are_margins(cards, margins.as_slice()) {
@@ -45,7 +49,7 @@ fn sound_session(
         cards,
         margins,
         seed,
-        heading.limit,
+        limit,
         gamma,
         heading.digests,
         rounds,

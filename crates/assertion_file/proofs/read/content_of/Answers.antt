@@ -5,7 +5,7 @@ use Rattle.serde_json.specs.View.{view}
 use Rattle.irv_base.specs.Names.{all_differ}
 use Rattle.irv_base.specs.Orders.{is_order}
 use Rattle.assertion_file.specs.Content.{IsSoundClaim, IsSoundPlan}
-use Rattle.assertion_file.specs.Faults.{Refuses}
+use Rattle.file_fault.specs.Refusals.{Refuses}
 use Rattle.assertion_file.specs.Reading.{claim_in, content_of, content_with, plan_with, ◌>>=◌}
 use Rattle.assertion_file.specs.Views.{stated_heading}
 use Rattle.assertion_file.proofs.Headings.{content-none, content-kept, content-is, refused_heading, refused_claims, sound}

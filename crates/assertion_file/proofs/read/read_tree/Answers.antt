@@ -1,6 +1,6 @@
 use Rattle.std.proofs.Common.{rules, ◌≡◌, Ok, IfOk, IfErr, sym, subst}
 use Rattle.serde_json.specs.View.{view}
-use Rattle.assertion_file.specs.Faults.{Refuses}
+use Rattle.file_fault.specs.Refusals.{Refuses}
 use Rattle.assertion_file.proofs.Headings.{file-some, file-none}
 use Rattle.assertion_file.specs.Reading.{assertion_file_of}
 use Rattle.assertion_file.proofs.read.read_tree.Goals as goal

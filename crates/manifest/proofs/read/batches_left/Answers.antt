@@ -4,8 +4,8 @@ use Rattle.csv_rows.specs.Fields.{numbered, trimmed_fields}
 use Rattle.manifest.proofs.SoFar.{goes_on, is_next, length-le-sum}
 use Rattle.manifest.proofs.read.batches_left.Goals as goal
 
-pub overflow_cast-result : goal.overflow_cast-result
-overflow_cast-result c = let i = c.records.invariant in omega (
+pub overflow_cast-len : goal.overflow_cast-len
+overflow_cast-len c = let i = c.records.invariant in omega (
   arith,
   i.batches.most,
   length-le-sum c.records.counts.items i.batches.counted,
@@ -13,8 +13,8 @@ overflow_cast-result c = let i = c.records.invariant in omega (
   c.len.ensures,
 )
 
-pub overflow_add-result : goal.overflow_add-result
-overflow_add-result c = let i = c.records.invariant in omega (
+pub overflow_add-len : goal.overflow_add-len
+overflow_add-len c = let i = c.records.invariant in omega (
   arith,
   i.batches.most,
   length-le-sum c.records.counts.items i.batches.counted,

@@ -1,0 +1,12 @@
+// The rules that a kind of file has.
+ghost use Rattle.std.specs.Prelude.{◌≡◌, ℕ, List};
+
+/// A rule of a kind of file.
+pub trait Rule: Copy {
+    /// The name of each rule.
+    ghost name: { Self → List ℕ };
+
+    /// The name of the rule in the text of a refusal, as `B3`.
+    fn name(self) -> &'static str
+        ensures { result.now ≡ name self };
+}

@@ -9,6 +9,7 @@ use crate::one_card::MANIFEST;
 use ballot_reader::{Ballots, read_contests};
 use contest_set::{ContestEnd, SetFault, SharedTerms, audit_all, read_seen_by};
 use desk::{Gate, NoGate};
+use file_fault::Rule;
 use irv_base::Candidate;
 use km_risk::Counts;
 use manifest::read_manifest;

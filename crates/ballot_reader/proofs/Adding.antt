@@ -3,17 +3,18 @@ use Rattle.std.proofs.Common.{◌≡◌, ◌<◌, ◌+◌, ◌∙◌, ◌++◌, 
 use Rattle.std.specs.Prelude.{All, Bool, IsTrue, is_some, nat_eq, nat_lt, option_map, if◌then◌else◌}
 use Rattle.std.specs.List.{slice_get}
 use Rattle.std.specs.Cmp.Lexicographic.{bytes_decides}
-use Rattle.std.proofs.lemmas.Bool.{and_parts, cases_Bool, eqb-false, not-true}
+use Rattle.std.proofs.lemmas.Bool.{and_parts, cases_Bool, eqb-false, false≢true, not-true}
 use Rattle.std.proofs.lemmas.Cmp.{nat_list_eq_equiv}
 use Rattle.std.proofs.lemmas.List.{append-nil, map-append}
 use Rattle.std.proofs.lemmas.List.Elements.{filter-append, All-push}
-use Rattle.std.proofs.lemmas.Option.{slice_get-map}
 use Rattle.csv_rows.specs.Rows.{Fields}
 use Rattle.irv_base.specs.Candidates.{is_distinct}
 use Rattle.irv_base.specs.Names.{Id, is_among, is_same, all_differ}
 use Rattle.irv_base.specs.declared.limits.TheConstants.{MOST_RECORDS}
 use Rattle.ballot_reader.specs.Grammar.{Ballot, Contest, ballot_for, ballot_ids, ballot_in, ballot_of, ballot_with, ballots_in, ranking_of}
-use Rattle.ballot_reader.specs.Kept.{AreApart, IsKept, KeepsAudited, KeptBallots, KeptPart, WantsAudited, contest_ids, is_wanted, part_of, parts_from, with_ballot}
+use Rattle.ballot_reader.specs.Kept.{AllNoted, AreApart, IsKept, KeepsAudited, KeptBallots, KeptOrigins, KeptPart, WantsAudited, contest_ids, is_wanted, keeps_origins, part_of, parts_from, rankings_in, with_ballot, with_origin}
+use Rattle.ballot_reader.specs.Noted.{AreNoted}
+use Rattle.ballot_reader.specs.declared.noted.Noted.{Noted}
 use Rattle.ballot_reader.specs.declared.fault.BRule.TheVariants.{B9, B10}
 use Rattle.ballot_reader.specs.declared.wanted.Wanted.{Wanted}
 use Rattle.ballot_reader.proofs.Differing.{differ-push, or-false}
@@ -46,9 +47,6 @@ ids-other id ballots b h = ap (map (λ (x : Ballot). x.id)) (pushed-other id bal
 
 -- ---- contests that differ
 
-abbrev pub noted : List Ballot → List Contest → List (List Id)
-noted ballots contests = map (λ (contest : Contest). ballot_ids contest.id ballots) contests
-
 -- a contest at a place among contests that lack an id
 pub elsewhere : (contests : List Contest) (id : Id) (k : ℕ) (contest : Contest) → is_among (contest_ids contests) id ≡ false →
     slice_get contests k ≡ Some contest → is_same contest.id id ≡ false
@@ -78,28 +76,36 @@ unlike (c ∷ contests) (suc k) zero contest chosen d g h n =
 unlike (c ∷ contests) (suc k) (suc a) contest chosen d g h n = unlike contests k a contest chosen (apart c contests d).1 g h (λ e. n (ap suc e))
 
 -- contests that lack the ballot's have what they had
-noted-same : (contests : List Contest) (ballots : List Ballot) (b : Ballot) → is_among (contest_ids contests) b.contest ≡ false →
-    noted ballots contests ≡ noted (ballots ++ b ∷ []) contests
-noted-same [] ballots b h = refl
-noted-same (c ∷ contests) ballots b h =
-    let (first, rest) = or-false (is_same c.id b.contest) (is_among (contest_ids contests) b.contest) h in
-    ap (λ ids. ids ∷ noted ballots contests) (sym (ids-other c.id ballots b (same-comm b.contest c.id ∙ first)))
-    ∙ ap (λ more. ballot_ids c.id (ballots ++ b ∷ []) ∷ more) (noted-same contests ballots b rest)
+met-same : (contests : List Contest) (ballots : List Ballot) (b : Ballot) (noted : List Noted) →
+    is_among (contest_ids contests) b.contest ≡ false → AllNoted ballots contests noted → AllNoted (ballots ++ b ∷ []) contests noted
+met-same [] ballots b [] h m = m
+met-same [] ballots b (n ∷ noted) h m = m
+met-same (c ∷ contests) ballots b [] h m = m
+met-same (c ∷ contests) ballots b (n ∷ noted) h m =
+    let (first, rest) = or-false (is_same c.id b.contest) (is_among (contest_ids contests) b.contest) h in (
+      subst (λ ids. AreNoted ids n) (sym (ids-other c.id ballots b (same-comm b.contest c.id ∙ first))) m.0,
+      met-same contests ballots b noted rest m.1,
+    )
 
-pub noted-more : (contests : List Contest) (k : ℕ) (contest : Contest) (ballots : List Ballot) (b : Ballot) → all_differ (contest_ids contests) ≡ true →
-    slice_get contests k ≡ Some contest
-    → b.contest ≡ contest.id → set (noted ballots contests) k (ballot_ids contest.id ballots ++ b.id ∷ []) ≡ noted (ballots ++ b ∷ []) contests
-noted-more [] k contest ballots b d g e = absurd cc
-noted-more (c ∷ contests) zero contest ballots b d g e =
+pub met-more : (contests : List Contest) (k : ℕ) (contest : Contest) (ballots : List Ballot) (b : Ballot) (noted : List Noted)
+    (met : Noted) → all_differ (contest_ids contests) ≡ true → slice_get contests k ≡ Some contest → b.contest ≡ contest.id →
+    AllNoted ballots contests noted → AreNoted (ballot_ids contest.id ballots ++ b.id ∷ []) met →
+    AllNoted (ballots ++ b ∷ []) contests (set noted k met)
+met-more [] k contest ballots b noted met d g e m new = absurd cc
+met-more (c ∷ contests) k contest ballots b [] met d g e m new = absurd m
+met-more (c ∷ contests) zero contest ballots b (n ∷ noted) met d g e m new =
     let s : c ≡ contest = cc in
     let of : b.contest ≡ c.id = e ∙ ap (λ (x : Contest). x.id) (sym s) in
-    ap (λ (x : Contest). (ballot_ids x.id ballots ++ b.id ∷ []) ∷ noted ballots contests) (sym s)
-    ∙ ap (λ ids. ids ∷ noted ballots contests) (sym (ids-own c.id ballots b (ap (λ id. is_same id c.id) of ∙ same-refl c.id)))
-    ∙ ap (λ more. ballot_ids c.id (ballots ++ b ∷ []) ∷ more) (noted-same contests ballots b (ap (is_among (contest_ids contests)) of ∙ (apart c contests d).0))
-noted-more (c ∷ contests) (suc k) contest ballots b d g e =
-    let other = ap (λ id. is_same id c.id) e ∙ elsewhere contests c.id k contest (apart c contests d).0 g in
-    ap (λ ids. ids ∷ set (noted ballots contests) k (ballot_ids contest.id ballots ++ b.id ∷ [])) (sym (ids-other c.id ballots b other))
-    ∙ ap (λ more. ballot_ids c.id (ballots ++ b ∷ []) ∷ more) (noted-more contests k contest ballots b (apart c contests d).1 g e)
+    let own = ap (λ (x : Contest). ballot_ids x.id ballots ++ b.id ∷ []) (sym s)
+    ∙ sym (ids-own c.id ballots b (ap (λ id. is_same id c.id) of ∙ same-refl c.id)) in (
+      subst (λ ids. AreNoted ids met) own new,
+      met-same contests ballots b noted (ap (is_among (contest_ids contests)) of ∙ (apart c contests d).0) m.1,
+    )
+met-more (c ∷ contests) (suc k) contest ballots b (n ∷ noted) met d g e m new =
+    let other = ap (λ id. is_same id c.id) e ∙ elsewhere contests c.id k contest (apart c contests d).0 g in (
+      subst (λ ids. AreNoted ids n) (sym (ids-other c.id ballots b other)) m.0,
+      met-more contests k contest ballots b noted met (apart c contests d).1 g e m.1 new,
+    )
 
 -- ---- what is judged of a ballot's record
 
@@ -140,29 +146,38 @@ ranked contests ballots at row k id preferences contest m h o e =
 pub same_at : {X : Type 0} (xs : List X) (k : ℕ) (x y : X) → slice_get xs k ≡ Some x → slice_get xs k ≡ Some y → x ≡ y
 same_at xs k x y g h = let e = sym g ∙ h in cc
 
-abbrev part_with : List Ballot → KeptPart
-part_with own = record { places = map (λ (x : Ballot). x.at) own; rankings = map (λ (x : Ballot). x.ranking) own }
+abbrev origins_with : List Ballot → KeptOrigins
+origins_with own = record { ids = map (λ (x : Ballot). x.id) own; places = map (λ (x : Ballot). x.at) own }
 
-part-own : (contest : Contest) (ballots : List Ballot) (b : Ballot) → is_same b.contest contest.id ≡ true →
-    part_of (ballots ++ b ∷ []) contest ≡ with_ballot (part_of ballots contest) b.at b.ranking
-part-own contest ballots b h =
-    let own = ballots_in contest.id ballots in
-    ap part_with (pushed-own contest.id ballots b h)
-    ∙ ap (λ ats. record { places = ats; rankings = map (λ (x : Ballot). x.ranking) (own ++ b ∷ []) }) (map-append (λ (x : Ballot). x.at) own (b ∷ []))
-    ∙ ap (λ rs. record { places = map (λ (x : Ballot). x.at) own ++ b.at ∷ []; rankings = rs }) (map-append (λ (x : Ballot). x.ranking) own (b ∷ []))
+abbrev part_with : Bool → List Ballot → KeptPart
+part_with keeps own = record { origins = if keeps then Some (origins_with own) else None; rankings = map (λ (x : Ballot). x.ranking) own }
 
-part-other : (contest : Contest) (ballots : List Ballot) (b : Ballot) → is_same b.contest contest.id ≡ false →
-    part_of (ballots ++ b ∷ []) contest ≡ part_of ballots contest
-part-other contest ballots b h =
-    ap part_with (pushed-other contest.id ballots b h)
+origins-push : (own : List Ballot) (b : Ballot) → origins_with (own ++ b ∷ []) ≡ with_origin (origins_with own) b.id b.at
+origins-push own b =
+    ap (λ ids. record { ids = ids; places = map (λ (x : Ballot). x.at) (own ++ b ∷ []) }) (map-append (λ (x : Ballot). x.id) own (b ∷ []))
+    ∙ ap (λ ats. record { ids = map (λ (x : Ballot). x.id) own ++ b.id ∷ []; places = ats }) (map-append (λ (x : Ballot). x.at) own (b ∷ []))
+
+part-push : (keeps : Bool) (own : List Ballot) (b : Ballot) → part_with keeps (own ++ b ∷ []) ≡ with_ballot (part_with keeps own) b.id b.at b.ranking
+part-push true own b =
+    ap (λ origins. record { origins = Some origins; rankings = map (λ (x : Ballot). x.ranking) (own ++ b ∷ []) }) (origins-push own b)
+    ∙ ap (λ rs. record { origins = Some (with_origin (origins_with own) b.id b.at); rankings = rs }) (map-append (λ (x : Ballot). x.ranking) own (b ∷ []))
+part-push false own b = ap (λ rs. record { origins = None; rankings = rs }) (map-append (λ (x : Ballot). x.ranking) own (b ∷ []))
+
+part-own : (keeps : Bool) (contest : Contest) (ballots : List Ballot) (b : Ballot) → is_same b.contest contest.id ≡ true →
+    part_of keeps (ballots ++ b ∷ []) contest ≡ with_ballot (part_of keeps ballots contest) b.id b.at b.ranking
+part-own keeps contest ballots b h = ap (part_with keeps) (pushed-own contest.id ballots b h) ∙ part-push keeps (ballots_in contest.id ballots) b
+
+part-other : (keeps : Bool) (contest : Contest) (ballots : List Ballot) (b : Ballot) → is_same b.contest contest.id ≡ false →
+    part_of keeps (ballots ++ b ∷ []) contest ≡ part_of keeps ballots contest
+part-other keeps contest ballots b h = ap (part_with keeps) (pushed-other contest.id ballots b h)
 
 abbrev pub wanted_part : ℕ → Wanted → List Ballot → Contest → Option KeptPart
-wanted_part place wanted ballots contest = if is_wanted wanted place then Some (part_of ballots contest) else None
+wanted_part place wanted ballots contest = if is_wanted wanted place then Some (part_of (keeps_origins wanted) ballots contest) else None
 
-more-wanted : (t : Bool) (old new : KeptPart) (at : ℕ) (ranking : List ℕ) → new ≡ with_ballot old at ranking →
-    option_map (λ (p : KeptPart). with_ballot p at ranking) (if t then Some old else None) ≡ (if t then Some new else None)
-more-wanted true old new at ranking h = ap Some (sym h)
-more-wanted false old new at ranking h = refl
+more-wanted : (t : Bool) (old new : KeptPart) (id : Id) (at : ℕ) (ranking : List ℕ) → new ≡ with_ballot old id at ranking →
+    option_map (λ (p : KeptPart). with_ballot p id at ranking) (if t then Some old else None) ≡ (if t then Some new else None)
+more-wanted true old new id at ranking h = ap Some (sym h)
+more-wanted false old new id at ranking h = refl
 
 -- contests that lack the ballot's keep what they had
 parts-same : (place : ℕ) (wanted : Wanted) (contests : List Contest) (ballots : List Ballot) (b : Ballot) →
@@ -171,38 +186,38 @@ parts-same place wanted [] ballots b h = refl
 parts-same place wanted (c ∷ contests) ballots b h =
     let (first, rest) = or-false (is_same c.id b.contest) (is_among (contest_ids contests) b.contest) h in
     ap (λ part. (if is_wanted wanted place then Some part else None) ∷ parts_from (place + 1) wanted ballots contests)
-    (sym (part-other c ballots b (same-comm b.contest c.id ∙ first)))
+    (sym (part-other (keeps_origins wanted) c ballots b (same-comm b.contest c.id ∙ first)))
     ∙ ap (λ more. wanted_part place wanted (ballots ++ b ∷ []) c ∷ more) (parts-same (place + 1) wanted contests ballots b rest)
 
 parts-more : (place : ℕ) (wanted : Wanted) (contests : List Contest) (k : ℕ) (contest : Contest) (ballots : List Ballot) (b : Ballot) (part : Option KeptPart) →
     all_differ (contest_ids contests) ≡ true → slice_get contests k ≡ Some contest → b.contest ≡ contest.id →
     slice_get (parts_from place wanted ballots contests) k ≡ Some part →
-    set (parts_from place wanted ballots contests) k (option_map (λ (p : KeptPart). with_ballot p b.at b.ranking) part)
+    set (parts_from place wanted ballots contests) k (option_map (λ (p : KeptPart). with_ballot p b.id b.at b.ranking) part)
     ≡ parts_from place wanted (ballots ++ b ∷ []) contests
 parts-more place wanted [] k contest ballots b part d g e h = absurd cc
 parts-more place wanted (c ∷ contests) zero contest ballots b part d g e h =
     let s : c ≡ contest = cc in
     let stood : wanted_part place wanted ballots c ≡ part = cc in
     let of : b.contest ≡ c.id = e ∙ ap (λ (x : Contest). x.id) (sym s) in
-    let own = part-own c ballots b (ap (λ id. is_same id c.id) of ∙ same-refl c.id) in
-    ap (λ o. option_map (λ (p : KeptPart). with_ballot p b.at b.ranking) o ∷ parts_from (place + 1) wanted ballots contests) (sym stood)
+    let own = part-own (keeps_origins wanted) c ballots b (ap (λ id. is_same id c.id) of ∙ same-refl c.id) in
+    ap (λ o. option_map (λ (p : KeptPart). with_ballot p b.id b.at b.ranking) o ∷ parts_from (place + 1) wanted ballots contests) (sym stood)
     ∙ ap (λ o. o ∷ parts_from (place + 1) wanted ballots contests)
-    (more-wanted (is_wanted wanted place) (part_of ballots c) (part_of (ballots ++ b ∷ []) c) b.at b.ranking own)
+    (more-wanted (is_wanted wanted place) (part_of (keeps_origins wanted) ballots c) (part_of (keeps_origins wanted) (ballots ++ b ∷ []) c) b.id b.at b.ranking own)
     ∙ ap (λ more. wanted_part place wanted (ballots ++ b ∷ []) c ∷ more)
     (parts-same (place + 1) wanted contests ballots b (ap (is_among (contest_ids contests)) of ∙ (apart c contests d).0))
 parts-more place wanted (c ∷ contests) (suc k) contest ballots b part d g e h =
     let other = ap (λ id. is_same id c.id) e ∙ elsewhere contests c.id k contest (apart c contests d).0 g in
     ap (λ p. (if is_wanted wanted place then Some p else None)
-    ∷ set (parts_from (place + 1) wanted ballots contests) k (option_map (λ (p : KeptPart). with_ballot p b.at b.ranking) part))
-    (sym (part-other c ballots b other))
+    ∷ set (parts_from (place + 1) wanted ballots contests) k (option_map (λ (p : KeptPart). with_ballot p b.id b.at b.ranking) part))
+    (sym (part-other (keeps_origins wanted) c ballots b other))
     ∙ ap (λ more. wanted_part place wanted (ballots ++ b ∷ []) c ∷ more)
     (parts-more (place + 1) wanted contests k contest ballots b part (apart c contests d).1 g e h)
 
 apart-own : (contest : Contest) (ballots : List Ballot) (b : Ballot) → is_same b.contest contest.id ≡ true → AreApart ballots contest →
     is_among (ballot_ids contest.id ballots) b.id ≡ false → IsRanking (length contest.candidates) b.ranking → AreApart (ballots ++ b ∷ []) contest
 apart-own contest ballots b own h fresh valid =
-    let more = ap (λ (p : KeptPart). p.rankings) (part-own contest ballots b own) in
-    let before = (part_of ballots contest).rankings in
+    let more = ap (λ (p : KeptPart). p.rankings) (part-own true contest ballots b own) in
+    let before = rankings_in contest.id ballots in
     record {
       differ = ap all_differ (ids-own contest.id ballots b own) ∙ differ-push (ballot_ids contest.id ballots) b.id h.differ fresh;
       below = subst (All (λ ranking. All (λ c. c < length contest.candidates) ranking)) (sym more)
@@ -214,7 +229,7 @@ apart-own contest ballots b own h fresh valid =
 apart-other : (contest : Contest) (ballots : List Ballot) (b : Ballot) → is_same b.contest contest.id ≡ false → AreApart ballots contest →
     AreApart (ballots ++ b ∷ []) contest
 apart-other contest ballots b out h =
-    let more = ap (λ (p : KeptPart). p.rankings) (part-other contest ballots b out) in
+    let more = ap (λ (p : KeptPart). p.rankings) (part-other true contest ballots b out) in
     record {
       differ = ap all_differ (ids-other contest.id ballots b out) ∙ h.differ;
       below = subst (All (λ ranking. All (λ c. c < length contest.candidates) ranking)) (sym more) h.below;
@@ -229,14 +244,15 @@ pub record IsNew (contests : List Contest) (ballots : List Ballot) (k : ℕ) (co
   pub valid : IsRanking (length contest.candidates) b.ranking
 
 pub kept-more : (contests : List Contest) (wanted : Wanted) (ballots : List Ballot) (old new : KeptBallots) (k : ℕ) (contest : Contest) (b : Ballot)
-    (part : Option KeptPart)
+    (part : Option KeptPart) (met : Noted)
     → all_differ (contest_ids contests) ≡ true → IsKept contests wanted ballots old → old.count < MOST_RECORDS → IsNew contests ballots k contest b
-    → slice_get old.parts k ≡ Some part → new.ids ≡ set old.ids k (ballot_ids contest.id ballots ++ b.id ∷ [])
-    → new.parts ≡ set old.parts k (option_map (λ (p : KeptPart). with_ballot p b.at b.ranking) part) → new.count ≡ old.count + 1
+    → slice_get old.parts k ≡ Some part → new.met ≡ set old.met k met → AreNoted (ballot_ids contest.id ballots ++ b.id ∷ []) met
+    → new.parts ≡ set old.parts k (option_map (λ (p : KeptPart). with_ballot p b.id b.at b.ranking) part) → new.count ≡ old.count + 1
     → IsKept contests wanted (ballots ++ b ∷ []) new
-kept-more contests wanted ballots old new k contest b part d kept room is stood e f h = record {
-  noted = e ∙ ap (λ xs. set xs k (ballot_ids contest.id ballots ++ b.id ∷ [])) kept.noted ∙ noted-more contests k contest ballots b d is.there is.of;
-  parted = f ∙ ap (λ xs. set xs k (option_map (λ (p : KeptPart). with_ballot p b.at b.ranking) part)) kept.parted
+kept-more contests wanted ballots old new k contest b part met d kept room is stood e m f h = record {
+  noted = subst (AllNoted (ballots ++ b ∷ []) contests) (sym e)
+      (met-more contests k contest ballots b old.met met d is.there is.of kept.noted m);
+  parted = f ∙ ap (λ xs. set xs k (option_map (λ (p : KeptPart). with_ballot p b.id b.at b.ranking) part)) kept.parted
       ∙ parts-more 0 wanted contests k contest ballots b part d is.there is.of (sym (ap (λ xs. slice_get xs k) kept.parted) ∙ stood);
   counted = omega (arith, h, kept.counted, length-append ballots (b ∷ []));
   most = omega (arith, kept.counted, room, length-append ballots (b ∷ []));
@@ -255,11 +271,26 @@ kept-more contests wanted ballots old new k contest b part d kept room is stood 
 
 -- ---- from places to values
 
-pub stood : (contests : List Contest) (wanted : Wanted) (ballots : List Ballot) (kept : KeptBallots) (k : ℕ) (contest : Contest)
-    → IsKept contests wanted ballots kept → slice_get contests k ≡ Some contest → slice_get kept.ids k ≡ Some (ballot_ids contest.id ballots)
-stood contests wanted ballots kept k contest is there =
-    ap (λ xs. slice_get xs k) is.noted ∙ slice_get-map (λ (c : Contest). ballot_ids c.id ballots) contests k
-    ∙ ap (option_map (λ (c : Contest). ballot_ids c.id ballots)) there
+-- what is noted of a contest's ids, at its place
+pub met-at : (ballots : List Ballot) (contests : List Contest) (noted : List Noted) (k : ℕ) (contest : Contest) →
+    AllNoted ballots contests noted → slice_get contests k ≡ Some contest →
+    (met : Noted) × (slice_get noted k ≡ Some met) × AreNoted (ballot_ids contest.id ballots) met
+met-at ballots [] noted k contest m g = absurd cc
+met-at ballots (c ∷ contests) [] k contest m g = absurd m
+met-at ballots (c ∷ contests) (n ∷ noted) zero contest m g =
+    let s : c ≡ contest = cc in (n, refl, subst (λ (x : Contest). AreNoted (ballot_ids x.id ballots) n) s m.0)
+met-at ballots (c ∷ contests) (n ∷ noted) (suc k) contest m g = met-at ballots contests noted k contest m.1 g
+
+pub length-met : (ballots : List Ballot) (contests : List Contest) (noted : List Noted) → AllNoted ballots contests noted →
+    length noted ≡ length contests
+length-met ballots [] [] m = refl
+length-met ballots [] (n ∷ noted) m = absurd m
+length-met ballots (c ∷ contests) [] m = absurd m
+length-met ballots (c ∷ contests) (n ∷ noted) m = ap suc (length-met ballots contests noted m.1)
+
+pub not-false : (b : Bool) → not b ≡ false → b ≡ true
+not-false true h = refl
+not-false false h = absurd (false≢true (sym h))
 
 pub some_of : {X : Type 0} (o : Option X) → is_some o ≡ true → (x : X) × (o ≡ Some x)
 some_of None h = absurd cc
@@ -295,6 +326,6 @@ keeps_audited contests wanted ballots parts sized e place contest part there h =
     sym (ap (λ k. wanted_part k wanted ballots contest) at) ∙ same_at parts place (wanted_part (0 + place) wanted ballots contest) (Some part)
     (ap (λ xs. slice_get xs place) e ∙ part-at 0 wanted ballots contests place contest there) h))
   where
-    by : (b : Bool) → (if b then Some (part_of ballots contest) else None) ≡ Some part → b ≡ true
+    by : (b : Bool) → (if b then Some (part_of (keeps_origins wanted) ballots contest) else None) ≡ Some part → b ≡ true
     by true g = refl
     by false g = absurd cc

@@ -1,13 +1,14 @@
 -- The ballots behind the contests.
-use Rattle.std.proofs.Common.{◌≡◌, ◌+◌, ◌∙◌, ◌++◌, ◌∷◌, [], ℕ, List, Option, Some, Result, Ok, Err, length, map, drop, sym, ap}
+use Rattle.std.proofs.Common.{◌≡◌, ◌+◌, ◌∙◌, ◌++◌, ◌∷◌, [], ℕ, List, Option, Some, Result, Ok, length, map, drop, sym, ap}
 use Rattle.csv_rows.specs.Rows.{Fields}
 use Rattle.irv_base.specs.Names.{Id}
 use Rattle.ballot_reader.specs.Ballots.{BallotFile}
-use Rattle.ballot_reader.specs.Faults.{Refuses}
-use Rattle.ballot_reader.specs.Grammar.{Ballot, Contest, Refusal, all_audited, and_then, asked_for, ballot_of, ballots_after, ballots_behind, contests_behind, contests_in, file_of, audited_contest, then_on}
-use Rattle.ballot_reader.specs.Kept.{IsKept, KeptBallots, RefusesRecord}
-use Rattle.ballot_reader.specs.declared.fault.BallotFault.{BallotFault}
-use Rattle.ballot_reader.specs.declared.fault.BallotFault.TheVariants.{Refused, Memory}
+use Rattle.file_fault.specs.Refusals.{and_then, Refusal, Refuses}
+use Rattle.ballot_reader.specs.Grammar.{Ballot, Contest, all_audited, asked_for, ballot_of, ballots_after, ballots_behind, contests_behind, contests_in, file_of, audited_contest, then_on}
+use Rattle.ballot_reader.specs.Kept.{IsKept, KeptBallots}
+use Rattle.file_fault.specs.declared.fault.Fault.{Fault}
+use Rattle.ballot_reader.specs.declared.fault.BRule.{BRule}
+use Rattle.file_fault.specs.declared.fault.Fault.TheVariants.{Refused, Memory}
 use Rattle.ballot_reader.specs.declared.wanted.Wanted.{Wanted}
 
 -- ---- one ballot after the other
@@ -27,19 +28,19 @@ ballots-more contests rows ballots at row rest ballot split h = split
 
 -- ---- the whole
 
-refused-on : {A B : Type 0} (said : Result A Refusal) (more : A → Result B Refusal) (fault : BallotFault) → Refuses said fault →
+refused-on : {A B : Type 0} (said : Result A (Refusal BRule)) (more : A → Result B (Refusal BRule)) (fault : Fault BRule) → Refuses said fault →
     Refuses (then_on said more) fault
 refused-on said more (Refused rule at) h = ap (λ r. then_on r more) h
 refused-on said more Memory h = tt
 
-same-refusal : {B : Type 0} (said other : Result B Refusal) (fault : BallotFault) → said ≡ other → Refuses other fault → Refuses said fault
+same-refusal : {B : Type 0} (said other : Result B (Refusal BRule)) (fault : Fault BRule) → said ≡ other → Refuses other fault → Refuses said fault
 same-refusal said other (Refused rule at) e h = e ∙ h
 same-refusal said other Memory e h = tt
 
-abbrev pub after_sized : Option Id → ℕ → List Fields → List Contest → Contest → Result BallotFile Refusal
+abbrev pub after_sized : Option Id → ℕ → List Fields → List Contest → Contest → Result BallotFile (Refusal BRule)
 after_sized asked n rows contests audited = then_on (ballots_after contests [] (2 + n) (drop n rows)) (λ ballots. Ok (file_of audited ballots))
 
-abbrev pub after_contests : Option Id → ℕ → List Fields → List Contest → Result BallotFile Refusal
+abbrev pub after_contests : Option Id → ℕ → List Fields → List Contest → Result BallotFile (Refusal BRule)
 after_contests asked n rows contests = then_on (audited_contest (asked_for contests asked)) (after_sized asked n rows contests)
 
 pub with-contests : (n : ℕ) (asked : Option Id) (rows : List Fields) (contests : List Contest) → contests_in n [] 2 rows ≡ Ok contests →
@@ -65,14 +66,14 @@ all-read n asked rows rest contests chosen ballots h s l e r =
 
 -- ---- the whole of all contests
 
-abbrev pub after_all : ℕ → List Fields → List Contest → List Contest → Result (List BallotFile) Refusal
+abbrev pub after_all : ℕ → List Fields → List Contest → List Contest → Result (List BallotFile) (Refusal BRule)
 after_all n rows contests audited =
     then_on (ballots_after contests [] (2 + n) (drop n rows)) (λ ballots. Ok (map (λ (c : Contest). file_of c ballots) audited))
 
-abbrev pub after_listed : ℕ → List Fields → List Contest → Result (List BallotFile) Refusal
+abbrev pub after_listed : ℕ → List Fields → List Contest → Result (List BallotFile) (Refusal BRule)
 after_listed n rows contests = then_on (all_audited contests) (after_all n rows contests)
 
-pub none-listed : (n : ℕ) (rows : List Fields) (fault : BallotFault) → Refuses (contests_in n [] 2 rows) fault →
+pub none-listed : (n : ℕ) (rows : List Fields) (fault : Fault BRule) → Refuses (contests_in n [] 2 rows) fault →
     Refuses (contests_behind (Some n) rows) fault
 none-listed n rows fault h = refused-on (contests_in n [] 2 rows) (after_listed n rows) fault h
 

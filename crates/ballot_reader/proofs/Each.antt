@@ -9,7 +9,8 @@ use Rattle.csv_rows.specs.Numbers.{number_of}
 use Rattle.csv_rows.specs.Rows.{Fields}
 use Rattle.irv_base.specs.Names.{Id, all_differ, is_same}
 use Rattle.ballot_reader.specs.Ballots.{BallotFile}
-use Rattle.ballot_reader.specs.Grammar.{Ballot, Contest, Refusal, and_then, audited_contest, ballot_of, ballots_after, ballots_behind, ballots_from, contest_count, contest_with_id, contests_behind, contests_from, contests_in, file_of, has_audited_size, refused, then_on, unless_unsized}
+use Rattle.ballot_reader.specs.Grammar.{Ballot, Contest, audited_contest, ballot_of, ballots_after, ballots_behind, ballots_from, contest_count, contest_with_id, contests_behind, contests_from, contests_in, file_of, has_audited_size, then_on, unless_unsized}
+use Rattle.file_fault.specs.Refusals.{and_then, Refusal, refused}
 use Rattle.ballot_reader.specs.Kept.{contest_ids}
 use Rattle.ballot_reader.specs.Laws.{ContestsAreEach, IsFirstRefusal, IsOfEach, listed_behind, listed_from}
 use Rattle.ballot_reader.specs.declared.fault.BRule.{BRule}
@@ -72,7 +73,7 @@ all-sized (c ∷ contests) h k contest there = by (has_audited_size c.candidates
 
 -- ---- ballots are refused behind the contests
 
-refused-behind : (contests : List Contest) (earlier : List Ballot) (at : ℕ) (rows : List Fields) (refusal : Refusal) →
+refused-behind : (contests : List Contest) (earlier : List Ballot) (at : ℕ) (rows : List Fields) (refusal : Refusal BRule) →
     ballots_after contests earlier at rows ≡ Err refusal → at ≤ refusal.at
 refused-behind contests earlier at [] refusal h = absurd cc
 refused-behind contests earlier at (row ∷ rows) refusal h =
@@ -80,7 +81,7 @@ refused-behind contests earlier at (row ∷ rows) refusal h =
   where
     by : (o : Result Ballot BRule) → and_then at o (λ (b : Ballot). ballots_after contests (earlier ++ b ∷ []) (at + 1) rows) ≡ Err refusal →
         ((ballot : Ballot) → ballots_after contests (earlier ++ ballot ∷ []) (at + 1) rows ≡ Err refusal → at + 1 ≤ refusal.at) → at ≤ refusal.at
-    by (Err rule) g more = let s : record { rule = rule; at = at } ≡ refusal = cc in omega (arith, ap (λ (r : Refusal). r.at) s)
+    by (Err rule) g more = let s : record { rule = rule; at = at } ≡ refusal = cc in omega (arith, ap (λ (r : Refusal BRule). r.at) s)
     by (Ok ballot) g more = omega (arith, more ballot g)
 
 -- ---- elements
@@ -100,7 +101,7 @@ map-ok said f (x ∷ xs) h =
 -- ---- all contests
 
 module _ (n : ℕ) (rows : List Fields) (contests : List Contest) (read : contests_in n [] 2 rows ≡ Ok contests) where
-  abbrev said : Option Id → Result BallotFile Refusal
+  abbrev said : Option Id → Result BallotFile (Refusal BRule)
   said asked = ballots_behind (Some n) asked rows
 
   are : AreListed contests (2 + n)
@@ -123,7 +124,7 @@ module _ (n : ℕ) (rows : List Fields) (contests : List Contest) (read : contes
   of-sized k c there h = of-one k c there
       ∙ ap (λ b. then_on (if b then Ok c else refused B3 c.at) (after_sized (Some c.id) n rows contests)) h
 
-  abbrev all : Result (List BallotFile) Refusal
+  abbrev all : Result (List BallotFile) (Refusal BRule)
   all = contests_behind (Some n) rows
 
   -- one has another size
@@ -142,19 +143,19 @@ module _ (n : ℕ) (rows : List Fields) (contests : List Contest) (read : contes
                   omega (arith, are.numbered u.place c u.there, within, many, behind)
               | inr f ↦
                   let same : record { rule = B3; at = other.at } ≡ later = same-refusal B3 other.at later (sym (of-unsized k other there f) ∙ h) in
-                  omega (arith, are.numbered u.place c u.there, are.numbered k other there, u.first k other there f, ap (λ (r : Refusal). r.at) same)
+                  omega (arith, are.numbered u.place c u.there, are.numbered k other there, u.first k other there f, ap (λ (r : Refusal BRule). r.at) same)
             ];
       }
     where
-      same-refusal : (rule : BRule) (at : ℕ) (later : Refusal) → refused {A = BallotFile} rule at ≡ Err later → record { rule = rule; at = at } ≡ later
+      same-refusal : (rule : BRule) (at : ℕ) (later : Refusal BRule) → refused {A = BallotFile} rule at ≡ Err later → record { rule = rule; at = at } ≡ later
       same-refusal rule at later h = cc
 
-      after-sized : (later : Refusal) (o : Result (List Ballot) Refusal) → ballots_after contests [] (2 + n) (drop n rows) ≡ o → (other : Contest) →
+      after-sized : (later : Refusal BRule) (o : Result (List Ballot) (Refusal BRule)) → ballots_after contests [] (2 + n) (drop n rows) ≡ o → (other : Contest) →
           then_on o (λ bs. Ok (file_of other bs)) ≡ Err later → 2 + n ≤ later.at
       after-sized later (Ok bs) e other h = absurd cc
       after-sized later (Err refusal) e other h =
           let s : refusal ≡ later = cc in
-          omega (arith, refused-behind contests [] (2 + n) (drop n rows) refusal e, ap (λ (r : Refusal). r.at) s)
+          omega (arith, refused-behind contests [] (2 + n) (drop n rows) refusal e, ap (λ (r : Refusal BRule). r.at) s)
 
   -- all have a size that can be audited
   all-read : unsized_in contests ≡ None → (bs : List Ballot) → ballots_after contests [] (2 + n) (drop n rows) ≡ Ok bs →
@@ -162,7 +163,7 @@ module _ (n : ℕ) (rows : List Fields) (contests : List Contest) (read : contes
   all-read e bs h = map-ok (λ (c : Contest). said (Some c.id)) (λ (c : Contest). file_of c bs) contests
       (λ k c there. of-sized k c there (all-sized contests e k c there) ∙ ap (λ r. then_on r (λ xs. Ok (file_of c xs))) h)
 
-  all-refused : unsized_in contests ≡ None → 1 ≤ n → (refusal : Refusal) → ballots_after contests [] (2 + n) (drop n rows) ≡ Err refusal →
+  all-refused : unsized_in contests ≡ None → 1 ≤ n → (refusal : Refusal BRule) → ballots_after contests [] (2 + n) (drop n rows) ≡ Err refusal →
       IsFirstRefusal said contests refusal
   all-refused e some refusal h =
       let (c, there) = first-of contests (omega (arith, many, some)) in
@@ -172,13 +173,13 @@ module _ (n : ℕ) (rows : List Fields) (contests : List Contest) (read : contes
         refuses = of-each 0 c there;
         first = λ other later among g. let (k, at) = contains-at contests other among in
             let same = as-refused (said (Some other.id)) refusal later (of-each k other at) g in
-            omega (arith, ap (λ (r : Refusal). r.at) same);
+            omega (arith, ap (λ (r : Refusal BRule). r.at) same);
       }
     where
       of-each : (k : ℕ) (c : Contest) → slice_get contests k ≡ Some c → said (Some c.id) ≡ Err refusal
       of-each k c there = of-sized k c there (all-sized contests e k c there) ∙ ap (λ r. then_on r (λ bs. Ok (file_of c bs))) h
 
-      as-refused : (file : Result BallotFile Refusal) (one other : Refusal) → file ≡ Err one → file ≡ Err other → one ≡ other
+      as-refused : (file : Result BallotFile (Refusal BRule)) (one other : Refusal BRule) → file ≡ Err one → file ≡ Err other → one ≡ other
       as-refused file one other g h = let e = sym g ∙ h in cc
 
       first-of : (cs : List Contest) → 1 ≤ length cs → (c : Contest) × (slice_get cs 0 ≡ Some c)
@@ -187,7 +188,7 @@ module _ (n : ℕ) (rows : List Fields) (contests : List Contest) (read : contes
 
   pub of_each : 1 ≤ n → IsOfEach said (Ok contests) all
   of_each some = by (unsized_in contests) refl where
-    after : (o : Result (List Ballot) Refusal) → unsized_in contests ≡ None → ballots_after contests [] (2 + n) (drop n rows) ≡ o →
+    after : (o : Result (List Ballot) (Refusal BRule)) → unsized_in contests ≡ None → ballots_after contests [] (2 + n) (drop n rows) ≡ o →
         IsOfEach said (Ok contests) (then_on o (λ bs. Ok (map (λ (c : Contest). file_of c bs) contests)))
     after (Ok bs) e h = all-read e bs h
     after (Err refusal) e h = all-refused e some refusal h
@@ -218,7 +219,7 @@ each-behind : (o : Option ℕ) (rows : List Fields) → ((n : ℕ) → o ≡ Som
     IsOfEach (λ asked. ballots_behind o asked rows) (listed_behind o rows) (contests_behind o rows)
 each-behind None rows some = (refl, λ asked. refl)
 each-behind (Some n) rows some = by (contests_in n [] 2 rows) refl where
-  by : (o : Result (List Contest) Refusal) → contests_in n [] 2 rows ≡ o →
+  by : (o : Result (List Contest) (Refusal BRule)) → contests_in n [] 2 rows ≡ o →
       IsOfEach (λ asked. ballots_behind (Some n) asked rows) o (contests_behind (Some n) rows)
   by (Ok contests) e = of_each n rows contests e (some n refl)
   by (Err refusal) e = (ap (λ r. then_on r (after_listed n rows)) e, λ asked. ap (λ r. then_on r (after_contests asked n rows)) e)

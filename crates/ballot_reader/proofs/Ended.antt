@@ -1,36 +1,39 @@
 -- Nothing yet, and what is kept at the end.
-use Rattle.std.proofs.Common.{◌≡◌, ◌≤◌, ◌<◌, ◌+◌, ◌∙◌, ◌++◌, ◌∷◌, [], ℕ, zero, suc, Bool, true, false, not, List, Option, Some, None, Ok, length, take, replicate, get_or, refl, sym, ap, subst, arith, inl, inr, eqb-true, eq-eqb, leb-true}
-use Rattle.std.specs.Prelude.{All, IsTrue, filter, find, nat_le, if◌then◌else◌}
+use Rattle.std.proofs.Common.{◌≡◌, ◌≤◌, ◌<◌, ◌+◌, ◌∙◌, ◌++◌, ◌∷◌, [], ℕ, zero, suc, Bool, true, false, not, List, Option, Some, None, Ok, length, take, get_or, refl, sym, ap, arith, inl, inr}
+use Rattle.std.specs.Prelude.{All, IsTrue, filter, find, if◌then◌else◌}
 use Rattle.std.specs.List.{slice_get}
-use Rattle.std.proofs.lemmas.Bool.{and_parts, cases_Bool}
+use Rattle.std.proofs.lemmas.Bool.{cases_Bool}
 use Rattle.std.proofs.lemmas.List.{length-map, length-take-le}
 use Rattle.std.proofs.lemmas.List.Elements.{All-nil}
-use Rattle.std.proofs.lemmas.Option.{slice_get_read, slice_get_within}
 use Rattle.std.proofs.Math.Seq.{take-suc}
 use Rattle.irv_base.specs.Candidates.{is_distinct}
-use Rattle.irv_base.specs.Names.{Id, is_same}
-use Rattle.irv_base.specs.declared.limits.TheConstants.{FEWEST_CANDIDATES, MOST_CANDIDATES}
+use Rattle.irv_base.specs.Names.{is_same}
 use Rattle.ballot_reader.specs.Ballots.{AreBallots}
-use Rattle.ballot_reader.specs.Grammar.{Ballot, Contest, audited_contest, ballot_ids, ballots_in, file_of, has_audited_size, refused, unless_unsized}
-use Rattle.ballot_reader.specs.Kept.{IsKept, KeptBallots, KeptPart, WantsAudited, file_with, is_wanted, part_of, parts_from}
-use Rattle.ballot_reader.specs.declared.fault.BRule.TheVariants.{B3}
+use Rattle.ballot_reader.specs.Grammar.{Ballot, Contest, ballot_ids, ballots_in, file_of, has_audited_size, unless_unsized}
+use Rattle.ballot_reader.specs.Kept.{AllNoted, IsKept, KeptBallots, KeptPart, WantsAudited, empty_part, file_with, is_wanted, keeps_origins, part_of, parts_from, origins_in, rankings_in}
+use Rattle.ballot_reader.specs.Noted.{AreNoted}
+use Rattle.ballot_reader.specs.declared.noted.Noted.{Noted}
 use Rattle.ballot_reader.specs.declared.wanted.Wanted.{Wanted}
-use Rattle.ballot_reader.specs.declared.wanted.Wanted.TheVariants.{One, All as EachContest}
-use Rattle.ballot_reader.proofs.Adding.{length-parts, noted, part-at, same_at, stood, wanted_part}
+use Rattle.ballot_reader.specs.declared.wanted.Wanted.TheVariants.{All as EachContest}
+use Rattle.ballot_reader.proofs.Adding.{length-parts, part-at, wanted_part}
 
 pub got : {X : Type 0} (xs : List X) (k : ℕ) → k < length xs → (x : X) × (slice_get xs k ≡ Some x)
 got [] k l = absurd (omega (arith, l))
 got (x ∷ xs) zero l = (x, refl)
 got (x ∷ xs) (suc k) l = got xs k (omega (arith, l))
 
-noted-none : (contests : List Contest) → replicate (length contests) [] ≡ noted [] contests
-noted-none [] = refl
-noted-none (c ∷ contests) = ap (λ ids. [] ∷ ids) (noted-none contests)
+met-none : (contests : List Contest) (noted : List Noted) → length noted ≡ length contests → All (AreNoted []) noted →
+    AllNoted [] contests noted
+met-none [] [] l h = tt
+met-none [] (n ∷ noted) l h = absurd cc
+met-none (c ∷ contests) [] l h = absurd cc
+met-none (c ∷ contests) (n ∷ noted) l h =
+    (h 0 n (omega arith), met-none contests noted (omega (arith, l)) (λ k d less. h (suc k) d (omega (arith, less))))
 
-pub kept-none : (contests : List Contest) (wanted : Wanted) (kept : KeptBallots) → kept.ids ≡ replicate (length contests) [] →
-    kept.parts ≡ parts_from 0 wanted [] contests → kept.count ≡ 0 → IsKept contests wanted [] kept
-kept-none contests wanted kept i p c = record {
-  noted = i ∙ noted-none contests;
+pub kept-none : (contests : List Contest) (wanted : Wanted) (kept : KeptBallots) → length kept.met ≡ length contests →
+    All (AreNoted []) kept.met → kept.parts ≡ parts_from 0 wanted [] contests → kept.count ≡ 0 → IsKept contests wanted [] kept
+kept-none contests wanted kept l i p c = record {
+  noted = met-none contests kept.met l i;
   parted = p;
   counted = c;
   most = omega arith;
@@ -43,17 +46,17 @@ kept-none contests wanted kept i p c = record {
 
 pub parts-push : (place : ℕ) (wanted : Wanted) (contests : List Contest) (contest : Contest) →
     parts_from place wanted [] (contests ++ contest ∷ [])
-    ≡ parts_from place wanted [] contests ++ (if is_wanted wanted (place + length contests) then Some (record { places = []; rankings = [] }) else None) ∷ []
+    ≡ parts_from place wanted [] contests ++ (if is_wanted wanted (place + length contests) then Some (empty_part (keeps_origins wanted)) else None) ∷ []
 parts-push place wanted [] contest =
     let e : place ≡ place + 0 = omega arith in
-    ap (λ k. (if is_wanted wanted k then Some (record { places = []; rankings = [] }) else None) ∷ []) e
+    ap (λ k. (if is_wanted wanted k then Some (empty_part (keeps_origins wanted)) else None) ∷ []) e
 parts-push place wanted (c ∷ contests) contest =
     let e : (place + 1) + length contests ≡ place + suc (length contests) = omega arith in
-    ap (λ more. (if is_wanted wanted place then Some (record { places = []; rankings = [] }) else None) ∷ more) (parts-push (place + 1) wanted contests contest
-    ∙ ap (λ k. parts_from (place + 1) wanted [] contests ++ (if is_wanted wanted k then Some (record { places = []; rankings = [] }) else None) ∷ []) e)
+    ap (λ more. (if is_wanted wanted place then Some (empty_part (keeps_origins wanted)) else None) ∷ more) (parts-push (place + 1) wanted contests contest
+    ∙ ap (λ k. parts_from (place + 1) wanted [] contests ++ (if is_wanted wanted k then Some (empty_part (keeps_origins wanted)) else None) ∷ []) e)
 
 pub more-parts : (wanted : Wanted) (contests : List Contest) (k : ℕ) (parts : List (Option KeptPart)) (part : Option KeptPart) → k < length contests →
-    parts ≡ parts_from 0 wanted [] (take k contests) → part ≡ (if is_wanted wanted k then Some (record { places = []; rankings = [] }) else None) →
+    parts ≡ parts_from 0 wanted [] (take k contests) → part ≡ (if is_wanted wanted k then Some (empty_part (keeps_origins wanted)) else None) →
     parts ++ part ∷ [] ≡ parts_from 0 wanted [] (take (k + 1) contests)
 more-parts wanted contests k parts part less before last =
     let none : Contest = record { at = 0; id = []; candidates = [] } in
@@ -61,7 +64,7 @@ more-parts wanted contests k parts part less before last =
     let next : suc k ≡ k + 1 = omega arith in
     ap (λ ps. ps ++ part ∷ []) before
     ∙ ap (λ p. parts_from 0 wanted [] (take k contests) ++ p ∷ []) (last
-    ∙ ap (λ i. if is_wanted wanted i then Some (record { places = []; rankings = [] }) else None) (sym taken))
+    ∙ ap (λ i. if is_wanted wanted i then Some (empty_part (keeps_origins wanted)) else None) (sym taken))
     ∙ sym (parts-push 0 wanted (take k contests) (get_or contests k none))
     ∙ ap (parts_from 0 wanted []) (sym (take-suc contests k none less) ∙ ap (λ i. take i contests) next)
 
@@ -74,7 +77,7 @@ filter-le p (x ∷ xs) = elim (cases_Bool (p x)) [
 
 pub are_ballots : (contests : List Contest) (wanted : Wanted) (ballots : List Ballot) (kept : KeptBallots) (k : ℕ) (chosen : Contest) →
     IsKept contests wanted ballots kept → slice_get contests k ≡ Some chosen →
-    AreBallots (length chosen.candidates) (ballot_ids chosen.id ballots) (part_of ballots chosen).places (part_of ballots chosen).rankings
+    AreBallots (length chosen.candidates) (ballot_ids chosen.id ballots) (origins_in chosen.id ballots).places (rankings_in chosen.id ballots)
 are_ballots contests wanted ballots kept k chosen is there =
     let own = ballots_in chosen.id ballots in
     let few = filter-le (λ (b : Ballot). is_same b.contest chosen.id) ballots in
@@ -89,42 +92,18 @@ are_ballots contests wanted ballots kept k chosen is there =
       distinct = apart.distinct;
     }
 
-pub within-ids : (ids : List (List Id)) (contests : List Contest) (ballots : List Ballot) (k : ℕ) → ids ≡ noted ballots contests → k < length contests →
-    k < length ids
-within-ids ids contests ballots k e l =
-    omega (arith, l, ap length e, length-map contests (λ (c : Contest). ballot_ids c.id ballots))
-
 pub within-parts : (parts : List (Option KeptPart)) (contests : List Contest) (wanted : Wanted) (ballots : List Ballot) (k : ℕ) →
     parts ≡ parts_from 0 wanted ballots contests → k < length contests → k < length parts
 within-parts parts contests wanted ballots k e l = omega (arith, l, ap length e, length-parts 0 wanted ballots contests)
 
--- the part of the only contest that is wanted
-pub own-part : (contests : List Contest) (k : ℕ) (ballots : List Ballot) (kept : KeptBallots) (chosen : Contest) → IsKept contests (One k) ballots kept →
-    slice_get contests k ≡ Some chosen → slice_get kept.parts k ≡ Some (Some (part_of ballots chosen))
-own-part contests k ballots kept chosen is there =
+-- the part of a contest that is wanted
+pub own-part : (contests : List Contest) (wanted : Wanted) (k : ℕ) (ballots : List Ballot) (kept : KeptBallots) (contest : Contest) →
+    IsKept contests wanted ballots kept → is_wanted wanted k ≡ true → slice_get contests k ≡ Some contest →
+    slice_get kept.parts k ≡ Some (Some (part_of (keeps_origins wanted) ballots contest))
+own-part contests wanted k ballots kept contest is w there =
     let e : 0 + k ≡ k = omega arith in
-    ap (λ ps. slice_get ps k) is.parted ∙ part-at 0 (One k) ballots contests k chosen there ∙ ap (λ i. Some (wanted_part i (One k) ballots chosen)) e
-    ∙ ap (λ b. Some (if b then Some (part_of ballots chosen) else None)) (eq-eqb k k refl)
-
--- the ids and the part of a contest
-pub record IsOwn (ballots : List Ballot) (contest : Contest) (ids : List Id) (part : KeptPart) : Type 0 where
-  pub noted : ids ≡ ballot_ids contest.id ballots
-  pub parted : part ≡ part_of ballots contest
-
--- what is taken from the place of the only contest that is wanted
-pub own_taken : (contests : List Contest) (k : ℕ) (ballots : List Ballot) (kept : KeptBallots) (contest : Contest) (ids : List Id) (part : KeptPart) →
-    IsKept contests (One k) ballots kept → slice_get contests k ≡ Some contest → ids ≡ get_or kept.ids k ids →
-    Some part ≡ get_or kept.parts k (Some part) → IsOwn ballots contest ids part
-own_taken contests k ballots kept contest ids part is there e f =
-    let within = slice_get_within contests k contest there in
-    let has_ids = slice_get_read kept.ids (length kept.ids) k ids refl (within-ids kept.ids contests ballots k is.noted within) e in
-    let has_part = slice_get_read kept.parts (length kept.parts) k (Some part) refl (within-parts kept.parts contests (One k) ballots k is.parted within) f in
-    let same = same_at kept.parts k (Some part) (Some (part_of ballots contest)) has_part (own-part contests k ballots kept contest is there) in
-    record { noted = same_at kept.ids k ids (ballot_ids contest.id ballots) has_ids (stood contests (One k) ballots kept k contest is there); parted = cc }
-
-pub sized-only : (contests : List Contest) (k : ℕ) (chosen : Contest) → WantsAudited contests (One k) → slice_get contests k ≡ Some chosen →
-    IsTrue (has_audited_size chosen.candidates)
-sized-only contests k chosen sized there = sized k chosen there (eq-eqb k k refl)
+    ap (λ ps. slice_get ps k) is.parted ∙ part-at 0 wanted ballots contests k contest there ∙ ap (λ i. Some (wanted_part i wanted ballots contest)) e
+    ∙ ap (λ b. Some (if b then Some (part_of (keeps_origins wanted) ballots contest) else None)) w
 
 pub all-wanted : (contests all : List Contest) → unless_unsized all (find (λ (c : Contest). not (has_audited_size c.candidates)) contests) ≡ Ok all →
     WantsAudited contests EachContest
@@ -140,6 +119,7 @@ all-wanted (c ∷ contests) all h = by (has_audited_size c.candidates) refl h (a
     at zero contest there w = let s : c ≡ contest = cc in ap (λ (x : Contest). has_audited_size x.candidates) (sym s) ∙ e
     at (suc k) contest there w = more g k contest there w
 
-pub file-is : (chosen : Contest) (ballots : List Ballot) (contest : Contest) (ids : List Id) (part : KeptPart) → contest ≡ chosen →
-    ids ≡ ballot_ids chosen.id ballots → part ≡ part_of ballots chosen → file_with contest ids part ≡ file_of chosen ballots
-file-is chosen ballots contest ids part a b c = rw (a, b, c) refl
+-- the contest with its ballots, where it is kept whence they come
+pub file-is : (contest : Contest) (ballots : List Ballot) (part : KeptPart) → part ≡ part_of true ballots contest →
+    file_with contest part ≡ Some (file_of contest ballots)
+file-is contest ballots part e = ap (file_with contest) e

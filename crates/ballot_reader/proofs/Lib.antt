@@ -12,7 +12,9 @@ pub mod Filed
 pub mod Each
 pub mod Missed
 pub mod Rereads
-pub mod IdBytes
 pub mod SortedIds
+pub mod IdBytes
+pub mod Marks
+pub mod Noting
 pub mod Halves
 pub mod Eight

@@ -6,7 +6,8 @@ use Rattle.csv_rows.specs.Fields.{numbered_records}
 use Rattle.csv_rows.specs.Rows.{Fields}
 use Rattle.irv_base.specs.Names.{Id, is_among, is_name, is_same}
 use Rattle.irv_base.specs.declared.limits.TheConstants.{MOST_RECORDS}
-use Rattle.ballot_reader.specs.Grammar.{Ballot, Contest, Refusal, all_audited, and_then, ballot_for, ballot_ids, ballot_in, ballot_of, ballot_with, ballots_after, contest_count, contest_named, contest_of, contest_with, contest_with_id, contests_behind, contests_from, contests_in, file_of, has_audited_size, has_id, listed, names_of, number_up_to, ranking_of, refused, then_on, unless_unsized}
+use Rattle.ballot_reader.specs.Grammar.{Ballot, Contest, all_audited, ballot_for, ballot_ids, ballot_in, ballot_of, ballot_with, ballots_after, contest_count, contest_named, contest_of, contest_with, contest_with_id, contests_behind, contests_from, contests_in, file_of, has_audited_size, has_id, listed, names_of, number_up_to, ranking_of, then_on, unless_unsized}
+use Rattle.file_fault.specs.Refusals.{and_then, Refusal, refused}
 use Rattle.ballot_reader.specs.Laws.{NoneIsMissed}
 use Rattle.ballot_reader.specs.declared.fault.BRule.{BRule}
 use Rattle.ballot_reader.specs.declared.fault.BRule.TheVariants.{B1, B2, B3, B4, B5, B9, B10}
@@ -15,7 +16,7 @@ use Rattle.ballot_reader.specs.declared.limits.TheConstants.{MOST_LISTED}
 same-rule : {A : Type 0} (rule other : BRule) (at place : ℕ) → refused {A = A} rule at ≡ refused other place → rule ≡ other
 same-rule rule other at place h =
     let e : record { rule = rule; at = at } ≡ record { rule = other; at = place } = cc in
-    ap (λ (r : Refusal). r.rule) e
+    ap (λ (r : Refusal BRule). r.rule) e
 
 -- ---- a contest's record
 
@@ -100,19 +101,19 @@ sized contests (Some contest) place h = absurd (let e = same-rule B3 B5 contest.
 behind : (o : Option ℕ) (rows : List Fields) (place : ℕ) → contests_behind o rows ≡ refused B5 place → ⊥
 behind None rows place h = absurd (let e = same-rule B1 B5 1 place h in cc)
 behind (Some n) rows place h = by (contests_in n [] 2 rows) (all-contests n [] 2 rows place) h where
-  last : (contests audited : List Contest) (o : Result (List Ballot) Refusal) → (o ≡ refused B5 place → ⊥) →
+  last : (contests audited : List Contest) (o : Result (List Ballot) (Refusal BRule)) → (o ≡ refused B5 place → ⊥) →
       then_on o (λ bs. Ok (map (λ (c : Contest). file_of c bs) audited)) ≡ refused B5 place → ⊥
   last contests audited (Err refusal) other g = other cc
   last contests audited (Ok bs) other g = absurd cc
 
-  next : (contests : List Contest) (o : Result (List Contest) Refusal) → (o ≡ refused B5 place → ⊥) →
+  next : (contests : List Contest) (o : Result (List Contest) (Refusal BRule)) → (o ≡ refused B5 place → ⊥) →
       then_on o (λ audited. then_on (ballots_after contests [] (2 + n) (drop n rows)) (λ bs. Ok (map (λ (c : Contest). file_of c bs) audited)))
       ≡ refused B5 place → ⊥
   next contests (Err refusal) other g = other cc
   next contests (Ok audited) other g =
       last contests audited (ballots_after contests [] (2 + n) (drop n rows)) (all-ballots contests [] (2 + n) (drop n rows) place) g
 
-  by : (o : Result (List Contest) Refusal) → (o ≡ refused B5 place → ⊥) →
+  by : (o : Result (List Contest) (Refusal BRule)) → (o ≡ refused B5 place → ⊥) →
       then_on o (λ contests. then_on (all_audited contests) (λ audited. then_on (ballots_after contests [] (2 + n) (drop n rows))
       (λ bs. Ok (map (λ (c : Contest). file_of c bs) audited)))) ≡ refused B5 place → ⊥
   by (Err refusal) other g = other cc

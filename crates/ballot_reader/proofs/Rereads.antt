@@ -16,7 +16,8 @@ use Rattle.irv_base.specs.Names.{Id, is_name, is_same, is_among, all_differ, can
 use Rattle.irv_base.specs.Records.{firsts}
 use Rattle.irv_base.specs.declared.limits.TheConstants.{FEWEST_CANDIDATES, MOST_CANDIDATES, MOST_NUMBER_DIGITS, MOST_RECORDS}
 use Rattle.ballot_reader.specs.Ballots.{BallotFile}
-use Rattle.ballot_reader.specs.Grammar.{Ballot, Contest, all_of, and_then, ballot_for, ballot_ids, ballot_in, ballots_after, ballots_behind, ballots_in, contest_named, contest_of, contest_with, file_of, has_audited_size, is_marked, listed, names_of, number_up_to, ranking_of, refused, then_on}
+use Rattle.ballot_reader.specs.Grammar.{Ballot, Contest, all_of, ballot_for, ballot_ids, ballot_in, ballots_after, ballots_behind, ballots_in, contest_named, contest_of, contest_with, file_of, has_audited_size, is_marked, listed, names_of, number_up_to, ranking_of, then_on}
+use Rattle.file_fault.specs.Refusals.{and_then, refused}
 use Rattle.ballot_reader.specs.Laws.{WhatIsSpelledIsRead, ballot_records, id_of}
 use Rattle.ballot_reader.specs.declared.fault.BRule.TheVariants.{B2, B3, B4}
 use Rattle.ballot_reader.specs.declared.limits.TheConstants.{MOST_CONTESTS, MOST_LISTED}

@@ -1,11 +1,11 @@
 -- Ids in order, each once, in the keys of a set.
-use Rattle.std.proofs.Common.{◌≡◌, ◌<◌, ◌∙◌, ◌∷◌, [], ◌||◌, Bool, true, false, List, ℕ, zero, suc, Some, length, map, get_or, refl, sym, ap, arith}
+use Rattle.std.proofs.Common.{◌≡◌, ◌∙◌, ◌∷◌, [], ◌||◌, Bool, true, false, List, map, refl, sym, ap}
 use Rattle.std.specs.Ordering.{is_eq, match_ordering, nat_cmp}
 use Rattle.std.specs.declared.cmp.Ordering.{Ordering}
 use Rattle.std.specs.declared.cmp.Ordering.TheVariants.{Less, Equal, Greater}
 use Rattle.std.specs.BTreeSet.{insert_key}
 use Rattle.std.specs.Cmp.Lexicographic.{bytes_decides, slice_cmp, texts_ties}
-use Rattle.std.specs.List.{list_any, slice_get}
+use Rattle.std.specs.List.{list_any}
 use Rattle.irv_base.specs.Names.{Id, is_among, is_same}
 use Rattle.ballot_reader.proofs.Differing.{same-comm}
 
@@ -43,8 +43,3 @@ module _ {V : Type 0} (items : V → Id) where
   put-among (first ∷ keys) key id =
       one-put (slice_cmp nat_cmp (items key) (items first)) key first keys (insert_key (λ a b. slice_cmp nat_cmp (items a) (items b)) keys key) id refl
       (put-among keys key id)
-
-pub read-at : (ids : List Id) (k : ℕ) (d : Id) → k < length ids → slice_get ids k ≡ Some (get_or ids k d)
-read-at [] k d less = absurd (omega (arith, less))
-read-at (id ∷ ids) zero d less = refl
-read-at (id ∷ ids) (suc k) d less = read-at ids k d (omega (arith, less))

@@ -1,5 +1,5 @@
 -- What a ballot file says of its contest.
-use Rattle.std.specs.Prelude.{◌≡◌, ◌<◌, ◌≤◌, ℕ, List, length, All, IsTrue}
+use Rattle.std.specs.Prelude.{◌≡◌, ◌<◌, ◌≤◌, ℕ, List, [], length, All, IsTrue}
 use Rattle.irv_base.specs.Candidates.{is_distinct}
 use Rattle.irv_base.specs.Names.{Id, all_differ}
 use Rattle.irv_base.specs.declared.limits.TheConstants.{FEWEST_CANDIDATES, MOST_CANDIDATES, MOST_RECORDS}
@@ -13,6 +13,29 @@ pub record BallotFile : Type 0 where
   pub ids : List Id
   pub places : List ℕ
   pub rankings : List (List ℕ)
+
+-- with these ids and places in place of its own
+abbrev pub with_ids : BallotFile → List Id → List ℕ → BallotFile
+with_ids file ids places = record {
+  contest = file.contest;
+  candidates = file.candidates;
+  ids = ids;
+  places = places;
+  rankings = file.rankings;
+}
+
+-- what a file says without ids of ballots and without places
+abbrev pub votes_with : Id → List Id → List (List ℕ) → BallotFile
+votes_with contest candidates rankings = record {
+  contest = contest;
+  candidates = candidates;
+  ids = [];
+  places = [];
+  rankings = rankings;
+}
+
+abbrev pub votes_of : BallotFile → BallotFile
+votes_of file = votes_with file.contest file.candidates file.rankings
 
 pub record AreCandidates (candidates : List Id) : Type 0 where
   pub fewest : FEWEST_CANDIDATES ≤ length candidates
@@ -32,3 +55,8 @@ pub record AreBallots
 pub record IsSound (file : BallotFile) : Type 0 where
   pub candidates : AreCandidates file.candidates
   pub ballots : AreBallots (length file.candidates) file.ids file.places file.rankings
+
+pub record AreVotes (votes : BallotFile) : Type 0 where
+  pub candidates : AreCandidates votes.candidates
+  pub most : length votes.rankings ≤ MOST_RECORDS
+  pub below : All (λ ranking. All (λ c. c < length votes.candidates) ranking) votes.rankings

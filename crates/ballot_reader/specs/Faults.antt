@@ -1,15 +1,7 @@
--- Why a ballot file isn't read.
-use Rattle.std.specs.Prelude.{◌≡◌, ℕ, List, Result, Err, codes}
-use Rattle.ballot_reader.specs.Grammar.{Refusal}
-use Rattle.ballot_reader.specs.declared.fault.BallotFault.{BallotFault}
-use Rattle.ballot_reader.specs.declared.fault.BallotFault.TheVariants.{Refused, Memory}
+-- The rules of a ballot file.
+use Rattle.std.specs.Prelude.{ℕ, List, codes}
 use Rattle.ballot_reader.specs.declared.fault.BRule.{BRule}
 use Rattle.ballot_reader.specs.declared.fault.BRule.TheVariants.{B1, B2, B3, B4, B5, B6, B7, B8, B9, B10}
-
--- the file is refused by this rule at this record; memory may always be wanting
-abbrev pub Refuses : {A : Type 0} → Result A Refusal → BallotFault → Type 0
-Refuses said (Refused rule at) = said ≡ Err (record { rule = rule; at = at })
-Refuses said Memory = Unit {0}
 
 -- the name of a rule in the text of a refusal
 abbrev pub rule_name : BRule → List ℕ

@@ -4,6 +4,7 @@ use Rattle.std.specs.List.{list_all, list_any}
 use Rattle.csv_rows.specs.Fields.{numbered_records}
 use Rattle.csv_rows.specs.Numbers.{number_of}
 use Rattle.csv_rows.specs.Rows.{Fields}
+use Rattle.file_fault.specs.Refusals.{Refusal, and_then, refused}
 use Rattle.irv_base.specs.Names.{Id, is_name, is_same, is_among, all_differ, candidate_named}
 use Rattle.irv_base.specs.Records.{firsts}
 use Rattle.irv_base.specs.declared.limits.TheConstants.{FEWEST_CANDIDATES, MOST_CANDIDATES, MOST_RECORDS}
@@ -16,22 +17,6 @@ use Rattle.ballot_reader.specs.declared.limits.TheConstants.{MOST_CONTESTS, MOST
 abbrev pub all_of : {A B : Type 0} → (A → Option B) → List A → Option (List B)
 all_of f [] = Some []
 all_of f (x ∷ xs) = option_and_then (λ y. option_map (λ ys. y ∷ ys) (all_of f xs)) (f x)
-
--- ---- refusals
-
--- a rule, and the record that breaks it, counted from 1
-pub record Refusal : Type 0 where
-  pub rule : BRule
-  pub at : ℕ
-
-abbrev pub refused : {A : Type 0} → BRule → ℕ → Result A Refusal
-refused rule at = Err (record { rule = rule; at = at })
-
--- what follows the record number at, or its refusal
-abbrev pub and_then :
-    {A B : Type 0} → ℕ → Result A BRule → (A → Result B Refusal) → Result B Refusal
-and_then at (Ok value) more = more value
-and_then at (Err rule) more = refused rule at
 
 -- ---- the first record: the number of contests
 
@@ -83,7 +68,7 @@ contest_of earlier at (word ∷ id ∷ number ∷ ids) =
     else contest_with at id (listed (number_up_to MOST_LISTED number) ids)
 
 -- after these contests come n more, the first of them in record number at; one that is missing is refused at the number after the last
-abbrev pub contests_in : ℕ → List Contest → ℕ → List Fields → Result (List Contest) Refusal
+abbrev pub contests_in : ℕ → List Contest → ℕ → List Fields → Result (List Contest) (Refusal BRule)
 contests_in zero earlier at rows = Ok earlier
 contests_in (suc n) earlier at [] = refused B2 at
 contests_in (suc n) earlier at (row ∷ rows) =
@@ -109,7 +94,7 @@ has_audited_size candidates =
     nat_le FEWEST_CANDIDATES (length candidates) && nat_le (length candidates) MOST_CANDIDATES
 
 -- the contest that was asked for, or its refusal: it isn't there, or has too few or too many candidates to be audited
-abbrev pub audited_contest : Option Contest → Result Contest Refusal
+abbrev pub audited_contest : Option Contest → Result Contest (Refusal BRule)
 audited_contest None = refused B5 1
 audited_contest (Some contest) =
     if has_audited_size contest.candidates then Ok contest else refused B3 contest.at
@@ -163,7 +148,7 @@ ballot_of contests earlier at row =
 
 -- after these ballots come those in the records from number at on
 abbrev pub ballots_after :
-    List Contest → List Ballot → ℕ → List Fields → Result (List Ballot) Refusal
+    List Contest → List Ballot → ℕ → List Fields → Result (List Ballot) (Refusal BRule)
 ballots_after contests earlier at [] = Ok earlier
 ballots_after contests earlier at (row ∷ rows) =
     and_then at (ballot_of contests earlier at row) (λ ballot.
@@ -181,12 +166,14 @@ file_of contest ballots = record {
   rankings = map (λ ballot. ballot.ranking) (ballots_in contest.id ballots);
 }
 
-abbrev pub then_on : {A B : Type 0} → Result A Refusal → (A → Result B Refusal) → Result B Refusal
+abbrev pub then_on :
+    {A B : Type 0} → Result A (Refusal BRule) → (A → Result B (Refusal BRule)) →
+    Result B (Refusal BRule)
 then_on (Ok value) more = more value
 then_on (Err refusal) more = Err refusal
 
 -- behind n contests the records are ballots
-abbrev pub ballots_behind : Option ℕ → Option Id → List Fields → Result BallotFile Refusal
+abbrev pub ballots_behind : Option ℕ → Option Id → List Fields → Result BallotFile (Refusal BRule)
 ballots_behind None asked rows = refused B1 1
 ballots_behind (Some n) asked rows =
     then_on (contests_in n [] 2 rows) (λ contests.
@@ -194,27 +181,27 @@ ballots_behind (Some n) asked rows =
     then_on (ballots_after contests [] (2 + n) (drop n rows)) (λ ballots.
     Ok (file_of audited ballots))))
 
-abbrev pub ballots_from : Option Id → List Fields → Result BallotFile Refusal
+abbrev pub ballots_from : Option Id → List Fields → Result BallotFile (Refusal BRule)
 ballots_from asked [] = refused B1 1
 ballots_from asked (first ∷ rows) = ballots_behind (contest_count first) asked rows
 
 -- what a file says of the contest that is asked for, or, where none is, of its only one
-abbrev pub ballots_of : List ℕ → Option Id → Result BallotFile Refusal
+abbrev pub ballots_of : List ℕ → Option Id → Result BallotFile (Refusal BRule)
 ballots_of bytes asked = ballots_from asked (numbered_records bytes)
 
 -- ---- all contests of the file
 
-abbrev pub unless_unsized : List Contest → Option Contest → Result (List Contest) Refusal
+abbrev pub unless_unsized : List Contest → Option Contest → Result (List Contest) (Refusal BRule)
 unless_unsized contests None = Ok contests
 unless_unsized contests (Some contest) = refused B3 contest.at
 
 -- all contests, or the refusal of the first that has too few or too many candidates to be audited
-abbrev pub all_audited : List Contest → Result (List Contest) Refusal
+abbrev pub all_audited : List Contest → Result (List Contest) (Refusal BRule)
 all_audited contests =
     unless_unsized contests (find (λ contest. not (has_audited_size contest.candidates)) contests)
 
 -- behind n contests the records are ballots
-abbrev pub contests_behind : Option ℕ → List Fields → Result (List BallotFile) Refusal
+abbrev pub contests_behind : Option ℕ → List Fields → Result (List BallotFile) (Refusal BRule)
 contests_behind None rows = refused B1 1
 contests_behind (Some n) rows =
     then_on (contests_in n [] 2 rows) (λ contests.
@@ -222,10 +209,10 @@ contests_behind (Some n) rows =
     then_on (ballots_after contests [] (2 + n) (drop n rows)) (λ ballots.
     Ok (map (λ contest. file_of contest ballots) audited))))
 
-abbrev pub contests_from : List Fields → Result (List BallotFile) Refusal
+abbrev pub contests_from : List Fields → Result (List BallotFile) (Refusal BRule)
 contests_from [] = refused B1 1
 contests_from (first ∷ rows) = contests_behind (contest_count first) rows
 
 -- what a file says of each of its contests, in their order
-abbrev pub contests_of : List ℕ → Result (List BallotFile) Refusal
+abbrev pub contests_of : List ℕ → Result (List BallotFile) (Refusal BRule)
 contests_of bytes = contests_from (numbered_records bytes)

@@ -1,10 +1,12 @@
 -- The pages on which ids that were met are marked.
-use Rattle.std.specs.Prelude.{◌-◌, ◌+◌, ◌*◌, ◌/◌, ◌%◌, ◌^◌, ℕ, Bool, false, List, [], ◌∷◌, length, take, drop, Option, None, Some, if◌then◌else◌, ◌==◌}
+use Rattle.std.specs.Prelude.{◌-◌, ◌+◌, ◌*◌, ◌/◌, ◌%◌, ◌^◌, ◌&&◌, ℕ, Bool, false, not, nat_lt, List, [], ◌∷◌, length, take, drop, Option, None, Some, if◌then◌else◌, ◌==◌, IsTrue}
+use Rattle.std.specs.List.{list_all}
 use Rattle.std.specs.Hash.FoldHasher.{initial, write, finish}
 use Rattle.std.specs.BTreeMap.{get}
 use Rattle.std.specs.Ordering.{nat_cmp}
-use Rattle.irv_base.specs.Names.{Id}
-use Rattle.ballot_reader.specs.declared.pages.TheConstants.{COUNTED_BYTES}
+use Rattle.irv_base.specs.Names.{Id, is_same}
+use Rattle.ballot_reader.specs.declared.page.Page.{Page}
+use Rattle.ballot_reader.specs.declared.page.TheConstants.{COUNTED_BYTES}
 use Rattle.ballot_reader.specs.declared.pages.Pages.{Pages}
 
 -- a page is the sum of 2 ^ bit over the bits that are set on it
@@ -13,7 +15,8 @@ has_bit page bit = (page / 2 ^ bit) % 2 == 1
 
 -- Of what the last bytes of an id count, four bits of the last and two of the one before it are its bit on a page, and the rest is added
 -- to the digest of the other bytes to be the number of the page. So ids that were counted up in decimal digits, as those of ballots are,
--- stand forty on a page, and the next page is found beside the last. Ids with other pages or bits differ; two that differ may share both.
+-- stand forty on a page, and the next page is found beside the last. Ids with other numbers of pages or bits differ;
+-- two that differ may share both, and then they differ in length or front, by which a page tells those that it is for.
 
 abbrev pub digest : Id → ℕ
 digest id = finish (write initial id)
@@ -27,24 +30,50 @@ number_behind n (b ∷ bytes) = number_behind ((n * 2 ^ 8 % 2 ^ 64 + b) % 2 ^ 64
 abbrev pub counted : Id → ℕ
 counted id = number_behind 0 (drop (length id - COUNTED_BYTES) id)
 
+-- what stands in front of the bytes that are counted
+abbrev pub front : Id → Id
+front id = take (length id - COUNTED_BYTES) id
+
 abbrev pub page_number : Id → ℕ
 page_number id =
-    let front = take (length id - COUNTED_BYTES) id in
-    (digest front + (counted id / 1024 * 16 + counted id / 16 % 16)) % 2 ^ 64
+    (digest (front id) + (counted id / 1024 * 16 + counted id / 16 % 16)) % 2 ^ 64
 
 -- the bit where the last bytes count so much
 abbrev pub bit_of : ℕ → ℕ
 bit_of count = count % 16 + count / 256 % 4 * 16
 
-abbrev pub is_on : Option ℕ → ℕ → Bool
-is_on None bit = false
-is_on (Some page) bit = has_bit page bit
+abbrev pub AreBytes : Id → Type 0
+AreBytes id = IsTrue (list_all (λ b. nat_lt b 256) id)
 
--- whether a bit is set on the page with that number
-abbrev pub is_marked_on : Pages → ℕ → ℕ → Bool
-is_marked_on pages number bit =
-    if number == pages.open then has_bit pages.page bit
-    else is_on (get nat_cmp pages.closed number) bit
+-- ---- what stands on a page
 
+-- an id has as many bytes as another one, and the same front
+abbrev pub is_like : Option Id → Id → Bool
+is_like None id = false
+is_like (Some like) id = (length like == length id) && is_same (front like) (front id)
+
+-- a page is for ids like the one that it keeps
+abbrev pub is_of : Page → Id → Bool
+is_of page id = is_like page.like id
+
+abbrev pub is_on : Option Page → Id → Bool
+is_on None id = false
+is_on (Some page) id = is_of page id && has_bit page.bits (bit_of (counted id))
+
+abbrev pub is_for_others : Option Page → Id → Bool
+is_for_others None id = false
+is_for_others (Some page) id = not (is_of page id)
+
+-- ---- the pages
+
+abbrev pub page_at : Pages → ℕ → Option Page
+page_at pages number =
+    if number == pages.open then Some pages.page else get nat_cmp pages.closed number
+
+-- the id is marked on its page
 abbrev pub is_paged : Pages → Id → Bool
-is_paged pages id = is_marked_on pages (page_number id) (bit_of (counted id))
+is_paged pages id = is_on (page_at pages (page_number id)) id
+
+-- its page is there, and is for other ids
+abbrev pub is_elsewhere : Pages → Id → Bool
+is_elsewhere pages id = is_for_others (page_at pages (page_number id)) id

@@ -1,74 +1,116 @@
 -- What is kept of ballots that are read one record after the other.
-use Rattle.std.specs.Prelude.{◌≡◌, ◌<◌, ◌≤◌, ◌+◌, ◌++◌, ◌∷◌, [], ◌==◌, ℕ, Bool, true, List, map, length, All, IsTrue, Option, Some, None, Result, Err, if◌then◌else◌}
+use Rattle.std.specs.Prelude.{◌≡◌, ◌<◌, ◌≤◌, ◌+◌, ◌++◌, ◌∷◌, [], ◌==◌, ℕ, Bool, true, false, List, map, length, All, IsTrue, Option, Some, None, option_map, Result, Err, if◌then◌else◌}
 use Rattle.std.specs.List.{slice_get}
 use Rattle.irv_base.specs.Candidates.{is_distinct}
 use Rattle.irv_base.specs.Names.{Id, all_differ}
 use Rattle.irv_base.specs.declared.limits.TheConstants.{MOST_RECORDS}
 use Rattle.ballot_reader.specs.Ballots.{BallotFile}
 use Rattle.ballot_reader.specs.Grammar.{Ballot, Contest, ballot_ids, ballots_in, has_audited_size}
+use Rattle.ballot_reader.specs.Noted.{AreNoted}
 use Rattle.ballot_reader.specs.declared.fault.BRule.{BRule}
-use Rattle.ballot_reader.specs.declared.fault.BallotFault.{BallotFault}
-use Rattle.ballot_reader.specs.declared.fault.BallotFault.TheVariants.{Refused, Memory}
+use Rattle.file_fault.specs.declared.fault.Fault.{Fault}
+use Rattle.file_fault.specs.declared.fault.Fault.TheVariants.{Refused, Memory}
+use Rattle.ballot_reader.specs.declared.noted.Noted.{Noted}
 use Rattle.ballot_reader.specs.declared.wanted.Wanted.{Wanted}
-use Rattle.ballot_reader.specs.declared.wanted.Wanted.TheVariants.{One, All as EachContest}
+use Rattle.ballot_reader.specs.declared.wanted.Wanted.TheVariants.{One, VotesOf, All as EachContest}
 
 abbrev pub contest_ids : List Contest → List Id
 contest_ids contests = map (λ contest. contest.id) contests
 
 -- ---- what is kept of one contest
 
--- the places and the rankings of its ballots
-pub record KeptPart : Type 0 where
+-- where its ballots come from: the id of each, and the number of its record
+pub record KeptOrigins : Type 0 where
+  pub ids : List Id
   pub places : List ℕ
+
+-- where its ballots come from, if that is kept, and their rankings
+pub record KeptPart : Type 0 where
+  pub origins : Option KeptOrigins
   pub rankings : List (List ℕ)
 
-abbrev pub part_of : List Ballot → Contest → KeptPart
-part_of ballots contest = record {
-  places = map (λ ballot. ballot.at) (ballots_in contest.id ballots);
-  rankings = map (λ ballot. ballot.ranking) (ballots_in contest.id ballots);
+abbrev pub origins_in : Id → List Ballot → KeptOrigins
+origins_in contest ballots = record {
+  ids = ballot_ids contest ballots;
+  places = map (λ ballot. ballot.at) (ballots_in contest ballots);
 }
 
--- with one ballot more, in the record number at
-abbrev pub with_ballot : KeptPart → ℕ → List ℕ → KeptPart
-with_ballot part at ranking = record {
-  places = part.places ++ at ∷ [];
+abbrev pub rankings_in : Id → List Ballot → List (List ℕ)
+rankings_in contest ballots = map (λ ballot. ballot.ranking) (ballots_in contest ballots)
+
+abbrev pub part_of : Bool → List Ballot → Contest → KeptPart
+part_of keeps ballots contest = record {
+  origins = if keeps then Some (origins_in contest.id ballots) else None;
+  rankings = rankings_in contest.id ballots;
+}
+
+abbrev pub no_origins : KeptOrigins
+no_origins = record { ids = []; places = [] }
+
+abbrev pub empty_part : Bool → KeptPart
+empty_part keeps = record { origins = if keeps then Some no_origins else None; rankings = [] }
+
+-- with a ballot more, of this id, in the record number at
+abbrev pub with_origin : KeptOrigins → Id → ℕ → KeptOrigins
+with_origin origins id at =
+    record { ids = origins.ids ++ id ∷ []; places = origins.places ++ at ∷ [] }
+
+abbrev pub with_ballot : KeptPart → Id → ℕ → List ℕ → KeptPart
+with_ballot part id at ranking = record {
+  origins = option_map (λ origins. with_origin origins id at) part.origins;
   rankings = part.rankings ++ ranking ∷ [];
 }
 
--- the contest with these ids and the rest of its ballots
-abbrev pub file_with : Contest → List Id → KeptPart → BallotFile
-file_with contest ids part = record {
-  contest = contest.id;
-  candidates = contest.candidates;
-  ids = ids;
-  places = part.places;
-  rankings = part.rankings;
-}
+-- the contest with its ballots, where it is kept whence they come
+abbrev pub file_with : Contest → KeptPart → Option BallotFile
+file_with contest part =
+    option_map (λ origins. record {
+      contest = contest.id;
+      candidates = contest.candidates;
+      ids = origins.ids;
+      places = origins.places;
+      rankings = part.rankings;
+    }) part.origins
 
 -- no id stands twice in the contest, and its rankings have its candidates alone, each once
 pub record AreApart (ballots : List Ballot) (contest : Contest) : Type 0 where
   pub differ : IsTrue (all_differ (ballot_ids contest.id ballots))
   pub below : All (λ ranking. All (λ c. c < length contest.candidates) ranking)
-      (part_of ballots contest).rankings
-  pub distinct : All (λ ranking. IsTrue (is_distinct ranking)) (part_of ballots contest).rankings
+      (rankings_in contest.id ballots)
+  pub distinct : All (λ ranking. IsTrue (is_distinct ranking)) (rankings_in contest.id ballots)
 
 -- ---- what is kept of all
 
 -- the contest at a place is one of those that are wanted
 abbrev pub is_wanted : Wanted → ℕ → Bool
 is_wanted (One only) place = place == only
+is_wanted (VotesOf only) place = place == only
 is_wanted EachContest place = true
+
+-- it is kept whence the ballots come
+abbrev pub keeps_origins : Wanted → Bool
+keeps_origins (One only) = true
+keeps_origins (VotesOf only) = false
+keeps_origins EachContest = true
+
+-- of each contest the ids of its ballots were met
+abbrev pub AllNoted : List Ballot → List Contest → List Noted → Type 0
+AllNoted ballots [] [] = Unit {0}
+AllNoted ballots [] (noted ∷ rest) = ⊥
+AllNoted ballots (contest ∷ contests) [] = ⊥
+AllNoted ballots (contest ∷ contests) (noted ∷ rest) =
+    AreNoted (ballot_ids contest.id ballots) noted × AllNoted ballots contests rest
 
 -- a part for each contest that is wanted, the first of them being at this place
 abbrev pub parts_from : ℕ → Wanted → List Ballot → List Contest → List (Option KeptPart)
 parts_from place wanted ballots [] = []
 parts_from place wanted ballots (contest ∷ contests) =
-    (if is_wanted wanted place then Some (part_of ballots contest) else None)
+    (if is_wanted wanted place then Some (part_of (keeps_origins wanted) ballots contest) else None)
     ∷ parts_from (place + 1) wanted ballots contests
 
--- what is kept: the ids of each contest's ballots, a part for each contest that is wanted, and how many ballots there are
+-- what is kept: which ids of each contest's ballots were met, a part for each contest that is wanted, and how many ballots there are
 pub record KeptBallots : Type 0 where
-  pub ids : List (List Id)
+  pub met : List Noted
   pub parts : List (Option KeptPart)
   pub count : ℕ
 
@@ -76,7 +118,7 @@ pub record KeptBallots : Type 0 where
 pub record IsKept
     (contests : List Contest) (wanted : Wanted) (ballots : List Ballot)
     (kept : KeptBallots) : Type 0 where
-  pub noted : kept.ids ≡ map (λ contest. ballot_ids contest.id ballots) contests
+  pub noted : AllNoted ballots contests kept.met
   pub parted : kept.parts ≡ parts_from 0 wanted ballots contests
   pub counted : kept.count ≡ length ballots
   pub most : length ballots ≤ MOST_RECORDS
@@ -98,6 +140,6 @@ KeepsAudited contests parts =
     slice_get parts place ≡ Some (Some part) → IsTrue (has_audited_size contest.candidates)
 
 -- the record number at is refused so; memory may always be wanting
-abbrev pub RefusesRecord : {A : Type 0} → Result A BRule → ℕ → BallotFault → Type 0
+abbrev pub RefusesRecord : {A : Type 0} → Result A BRule → ℕ → Fault BRule → Type 0
 RefusesRecord judged at (Refused rule place) = (judged ≡ Err rule) × (place ≡ at)
 RefusesRecord judged at Memory = Unit {0}

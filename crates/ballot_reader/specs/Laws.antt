@@ -6,7 +6,9 @@ use Rattle.csv_rows.specs.Fields.{numbered_records}
 use Rattle.csv_rows.specs.Rows.{Fields}
 use Rattle.irv_base.specs.Names.{Id, is_name}
 use Rattle.ballot_reader.specs.Ballots.{BallotFile, IsSound}
-use Rattle.ballot_reader.specs.Grammar.{Contest, Refusal, ballots_from, ballots_of, contest_count, contests_in, contests_of, refused}
+use Rattle.ballot_reader.specs.Grammar.{Contest, ballots_from, ballots_of, contest_count, contests_in, contests_of}
+use Rattle.file_fault.specs.Refusals.{Refusal, refused}
+use Rattle.ballot_reader.specs.declared.fault.BRule.{BRule}
 use Rattle.ballot_reader.specs.declared.fault.BRule.TheVariants.{B1, B5}
 
 abbrev pub id_of : List Id → ℕ → Id
@@ -39,33 +41,33 @@ WhatIsSpelledIsRead =
 
 -- ---- all contests of a file
 
-abbrev pub listed_behind : Option ℕ → List Fields → Result (List Contest) Refusal
+abbrev pub listed_behind : Option ℕ → List Fields → Result (List Contest) (Refusal BRule)
 listed_behind None rows = refused B1 1
 listed_behind (Some n) rows = contests_in n [] 2 rows
 
-abbrev pub listed_from : List Fields → Result (List Contest) Refusal
+abbrev pub listed_from : List Fields → Result (List Contest) (Refusal BRule)
 listed_from [] = refused B1 1
 listed_from (first ∷ rows) = listed_behind (contest_count first) rows
 
 -- the contests that a file lists in front of its ballots
-abbrev pub contests_listed : List ℕ → Result (List Contest) Refusal
+abbrev pub contests_listed : List ℕ → Result (List Contest) (Refusal BRule)
 contests_listed bytes = listed_from (numbered_records bytes)
 
 -- the refusal of one of these contests, none of which is refused at an earlier record
 pub record IsFirstRefusal
-    (said : Option Id → Result BallotFile Refusal) (contests : List Contest)
-    (refusal : Refusal) : Type 0 where
+    (said : Option Id → Result BallotFile (Refusal BRule)) (contests : List Contest)
+    (refusal : Refusal BRule) : Type 0 where
   pub contest : Contest
   pub there : Contains contests contest
   pub refuses : said (Some contest.id) ≡ Err refusal
-  pub first : (other : Contest) (later : Refusal) → Contains contests other →
+  pub first : (other : Contest) (later : Refusal BRule) → Contains contests other →
       said (Some other.id) ≡ Err later → refusal.at ≤ later.at
 
 -- what is said of all contests is what is said of each by its id: the files in their order, or the first refusal. Where the contests
 -- aren't listed, it is that refusal
 abbrev pub IsOfEach :
-    (Option Id → Result BallotFile Refusal) → Result (List Contest) Refusal →
-    Result (List BallotFile) Refusal → Type 0
+    (Option Id → Result BallotFile (Refusal BRule)) → Result (List Contest) (Refusal BRule) →
+    Result (List BallotFile) (Refusal BRule) → Type 0
 IsOfEach said (Err refusal) all =
     (all ≡ Err refusal) × ((asked : Option Id) → said asked ≡ Err refusal)
 IsOfEach said (Ok contests) (Ok files) =

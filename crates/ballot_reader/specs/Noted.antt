@@ -1,13 +1,13 @@
--- How ids that were met are noted: on pages, or all in order.
-use Rattle.std.specs.Prelude.{Bool, List, All, IsTrue}
+-- How ids that were met are told: on pages, or elsewhere, where their page is for others.
+use Rattle.std.specs.Prelude.{◌≡◌, ◌||◌, true, Bool, List}
 use Rattle.irv_base.specs.Names.{Id, is_among}
-use Rattle.ballot_reader.specs.Ids.{is_paged}
-use Rattle.ballot_reader.specs.declared.noted.Notes.{Notes}
-use Rattle.ballot_reader.specs.declared.noted.Notes.TheVariants.{Paged, Sorted}
+use Rattle.ballot_reader.specs.Ids.{AreBytes, is_elsewhere, is_paged}
+use Rattle.ballot_reader.specs.declared.noted.Noted.{Noted}
 
-abbrev pub is_noted : Notes → Id → Bool
-is_noted (Paged pages) id = is_paged pages id
-is_noted (Sorted ids) id = is_among ids id
+abbrev pub is_noted : Noted → Id → Bool
+is_noted noted id = is_paged noted.pages id || is_among noted.elsewhere id
 
-abbrev pub AreNoted : List Id → Notes → Type 0
-AreNoted ids notes = All (λ id. IsTrue (is_noted notes id)) ids
+-- exactly these ids were met; the page of each that is told elsewhere is there, and is for others
+pub record AreNoted (met : List Id) (noted : Noted) : Type 0 where
+  pub exact : (id : Id) → AreBytes id → is_noted noted id ≡ is_among met id
+  pub away : (id : Id) → is_among noted.elsewhere id ≡ true → is_elsewhere noted.pages id ≡ true

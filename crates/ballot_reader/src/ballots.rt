@@ -1,11 +1,12 @@
 // The ballots of a contest.
 ghost use Rattle.std.specs.Prelude.{◌≡◌, ◌<◌, ◌≤◌, length, All, IsTrue};
 ghost use Rattle.irv_base.specs.Names.{all_differ};
-ghost use Rattle.ballot_reader.specs.Ballots.{AreBallots, AreCandidates};
+ghost use Rattle.ballot_reader.specs.Ballots.{AreBallots, AreCandidates, votes_of, with_ids};
 ghost use Rattle.irv_base.specs.Candidates.{is_distinct};
 ghost use Rattle.irv_base.specs.declared.limits.TheConstants.{FEWEST_CANDIDATES, MOST_CANDIDATES, MOST_RECORDS};
 
 use crate::ids::Ids;
+use crate::votes::Votes;
 use irv_base::{Name, Rankings};
 use std::marker::Model;
 
@@ -17,67 +18,45 @@ use std::marker::Model;
 /// To a contract it is the record of these lists.
 #[derive(Drop)]
 pub struct Ballots {
-    contest: Name,
-    candidates: Vec<Name>,
+    votes: Votes,
     ids: Ids,
     places: Vec<u32>,
-    rankings: Rankings,
 }
 
 impl Model for Ballots {
-    ghost use Rattle.ballot_reader.specs.Ballots.{BallotFile, IsSound};
+    ghost use Rattle.std.specs.Prelude.{◌≡◌};
+    ghost use Rattle.ballot_reader.specs.Ballots.{BallotFile, IsSound, votes_of, with_ids};
 
     ghost Value = { BallotFile };
 
-    ghost view = { λ b. record {
-      contest = b.contest;
-      candidates = b.candidates.items;
-      ids = b.ids;
-      places = b.places.items;
-      rankings = b.rankings;
-    } };
+    ghost view = { λ b. with_ids b.votes b.ids b.places.items };
 
-    ghost invariant = { λ b. IsSound (record {
-      contest = b.contest;
-      candidates = b.candidates.items;
-      ids = b.ids;
-      places = b.places.items;
-      rankings = b.rankings;
-    }) };
+    ghost invariant = { λ b.
+        IsSound (with_ids b.votes b.ids b.places.items) × (b.votes ≡ votes_of b.votes) };
 }
 
 impl Ballots {
-    pub(crate) fn new(
-        contest: Name,
-        candidates: Vec<Name>,
-        ids: Ids,
-        places: Vec<u32>,
-        rankings: Rankings,
-    ) -> Ballots
-        requires candidates { AreCandidates candidates.items }
-        requires ballots { AreBallots (length candidates.items) ids places.items rankings }
-        ensures { result ≡ record {
-          contest = contest;
-          candidates = candidates.items;
-          ids = ids;
-          places = places.items;
-          rankings = rankings;
-        } }
+    pub(crate) fn new(votes: Votes, ids: Ids, places: Vec<u32>) -> Ballots
+        requires candidates { AreCandidates votes.candidates }
+        requires ballots { AreBallots (length votes.candidates) ids places.items votes.rankings }
+        requires alone { votes ≡ votes_of votes }
+        ensures { result ≡ with_ids votes ids places.items }
     {
-        Ballots {
-            contest,
-            candidates,
-            ids,
-            places,
-            rankings,
-        }
+        Ballots { votes, ids, places }
+    }
+
+    /// The contest and the rankings of its ballots alone.
+    pub fn votes(&self) -> &Votes
+        ensures { result.now ≡ votes_of self.now }
+    {
+        &self.votes
     }
 
     /// The id of the contest.
     pub fn contest(&self) -> &Name
         ensures { result.now ≡ self.now.contest }
     {
-        &self.contest
+        self.votes.contest()
     }
 
     /// The ids of the candidates, in the order of the contest's record.
@@ -87,7 +66,7 @@ impl Ballots {
         ensures most { length self.now.candidates ≤ MOST_CANDIDATES }
         ensures differ { IsTrue (all_differ self.now.candidates) }
     {
-        self.candidates.as_slice()
+        self.votes.candidates()
     }
 
     /// The ids of the ballots.
@@ -115,6 +94,6 @@ impl Ballots {
             self.now.rankings }
         ensures distinct { All (λ ranking. IsTrue (is_distinct ranking)) self.now.rankings }
     {
-        &self.rankings
+        self.votes.rankings()
     }
 }

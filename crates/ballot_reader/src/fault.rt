@@ -1,12 +1,7 @@
 // Why a ballot file isn't read.
-ghost use Rattle.std.specs.Prelude.{◌≡◌};
 ghost use Rattle.ballot_reader.specs.Faults.{rule_name};
-ghost use Rattle.ballot_reader.specs.declared.fault.BallotFault.TheVariants.{Memory as WantOfMemory};
 
-use irv_base::Memory;
-use std::alloc::AllocFailed;
-use std::error::Error;
-use std::fmt;
+use file_fault::{Fault, Rule};
 
 /// The rules of a ballot file, as the text of a refusal names them.
 #[derive(Clone, Copy, Debug, PartialEq, Eq)]
@@ -33,11 +28,10 @@ pub enum BRule {
     B10,
 }
 
-impl BRule {
-    /// The name of the rule in the text of a refusal, as `B3`.
-    pub fn name(self) -> &'static str
-        ensures { result.now ≡ rule_name self }
-    {
+impl Rule for BRule {
+    ghost name = { rule_name };
+
+    fn name(self) -> &'static str {
         match self {
             BRule::B1 => "B1",
             BRule::B2 => "B2",
@@ -53,38 +47,5 @@ impl BRule {
     }
 }
 
-/// Why a ballot file isn't read.
-#[derive(Clone, Copy, Debug, PartialEq, Eq)]
-pub enum BallotFault {
-    /// The file breaks `rule` in record `at`, counted from 1 without the blank ones.
-    Refused { rule: BRule, at: u32 },
-    /// Memory could not be had.
-    Memory,
-}
-
-impl fmt::Display for BallotFault {
-    fn fmt<W: fmt::Write>(&self, f: &mut fmt::Formatter<W>) -> fmt::Result {
-        match self {
-            BallotFault::Refused { rule, at } => write!(f, "{} at {at}", rule.name()),
-            BallotFault::Memory => write!(f, "{Memory}"),
-        }
-    }
-}
-
-impl Error for BallotFault {}
-
-impl From<Memory> for BallotFault {
-    ghost from_gives = { λ _ fault. fault ≡ WantOfMemory };
-
-    fn from(_: Memory) -> Self {
-        BallotFault::Memory
-    }
-}
-
-impl<T: Drop> From<AllocFailed<T>> for BallotFault {
-    ghost from_gives = { λ _ fault. fault ≡ WantOfMemory };
-
-    fn from(_: AllocFailed<T>) -> Self {
-        BallotFault::Memory
-    }
-}
+/// Why a ballot file isn't read: the place is a record's number from 1, without the blank ones.
+pub type BallotFault = Fault<BRule>;

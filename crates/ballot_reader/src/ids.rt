@@ -1,6 +1,5 @@
 // Ids, kept one behind the other.
 ghost use Rattle.std.specs.Prelude.{◌≡◌, ◌<◌, ◌++◌, ◌∷◌, [], Some, IfOk, OnOk, OnErr, length, slice_get};
-ghost use Rattle.irv_base.specs.Names.{is_among};
 
 use irv_base::{Lists, Memory};
 use std::alloc::Global;
@@ -49,18 +48,6 @@ impl Ids {
         ensures { slice_get self.now i ≡ Some result.now }
     {
         self.ids.at(i)
-    }
-
-    /// Whether the id is one of them, by a walk through all.
-    pub(crate) fn has(&self, id: &[u8]) -> bool
-        ensures { result ≡ is_among self.now id.now }
-    {
-        for i in 0..self.len() {
-            if self.at(i) == id {
-                return true;
-            }
-        }
-        false
     }
 
     // Puts the id last. More than `u32::MAX` bytes in all are want of memory.

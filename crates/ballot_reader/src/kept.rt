@@ -1,8 +1,10 @@
 // What is kept of the ballots that are read.
-ghost use Rattle.std.specs.Prelude.{ℕ, ◌≡◌, ◌<◌, ◌++◌, ◌∷◌, [], List, Ok, Err, Some, None, IfOk, IfErr, IfSome, IsTrue, length, position, replicate, slice_get, slice_set, not, true, if◌then◌else◌};
+ghost use Rattle.std.specs.Prelude.{ℕ, ◌≡◌, ◌<◌, ◌++◌, ◌∷◌, [], All, List, Ok, Err, Some, None, IfOk, IfErr, IfSome, IsTrue, length, position, slice_get, slice_set, not, true, if◌then◌else◌};
 ghost use Rattle.irv_base.specs.Names.{Id, all_differ, is_among};
 ghost use Rattle.ballot_reader.specs.Grammar.{Ballot, ballot_for, ballot_in, ballot_of, has_id};
-ghost use Rattle.ballot_reader.specs.Kept.{IsKept, KeepsAudited, RefusesRecord, WantsAudited, contest_ids, is_wanted, parts_from};
+ghost use Rattle.ballot_reader.specs.Kept.{IsKept, KeepsAudited, RefusesRecord, WantsAudited, contest_ids, empty_part, is_wanted, keeps_origins, parts_from};
+ghost use Rattle.ballot_reader.specs.Noted.{AreNoted};
+ghost use Rattle.ballot_reader.specs.declared.noted.Noted.{Noted as NotedIds};
 ghost use Rattle.ballot_reader.specs.declared.wanted.Wanted.{Wanted as WantedContests};
 
 use crate::contest::Contest;
@@ -61,39 +63,43 @@ fn head_of<'r>(contests: &[Contest], mut fields: Fields<'r>) -> Result<Head<'r>,
     })
 }
 
-/// What is kept of ballots: the ids of each contest's, how many there are, and of each contest that is wanted the places and the
-/// rankings.
+/// What is kept of ballots: which ids of each contest's were met, how many there are, and a part for each contest that is wanted.
 ///
 /// To a contract it is these three.
 #[derive(Drop)]
 pub struct Kept {
-    /// For each contest the ids of its ballots, in the order of the file.
-    pub ids: Vec<Noted>,
-    /// For each contest what else is kept of its ballots, where they are wanted.
+    /// For each contest which ids of its ballots were met.
+    pub met: Vec<Noted>,
+    /// For each contest what is kept of its ballots, where they are wanted.
     pub parts: Vec<Option<Part>>,
     /// How many ballots there are, of all contests.
     pub count: u32,
 }
 
 impl Model for Kept {
+    ghost use Rattle.std.specs.Coded.{codes};
     ghost use Rattle.ballot_reader.specs.Kept.{KeptBallots};
+    ghost use Rattle.ballot_reader.specs.contracts.noted.Noted as e;
 
     ghost Value = { KeptBallots };
 
+    ghost coded = { Prim.hlevel (codes, e.the_row.coded) };
+
     ghost view = { λ k. record {
-      ids = k.ids.items;
+      met = k.met.items;
       parts = k.parts.items;
       count = k.count;
     } };
 }
 
-// Nothing noted in n contests, with room for so many ids of those that are wanted.
-fn nothing_noted(alloc: Global, n: usize, wanted: Wanted, room: usize) -> Result<Vec<Noted>, Memory>
-    ensures { IfOk result (λ sets. sets.items ≡ replicate n []) }
+// No id met in n contests.
+fn nothing_noted(alloc: Global, n: usize) -> Result<Vec<Noted>, Memory>
+    ensures number { IfOk result (λ sets. length sets.items ≡ n) }
+    ensures empty { IfOk result (λ sets. All (AreNoted []) sets.items) }
 {
-    let mut sets = Vec::new(alloc);
-    for place in 0..n {
-        sets.push(Noted::nothing(alloc, wanted.room(place, n, room))?)?;
+    let mut sets = Vec::with_capacity(alloc, n)?;
+    while sets.len() < n {
+        sets.push(Noted::nothing(alloc))?;
     }
     Ok(sets)
 }
@@ -109,13 +115,14 @@ fn part_for(
     requires within { place < length contests.now }
     requires sized { WantsAudited contests.now wanted }
     ensures { IfOk result (λ part. part
-        ≡ (if is_wanted wanted place then Some (record { places = []; rankings = [] }) else None)) }
+        ≡ (if is_wanted wanted place then Some (empty_part (keeps_origins wanted)) else None)) }
 {
     if !wanted.has(place) {
         return Ok(None);
     }
     let room = wanted.room(place, contests.len(), room);
-    Ok(Some(Part::nothing(alloc, &contests[place], room)?))
+    let keeps = wanted.keeps_origins();
+    Ok(Some(Part::nothing(alloc, &contests[place], keeps, room)?))
 }
 
 // An empty part of each of these contests that is wanted.
@@ -135,14 +142,16 @@ fn no_parts(
     Ok(parts)
 }
 
-// Notes a ballot's id in the set at a place, unless it is there; tells whether it is new.
+// Notes a ballot's id in the set at a place, unless it stood before; tells whether it is new.
 fn note(sets: &mut Vec<Noted>, place: usize, id: &[u8]) -> Result<bool, Memory>
     requires { place < length sets.now.items }
-    ensures new { IfOk result (λ new. (ids : List Id) → slice_get sets.old.items place ≡ Some ids
+    ensures new { IfOk result (λ new. (ids : List Id) → (noted : NotedIds)
+        → slice_get sets.old.items place ≡ Some noted → AreNoted ids noted
         → new ≡ not (is_among ids id.now)) }
-    ensures noted { IfOk result (λ new. (ids : List Id) → slice_get sets.old.items place ≡ Some ids
-        → new ≡ true
-        → sets.new.items ≡ slice_set sets.old.items place (ids ++ id.now ∷ [])) }
+    ensures noted { IfOk result (λ new. (ids : List Id) → (noted : NotedIds)
+        → slice_get sets.old.items place ≡ Some noted → AreNoted ids noted → new ≡ true
+        → (more : NotedIds) × (sets.new.items ≡ slice_set sets.old.items place more)
+        × AreNoted (ids ++ id.now ∷ []) more) }
 {
     let new = sets[place].note(id)?;
     Ok(new)
@@ -160,7 +169,7 @@ impl Kept {
         ensures { IfOk result (IsKept contests.now wanted []) }
     {
         Ok(Kept {
-            ids: nothing_noted(alloc, contests.len(), wanted, room)?,
+            met: nothing_noted(alloc, contests.len())?,
             parts: no_parts(alloc, contests, wanted, room)?,
             count: 0,
         })
@@ -174,7 +183,7 @@ impl Kept {
         fields: Fields<'_>,
     ) -> Result<(), BallotFault>
         requires differ { IsTrue (all_differ (contest_ids contests.now)) }
-        requires noted { length self.now.ids ≡ length contests.now }
+        requires noted { length self.now.met ≡ length contests.now }
         requires parted { length self.now.parts ≡ length contests.now }
         requires sized { KeepsAudited contests.now self.now.parts }
         ensures kept { IfOk result (λ _. (wanted : WantedContests) → (ballots : List Ballot)
@@ -187,28 +196,26 @@ impl Kept {
             → RefusesRecord (ballot_of contests.now ballots at fields.entry) at fault) }
     {
         if self.count >= MOST_RECORDS {
-            return Err(BallotFault::Refused {
-                rule: BRule::B10,
-                at,
-            });
+            return Err(BallotFault::at_record(BRule::B10, at));
         }
         let head = match head_of(contests, fields) {
             Ok(head) => head,
-            Err(rule) => return Err(BallotFault::Refused { rule, at }),
+            Err(rule) => return Err(BallotFault::at_record(rule, at)),
         };
-        if !note(&mut self.ids, head.contest, head.id)? {
-            return Err(BallotFault::Refused {
-                rule: BRule::B9,
-                at,
-            });
+        if !note(&mut self.met, head.contest, head.id)? {
+            return Err(BallotFault::at_record(BRule::B9, at));
         }
         self.count += 1;
         let contest = &contests[head.contest];
-        if !keep(&mut self.parts, head.contest, contest, at, head.preferences)? {
-            return Err(BallotFault::Refused {
-                rule: BRule::B8,
-                at,
-            });
+        if !keep(
+            &mut self.parts,
+            head.contest,
+            contest,
+            head.id,
+            at,
+            head.preferences,
+        )? {
+            return Err(BallotFault::at_record(BRule::B8, at));
         }
         Ok(())
     }

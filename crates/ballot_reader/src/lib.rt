@@ -20,6 +20,7 @@ mod preferences;
 mod read;
 mod same;
 mod sorted;
+mod votes;
 mod wanted;
 
 pub use ballots::Ballots;
@@ -27,4 +28,5 @@ pub use fault::{BRule, BallotFault};
 pub use ids::Ids;
 pub use limits::{MOST_CONTESTS, MOST_LISTED};
 pub use preferences::ranking_of;
-pub use read::{read_ballots, read_contests};
+pub use read::{read_ballots, read_contests, read_votes};
+pub use votes::Votes;

@@ -1,20 +1,26 @@
-// A page: so many bits, each set or not.
-ghost use Rattle.std.specs.Prelude.{◌≡◌, ◌<◌, ◌^◌, ◌||◌, ◌==◌, ℕ};
-ghost use Rattle.ballot_reader.specs.Ids.{has_bit};
+// A page: the bits of ids that are alike but for the bytes that are counted.
+ghost use Rattle.std.specs.Prelude.{◌≡◌, ◌<◌, ◌^◌, ◌||◌, ◌==◌, ℕ, IsTrue};
+ghost use Rattle.irv_base.specs.Names.{is_name};
+ghost use Rattle.ballot_reader.specs.Ids.{front, has_bit, is_of};
 ghost use Rattle.ballot_reader.specs.declared.page.TheConstants.{PAGE_BITS};
 
+use crate::same::is_same;
+use irv_base::Name;
 use std::marker::Model;
 
 /// How many bits a page has.
 pub const PAGE_BITS: u8 = 64;
 
+/// So many bytes at the end of an id are counted, and tell its bit. Those in front of them are its page's.
+pub const COUNTED_BYTES: usize = 5;
+
 /// The bits that are set on a page.
 ///
 /// To a contract it is the sum of `2 ^ bit` over these.
 #[derive(Clone, Copy)]
-pub struct Page(u64);
+pub struct Bits(u64);
 
-impl Model for Page {
+impl Model for Bits {
     ghost use Rattle.std.specs.Prelude.{ℕ};
 
     ghost Value = { ℕ };
@@ -24,7 +30,7 @@ impl Model for Page {
     ghost inverse = { λ n. record { 0 = n } };
 }
 
-// The page on which this bit alone is set, as a number.
+// The bits of which this one alone is set, as a number.
 fn only(bit: u8) -> u64
     requires { bit < PAGE_BITS }
     ensures { result ≡ 2 ^ bit }
@@ -32,12 +38,12 @@ fn only(bit: u8) -> u64
     1 << bit
 }
 
-impl Page {
-    /// A page on which none is set.
-    pub fn empty() -> Page
+impl Bits {
+    /// Bits of which none is set.
+    pub fn none() -> Bits
         ensures { result ≡ 0 }
     {
-        Page(0)
+        Bits(0)
     }
 
     /// Whether the bit is set.
@@ -48,11 +54,63 @@ impl Page {
         (self.0 >> bit) & 1 == 1
     }
 
-    /// The page with that bit set.
-    pub fn with(self, bit: u8) -> Page
+    /// The bits with that one set.
+    pub fn with(self, bit: u8) -> Bits
         requires { bit < PAGE_BITS }
         ensures { (other : ℕ) → has_bit result other ≡ (has_bit self other || (other == bit)) }
     {
-        Page(self.0 | only(bit))
+        Bits(self.0 | only(bit))
+    }
+}
+
+/// What stands in front of the bytes of an id that are counted.
+pub fn front(id: &[u8]) -> &[u8]
+    ensures { result.now ≡ front id.now }
+{
+    &id[..id.len().saturating_sub(COUNTED_BYTES)]
+}
+
+/// What the ids on a page have alike, and which of them were met.
+#[derive(Clone, Copy)]
+pub struct Page {
+    /// One of these ids; none where the page is for none.
+    pub like: Option<Name>,
+    /// The bits of those that were met.
+    pub bits: Bits,
+}
+
+impl Page {
+    /// A page for no ids.
+    pub fn none() -> Page
+        ensures { result.bits ≡ 0 }
+    {
+        Page {
+            like: None,
+            bits: Bits::none(),
+        }
+    }
+
+    /// A page for ids like this one, none of which was met.
+    pub fn of(id: &[u8]) -> Page
+        ensures none { result.bits ≡ 0 }
+        ensures own { IsTrue (is_name id.now) → IsTrue (is_of result id.now) }
+    {
+        Page {
+            like: Name::read(id),
+            bits: Bits::none(),
+        }
+    }
+
+    /// Whether the page is for ids like this one: with as many bytes, and the same in front of those that are counted.
+    pub fn is_of(&self, id: &[u8]) -> bool
+        ensures { result ≡ is_of self.now id.now }
+    {
+        match &self.like {
+            Some(like) => {
+                let like = like.bytes();
+                like.len() == id.len() && is_same(front(like), front(id))
+            }
+            None => false,
+        }
     }
 }

@@ -1,20 +1,18 @@
-// Ids on pages, that can be told from many others without a comparison.
-ghost use Rattle.std.specs.Prelude.{◌≡◌, ◌<◌, ◌≤◌, ℕ, IfOk, OnOk, IsTrue, false, length, not};
-ghost use Rattle.irv_base.specs.Names.{Id};
-ghost use Rattle.ballot_reader.specs.Ids.{bit_of, counted, digest, is_marked_on, is_paged, number_behind, page_number};
-ghost use Rattle.ballot_reader.specs.declared.page.TheConstants.{PAGE_BITS};
-ghost use Rattle.ballot_reader.specs.declared.pages.TheConstants.{COUNTED_BYTES};
+// Ids on pages: each is told from all others there without a comparison.
+ghost use Rattle.std.specs.Prelude.{◌≡◌, ◌≢◌, ◌<◌, ◌≤◌, ◌||◌, ℕ, Some, None, IfOk, OnOk, OnErr, IsTrue, true, false, length};
+ghost use Rattle.irv_base.specs.Names.{Id, is_name, is_same};
+ghost use Rattle.ballot_reader.specs.Ids.{AreBytes, bit_of, counted, digest, is_elsewhere, is_of, is_paged, number_behind, page_at, page_number};
+ghost use Rattle.ballot_reader.specs.declared.page.Page.{Page as PageOfIds};
+ghost use Rattle.ballot_reader.specs.declared.page.TheConstants.{COUNTED_BYTES, PAGE_BITS};
+ghost use Rattle.ballot_reader.specs.declared.pages.Mark.TheVariants.{Elsewhere, Fresh, Met};
 
-use crate::page::{PAGE_BITS, Page};
+use crate::page::{COUNTED_BYTES, PAGE_BITS, Page, front};
 use irv_base::Memory;
 use std::alloc::Global;
 use std::collections::BTreeMap;
 use std::hash::{FoldHasher, Hasher};
 
-// So many bytes at the end of an id are counted, and the others digested.
-const COUNTED_BYTES: usize = 5;
-
-/// The bits of ids on each page. One page lies open: ids that were counted up stand on the page of the one before. The others
+/// The pages of ids that were met. One page lies open: ids that were counted up stand on the page of the one before. The others
 /// are in order, so that no choice of ids makes them slow to find.
 #[derive(Drop)]
 pub struct Pages {
@@ -26,12 +24,23 @@ pub struct Pages {
     pub closed: BTreeMap<u64, Page>,
 }
 
-/// A number that stands for an id, though not for it alone.
-pub fn digest(id: &[u8]) -> u64
-    ensures { result ≡ digest id.now }
+/// What comes of a mark for an id.
+#[derive(Clone, Copy, PartialEq, Eq)]
+pub enum Mark {
+    /// It had none, and has one now.
+    Fresh,
+    /// It had one.
+    Met,
+    /// The page with its number is for other ids, so it has none. Which ids share a number can be foreseen, so a file may have many.
+    Elsewhere,
+}
+
+/// A number that stands for bytes, though not for them alone.
+pub fn digest(bytes: &[u8]) -> u64
+    ensures { result ≡ digest bytes.now }
 {
     let mut hasher = FoldHasher::default();
-    hasher.write(id);
+    hasher.write(bytes);
     hasher.finish()
 }
 
@@ -76,8 +85,7 @@ fn page_number(id: &[u8], count: u64) -> u64
     requires { count ≡ counted id.now }
     ensures { result ≡ page_number id.now }
 {
-    let front = &id[..id.len().saturating_sub(COUNTED_BYTES)];
-    digest(front).wrapping_add(count / 1024 * 16 + count / 16 % 16)
+    digest(front(id)).wrapping_add(count / 1024 * 16 + count / 16 % 16)
 }
 
 // The bit of an id whose last bytes count so much.
@@ -89,22 +97,27 @@ fn bit(count: u64) -> u8
 }
 
 impl Pages {
-    /// Empty pages.
+    /// No pages but an empty one.
     pub fn new(alloc: Global) -> Pages
-        ensures { (id : Id) → is_paged result id ≡ false }
+        ensures none { (id : Id) → is_paged result id ≡ false }
     {
         Pages {
             open: 0,
-            page: Page::empty(),
+            page: Page::none(),
             closed: BTreeMap::new(alloc),
         }
     }
 
-    // Opens a page.
-    fn turn_to(&mut self, number: u64) -> Result<(), Memory>
+    // Opens the page with a number, or a new one for ids like this one where there is none.
+    fn turn_to(&mut self, number: u64, id: &[u8]) -> Result<(), Memory>
         ensures open { OnOk result (self.new.open ≡ number) }
-        ensures same { (number : ℕ) → (bit : ℕ)
-            → is_marked_on self.new number bit ≡ is_marked_on self.old number bit }
+        ensures others { (n : ℕ) → n ≢ number → page_at self.new n ≡ page_at self.old n }
+        ensures found { (page : PageOfIds) → page_at self.old number ≡ Some page
+            → page_at self.new number ≡ Some page }
+        ensures made { page_at self.old number ≡ None → OnOk result (self.new.page.bits ≡ 0) }
+        ensures own { page_at self.old number ≡ None → IsTrue (is_name id.now)
+            → OnOk result (IsTrue (is_of self.new.page id.now)) }
+        ensures same { OnErr result (page_at self.new number ≡ page_at self.old number) }
     {
         if number == self.open {
             return Ok(());
@@ -112,26 +125,39 @@ impl Pages {
         self.closed.insert(self.open, self.page)?;
         self.page = match self.closed.get(&number) {
             Some(page) => *page,
-            None => Page::empty(),
+            None => Page::of(id),
         };
         self.open = number;
         Ok(())
     }
 
-    /// Sets an id's bit on its page, and tells whether it wasn't set.
-    pub fn mark(&mut self, id: &[u8]) -> Result<bool, Memory>
-        ensures fresh { IfOk result (λ fresh. fresh ≡ not (is_paged self.old id.now)) }
-        ensures own { OnOk result (IsTrue (is_paged self.new id.now)) }
-        ensures kept { (other : Id) → IsTrue (is_paged self.old other)
-            → IsTrue (is_paged self.new other) }
+    /// Marks an id on its page, if the page is for ids like it.
+    pub fn mark(&mut self, id: &[u8]) -> Result<Mark, Memory>
+        ensures fresh { IfOk result (λ mark. mark ≡ Fresh → is_paged self.old id.now ≡ false) }
+        ensures met { IfOk result (λ mark. mark ≡ Met → is_paged self.old id.now ≡ true) }
+        ensures elsewhere { IfOk result (λ mark. mark ≡ Elsewhere
+            → is_elsewhere self.new id.now ≡ true) }
+        ensures here { IfOk result (λ mark. mark ≢ Elsewhere
+            → is_elsewhere self.new id.now ≡ false) }
+        ensures marked { IfOk result (λ mark. mark ≡ Fresh → (other : Id) → AreBytes other
+            → is_paged self.new other ≡ (is_same id.now other || is_paged self.old other)) }
+        ensures same { IfOk result (λ mark. mark ≢ Fresh → (other : Id)
+            → is_paged self.new other ≡ is_paged self.old other) }
+        ensures failed { OnErr result ((other : Id)
+            → is_paged self.new other ≡ is_paged self.old other) }
+        ensures stays { (other : Id) → is_elsewhere self.old other ≡ true
+            → is_elsewhere self.new other ≡ true }
     {
         let count = counted(id);
-        self.turn_to(page_number(id, count))?;
-        let bit = bit(count);
-        if self.page.has(bit) {
-            return Ok(false);
+        self.turn_to(page_number(id, count), id)?;
+        if !self.page.is_of(id) {
+            return Ok(Mark::Elsewhere);
         }
-        self.page = self.page.with(bit);
-        Ok(true)
+        let bit = bit(count);
+        if self.page.bits.has(bit) {
+            return Ok(Mark::Met);
+        }
+        self.page.bits = self.page.bits.with(bit);
+        Ok(Mark::Fresh)
     }
 }

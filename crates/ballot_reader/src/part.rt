@@ -1,10 +1,11 @@
 // What is kept of the ballots of one contest.
-ghost use Rattle.std.specs.Prelude.{ℕ, ◌≡◌, ◌<◌, [], List, Option, Some, IfOk, IsTrue, is_some, length, option_map, slice_get, slice_set};
+ghost use Rattle.std.specs.Prelude.{ℕ, ◌≡◌, ◌<◌, ◌++◌, ◌∷◌, [], List, Option, Some, None, IfOk, OnOk, IsTrue, is_some, length, option_map, slice_get, slice_set, if◌then◌else◌};
 ghost use Rattle.ballot_reader.specs.Grammar.{has_audited_size, ranking_of};
-ghost use Rattle.ballot_reader.specs.Kept.{KeptPart, with_ballot};
+ghost use Rattle.ballot_reader.specs.Kept.{KeptPart, empty_part, no_origins, with_ballot, with_origin};
 
 use crate::contest::Contest;
 use crate::guesses::Guesses;
+use crate::ids::Ids;
 use crate::preferences::{are_candidates, rank};
 use csv_rows::Fields;
 use irv_base::{Memory, Rankings};
@@ -14,13 +15,53 @@ use std::marker::Model;
 // For how many places a ballot room is made first, and for more when they come.
 const PLACES_A_BALLOT: usize = 8;
 
-/// What is kept of the ballots of a contest beside their ids.
+/// Where the ballots of a contest come from.
 ///
 /// To a contract it is the two lists.
 #[derive(Drop)]
-pub struct Part {
-    /// For each ballot the number of its record, from 1.
+pub struct Origins {
+    /// The id of each ballot.
+    pub ids: Ids,
+    /// The number of its record, from 1.
     pub places: Vec<u32>,
+}
+
+impl Model for Origins {
+    ghost use Rattle.ballot_reader.specs.Kept.{KeptOrigins};
+
+    ghost Value = { KeptOrigins };
+
+    ghost view = { λ o. record { ids = o.ids; places = o.places.items } };
+}
+
+impl Origins {
+    // None, with room for so many.
+    fn nothing(alloc: Global, room: usize) -> Result<Origins, Memory>
+        ensures { IfOk result (λ origins. origins ≡ no_origins) }
+    {
+        Ok(Origins {
+            ids: Ids::nothing(alloc, room)?,
+            places: Vec::with_capacity(alloc, room)?,
+        })
+    }
+
+    // Puts that of a ballot last.
+    fn push(&mut self, id: &[u8], at: u32) -> Result<(), Memory>
+        ensures { OnOk result (self.new ≡ with_origin self.old id.now at) }
+    {
+        self.ids.push(id)?;
+        self.places.push(at)?;
+        Ok(())
+    }
+}
+
+/// What is kept of the ballots of a contest.
+///
+/// To a contract it is where they come from and their rankings.
+#[derive(Drop)]
+pub struct Part {
+    /// Where the ballots come from, if that is kept.
+    pub origins: Option<Origins>,
     /// For each ballot its ranking.
     pub rankings: Rankings,
     // Which candidate an id looks like. It saves time, and tells nothing of the ballots.
@@ -32,33 +73,64 @@ impl Model for Part {
 
     ghost Value = { KeptPart };
 
-    ghost view = { λ p. record { places = p.places.items; rankings = p.rankings } };
+    ghost view = { λ p. record { origins = p.origins; rankings = p.rankings } };
+}
+
+// No origins, with room for so many, if they are kept.
+fn no_origins(alloc: Global, keeps: bool, room: usize) -> Result<Option<Origins>, Memory>
+    ensures { IfOk result (λ origins. origins ≡ (if keeps then Some no_origins else None)) }
+{
+    if !keeps {
+        return Ok(None);
+    }
+    Ok(Some(Origins::nothing(alloc, room)?))
+}
+
+// Puts that of a ballot last, if origins are kept.
+fn keep_origin(origins: &mut Option<Origins>, id: &[u8], at: u32) -> Result<(), Memory>
+    ensures { OnOk result (origins.new ≡ option_map (λ o. with_origin o id.now at) origins.old) }
+{
+    if let Some(origins) = origins {
+        origins.push(id, at)?;
+    }
+    Ok(())
 }
 
 impl Part {
-    /// Nothing, with room for so many ballots of the contest.
-    pub fn nothing(alloc: Global, contest: &Contest, room: usize) -> Result<Part, Memory>
+    /// Nothing, with room for so many ballots of the contest. It is kept or not where they come from.
+    pub fn nothing(
+        alloc: Global,
+        contest: &Contest,
+        keeps: bool,
+        room: usize,
+    ) -> Result<Part, Memory>
         requires { IsTrue (has_audited_size contest.now.candidates) }
-        ensures { IfOk result (λ part. part ≡ record { places = []; rankings = [] }) }
+        ensures { IfOk result (λ part. part ≡ empty_part keeps) }
     {
         Ok(Part {
-            places: Vec::with_capacity(alloc, room)?,
+            origins: no_origins(alloc, keeps, room)?,
             rankings: Rankings::nothing(alloc, room, room.saturating_mul(PLACES_A_BALLOT))?,
             guesses: Guesses::of(alloc, contest.candidates.as_slice())?,
         })
     }
 
-    // Keeps the ballot with these preferences in the record number `at`, if they are candidates of the contest. It tells whether
-    // they are.
-    fn add(&mut self, contest: &Contest, at: u32, preferences: Fields<'_>) -> Result<bool, Memory>
+    // Keeps the ballot of this id with these preferences in the record number `at`, if they are candidates of the contest. It tells
+    // whether they are.
+    fn add(
+        &mut self,
+        contest: &Contest,
+        id: &[u8],
+        at: u32,
+        preferences: Fields<'_>,
+    ) -> Result<bool, Memory>
         requires { IsTrue (has_audited_size contest.now.candidates) }
         ensures known { IfOk result (λ known.
             known ≡ is_some (ranking_of contest.now.candidates preferences.entry)) }
         ensures added { IfOk result (λ _. (ranking : List ℕ)
             → ranking_of contest.now.candidates preferences.entry ≡ Some ranking
-            → self.new ≡ with_ballot self.old at ranking) }
+            → self.new ≡ with_ballot self.old id.now at ranking) }
     {
-        self.places.push(at)?;
+        keep_origin(&mut self.origins, id, at)?;
         rank(
             contest.candidates.as_slice(),
             &self.guesses,
@@ -68,12 +140,13 @@ impl Part {
     }
 }
 
-/// Keeps the ballot with these preferences in the record number `at` in the part at the place of its contest, if there is one. It
-/// tells whether the preferences are candidates of the contest.
+/// Keeps the ballot of this id with these preferences in the record number `at` in the part at the place of its contest, if there is
+/// one. It tells whether the preferences are candidates of the contest.
 pub fn keep(
     parts: &mut Vec<Option<Part>>,
     place: usize,
     contest: &Contest,
+    id: &[u8],
     at: u32,
     preferences: Fields<'_>,
 ) -> Result<bool, Memory>
@@ -86,10 +159,10 @@ pub fn keep(
         → ranking_of contest.now.candidates preferences.entry ≡ Some ranking
         → (part : Option KeptPart) → slice_get parts.old.items place ≡ Some part
         → parts.new.items
-        ≡ slice_set parts.old.items place (option_map (λ p. with_ballot p at ranking) part)) }
+        ≡ slice_set parts.old.items place (option_map (λ p. with_ballot p id.now at ranking) part)) }
 {
     match &mut parts[place] {
-        Some(part) => part.add(contest, at, preferences),
+        Some(part) => part.add(contest, id, at, preferences),
         None => Ok(are_candidates(&contest.candidates, preferences)),
     }
 }

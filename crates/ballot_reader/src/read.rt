@@ -1,24 +1,25 @@
 // Reading a ballot file.
-ghost use Rattle.std.specs.Prelude.{◌≡◌, ◌<◌, ◌≤◌, ◌+◌, ◌∷◌, [], List, Option, Ok, Some, IfOk, IfErr, IfSome, IfNone, IsTrue, None, OnOk, length, map, drop, not, position, slice_get, option_copied};
+ghost use Rattle.std.specs.Prelude.{◌≡◌, ◌<◌, ◌≤◌, ◌+◌, ◌∷◌, [], All, List, Option, Ok, Some, IfOk, IfErr, IfSome, IfNone, IsTrue, None, OnOk, false, length, map, drop, not, position, slice_get, option_copied};
 ghost use Rattle.csv_rows.specs.Rows.{Fields as FieldList};
 ghost use Rattle.irv_base.specs.Names.{Id, all_differ};
 ghost use Rattle.ballot_reader.specs.declared.limits.TheConstants.{MOST_CONTESTS};
-ghost use Rattle.ballot_reader.specs.declared.wanted.Wanted.TheVariants.{One, All as EachContest};
-ghost use Rattle.ballot_reader.specs.Ballots.{AreBallots};
+ghost use Rattle.ballot_reader.specs.declared.wanted.Wanted.{Wanted as WantedContests};
+ghost use Rattle.ballot_reader.specs.declared.wanted.Wanted.TheVariants.{One, VotesOf, All as EachContest};
+ghost use Rattle.ballot_reader.specs.Ballots.{AreBallots, AreCandidates, BallotFile, votes_of, votes_with};
 ghost use Rattle.ballot_reader.specs.Grammar.{Ballot, Contest as ContestRecord, all_audited, asked_for, audited_contest, ballots_after, ballots_behind, ballots_from, ballots_of, contest_count, contests_behind, contests_from, contests_in, contests_of, file_of, has_audited_size};
-ghost use Rattle.ballot_reader.specs.Faults.{Refuses};
-ghost use Rattle.ballot_reader.specs.Kept.{IsKept, WantsAudited, contest_ids, file_with};
+ghost use Rattle.file_fault.specs.Refusals.{Refuses};
+ghost use Rattle.ballot_reader.specs.Kept.{IsKept, WantsAudited, contest_ids, file_with, is_wanted, keeps_origins, part_of};
 
 use crate::ballots::Ballots;
 use crate::contest::{Contest, contest_of};
 use crate::count::contest_count;
 use crate::fault::{BRule, BallotFault};
 use crate::kept::{Kept, contest_place};
-use crate::noted::Noted;
-use crate::part::Part;
+use crate::part::{Origins, Part};
+use crate::votes::Votes;
 use crate::wanted::Wanted;
 use csv_rows::{Records, without_mark};
-use irv_base::{FEWEST_CANDIDATES, MOST_CANDIDATES, MOST_RECORDS, Memory, Name};
+use irv_base::{FEWEST_CANDIDATES, MOST_CANDIDATES, MOST_RECORDS, Memory, Name, Rankings};
 use std::alloc::Global;
 
 // The record of the first contest, counted from 1: the number of contests stands before it.
@@ -45,14 +46,11 @@ fn contests_left(
     for i in 0..n {
         let at = FIRST_CONTEST + i;
         if !records.read()? {
-            return Err(BallotFault::Refused {
-                rule: BRule::B2,
-                at,
-            });
+            return Err(BallotFault::at_record(BRule::B2, at));
         }
         match contest_of(alloc, &contests, at, records.fields())? {
             Ok(contest) => contests.push(contest)?,
-            Err(rule) => return Err(BallotFault::Refused { rule, at }),
+            Err(rule) => return Err(BallotFault::at_record(rule, at)),
         }
     }
     Ok(contests)
@@ -93,17 +91,11 @@ fn audited_place(contests: &[Contest], asked: Option<&Name>) -> Result<usize, Ba
         (Refuses (audited_contest (asked_for contests.now (option_copied asked.entry)))) }
 {
     let Some(place) = asked_place(contests, asked) else {
-        return Err(BallotFault::Refused {
-            rule: BRule::B5,
-            at: 1,
-        });
+        return Err(BallotFault::at_record(BRule::B5, 1));
     };
     let contest = &contests[place];
     if !has_audited_size(contest) {
-        return Err(BallotFault::Refused {
-            rule: BRule::B3,
-            at: contest.at,
-        });
+        return Err(BallotFault::at_record(BRule::B3, contest.at));
     }
     Ok(place)
 }
@@ -128,10 +120,7 @@ fn see_all_audited(contests: &[Contest]) -> Result<(), BallotFault>
         return Ok(());
     };
     let contest = &contests[place];
-    Err(BallotFault::Refused {
-        rule: BRule::B3,
-        at: contest.at,
-    })
+    Err(BallotFault::at_record(BRule::B3, contest.at))
 }
 
 // What is kept of the ballots in the records that are left.
@@ -160,29 +149,62 @@ fn ballots_left(
     Ok(kept)
 }
 
-// A contest with these ballots. It keeps the list of its candidates alone, and not the set, by which they were told apart.
-fn ballots_with(alloc: Global, contest: Contest, ids: Noted, part: Part) -> Result<Ballots, Memory>
+// A contest with the rankings of its ballots. It keeps the list of its candidates alone, and not the set, by which they were told apart.
+fn votes_of(alloc: Global, contest: Contest, rankings: Rankings) -> Result<Votes, Memory>
     requires sized { IsTrue (has_audited_size contest.candidates) }
-    requires ballots { AreBallots (length contest.candidates) ids part.places part.rankings }
-    ensures { IfOk result (λ ballots. ballots ≡ file_with contest ids part) }
+    requires most { length rankings ≤ MOST_RECORDS }
+    requires below { All (λ ranking. All (λ c. c < length contest.candidates) ranking) rankings }
+    ensures votes { IfOk result (λ votes.
+        votes ≡ votes_with contest.id contest.candidates rankings) }
+    ensures candidates { IfOk result (λ votes. AreCandidates votes.candidates) }
 {
     let mut candidates = Vec::new(alloc);
     candidates.extend_from_slice(contest.candidates.as_slice())?;
-    Ok(Ballots::new(
-        contest.id,
-        candidates,
-        ids.into_ids(),
-        part.places,
-        part.rankings,
-    ))
+    Ok(Votes::new(contest.id, candidates, rankings))
+}
+
+// A contest with its ballots, of which it is kept where they come from.
+fn ballots_with(alloc: Global, contest: Contest, part: Part) -> Result<Ballots, Memory>
+    requires sized { IsTrue (has_audited_size contest.candidates) }
+    requires kept { (file : BallotFile) × (file_with contest part ≡ Some file)
+        × AreBallots (length file.candidates) file.ids file.places file.rankings }
+    ensures { IfOk result (λ ballots. file_with contest part ≡ Some ballots) }
+{
+    let Part {
+        origins,
+        rankings,
+        ..
+    } = part;
+    let Some(Origins { ids, places }) = origins else {
+        unreachable!();
+    };
+    let votes = votes_of(alloc, contest, rankings)?;
+    Ok(Ballots::new(votes, ids, places))
+}
+
+// The contest at a place with what is kept of its ballots.
+fn taken(mut contests: Vec<Contest>, place: usize, mut kept: Kept) -> (Contest, Part)
+    requires within { place < length contests.items }
+    requires kept { (wanted : WantedContests) × IsTrue (is_wanted wanted place)
+        × ((ballots : List Ballot) × IsKept contests.items wanted ballots kept) }
+    ensures there { slice_get contests.items place ≡ Some result.0 }
+    ensures own { (wanted : WantedContests) → (ballots : List Ballot)
+        → IsKept contests.items wanted ballots kept → IsTrue (is_wanted wanted place)
+        → result.1 ≡ part_of (keeps_origins wanted) ballots result.0 }
+{
+    let contest = contests.swap_remove(place);
+    let Some(part) = kept.parts.swap_remove(place) else {
+        unreachable!();
+    };
+    (contest, part)
 }
 
 // The contest at a place with the ballots that are kept.
 fn file_of(
     alloc: Global,
-    mut contests: Vec<Contest>,
+    contests: Vec<Contest>,
     audited: usize,
-    mut kept: Kept,
+    kept: Kept,
 ) -> Result<Ballots, Memory>
     requires within { audited < length contests.items }
     requires sized { WantsAudited contests.items (One audited) }
@@ -192,12 +214,28 @@ fn file_of(
         → IsKept contests.items (One audited) ballots kept
         → file ≡ file_of chosen ballots) }
 {
-    let contest = contests.swap_remove(audited);
-    let ids = kept.ids.swap_remove(audited);
-    let Some(part) = kept.parts.swap_remove(audited) else {
-        unreachable!();
-    };
-    ballots_with(alloc, contest, ids, part)
+    let (contest, part) = taken(contests, audited, kept);
+    ballots_with(alloc, contest, part)
+}
+
+// The contest at a place with the rankings of the ballots that are kept.
+fn votes_kept(
+    alloc: Global,
+    contests: Vec<Contest>,
+    audited: usize,
+    kept: Kept,
+) -> Result<Votes, Memory>
+    requires within { audited < length contests.items }
+    requires sized { WantsAudited contests.items (VotesOf audited) }
+    requires kept { (ballots : List Ballot)
+        × IsKept contests.items (VotesOf audited) ballots kept }
+    ensures { IfOk result (λ votes. (chosen : ContestRecord) → (ballots : List Ballot)
+        → slice_get contests.items audited ≡ Some chosen
+        → IsKept contests.items (VotesOf audited) ballots kept
+        → votes ≡ votes_of (file_of chosen ballots)) }
+{
+    let (contest, part) = taken(contests, audited, kept);
+    votes_of(alloc, contest, part.rankings)
 }
 
 // Each contest with the ballots that are kept, in the order of the file.
@@ -209,16 +247,12 @@ fn files_of(alloc: Global, contests: Vec<Contest>, kept: Kept) -> Result<Vec<Bal
         → files.items ≡ map (λ contest. file_of contest ballots) contests.items) }
 {
     let mut files = Vec::with_capacity(alloc, contests.len())?;
-    let mut noted = kept.ids.into_iter();
     let mut parts = kept.parts.into_iter();
     for contest in contests {
-        let Some(ids) = noted.next() else {
-            unreachable!();
-        };
         let Some(Some(part)) = parts.next() else {
             unreachable!();
         };
-        files.push(ballots_with(alloc, contest, ids, part)?)?;
+        files.push(ballots_with(alloc, contest, part)?)?;
     }
     Ok(files)
 }
@@ -243,7 +277,28 @@ fn ballots_behind(
     Ok(file_of(alloc, contests, audited, kept)?)
 }
 
-// The same of all contests.
+// Their votes alone.
+fn votes_behind(
+    alloc: Global,
+    n: u32,
+    asked: Option<&Name>,
+    room: usize,
+    records: &mut Records<'_>,
+) -> Result<Votes, BallotFault>
+    requires { n ≤ MOST_CONTESTS }
+    ensures read { IfOk result (λ votes. (file : BallotFile)
+        × (ballots_behind (Some n) (option_copied asked.entry) records.old.left ≡ Ok file)
+        × (votes ≡ votes_of file)) }
+    ensures refused { IfErr result
+        (Refuses (ballots_behind (Some n) (option_copied asked.entry) records.old.left)) }
+{
+    let contests = contests_left(alloc, n, records)?;
+    let audited = audited_place(&contests, asked)?;
+    let kept = ballots_left(alloc, &contests, Wanted::VotesOf(audited), room, records)?;
+    Ok(votes_kept(alloc, contests, audited, kept)?)
+}
+
+// The same as `ballots_behind` of all contests.
 fn contests_behind(
     alloc: Global,
     n: u32,
@@ -275,10 +330,7 @@ fn first_count(records: &mut Records<'_>) -> Result<u32, BallotFault>
             return Ok(n);
         }
     }
-    Err(BallotFault::Refused {
-        rule: BRule::B1,
-        at: 1,
-    })
+    Err(BallotFault::at_record(BRule::B1, 1))
 }
 
 // For how many ballots room is made first.
@@ -315,6 +367,18 @@ pub fn read_ballots(
     let mut records = Records::of(alloc, without_mark(bytes));
     let n = first_count(&mut records)?;
     ballots_behind(alloc, n, contest, room_for(bytes), &mut records)
+}
+
+/// Reads a ballot file as `read_ballots` does, and keeps the votes alone: no ids of ballots and no places.
+pub fn read_votes(alloc: Global, bytes: &[u8], contest: Option<&Name>) -> Result<Votes, BallotFault>
+    ensures read { IfOk result (λ votes. (file : BallotFile)
+        × (ballots_of bytes.now (option_copied contest.entry) ≡ Ok file)
+        × (votes ≡ votes_of file)) }
+    ensures refused { IfErr result (Refuses (ballots_of bytes.now (option_copied contest.entry))) }
+{
+    let mut records = Records::of(alloc, without_mark(bytes));
+    let n = first_count(&mut records)?;
+    votes_behind(alloc, n, contest, room_for(bytes), &mut records)
 }
 
 /// Reads all contests of a ballot file, in their order there, each as `read_ballots` reads it by its id.

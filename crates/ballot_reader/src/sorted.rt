@@ -1,8 +1,7 @@
 // Ids in order, each once.
-ghost use Rattle.std.specs.Prelude.{◌≡◌, ◌<◌, IfOk, OnOk, IsTrue, All, not};
-ghost use Rattle.irv_base.specs.Names.{Id, is_among};
+ghost use Rattle.std.specs.Prelude.{◌≡◌, ◌||◌, [], IfOk, OnOk, OnErr, not};
+ghost use Rattle.irv_base.specs.Names.{Id, is_among, is_same};
 
-use crate::ids::Ids;
 use irv_base::Memory;
 use std::alloc::Global;
 use std::collections::BTreeSet;
@@ -26,27 +25,23 @@ impl Model for Sorted {
 }
 
 impl Sorted {
+    /// No ids.
+    pub fn new(alloc: Global) -> Sorted
+        ensures { result ≡ [] }
+    {
+        Sorted {
+            ids: BTreeSet::new(alloc),
+        }
+    }
+
     /// Puts an id among them, and tells whether it wasn't there.
     pub fn put(&mut self, alloc: Global, id: &[u8]) -> Result<bool, Memory>
         ensures new { IfOk result (λ new. new ≡ not (is_among self.old id.now)) }
-        ensures own { OnOk result (IsTrue (is_among self.new id.now)) }
-        ensures kept { (other : Id) → IsTrue (is_among self.old other)
-            → IsTrue (is_among self.new other) }
+        ensures put { OnOk result ((other : Id)
+            → is_among self.new other ≡ (is_same id.now other || is_among self.old other)) }
+        ensures same { OnErr result (self.new ≡ self.old) }
     {
         let new = self.ids.insert(Vec::from_slice(alloc, id)?)?;
         Ok(new)
-    }
-
-    /// These ids, each once.
-    pub fn of(alloc: Global, ids: &Ids) -> Result<Sorted, Memory>
-        ensures { IfOk result (λ sorted. All (λ id. IsTrue (is_among sorted id)) ids.now) }
-    {
-        let mut sorted = Sorted {
-            ids: BTreeSet::new(alloc),
-        };
-        for i in 0..ids.len() {
-            sorted.put(alloc, ids.at(i))?;
-        }
-        Ok(sorted)
     }
 }

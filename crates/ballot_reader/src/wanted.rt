@@ -1,12 +1,14 @@
-// Which contests' ballots are kept.
+// Which contests' ballots are kept, and what of them.
 ghost use Rattle.std.specs.Prelude.{◌≡◌};
-ghost use Rattle.ballot_reader.specs.Kept.{is_wanted};
+ghost use Rattle.ballot_reader.specs.Kept.{is_wanted, keeps_origins};
 
 /// Of which contests of a file the ballots are kept.
 #[derive(Clone, Copy)]
 pub enum Wanted {
     /// Of the contest at this place, from 0.
     One(usize),
+    /// Of that at this place, without their ids and places.
+    VotesOf(usize),
     /// Of each contest.
     All,
 }
@@ -17,16 +19,23 @@ impl Wanted {
         ensures { result ≡ is_wanted self place }
     {
         match self {
-            Wanted::One(only) => place == only,
+            Wanted::One(only) | Wanted::VotesOf(only) => place == only,
             Wanted::All => true,
         }
+    }
+
+    /// Whether it is kept whence the ballots come: their ids and places.
+    pub fn keeps_origins(self) -> bool
+        ensures { result ≡ keeps_origins self }
+    {
+        !matches!(self, Wanted::VotesOf(_))
     }
 
     // For how many ballots of the contest at a place room is made first, where there is room for so many of all these contests.
     pub(crate) fn room(self, place: usize, contests: usize, room: usize) -> usize {
         match self {
-            Wanted::One(only) if place == only => room,
-            Wanted::One(_) => 0,
+            Wanted::One(only) | Wanted::VotesOf(only) if place == only => room,
+            Wanted::One(_) | Wanted::VotesOf(_) => 0,
             Wanted::All => room.checked_div(contests).unwrap_or(0),
         }
     }

@@ -2,6 +2,7 @@
 ghost use Rattle.std.specs.Prelude.{◌≡◌, ◌≤◌, ◌<◌, length, IsTrue};
 ghost use Rattle.irv_base.specs.Orders.{is_order};
 ghost use Rattle.desk.specs.Count.{Rose};
+ghost use Rattle.ballot_reader.specs.Ballots.{BallotFile, votes_of};
 ghost use Rattle.assertion_file.specs.Ids.{id_of};
 ghost use Rattle.cli_base.specs.Accounts.{IsAccountedFor};
 ghost use Rattle.cli_base.specs.Begun.{HasCome};
@@ -19,20 +20,20 @@ use crate::check_texts::{
     has_margin, is_refuted_by, needs, no, smallest_is, stands, winner_is, yes,
 };
 use assertion_file::{AssertionFile, id_of};
-use ballot_reader::Ballots;
+use ballot_reader::Votes;
 use budget::Budget;
 use cli_base::{Answer, AnswerKind, Refusal};
 use command::{CheckTask, FileName};
 use cover_checker::{CheckFault, Checked, check as check_file};
 use desk::Desk;
-use input_files::{assertions_in, ballots_in, bytes_of};
+use input_files::{assertions_in, bytes_of, votes_in};
 use irv_base::{Candidate, Order};
 use report::{spent_at, spent_sets};
 use set_tallies::Counted;
 use std::alloc::Global;
 use std::thread::Threads;
 
-// The ballots are counted by this many.
+// The votes are counted by this many.
 const WORKERS: u32 = 1;
 
 /// Whether the assertion file holds of the ballots of the contest.
@@ -52,50 +53,50 @@ pub fn answer<R: AllocGlobal + Threads + Sync, D: Desk>(
 {
     let alloc = rt.alloc();
     let bytes = bytes_of(alloc, desk, &task.ballots)?;
-    let ballots = ballots_in(alloc, &task.ballots, &bytes, task.contest.as_ref())?;
-    after_ballots(rt, desk, &ballots, &task.assertions, task.budget)
+    let votes = votes_in(alloc, &task.ballots, &bytes, task.contest.as_ref())?;
+    after_votes(rt, desk, &votes, &task.assertions, task.budget)
 }
 
-/// A check of ballots that are read: whether the assertion file of this name holds of them.
-pub fn after_ballots<R: AllocGlobal + Threads + Sync, D: Desk>(
+/// A check of votes that are read: whether the assertion file of this name holds of them.
+pub fn after_votes<R: AllocGlobal + Threads + Sync, D: Desk>(
     rt: &R,
     desk: &mut D,
-    ballots: &Ballots,
+    votes: &Votes,
     assertions: &FileName,
     budget: Budget,
 ) -> Result<Answer, Refusal>
     ensures held { D.held desk.new ≡ D.held desk.old }
     ensures later { D.faults desk.old ≤ D.faults desk.new }
-    ensures due { HasCome
+    ensures due { (ballots : BallotFile) → votes.now ≡ votes_of ballots → HasCome
         (ByDesk (D.held desk.old) (Rose (D.faults desk.old) (D.faults desk.new)))
         (D.served desk.old) (D.served desk.new)
-        (Runs (after_ballots assertions.now budget ballots.now)) (due result) }
+        (Runs (after_ballots assertions.now budget ballots)) (due result) }
     ensures served { IsAccountedFor 1 (D.served desk.old) (D.served desk.new) (due result).status }
 {
     let alloc = rt.alloc();
     let bytes = bytes_of(alloc, desk, assertions)?;
     let file = assertions_in(alloc, assertions, &bytes)?;
-    check(rt, ballots, &file, budget)
+    check(rt, votes, &file, budget)
 }
 
-/// Whether the file holds of the ballots, or the first difference.
+/// Whether the file holds of the votes, or the first difference.
 pub fn check<R: AllocGlobal + Threads + Sync>(
     rt: &R,
-    ballots: &Ballots,
+    votes: &Votes,
     file: &AssertionFile,
     budget: Budget,
 ) -> Result<Answer, Refusal>
-    ensures { IsOneOrMemory (Checks budget ballots.now file.now) (due result) }
+    ensures { IsOneOrMemory (Checks budget votes.now file.now) (due result) }
 {
     let alloc = rt.alloc();
     let counted = Counted::of(
         rt,
-        ballots.candidates().len() as u32,
-        ballots.rankings(),
+        votes.candidates().len() as u32,
+        votes.rankings(),
         WORKERS,
     )?;
     let mut tallies = counted.tallies()?;
-    match check_file(alloc, ballots, &mut tallies, file, budget) {
+    match check_file(alloc, votes, &mut tallies, file, budget) {
         Ok(found) => found_answer(alloc, file, found),
         Err(fault) => match fault {
             CheckFault::Spent { last } => spent_answer(alloc, file, last),

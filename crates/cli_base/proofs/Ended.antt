@@ -25,6 +25,13 @@ pub told_as : (verdicts : Verdict → Type 0) (verdict : Verdict) (due : Outcome
 told_as verdicts verdict due holds (inl (v, is, ends)) = inl (verdict, holds, ends ∙ ap outcome is)
 told_as verdicts verdict due holds (inr memory) = inr memory
 
+-- ---- one of more verdicts
+
+pub told_among : (some more : Verdict → Type 0) (due : Outcome) → ((verdict : Verdict) → some verdict → more verdict) → IsOneOrMemory some due →
+    IsOneOrMemory more due
+told_among some more due each (inl (verdict, holds, ends)) = inl (verdict, each verdict holds, ends)
+told_among some more due each (inr memory) = inr memory
+
 -- ---- answers of a kind
 
 pub one-same : (texts : List ℕ → Type 0) (kind : AnswerKind) → ((text other : List ℕ) → texts text → texts other → text ≡ other) → (v w : Verdict) →

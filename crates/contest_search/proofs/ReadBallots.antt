@@ -13,7 +13,8 @@ use Rattle.ballot_reader.specs.Ballots.{BallotFile}
 use Rattle.ballot_reader.specs.declared.fault.BRule.{BRule}
 use Rattle.ballot_reader.specs.declared.fault.BRule.TheVariants.{B2, B3, B4, B10}
 use Rattle.ballot_reader.specs.declared.limits.TheConstants.{MOST_LISTED}
-use Rattle.ballot_reader.specs.Grammar.{Refusal, Contest, Ballot, refused, and_then, then_on, are_names, has_id, listed, number_up_to, contest_named, contest_with, contest_of, contests_in, asked_for, has_audited_size, audited_contest, ballots_in, ballot_in, ballots_after, contest_count, ballots_behind, ballots_from, ballots_of}
+use Rattle.ballot_reader.specs.Grammar.{Contest, Ballot, then_on, are_names, has_id, listed, number_up_to, contest_named, contest_with, contest_of, contests_in, asked_for, has_audited_size, audited_contest, ballots_in, ballot_in, ballots_after, contest_count, ballots_behind, ballots_from, ballots_of}
+use Rattle.file_fault.specs.Refusals.{and_then, Refusal, refused}
 use Rattle.contest_search.specs.Contest.{candidate_count}
 
 pub record IsFit (ballots : BallotFile) : Type 0 where
@@ -24,11 +25,11 @@ pub record IsFit (ballots : BallotFile) : Type 0 where
   pub differ : all_differ ballots.candidates ≡ true
   pub few : length ballots.rankings ≤ MOST_RECORDS
 
-then_on-ok : {A B : Type 0} (r : Result A Refusal) (more : A → Result B Refusal) (v : B) → then_on r more ≡ Ok v → (x : A) × (r ≡ Ok x) × (more x ≡ Ok v)
+then_on-ok : {A B : Type 0} (r : Result A (Refusal BRule)) (more : A → Result B (Refusal BRule)) (v : B) → then_on r more ≡ Ok v → (x : A) × (r ≡ Ok x) × (more x ≡ Ok v)
 then_on-ok (Ok x) more v e = (x, refl, e)
 then_on-ok (Err refusal) more v e = cc
 
-abbrev ok : {A : Type 0} → A → Result A Refusal
+abbrev ok : {A : Type 0} → A → Result A (Refusal BRule)
 ok x = Ok x
 
 ok_is : {A : Type 0} {x y : A} → ok x ≡ ok y → x ≡ y

@@ -1,28 +1,11 @@
--- The contest that is searched: what a search has to know of it, its winner, and its first tie.
-use Rattle.std.specs.Prelude.{◌≢◌, ◌≤◌, ◌<◌, ℕ, List, [], length, All}
-use Rattle.irv_base.specs.Names.{Id}
+-- The contest that is searched: its winner, and its first tie.
+use Rattle.std.specs.Prelude.{◌≢◌, ◌≤◌, ◌<◌, ℕ, length}
 use Rattle.irv_base.specs.Tabulation.{AllElect, IsDecided, IsFirstTie}
-use Rattle.irv_base.specs.declared.limits.TheConstants.{MOST_RECORDS}
-use Rattle.ballot_reader.specs.Ballots.{AreCandidates, BallotFile}
+use Rattle.ballot_reader.specs.Ballots.{BallotFile}
 use Rattle.cover_checker.specs.Outcomes.{IsWinner}
 
 abbrev pub candidate_count : BallotFile → ℕ
 candidate_count ballots = length ballots.candidates
-
--- ---- what a search has to know of it
-
--- a contest of this id, these ids of candidates and the rankings of its records, without ids of ballots and places in a file
-abbrev pub contest_with : Id → List Id → List (List ℕ) → BallotFile
-contest_with id candidates rankings =
-    record { contest = id; candidates = candidates; ids = []; places = []; rankings = rankings }
-
-abbrev pub searched : BallotFile → BallotFile
-searched ballots = contest_with ballots.contest ballots.candidates ballots.rankings
-
-pub record IsWithinLimits (ballots : BallotFile) : Type 0 where
-  pub candidates : AreCandidates ballots.candidates
-  pub few : length ballots.rankings ≤ MOST_RECORDS
-  pub below : All (λ ranking. All (λ c. c < candidate_count ballots) ranking) ballots.rankings
 
 -- ---- a winner
 

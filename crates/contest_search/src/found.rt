@@ -7,9 +7,9 @@ ghost use Rattle.budget.specs.declared.budget.Budget.{Budget as Told};
 ghost use Rattle.contest_search.specs.Budget.{IsTold};
 ghost use Rattle.contest_search.specs.Found.{FoundIn, IsCounted, IsBestOf, IsPrintable, content_of};
 
-use crate::searchable::Searchable;
 use assertion_file::{AssertionFile, Parts};
 use assertions::Claim;
+use ballot_reader::Votes;
 use bound_search::{RaceEnd, RaceFault, race};
 use budget::Budget;
 use certifier::{CertFault, Certificate, certify};
@@ -52,24 +52,24 @@ pub enum Found {
 /// who didn't win, or of sets for all orders together.
 pub fn find<R: AllocGlobal + Threads + Sync, G: Gate + Sync>(
     rt: &R,
-    contest: &Searchable<'_>,
+    votes: &Votes,
     workers: u32,
     budget: Budget,
     gate: &G,
 ) -> Result<Found, Memory>
     requires { (1 ≤ workers) × (workers ≤ MOST_WORKERS) }
-    ensures { IfOk result (FoundIn budget contest.now) }
+    ensures { IfOk result (FoundIn budget votes.now) }
 {
     let alloc = rt.alloc();
     let counted = Counted::of(
         rt,
-        contest.candidates().len() as u32,
-        contest.rankings(),
+        votes.candidates().len() as u32,
+        votes.rankings(),
         workers,
     )?;
     let mut tallies = counted.tallies()?;
     match tabulate(alloc, &mut tallies) {
-        Ok(tabulated) => search_of(rt, contest, &counted, &tabulated, workers, budget, gate),
+        Ok(tabulated) => search_of(rt, votes, &counted, &tabulated, workers, budget, gate),
         Err(TabFault::Memory) => Err(Memory),
     }
 }
@@ -77,7 +77,7 @@ pub fn find<R: AllocGlobal + Threads + Sync, G: Gate + Sync>(
 // What a search of a contest that was tabulated finds, by the budget.
 fn search_of<R: AllocGlobal + Threads + Sync, G: Gate + Sync>(
     rt: &R,
-    contest: &Searchable<'_>,
+    votes: &Votes,
     counted: &Counted,
     tabulated: &Tabulated,
     workers: u32,
@@ -85,33 +85,33 @@ fn search_of<R: AllocGlobal + Threads + Sync, G: Gate + Sync>(
     gate: &G,
 ) -> Result<Found, Memory>
     requires workers { (1 ≤ workers) × (workers ≤ MOST_WORKERS) }
-    requires counted { IsCounted contest.now counted.now.bag tabulated.now }
-    ensures { IfOk result (FoundIn budget contest.now) }
+    requires counted { IsCounted votes.now counted.now.bag tabulated.now }
+    ensures { IfOk result (FoundIn budget votes.now) }
 {
     match budget {
-        Budget::Nodes(nodes) => race_of(rt, contest, counted, tabulated, workers, nodes, gate),
-        Budget::Sets(sets) => sets_of(rt.alloc(), contest, counted, tabulated, sets),
+        Budget::Nodes(nodes) => race_of(rt, votes, counted, tabulated, workers, nodes, gate),
+        Budget::Sets(sets) => sets_of(rt.alloc(), votes, counted, tabulated, sets),
     }
 }
 
 // What it finds by sets.
 fn sets_of(
     alloc: Global,
-    contest: &Searchable<'_>,
+    votes: &Votes,
     counted: &Counted,
     tabulated: &Tabulated,
     sets: u32,
 ) -> Result<Found, Memory>
-    requires counted { IsCounted contest.now counted.now.bag tabulated.now }
-    ensures { IfOk result (FoundIn (Budget.Sets sets) contest.now) }
+    requires counted { IsCounted votes.now counted.now.bag tabulated.now }
+    ensures { IfOk result (FoundIn (Budget.Sets sets) votes.now) }
 {
     match certify_by_sets(alloc, counted, tabulated, sets) {
         Ok(end) => match end {
             SetsEnd::Certificate(certificate) => {
-                let file = file_of(alloc, contest, tabulated.winner, certificate)?;
+                let file = file_of(alloc, votes, tabulated.winner, certificate)?;
                 Ok(Found::Certificate(file))
             }
-            SetsEnd::Undecided => Ok(tie_of(contest, tabulated)),
+            SetsEnd::Undecided => Ok(tie_of(votes, tabulated)),
         },
         Err(fault) => match fault {
             SetsFault::Spent { order, margin } => Ok(Found::SpentSets {
@@ -127,7 +127,7 @@ fn sets_of(
 // What it finds by the race, and by walks through suffixes.
 fn race_of<R: AllocGlobal + Threads + Sync, G: Gate + Sync>(
     rt: &R,
-    contest: &Searchable<'_>,
+    votes: &Votes,
     counted: &Counted,
     tabulated: &Tabulated,
     workers: u32,
@@ -135,15 +135,15 @@ fn race_of<R: AllocGlobal + Threads + Sync, G: Gate + Sync>(
     gate: &G,
 ) -> Result<Found, Memory>
     requires workers { (1 ≤ workers) × (workers ≤ MOST_WORKERS) }
-    requires counted { IsCounted contest.now counted.now.bag tabulated.now }
-    ensures { IfOk result (FoundIn (Budget.Nodes nodes) contest.now) }
+    requires counted { IsCounted votes.now counted.now.bag tabulated.now }
+    ensures { IfOk result (FoundIn (Budget.Nodes nodes) votes.now) }
 {
     match race(rt, counted, tabulated, workers, nodes, gate) {
         Ok(end) => {
             if end.margin == 0 {
-                Ok(tie_of(contest, tabulated))
+                Ok(tie_of(votes, tabulated))
             } else {
-                certificate_of(rt, contest, counted, tabulated, end, workers, nodes)
+                certificate_of(rt, votes, counted, tabulated, end, workers, nodes)
             }
         }
         Err(fault) => match fault {
@@ -158,11 +158,11 @@ fn race_of<R: AllocGlobal + Threads + Sync, G: Gate + Sync>(
 }
 
 // The first tie of a contest that isn't decided. It has one.
-fn tie_of(contest: &Searchable<'_>, tabulated: &Tabulated) -> Found
-    requires tabulation { IsTabulation (candidate_count contest.now) (contest.now).rankings
+fn tie_of(votes: &Votes, tabulated: &Tabulated) -> Found
+    requires tabulation { IsTabulation (candidate_count votes.now) (votes.now).rankings
         tabulated.now }
-    requires undecided { IsUndecided contest.now }
-    ensures { (budget : Told) → IsTold budget contest.now → FoundIn budget contest.now result }
+    requires undecided { IsUndecided votes.now }
+    ensures { (budget : Told) → IsTold budget votes.now → FoundIn budget votes.now result }
 {
     match tabulated.tie() {
         Some(FirstTie { round, tied, tally }) => Found::Tie {
@@ -188,7 +188,7 @@ fn with_sums<'c>(counted: &'c Counted, summed: &'c Option<Counted>) -> &'c Count
 // The certificate of the best margin. It reads its rows from sums that the race made.
 fn certificate_of<R: AllocGlobal + Threads + Sync>(
     rt: &R,
-    contest: &Searchable<'_>,
+    votes: &Votes,
     counted: &Counted,
     tabulated: &Tabulated,
     end: RaceEnd,
@@ -196,11 +196,11 @@ fn certificate_of<R: AllocGlobal + Threads + Sync>(
     nodes: u32,
 ) -> Result<Found, Memory>
     requires workers { (1 ≤ workers) × (workers ≤ MOST_WORKERS) }
-    requires counted { IsCounted contest.now counted.now.bag tabulated.now }
+    requires counted { IsCounted votes.now counted.now.bag tabulated.now }
     requires best { IsBestOf counted.now.bag tabulated.now end }
     requires summed { IfSome end.summed (λ own. own.bag ≡ counted.now.bag) }
     requires some { 1 ≤ end.margin }
-    ensures { IfOk result (FoundIn (Budget.Nodes nodes) contest.now) }
+    ensures { IfOk result (FoundIn (Budget.Nodes nodes) votes.now) }
 {
     let RaceEnd {
         margin,
@@ -211,7 +211,7 @@ fn certificate_of<R: AllocGlobal + Threads + Sync>(
     let counted = with_sums(counted, &summed);
     match certify(rt, counted, tabulated, margin, workers, nodes) {
         Ok(certificate) => {
-            let file = file_of(rt.alloc(), contest, tabulated.winner, certificate)?;
+            let file = file_of(rt.alloc(), votes, tabulated.winner, certificate)?;
             Ok(Found::Certificate(file))
         }
         Err(fault) => match fault {
@@ -228,22 +228,22 @@ fn certificate_of<R: AllocGlobal + Threads + Sync>(
 // The assertion file of the contest, with the certificate's claims, margin and order.
 fn file_of(
     alloc: Global,
-    contest: &Searchable<'_>,
+    votes: &Votes,
     winner: Candidate,
     certificate: Certificate,
 ) -> Result<AssertionFile, Memory>
-    requires { IsPrintable contest.now winner certificate }
-    ensures { IfOk result (λ file. file ≡ content_of contest.now winner certificate) }
+    requires { IsPrintable votes.now winner certificate }
+    ensures { IfOk result (λ file. file ≡ content_of votes.now winner certificate) }
 {
     let Certificate {
         claims,
         margin,
         order,
     } = certificate;
-    let names = contest.candidates().to_vec(alloc)?;
-    let records = contest.rankings().len() as u32;
+    let names = votes.candidates().to_vec(alloc)?;
+    let records = votes.rankings().len() as u32;
     Ok(AssertionFile::new(Parts {
-        contest: *contest.id(),
+        contest: *votes.contest(),
         candidates: names,
         records,
         winner,

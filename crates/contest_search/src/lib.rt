@@ -4,8 +4,6 @@
 mod draws;
 mod found;
 pub mod laws;
-mod searchable;
 
 pub use draws::planned;
 pub use found::{Found, find};
-pub use searchable::Searchable;

@@ -10,7 +10,8 @@ use Rattle.ballot_reader.specs.Ballots.{BallotFile}
 use Rattle.ballot_reader.proofs.Adding.{same-comm, same-refl}
 use Rattle.ballot_reader.proofs.Differing.{or-false}
 use Rattle.manifest.specs.Cards.{Batches}
-use Rattle.seen_file.specs.Reading.{and_then, read_after}
+use Rattle.seen_file.specs.Reading.{read_after}
+use Rattle.file_fault.specs.Refusals.{and_then}
 use Rattle.seen_file.specs.Seen.{Entry}
 use Rattle.contest_set.specs.SeenBy.{ContestEntry, contest_entry_of, contest_ids, entries_for, seen_for_each}
 use Rattle.contest_set.proofs.Named.{apart, elsewhere}
@@ -91,5 +92,5 @@ goes-on batches list rows seen at row left so_far place ballots entry differ the
   are = ap (λ x. set x place (entries_for ballots.contest so_far.entries ++ entry ∷ [])) so_far.are
       ∙ each-more list place ballots so_far.entries entry differ there;
   rest = so_far.rest
-      ∙ ap (λ said. and_then said at (λ one. read_after (contest_entry_of batches list) (so_far.entries ++ one ∷ []) (at + 1) left)) is;
+      ∙ ap (λ said. and_then at said (λ one. read_after (contest_entry_of batches list) (so_far.entries ++ one ∷ []) (at + 1) left)) is;
 }

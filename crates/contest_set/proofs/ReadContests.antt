@@ -8,13 +8,15 @@ use Rattle.csv_rows.specs.Numbers.{number_of}
 use Rattle.csv_rows.specs.Rows.{Fields}
 use Rattle.irv_base.specs.Names.{all_differ}
 use Rattle.ballot_reader.specs.Ballots.{BallotFile}
-use Rattle.ballot_reader.specs.Grammar.{Ballot, Contest, Refusal, all_audited, ballots_after, contest_count, contests_behind, contests_from, contests_in, contests_of, file_of, has_audited_size, then_on, unless_unsized}
+use Rattle.ballot_reader.specs.Grammar.{Ballot, Contest, all_audited, ballots_after, contest_count, contests_behind, contests_from, contests_in, contests_of, file_of, has_audited_size, then_on, unless_unsized}
+use Rattle.ballot_reader.specs.declared.fault.BRule.{BRule}
+use Rattle.file_fault.specs.Refusals.{Refusal}
 use Rattle.ballot_reader.specs.Kept.{contest_ids as ids_listed}
 use Rattle.ballot_reader.specs.declared.limits.TheConstants.{MOST_CONTESTS}
 use Rattle.ballot_reader.proofs.Contests.{all_listed, none_listed}
 use Rattle.contest_set.specs.SeenBy.{contest_ids}
 
-then-value : {A B : Type 0} (r : Result A Refusal) (more : A → Result B Refusal) (v : B) → then_on r more ≡ Ok v → (x : A) × (r ≡ Ok x) × (more x ≡ Ok v)
+then-value : {A B : Type 0} (r : Result A (Refusal BRule)) (more : A → Result B (Refusal BRule)) (v : B) → then_on r more ≡ Ok v → (x : A) × (r ≡ Ok x) × (more x ≡ Ok v)
 then-value (Ok x) more v e = (x, refl, e)
 then-value (Err refusal) more v e = absurd cc
 

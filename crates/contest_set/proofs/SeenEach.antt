@@ -8,7 +8,8 @@ use Rattle.ballot_reader.specs.Ballots.{BallotFile}
 use Rattle.ballot_reader.proofs.Adding.{same-comm, same-refl}
 use Rattle.manifest.proofs.Numbers.{same-equal}
 use Rattle.manifest.specs.Cards.{Batches}
-use Rattle.seen_file.specs.Reading.{Refusal, and_then, card_of, entry_of, entry_of_card, read_after, seen_by_records, with_card}
+use Rattle.seen_file.specs.Reading.{card_of, entry_of, entry_of_card, read_after, seen_by_records, with_card}
+use Rattle.file_fault.specs.Refusals.{and_then, Refusal}
 use Rattle.seen_file.specs.Seen.{Entry}
 use Rattle.seen_file.specs.declared.fault.VRule.{VRule}
 use Rattle.contest_set.specs.Laws.{SeenAlone, SeenIsEach, is_about, records_about, without_contest}
@@ -16,7 +17,7 @@ use Rattle.contest_set.specs.SeenBy.{ContestEntry, contest_entry_of, ballots_for
 use Rattle.contest_set.proofs.Named.{named-itself}
 use Rattle.contest_set.proofs.Entries.{entries-other, entries-own, seen-at}
 
-then-ok : {A B : Type 0} (r : Result A VRule) (at : ℕ) (more : A → Result B Refusal) (v : B) → and_then r at more ≡ Ok v →
+then-ok : {A B : Type 0} (r : Result A VRule) (at : ℕ) (more : A → Result B (Refusal VRule)) (v : B) → and_then at r more ≡ Ok v →
     (x : A) × (r ≡ Ok x) × (more x ≡ Ok v)
 then-ok (Ok x) at more v e = (x, refl, e)
 then-ok (Err rule) at more v e = absurd cc
@@ -134,7 +135,7 @@ module _ (batches : Batches) (list : List BallotFile) (b : BallotFile) (itself :
           let (entry, alone) = same earlier refl in
           ap (λ t. read_after (entry_of batches b.candidates) (entries_for b.contest earlier) own_at
           (map without_contest (cond t (row ∷ records_about b.contest rows) (records_about b.contest rows)))) t
-          ∙ ap (λ r. and_then r own_at (λ entry. read_after (entry_of batches b.candidates) (entries_for b.contest earlier ++ entry ∷ []) (own_at + 1) left)) entry
+          ∙ ap (λ r. and_then own_at r (λ entry. read_after (entry_of batches b.candidates) (entries_for b.contest earlier ++ entry ∷ []) (own_at + 1) left)) entry
           ∙ ap (λ entries. read_after (entry_of batches b.candidates) entries (own_at + 1) left)
           (sym (entries-own b.contest earlier one (ap (λ id. is_same id b.contest) about ∙ same-refl b.contest)))
           ∙ more (own_at + 1)
@@ -172,7 +173,7 @@ module _ (batches : Batches) (list : List BallotFile) (b : BallotFile) (itself :
           record {
             last = next.last;
             read = ap (λ t. read_after (contest_entry_of batches (b ∷ [])) mine own_at (cond t (row ∷ records_about b.contest rows) (records_about b.contest rows))) t
-                ∙ ap (λ r. and_then r own_at (λ entry. read_after (contest_entry_of batches (b ∷ [])) (mine ++ entry ∷ []) (own_at + 1)
+                ∙ ap (λ r. and_then own_at r (λ entry. read_after (contest_entry_of batches (b ∷ [])) (mine ++ entry ∷ []) (own_at + 1)
                 (records_about b.contest rows))) (holds mine same).1
                 ∙ next.read;
             same = next.same;
@@ -188,7 +189,7 @@ module _ (batches : Batches) (list : List BallotFile) (b : BallotFile) (itself :
 
 -- ---- the laws
 
-each-read : (list : List BallotFile) (r : Result (List ContestEntry) Refusal) (each : List (List Entry)) → for_each_contest list r ≡ Ok each →
+each-read : (list : List BallotFile) (r : Result (List ContestEntry) (Refusal VRule)) (each : List (List Entry)) → for_each_contest list r ≡ Ok each →
     (all : List ContestEntry) × (r ≡ Ok all) × (seen_for_each list all ≡ each)
 each-read list (Ok all) each e = (all, refl, cc)
 each-read list (Err refusal) each e = absurd cc
@@ -206,7 +207,7 @@ seen_is_each batches list rows each differ e =
     go (b ∷ some) itself all read =
         ap (λ first. first ∷ map (λ (ballots : BallotFile). seen_by_records batches ballots.candidates
         (map without_contest (records_about ballots.contest rows))) some) (own batches list b (itself 0 b refl) rows [] 1 1 all read)
-        ∙ ap (λ (more : List (Result (List Entry) Refusal)). Ok (entries_for b.contest all) ∷ more) (go some (λ k x at. itself (suc k) x at) all read)
+        ∙ ap (λ (more : List (Result (List Entry) (Refusal VRule))). Ok (entries_for b.contest all) ∷ more) (go some (λ k x at. itself (suc k) x at) all read)
 
 pub seen_alone : SeenAlone
 seen_alone batches list rows each place ballots entries differ e at seen =

@@ -6,7 +6,8 @@ use Rattle.csv_rows.specs.Rows.{Fields}
 use Rattle.irv_base.specs.Names.{Id, is_same}
 use Rattle.ballot_reader.specs.Ballots.{BallotFile}
 use Rattle.manifest.specs.Cards.{Batches}
-use Rattle.seen_file.specs.Reading.{Refusal, card_of, entry_of_card, read_after, with_card}
+use Rattle.seen_file.specs.Reading.{card_of, entry_of_card, read_after, with_card}
+use Rattle.file_fault.specs.Refusals.{Refusal}
 use Rattle.seen_file.specs.Seen.{Entry}
 use Rattle.seen_file.specs.declared.fault.VRule.{VRule}
 use Rattle.seen_file.specs.declared.fault.VRule.TheVariants.{V1, V6}
@@ -59,16 +60,16 @@ contest_entry_of batches list earlier (id ∷ contest ∷ word ∷ rest) =
 
 -- ---- the file
 
-abbrev pub for_each_contest : List BallotFile → Result (List ContestEntry) Refusal →
-    Result (List (List Entry)) Refusal
+abbrev pub for_each_contest : List BallotFile → Result (List ContestEntry) (Refusal VRule) →
+    Result (List (List Entry)) (Refusal VRule)
 for_each_contest list (Ok entries) = Ok (seen_for_each list entries)
 for_each_contest list (Err refusal) = Err refusal
 
 -- what is seen for each contest, by these records
 abbrev pub seen_by_rows : Batches → List BallotFile → List Fields →
-    Result (List (List Entry)) Refusal
+    Result (List (List Entry)) (Refusal VRule)
 seen_by_rows batches list rows =
     for_each_contest list (read_after (contest_entry_of batches list) [] 1 rows)
 
-abbrev pub seen_by : Batches → List BallotFile → List ℕ → Result (List (List Entry)) Refusal
+abbrev pub seen_by : Batches → List BallotFile → List ℕ → Result (List (List Entry)) (Refusal VRule)
 seen_by batches list bytes = seen_by_rows batches list (numbered_records bytes)

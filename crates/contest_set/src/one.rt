@@ -15,7 +15,7 @@ use assertion_file::AssertionFile;
 use audit_session::{AdvanceFault, first_round};
 use ballot_reader::Ballots;
 use budget::Budget;
-use contest_search::{Found, Searchable, find};
+use contest_search::{Found, find};
 use desk::Gate;
 use km_risk::is_confirmed;
 use manifest::{LinkFault, Linked, Manifest, link};
@@ -130,9 +130,14 @@ pub fn audit_one<R: AllocGlobal + Threads + Sync, G: Gate + Sync>(
     requires terms { AreWithinLimits terms.now }
     ensures { IsOne m.now terms.now ballots.now seen.now place result }
 {
-    let contest = Searchable::of(ballots);
     let gate = Numbered { gate, place };
-    match find(rt, &contest, ALONE, Budget::Nodes(terms.nodes), &gate)? {
+    match find(
+        rt,
+        ballots.votes(),
+        ALONE,
+        Budget::Nodes(terms.nodes),
+        &gate,
+    )? {
         Found::Certificate(file) => audited(rt.alloc(), place, ballots, m, seen, terms, file),
         Found::Tie { round, tied, votes } => Ok(ContestEnd::Tied {
             round,

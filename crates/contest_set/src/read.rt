@@ -1,7 +1,7 @@
 // Reading what is seen of cards for several contests.
 ghost use Rattle.std.specs.Prelude.{◌≡◌, ◌<◌, ◌++◌, ◌∷◌, [], List, slice_get, slice_set, replicate, length, None, Some, Ok, IfOk, IfErr, OnOk, IsTrue};
 ghost use Rattle.irv_base.specs.Names.{all_differ};
-ghost use Rattle.seen_file.specs.Faults.{Refuses};
+ghost use Rattle.file_fault.specs.Refusals.{Refuses};
 ghost use Rattle.seen_file.specs.Seen.{Entry, seen_in};
 ghost use Rattle.contest_set.specs.SeenBy.{contest_ids, seen_by};
 
@@ -64,7 +64,7 @@ pub fn read_seen_by(
     'records: while rows.read_numbered(&mut row)? {
         let told = match told_of(m, list, &seen, &row) {
             Ok(told) => told,
-            Err(rule) => return Err(SeenFault::Refused { rule, at }),
+            Err(rule) => return Err(SeenFault::at_record(rule, at)),
         };
         put(&mut seen, told)?;
         if at == u32::MAX {

@@ -8,7 +8,8 @@ use Rattle.csv_rows.specs.Rows.{Fields}
 use Rattle.irv_base.specs.Names.{Id, all_differ, is_among, is_name, is_same}
 use Rattle.irv_base.specs.declared.limits.TheConstants.{MOST_RECORDS}
 use Rattle.ballot_reader.specs.Ballots.{BallotFile}
-use Rattle.ballot_reader.specs.Grammar.{Ballot, Contest, Refusal, and_then, contest_count, contests_behind, contests_from, has_audited_size, then_on, unless_unsized, ballot_for, ballot_ids, ballot_in, ballot_of, ballot_with, ballots_after, ballots_in, contest_named, contest_of, contest_with, contest_with_id, contests_in, file_of, has_id, listed, names_of, number_up_to, ranking_of}
+use Rattle.ballot_reader.specs.Grammar.{Ballot, Contest, contest_count, contests_behind, contests_from, has_audited_size, then_on, unless_unsized, ballot_for, ballot_ids, ballot_in, ballot_of, ballot_with, ballots_after, ballots_in, contest_named, contest_of, contest_with, contest_with_id, contests_in, file_of, has_id, listed, names_of, number_up_to, ranking_of}
+use Rattle.file_fault.specs.Refusals.{and_then, Refusal}
 use Rattle.ballot_reader.specs.declared.fault.BRule.{BRule}
 use Rattle.ballot_reader.specs.declared.fault.BRule.TheVariants.{B2, B4, B7, B9, B10}
 use Rattle.ballot_reader.specs.declared.limits.TheConstants.{MOST_LISTED}
@@ -445,7 +446,7 @@ said_alone (first ∷ rows) list place ballots h there = by-count (contest_count
       (places, ap (λ o. contests_from (alone_behind c.id o rows)) e ∙ left)
 
   by-ballots : (n : ℕ) → contest_count first ≡ Some n → (contests : List Contest) → contests_in n [] 2 rows ≡ Ok contests →
-      first_unsized contests ≡ None → (o : Result (List Ballot) Refusal) → ballots_after contests [] (2 + n) (drop n rows) ≡ o →
+      first_unsized contests ≡ None → (o : Result (List Ballot) (Refusal BRule)) → ballots_after contests [] (2 + n) (drop n rows) ≡ o →
       then_on o (λ bs. Ok (map (λ (c : Contest). file_of c bs) contests)) ≡ Ok list → goal
   by-ballots n e contests f none (Err refusal) g h = absurd (cc h)
   by-ballots n e contests f none (Ok bs) g h =
@@ -456,7 +457,7 @@ said_alone (first ∷ rows) list place ballots h there = by-count (contest_count
   by-size n e contests f (Some c) none h = absurd (cc h)
   by-size n e contests f None none h = by-ballots n e contests f none (ballots_after contests [] (2 + n) (drop n rows)) refl h
 
-  by-contests : (n : ℕ) → contest_count first ≡ Some n → (o : Result (List Contest) Refusal) → contests_in n [] 2 rows ≡ o →
+  by-contests : (n : ℕ) → contest_count first ≡ Some n → (o : Result (List Contest) (Refusal BRule)) → contests_in n [] 2 rows ≡ o →
       then_on o (after_listed n rows) ≡ Ok list → goal
   by-contests n e (Err refusal) f h = absurd (cc h)
   by-contests n e (Ok contests) f h = by-size n e contests f (first_unsized contests) refl h

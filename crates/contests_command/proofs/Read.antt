@@ -8,13 +8,14 @@ use Rattle.csv_rows.specs.Numbers.{number_of}
 use Rattle.csv_rows.specs.Rows.{Fields}
 use Rattle.irv_base.specs.Names.{all_differ}
 use Rattle.ballot_reader.specs.Ballots.{BallotFile}
-use Rattle.ballot_reader.specs.Grammar.{Ballot, Contest, Refusal as BallotRefusal, ballots_after, contest_count, contests_behind, contests_from, contests_in, contests_of, file_of, has_audited_size, then_on, unless_unsized}
+use Rattle.ballot_reader.specs.Grammar.{Ballot, Contest, ballots_after, contest_count, contests_behind, contests_from, contests_in, contests_of, file_of, has_audited_size, then_on, unless_unsized}
+use Rattle.ballot_reader.specs.declared.fault.BRule.{BRule}
+use Rattle.file_fault.specs.Refusals.{Refusal}
 use Rattle.ballot_reader.specs.Kept.{contest_ids as ids_of_contests}
 use Rattle.ballot_reader.specs.declared.limits.TheConstants.{MOST_CONTESTS}
 use Rattle.ballot_reader.proofs.Behind.{after_all, listed}
 use Rattle.ballot_reader.proofs.Contests.{AreListed, all_listed, none_listed}
 use Rattle.manifest.specs.Cards.{Batches}
-use Rattle.seen_file.specs.Reading.{Refusal}
 use Rattle.seen_file.specs.Seen.{Entry}
 use Rattle.contest_set.specs.SeenBy.{ContestEntry, contest_entry_of, contest_ids, entries_for, for_each_contest, seen_by}
 use Rattle.contests_command.specs.Contests.{AreContests}
@@ -40,7 +41,7 @@ same-ids bs (c ∷ contests) = ap (λ ids. c.id ∷ ids) (same-ids bs contests)
 as-listed : (n : ℕ) (rows : List Fields) (contests : List Contest) (list : List BallotFile) → after_all n rows contests contests ≡ Ok list →
     (bs : List Ballot) × (list ≡ map (λ (c : Contest). file_of c bs) contests)
 as-listed n rows contests list h = by (ballots_after contests [] (2 + n) (drop n rows)) h where
-  by : (o : Result (List Ballot) BallotRefusal) → then_on o (λ bs. Ok (map (λ (c : Contest). file_of c bs) contests)) ≡ Ok list →
+  by : (o : Result (List Ballot) (Refusal BRule)) → then_on o (λ bs. Ok (map (λ (c : Contest). file_of c bs) contests)) ≡ Ok list →
       (bs : List Ballot) × (list ≡ map (λ (c : Contest). file_of c bs) contests)
   by (Ok bs) g = (bs, cc)
   by (Err refusal) g = absurd cc
@@ -59,7 +60,7 @@ contests-behind n rows list few h = by (contests_in n [] 2 rows) refl h where
       }
   sized contests e (Some c) g = absurd cc
 
-  by : (o : Result (List Contest) BallotRefusal) → contests_in n [] 2 rows ≡ o → contests_behind (Some n) rows ≡ Ok list → AreContests list
+  by : (o : Result (List Contest) (Refusal BRule)) → contests_in n [] 2 rows ≡ o → contests_behind (Some n) rows ≡ Ok list → AreContests list
   by (Err refusal) e g =
       let none = sym (ap (λ r. then_on r (λ contests. then_on (unless_unsized contests (find (λ (c : Contest). not (has_audited_size c.candidates)) contests))
       (after_all n rows contests))) e) ∙ g in

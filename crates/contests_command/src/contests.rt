@@ -22,9 +22,9 @@ use cli_base::{Answer, Refusal, confirmed_kind, refuse_at};
 use command::{ContestsTask, FileName};
 use contest_set::{ContestEnd, SetFault, SharedTerms, audit_all, read_seen_by};
 use desk::{Desk, Gate};
-use input_files::{bytes_of, contests_in, manifest_in, no_record_text, refuse_for};
+use input_files::{bytes_of, contests_in, manifest_in, no_record_text, refuse_file, refuse_for};
 use manifest::Manifest;
-use seen_file::{SeenCards, SeenFault};
+use seen_file::SeenCards;
 use std::alloc::Global;
 use std::thread::Threads;
 
@@ -116,13 +116,7 @@ fn seen_by_in(
 {
     match read_seen_by(alloc, bytes, batches, list) {
         Ok(seen) => Ok(seen),
-        Err(SeenFault::Refused { rule, at }) => Err(refuse_at(
-            alloc,
-            file.as_str(),
-            rule.name(),
-            u64::from(at),
-        )),
-        Err(SeenFault::Memory) => Err(Refusal::Memory),
+        Err(fault) => Err(refuse_file(alloc, file, fault)),
     }
 }
 

@@ -1,4 +1,4 @@
-// Whether an assertion file holds of some ballots.
+// Whether an assertion file holds of some votes.
 ghost use Rattle.std.specs.Prelude.{◌≡◌, ℕ, List, length, IfOk, IfErr};
 ghost use Rattle.set_tallies.specs.Bags.{IsOf};
 ghost use Rattle.assertion_file.specs.Content.{candidate_count};
@@ -11,7 +11,7 @@ use crate::findings::{
     elected, harder, is_about, other_draws, other_margin, other_smallest, other_winner, uncovered,
 };
 use assertion_file::AssertionFile;
-use ballot_reader::Ballots;
+use ballot_reader::Votes;
 use budget::Budget;
 use irv_base::Candidate;
 use irv_tabulator::{TabFault, tabulate};
@@ -72,25 +72,25 @@ fn judge(
     Ok(Checked::Accepted)
 }
 
-/// Whether the file holds of the ballots, whose tallies these are. If it doesn't, the answer is the first that is found, in the
+/// Whether the file holds of the votes, whose tallies these are. If it doesn't, the answer is the first that is found, in the
 /// order of `Checked`; a budget is spent where `covered` says so for the claims. Claims that hold prove the winner, whatever ties the
 /// contest has.
 ///
 /// The other error is want of memory.
 pub fn check(
     alloc: Global,
-    ballots: &Ballots,
+    votes: &Votes,
     tallies: &mut Tallies<'_>,
     file: &AssertionFile,
     budget: Budget,
 ) -> Result<Checked, CheckFault>
-    requires candidates { tallies.old.bag.n ≡ length (ballots.now).candidates }
-    requires records { IsOf tallies.old.bag (ballots.now).rankings }
-    ensures checked { IfOk result (λ checked. IsAnswer budget ballots.now file.now (Ok checked)) }
-    ensures fault { IfErr result (IsFault budget ballots.now file.now) }
+    requires candidates { tallies.old.bag.n ≡ length (votes.now).candidates }
+    requires records { IsOf tallies.old.bag (votes.now).rankings }
+    ensures checked { IfOk result (λ checked. IsAnswer budget votes.now file.now (Ok checked)) }
+    ensures fault { IfErr result (IsFault budget votes.now file.now) }
     ensures same { tallies.new ≡ tallies.old }
 {
-    if !is_about(ballots, file) {
+    if !is_about(votes, file) {
         return Ok(Checked::OtherContest);
     }
     let winner = winner_of(alloc, tallies)?;

@@ -13,7 +13,7 @@ use crate::checked::{CheckFault, Checked};
 use crate::cover::{Verdict, covered};
 use assertion_file::{AssertionFile, PlanFacts};
 use assertions::{Assertion, Claim, margin};
-use ballot_reader::Ballots;
+use ballot_reader::Votes;
 use budget::Budget;
 use irv_base::{Candidate, Memory, Order};
 use km_risk::clean_draws;
@@ -21,13 +21,13 @@ use set_tallies::Tallies;
 use std::alloc::Global;
 use suffix_tree::{Tail, score};
 
-/// Whether the file is about the contest of the ballots.
-pub fn is_about(ballots: &Ballots, file: &AssertionFile) -> bool
-    ensures { result ≡ is_about ballots.now file.now }
+/// Whether the file is about the contest of the votes.
+pub fn is_about(votes: &Votes, file: &AssertionFile) -> bool
+    ensures { result ≡ is_about votes.now file.now }
 {
-    file.contest() == ballots.contest()
-        && file.candidates() == ballots.candidates()
-        && file.records() as usize == ballots.rankings().len()
+    file.contest() == votes.contest()
+        && file.candidates() == votes.candidates()
+        && file.records() as usize == votes.rankings().len()
 }
 
 /// The winner of the contest, if the file has another one.

@@ -3,6 +3,7 @@ mod contests;
 mod rankings;
 
 use ballot_reader::{BRule, BallotFault, read_ballots};
+use file_fault::Rule;
 use irv_base::{Candidate, Name};
 
 #[test]
@@ -35,7 +36,7 @@ fn reads_the_contest_asked_for(rt: HostRuntime) {
     assert!(rt; ballots.rankings().at(1) == [Candidate(0)].as_slice());
 }
 
-fn is_refused(rt: &HostRuntime, file: &[u8], by: BRule, place: u32) -> bool {
+fn is_refused(rt: &HostRuntime, file: &[u8], by: BRule, place: u64) -> bool {
     match read_ballots(rt.alloc(), file, None) {
         Err(BallotFault::Refused { rule, at }) => rule == by && at == place,
         _ => false,
@@ -44,7 +45,7 @@ fn is_refused(rt: &HostRuntime, file: &[u8], by: BRule, place: u32) -> bool {
 
 #[test]
 fn refuses_contests(rt: HostRuntime) {
-    let files: [(&[u8], BRule, u32); 7] = [
+    let files: [(&[u8], BRule, u64); 7] = [
         (b"".as_slice(), BRule::B1, 1),
         (b"65\n7".as_slice(), BRule::B1, 1),
         (b"1\nContest,1".as_slice(), BRule::B2, 2),
@@ -76,7 +77,7 @@ fn takes_two_to_thirty_two_candidates(rt: HostRuntime) {
 
 #[test]
 fn refuses_ballots(rt: HostRuntime) {
-    let files: [(&[u8], BRule, u32); 6] = [
+    let files: [(&[u8], BRule, u64); 6] = [
         (b"1\nContest,7,2,A,B\n\n7".as_slice(), BRule::B6, 3),
         (b"1\nContest,7,2,A,B\n8,b\"".as_slice(), BRule::B4, 3),
         (b"1\nContest,7,2,A,B\n7,b\n8,b".as_slice(), BRule::B7, 4),

@@ -1,21 +1,22 @@
 -- What is judged of files, one thing after the other.
 use Rattle.std.proofs.Common.{◌≡◌, ◌∙◌, inl, inr, ℕ, List, Option, None, Some, ok_or, Result, Ok, Err, refl, sym, ap, ap₂, subst}
-use Rattle.cli_base.specs.Outcome.{Outcome, Verdict, outcome, file_refusal, broken_at}
+use Rattle.file_fault.specs.Refusals.{Refusal, Refuses}
+use Rattle.file_fault.specs.declared.fault.Fault.{Fault}
+use Rattle.file_fault.specs.declared.fault.Fault.TheVariants.{Refused as Breaks, Memory}
+use Rattle.cli_base.specs.Outcome.{Outcome, Verdict, outcome}
 use Rattle.cli_base.specs.Due.{due_refusal, IsOrMemory}
 use Rattle.cli_base.specs.declared.outcome.Refusal.{Refusal as Stop}
-use Rattle.cli_base.specs.declared.outcome.RefusalKind.TheVariants.{Input}
 use Rattle.input_files.specs.Judged.{told, unless, then_judged, IsTold, IsStopped, IsJudged}
+use Rattle.input_files.specs.Refusals.{refused_fault, refused_file}
 
 -- ---- one file
 
--- a rule refuses it
-pub refused_by_rule : {A Why : Type 0} (words : Why → Verdict) (name word : List ℕ) (read : Result A Why) (why : Why) (rule text : List ℕ) (at : ℕ)
-    (refusal : Stop) →
-    read ≡ Err why → outcome (words why) ≡ file_refusal Input name (broken_at rule at) →
-    word ≡ name → text ≡ rule → IsOrMemory (file_refusal Input word (broken_at text at)) (due_refusal refusal) → IsStopped (told words read) refusal
-refused_by_rule words name word read why rule text at refusal is shown called named (inl due) =
-    inl (words why, ap (told words) is, due ∙ ap₂ (λ n t. file_refusal Input n (broken_at t at)) called named ∙ sym shown)
-refused_by_rule words name word read why rule text at refusal is shown called named (inr memory) = inr memory
+-- a fault stops the call that reads it
+pub refused_for : {A R : Type 0} (rule_name : R → List ℕ) (name : List ℕ) (read : Result A (Refusal R)) (fault : Fault R) (refusal : Stop) →
+    Refuses read fault → IsTold (refused_fault rule_name name fault) (due_refusal refusal) → IsStopped (told (refused_file rule_name name) read) refusal
+refused_for rule_name name read (Breaks rule at) refusal is (inl due) = inl (_, ap (told (refused_file rule_name name)) is, due)
+refused_for rule_name name read (Breaks rule at) refusal is (inr memory) = inr memory
+refused_for rule_name name read Memory refusal is memory = inr memory
 
 -- what is told of it is what it says
 pub said : {A Why : Type 0} (words : Why → Verdict) (read : Result A Why) (value : A) → told words read ≡ Ok value → read ≡ Ok value

@@ -1,31 +1,44 @@
 -- What is wrong with a file, by its name: the rule that it breaks, and the place.
-use Rattle.std.specs.Prelude.{ℕ, List, ◌++◌, codes}
+use Rattle.std.specs.Prelude.{ℕ, List, ◌++◌, Option, Some, None, codes}
 use Rattle.std.specs.Fmt.{decimal}
+use Rattle.file_fault.specs.Refusals.{Refusal}
+use Rattle.file_fault.specs.declared.fault.Fault.{Fault}
+use Rattle.file_fault.specs.declared.fault.Fault.TheVariants.{Refused as Breaks, Memory}
 use Rattle.ballot_reader.specs.Faults.{rule_name as ballot_rule}
-use Rattle.ballot_reader.specs.Grammar.{Refusal as BallotRefusal}
+use Rattle.ballot_reader.specs.declared.fault.BRule.{BRule}
 use Rattle.manifest.specs.Faults.{rule_name as manifest_rule}
-use Rattle.manifest.specs.Manifest.{Refusal as ManifestRefusal}
+use Rattle.manifest.specs.declared.fault.MRule.{MRule}
 use Rattle.assertion_file.specs.Faults.{rule_name as assertion_rule}
-use Rattle.assertion_file.specs.Reading.{Refusal as AssertionRefusal}
+use Rattle.assertion_file.specs.declared.fault.FRule.{FRule}
 use Rattle.seen_file.specs.Faults.{rule_name as seen_rule}
-use Rattle.seen_file.specs.Reading.{Refusal as SeenRefusal}
+use Rattle.seen_file.specs.declared.fault.VRule.{VRule}
 use Rattle.cli_base.specs.Outcome.{Verdict, Refused, broken_at}
 
+-- a file of a kind whose rules have these names
+abbrev pub refused_file : {R : Type 0} → (R → List ℕ) → List ℕ → Refusal R → Verdict
+refused_file rule_name name refusal = Refused name (broken_at (rule_name refusal.rule) refusal.at)
+
+-- the same of a fault, if it is one of the file's
+abbrev pub refused_fault : {R : Type 0} → (R → List ℕ) → List ℕ → Fault R → Option Verdict
+refused_fault rule_name name (Breaks rule at) =
+    Some (refused_file rule_name name (record { rule = rule; at = at }))
+refused_fault rule_name name Memory = None
+
 -- a ballot file, at a record
-abbrev pub refused_ballots : List ℕ → BallotRefusal → Verdict
-refused_ballots name refusal = Refused name (broken_at (ballot_rule refusal.rule) refusal.at)
+abbrev pub refused_ballots : List ℕ → Refusal BRule → Verdict
+refused_ballots = refused_file ballot_rule
 
 -- a manifest, at a record
-abbrev pub refused_manifest : List ℕ → ManifestRefusal → Verdict
-refused_manifest name refusal = Refused name (broken_at (manifest_rule refusal.rule) refusal.at)
+abbrev pub refused_manifest : List ℕ → Refusal MRule → Verdict
+refused_manifest = refused_file manifest_rule
 
 -- an assertion file, at an assertion, or at 0 by the file's own members
-abbrev pub refused_assertions : List ℕ → AssertionRefusal → Verdict
-refused_assertions name refusal = Refused name (broken_at (assertion_rule refusal.rule) refusal.at)
+abbrev pub refused_assertions : List ℕ → Refusal FRule → Verdict
+refused_assertions = refused_file assertion_rule
 
 -- a seen file, at a record
-abbrev pub refused_seen : List ℕ → SeenRefusal → Verdict
-refused_seen name refusal = Refused name (broken_at (seen_rule refusal.rule) refusal.at)
+abbrev pub refused_seen : List ℕ → Refusal VRule → Verdict
+refused_seen = refused_file seen_rule
 
 -- a ballot has no card, in a record of the ballot file
 abbrev pub no_card : List ℕ → ℕ → Verdict

@@ -3,6 +3,7 @@ ghost use Rattle.std.specs.Prelude.{◌≡◌, ◌≤◌, Ok, IfOk, IfErr, lengt
 ghost use Rattle.desk.specs.Count.{one_more, Rose};
 ghost use Rattle.irv_base.specs.declared.limits.TheConstants.{ROOM};
 ghost use Rattle.assertion_file.specs.Reading.{assertion_file_of};
+ghost use Rattle.ballot_reader.specs.Ballots.{BallotFile, votes_of};
 ghost use Rattle.ballot_reader.specs.Grammar.{ballots_of, contests_of};
 ghost use Rattle.manifest.specs.Manifest.{manifest_of};
 ghost use Rattle.seen_file.specs.Reading.{seen_of};
@@ -12,14 +13,15 @@ ghost use Rattle.cli_base.specs.Script.{ByDesk};
 ghost use Rattle.input_files.specs.Judged.{IsJudged, IsStopped, told};
 ghost use Rattle.input_files.specs.Refusals.{refused_assertions, refused_ballots, refused_manifest, refused_seen};
 
-use assertion_file::{AssertionFile, FileFault, read_file};
-use ballot_reader::{BallotFault, Ballots, read_ballots, read_contests};
-use cli_base::{Refusal, read_file as read_whole, refuse_at};
+use crate::judged::refuse_file;
+use assertion_file::{AssertionFile, read_file};
+use ballot_reader::{Ballots, Votes, read_ballots, read_contests, read_votes};
+use cli_base::{Refusal, read_file as read_whole};
 use command::FileName;
 use desk::Desk;
 use irv_base::Name;
-use manifest::{Manifest, ManifestFault, read_manifest};
-use seen_file::{SeenCards, SeenFault, read_seen};
+use manifest::{Manifest, read_manifest};
+use seen_file::{SeenCards, read_seen};
 use std::alloc::Global;
 
 /// All bytes of the file with this name, or why the call stops there.
@@ -47,13 +49,26 @@ pub fn ballots_in(
 {
     match read_ballots(alloc, bytes, contest) {
         Ok(ballots) => Ok(ballots),
-        Err(BallotFault::Refused { rule, at }) => Err(refuse_at(
-            alloc,
-            file.as_str(),
-            rule.name(),
-            u64::from(at),
-        )),
-        Err(BallotFault::Memory) => Err(Refusal::Memory),
+        Err(fault) => Err(refuse_file(alloc, file, fault)),
+    }
+}
+
+/// The votes of the contest with this id, or of the only one, in the bytes of the file with this name; or the rule that refuses them.
+pub fn votes_in(
+    alloc: Global,
+    file: &FileName,
+    bytes: &[u8],
+    contest: Option<&Name>,
+) -> Result<Votes, Refusal>
+    ensures read { IfOk result (λ votes. (ballots : BallotFile)
+        × (told (refused_ballots file.now) (ballots_of bytes.now (option_copied contest.entry))
+        ≡ Ok ballots) × (votes ≡ votes_of ballots)) }
+    ensures refused { IfErr result (IsStopped
+        (told (refused_ballots file.now) (ballots_of bytes.now (option_copied contest.entry)))) }
+{
+    match read_votes(alloc, bytes, contest) {
+        Ok(votes) => Ok(votes),
+        Err(fault) => Err(refuse_file(alloc, file, fault)),
     }
 }
 
@@ -66,13 +81,7 @@ pub fn contests_in(alloc: Global, file: &FileName, bytes: &[u8]) -> Result<Vec<B
 {
     match read_contests(alloc, bytes) {
         Ok(list) => Ok(list),
-        Err(BallotFault::Refused { rule, at }) => Err(refuse_at(
-            alloc,
-            file.as_str(),
-            rule.name(),
-            u64::from(at),
-        )),
-        Err(BallotFault::Memory) => Err(Refusal::Memory),
+        Err(fault) => Err(refuse_file(alloc, file, fault)),
     }
 }
 
@@ -82,13 +91,7 @@ pub fn manifest_in(alloc: Global, file: &FileName, bytes: &[u8]) -> Result<Manif
 {
     match read_manifest(alloc, bytes) {
         Ok(manifest) => Ok(manifest),
-        Err(ManifestFault::Refused { rule, at }) => Err(refuse_at(
-            alloc,
-            file.as_str(),
-            rule.name(),
-            u64::from(at),
-        )),
-        Err(ManifestFault::Memory) => Err(Refusal::Memory),
+        Err(fault) => Err(refuse_file(alloc, file, fault)),
     }
 }
 
@@ -98,13 +101,7 @@ pub fn assertions_in(alloc: Global, file: &FileName, bytes: &[u8]) -> Result<Ass
 {
     match read_file(alloc, bytes) {
         Ok(assertions) => Ok(assertions),
-        Err(FileFault::Refused { rule, at }) => Err(refuse_at(
-            alloc,
-            file.as_str(),
-            rule.name(),
-            at,
-        )),
-        Err(FileFault::Memory) => Err(Refusal::Memory),
+        Err(fault) => Err(refuse_file(alloc, file, fault)),
     }
 }
 
@@ -122,12 +119,6 @@ pub fn seen_in(
 {
     match read_seen(alloc, bytes, manifest, candidates) {
         Ok(seen) => Ok(seen),
-        Err(SeenFault::Refused { rule, at }) => Err(refuse_at(
-            alloc,
-            file.as_str(),
-            rule.name(),
-            u64::from(at),
-        )),
-        Err(SeenFault::Memory) => Err(Refusal::Memory),
+        Err(fault) => Err(refuse_file(alloc, file, fault)),
     }
 }

@@ -2,11 +2,23 @@
 ghost use Rattle.std.specs.Prelude.{◌≡◌, List, ℕ, IfOk, string_bytes};
 ghost use Rattle.cli_base.specs.Due.{due_refusal, IsOrMemory};
 ghost use Rattle.cli_base.specs.Outcome.{Refused, outcome};
-ghost use Rattle.input_files.specs.Refusals.{no_record_text};
+ghost use Rattle.input_files.specs.Judged.{IsTold};
+ghost use Rattle.input_files.specs.Refusals.{no_record_text, refused_fault};
 
-use cli_base::{Refusal, RefusalKind, refuse};
+use cli_base::{Refusal, RefusalKind, refuse, refuse_at};
 use command::FileName;
+use file_fault::{Fault, Rule};
 use std::alloc::{AllocError, Global};
+
+/// A refusal of the file with this name, which isn't read for that fault.
+pub fn refuse_file<R: Rule>(alloc: Global, file: &FileName, fault: Fault<R>) -> Refusal
+    ensures { IsTold (refused_fault R.name file.now fault) (due_refusal result) }
+{
+    match fault {
+        Fault::Refused { rule, at } => refuse_at(alloc, file.as_str(), rule.name(), at),
+        Fault::Memory => Refusal::Memory,
+    }
+}
 
 /// A refusal of the file with this name, for the reason that the text tells.
 pub fn refuse_for(alloc: Global, file: &FileName, text: Result<String, AllocError>) -> Refusal

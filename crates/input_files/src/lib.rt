@@ -6,5 +6,5 @@ mod files;
 mod judged;
 
 pub use cards::{Cards, cards_for};
-pub use files::{assertions_in, ballots_in, bytes_of, contests_in, manifest_in, seen_in};
-pub use judged::{no_record_text, refuse_for};
+pub use files::{assertions_in, ballots_in, bytes_of, contests_in, manifest_in, seen_in, votes_in};
+pub use judged::{no_record_text, refuse_file, refuse_for};

@@ -10,7 +10,7 @@ ghost use Rattle.report.specs.Texts.{set_text};
 
 use crate::text::{choose, set_text};
 use assertion_file::id_of;
-use ballot_reader::Ballots;
+use ballot_reader::Votes;
 use irv_base::{CandSet, Candidate, Memory, Name, Order};
 use irv_tabulator::{Round, Tabulated};
 use std::alloc::{AllocError, Global};
@@ -170,17 +170,17 @@ fn whole_text(
 /// The lines of a tabulation: the contest, how many records there are, each round with the tallies of the candidates
 /// who remain, the records that rank none of them and the candidate who is eliminated, and the winner. Every line ends
 /// with a line feed.
-pub fn tabulation(alloc: Global, b: &Ballots, t: &Tabulated) -> Result<String, Memory>
-    requires { IsTabulation (length (b.now).candidates) (b.now).rankings t.now }
+pub fn tabulation(alloc: Global, votes: &Votes, t: &Tabulated) -> Result<String, Memory>
+    requires { IsTabulation (length (votes.now).candidates) (votes.now).rankings t.now }
     ensures { IfOk result (λ text.
-        string_bytes text ≡ tabulation_text b.now (t.now).order (t.now).winner) }
+        string_bytes text ≡ tabulation_text votes.now (t.now).order (t.now).winner) }
 {
-    let names = b.candidates();
+    let names = votes.candidates();
     let rounds = rounds_text(alloc, names, &t.order, &t.rounds)?;
     let text = whole_text(
         alloc,
-        b.contest().text(),
-        b.rankings().len() as u32,
+        votes.contest().text(),
+        votes.rankings().len() as u32,
         rounds.as_str(),
         id_of(names, t.winner),
     )?;

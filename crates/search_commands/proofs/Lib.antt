@@ -8,3 +8,4 @@ pub mod Ends
 mod TrialCandidates
 pub mod Tried
 mod TrialLaws
+pub mod OfVotes

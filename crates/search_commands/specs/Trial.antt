@@ -4,7 +4,7 @@ use Rattle.std.specs.Fmt.{decimal}
 use Rattle.irv_base.specs.Candidates.{candidates}
 use Rattle.irv_base.specs.Names.{Id}
 use Rattle.trial.specs.Records.{trial_records}
-use Rattle.ballot_reader.specs.Ballots.{BallotFile}
+use Rattle.ballot_reader.specs.Ballots.{BallotFile, votes_with}
 use Rattle.assertion_file.specs.Content.{Content}
 use Rattle.assertion_file.specs.Ids.{id_of}
 use Rattle.report.specs.Texts.{order_text}
@@ -13,7 +13,6 @@ use Rattle.cli_base.specs.declared.outcome.AnswerKind.{AnswerKind}
 use Rattle.cli_base.specs.declared.outcome.AnswerKind.TheVariants.{Done, Tie, Spent}
 use Rattle.cli_base.specs.Script.{Script, Ends}
 use Rattle.command.specs.declared.trial.TrialTask.{TrialTask}
-use Rattle.contest_search.specs.Contest.{contest_with}
 use Rattle.contest_search.specs.Found.{IsFoundIn}
 use Rattle.search_commands.specs.Ends.{HasTieIn, HasSpent}
 
@@ -26,7 +25,7 @@ trial_candidates n = map (λ c. decimal (c + 1)) (candidates n)
 -- the records are those that the number draws
 abbrev pub contest_of : TrialTask → BallotFile
 contest_of task =
-    contest_with (codes "trial") (trial_candidates task.candidates)
+    votes_with (codes "trial") (trial_candidates task.candidates)
     (trial_records task.number task.candidates task.ballots)
 
 -- ---- its lines

@@ -13,12 +13,12 @@ ghost use Rattle.search_commands.specs.Search.{Finds, Searches, has_cards, print
 use crate::answers::{first_tie, spent, spent_sets};
 use crate::search_texts::full_count;
 use assertion_file::{AssertionFile, print_file};
-use ballot_reader::Ballots;
+use ballot_reader::Votes;
 use cli_base::{Answer, AnswerKind, Refusal, refuse_at};
 use command::{PlanTerms, SearchTask};
-use contest_search::{Found, Searchable, find, planned};
+use contest_search::{Found, find, planned};
 use desk::{Desk, Gate};
-use input_files::{ballots_in, bytes_of};
+use input_files::{bytes_of, votes_in};
 use irv_base::Memory;
 use std::alloc::Global;
 use std::thread::Threads;
@@ -41,60 +41,58 @@ pub fn answer<R: AllocGlobal + Threads + Sync, D: Desk, G: Gate + Sync>(
 {
     let alloc = rt.alloc();
     let bytes = bytes_of(alloc, desk, &task.ballots)?;
-    let ballots = ballots_in(alloc, &task.ballots, &bytes, task.contest.as_ref())?;
-    after_ballots(rt, &ballots, task, gate)
+    let votes = votes_in(alloc, &task.ballots, &bytes, task.contest.as_ref())?;
+    after_votes(rt, &votes, task, gate)
 }
 
-// The answer to the ballots of the contest, unless there are more of them than the cards that are asked for.
-fn after_ballots<R: AllocGlobal + Threads + Sync, G: Gate + Sync>(
+// The answer to the votes of the contest, unless there are more ballots than the cards that are asked for.
+fn after_votes<R: AllocGlobal + Threads + Sync, G: Gate + Sync>(
     rt: &R,
-    ballots: &Ballots,
+    votes: &Votes,
     task: &SearchTask,
     gate: &G,
 ) -> Result<Answer, Refusal>
     requires { IsWithinLimits task.now }
-    ensures { IsOneOrMemory (Searches task.now ballots.now) (due result) }
+    ensures { IsOneOrMemory (Searches task.now votes.now) (due result) }
 {
-    if !has_cards(task.plan, ballots) {
+    if !has_cards(task.plan, votes) {
         return Err(refuse_at(rt.alloc(), task.ballots.as_str(), "B11", 0));
     }
-    search(rt, ballots, task, gate)
+    search(rt, votes, task, gate)
 }
 
 // Whether there are at least as many cards as ballots, where a number of cards is given.
-fn has_cards(plan: Option<PlanTerms>, ballots: &Ballots) -> bool
-    ensures { result ≡ has_cards plan ballots.now }
+fn has_cards(plan: Option<PlanTerms>, votes: &Votes) -> bool
+    ensures { result ≡ has_cards plan votes.now }
 {
     match plan {
-        Some(terms) => ballots.rankings().len() as u32 <= terms.cards,
+        Some(terms) => votes.rankings().len() as u32 <= terms.cards,
         None => true,
     }
 }
 
-// What is found in the ballots. The search of them knows nothing of their ids and places.
+// What is found in the votes.
 fn search<R: AllocGlobal + Threads + Sync, G: Gate + Sync>(
     rt: &R,
-    ballots: &Ballots,
+    votes: &Votes,
     task: &SearchTask,
     gate: &G,
 ) -> Result<Answer, Refusal>
     requires limits { IsWithinLimits task.now }
-    requires cards { IsTrue (has_cards task.now.plan ballots.now) }
-    ensures { IsOneOrMemory (Finds task.now.budget task.now.floor task.now.plan ballots.now)
+    requires cards { IsTrue (has_cards task.now.plan votes.now) }
+    ensures { IsOneOrMemory (Finds task.now.budget task.now.floor task.now.plan votes.now)
         (due result) }
 {
     let alloc = rt.alloc();
-    let names = ballots.candidates();
-    let found = find(
-        rt,
-        &Searchable::of(ballots),
-        task.workers,
-        task.budget,
-        gate,
-    )?;
+    let names = votes.candidates();
+    let found = find(rt, votes, task.workers, task.budget, gate)?;
     match found {
-        Found::Certificate(file) => certificate(alloc, ballots, file, task),
-        Found::Tie { round, tied, votes } => first_tie(alloc, names, round, tied, votes),
+        Found::Certificate(file) => certificate(alloc, votes, file, task),
+        Found::Tie {
+            round,
+            tied,
+            votes: tally,
+        } => first_tie(alloc, names, round, tied, tally),
         Found::Spent {
             last,
             order,
@@ -111,14 +109,14 @@ fn search<R: AllocGlobal + Threads + Sync, G: Gate + Sync>(
 // The certificate as it is printed, or its order as reason for a full count, where its margin is below the floor.
 fn certificate(
     alloc: Global,
-    ballots: &Ballots,
+    votes: &Votes,
     file: AssertionFile,
     task: &SearchTask,
 ) -> Result<Answer, Refusal>
     requires limits { IsWithinLimits task.now }
-    requires cards { IsTrue (has_cards task.now.plan ballots.now) }
-    requires found { IsFoundIn task.now.budget ballots.now file }
-    ensures { IsOneOrMemory (Finds task.now.budget task.now.floor task.now.plan ballots.now)
+    requires cards { IsTrue (has_cards task.now.plan votes.now) }
+    requires found { IsFoundIn task.now.budget votes.now file }
+    ensures { IsOneOrMemory (Finds task.now.budget task.now.floor task.now.plan votes.now)
         (due result) }
 {
     if file.margin() < task.floor {

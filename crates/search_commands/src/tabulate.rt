@@ -12,12 +12,12 @@ ghost use Rattle.cli_base.specs.Begun.{HasCome};
 ghost use Rattle.cli_base.specs.Due.{due, IsOneOrMemory};
 
 use crate::answers::{first_tie, spent};
-use ballot_reader::Ballots;
+use ballot_reader::Votes;
 use bound_search::{RaceFault, race};
 use cli_base::{Answer, AnswerKind, Refusal};
 use command::TabulateTask;
 use desk::{Desk, Gate};
-use input_files::{ballots_in, bytes_of};
+use input_files::{bytes_of, votes_in};
 use irv_base::{Candidate, Order};
 use irv_tabulator::{FirstTie, TabFault, Tabulated, tabulate};
 use report::tabulation;
@@ -47,29 +47,29 @@ pub fn answer<R: AllocGlobal + Threads + Sync, D: Desk, G: Gate + Sync>(
 {
     let alloc = rt.alloc();
     let bytes = bytes_of(alloc, desk, &task.ballots)?;
-    let ballots = ballots_in(alloc, &task.ballots, &bytes, task.contest.as_ref())?;
-    tabulate_all(rt, &ballots, task.nodes, gate)
+    let votes = votes_in(alloc, &task.ballots, &bytes, task.contest.as_ref())?;
+    tabulate_all(rt, &votes, task.nodes, gate)
 }
 
-// The answer to the ballots of the contest.
+// The answer to the votes of the contest.
 fn tabulate_all<R: AllocGlobal + Threads + Sync, G: Gate + Sync>(
     rt: &R,
-    ballots: &Ballots,
+    votes: &Votes,
     nodes: u32,
     gate: &G,
 ) -> Result<Answer, Refusal>
-    ensures { IsOneOrMemory (Tabulates nodes ballots.now) (due result) }
+    ensures { IsOneOrMemory (Tabulates nodes votes.now) (due result) }
 {
     let alloc = rt.alloc();
     let counted = Counted::of(
         rt,
-        ballots.candidates().len() as u32,
-        ballots.rankings(),
+        votes.candidates().len() as u32,
+        votes.rankings(),
         WORKERS,
     )?;
     let mut tallies = counted.tallies()?;
     match tabulate(alloc, &mut tallies) {
-        Ok(tabulated) => told(rt, ballots, &counted, &tabulated, nodes, gate),
+        Ok(tabulated) => told(rt, votes, &counted, &tabulated, nodes, gate),
         Err(TabFault::Memory) => Err(Refusal::Memory),
     }
 }
@@ -77,47 +77,47 @@ fn tabulate_all<R: AllocGlobal + Threads + Sync, G: Gate + Sync>(
 // The answer to the tabulation. Without a tie it needs no race.
 fn told<R: AllocGlobal + Threads + Sync, G: Gate + Sync>(
     rt: &R,
-    ballots: &Ballots,
+    votes: &Votes,
     counted: &Counted,
     tabulated: &Tabulated,
     nodes: u32,
     gate: &G,
 ) -> Result<Answer, Refusal>
-    requires { IsCounted ballots.now counted.now.bag tabulated.now }
-    ensures { IsOneOrMemory (Tabulates nodes ballots.now) (due result) }
+    requires { IsCounted votes.now counted.now.bag tabulated.now }
+    ensures { IsOneOrMemory (Tabulates nodes votes.now) (due result) }
 {
     match tabulated.tie() {
-        None => rounds(rt.alloc(), ballots, tabulated, nodes),
-        Some(tie) => decide(rt, ballots, counted, tabulated, &tie, nodes, gate),
+        None => rounds(rt.alloc(), votes, tabulated, nodes),
+        Some(tie) => decide(rt, votes, counted, tabulated, &tie, nodes, gate),
     }
 }
 
 // The answer where the contest has a tie.
 fn decide<R: AllocGlobal + Threads + Sync, G: Gate + Sync>(
     rt: &R,
-    ballots: &Ballots,
+    votes: &Votes,
     counted: &Counted,
     tabulated: &Tabulated,
     tie: &FirstTie,
     nodes: u32,
     gate: &G,
 ) -> Result<Answer, Refusal>
-    requires counted { IsCounted ballots.now counted.now.bag tabulated.now }
-    requires tie { IsTieOf (candidate_count ballots.now) (ballots.now).rankings tie.now }
-    ensures { IsOneOrMemory (Tabulates nodes ballots.now) (due result) }
+    requires counted { IsCounted votes.now counted.now.bag tabulated.now }
+    requires tie { IsTieOf (candidate_count votes.now) (votes.now).rankings tie.now }
+    ensures { IsOneOrMemory (Tabulates nodes votes.now) (due result) }
 {
     let alloc = rt.alloc();
     match race(rt, counted, tabulated, WORKERS, nodes, gate) {
         Ok(end) => {
             if end.margin == 0 {
-                tied_answer(alloc, ballots, tie, nodes)
+                tied_answer(alloc, votes, tie, nodes)
             } else {
-                rounds(alloc, ballots, tabulated, nodes)
+                rounds(alloc, votes, tabulated, nodes)
             }
         }
         Err(fault) => match fault {
             RaceFault::Spent { last, upper, order } => stopped_answer(
-                alloc, ballots, last, upper, &order, nodes,
+                alloc, votes, last, upper, &order, nodes,
             ),
             RaceFault::Memory => Err(Refusal::Memory),
         },
@@ -127,15 +127,15 @@ fn decide<R: AllocGlobal + Threads + Sync, G: Gate + Sync>(
 // The rounds of a contest that is decided.
 fn rounds(
     alloc: Global,
-    ballots: &Ballots,
+    votes: &Votes,
     tabulated: &Tabulated,
     nodes: u32,
 ) -> Result<Answer, Refusal>
-    requires is { IsTabulation (candidate_count ballots.now) (ballots.now).rankings tabulated.now }
-    requires decided { IsElected ballots.now tabulated.now.winner }
-    ensures { IsOneOrMemory (Tabulates nodes ballots.now) (due result) }
+    requires is { IsTabulation (candidate_count votes.now) (votes.now).rankings tabulated.now }
+    requires decided { IsElected votes.now tabulated.now.winner }
+    ensures { IsOneOrMemory (Tabulates nodes votes.now) (due result) }
 {
-    let text = tabulation(alloc, ballots, tabulated)?;
+    let text = tabulation(alloc, votes, tabulated)?;
     Ok(Answer {
         kind: AnswerKind::Done,
         text: text.into_bytes(),
@@ -143,29 +143,24 @@ fn rounds(
 }
 
 // The first tie of a contest that isn't decided, told by the ids of its candidates.
-fn tied_answer(
-    alloc: Global,
-    ballots: &Ballots,
-    tie: &FirstTie,
-    nodes: u32,
-) -> Result<Answer, Refusal>
-    requires { IsTie ballots.now tie.now.round tie.now.tied tie.now.tally }
-    ensures { IsOneOrMemory (Tabulates nodes ballots.now) (due result) }
+fn tied_answer(alloc: Global, votes: &Votes, tie: &FirstTie, nodes: u32) -> Result<Answer, Refusal>
+    requires { IsTie votes.now tie.now.round tie.now.tied tie.now.tally }
+    ensures { IsOneOrMemory (Tabulates nodes votes.now) (due result) }
 {
-    first_tie(alloc, ballots.candidates(), tie.round, tie.tied, tie.tally)
+    first_tie(alloc, votes.candidates(), tie.round, tie.tied, tie.tally)
 }
 
 // The answer where the race is spent at this candidate.
 fn stopped_answer(
     alloc: Global,
-    ballots: &Ballots,
+    votes: &Votes,
     last: Candidate,
     margin: u32,
     order: &Order,
     nodes: u32,
 ) -> Result<Answer, Refusal>
-    requires { IsStopped nodes ballots.now last order.now margin }
-    ensures { IsOneOrMemory (Tabulates nodes ballots.now) (due result) }
+    requires { IsStopped nodes votes.now last order.now margin }
+    ensures { IsOneOrMemory (Tabulates nodes votes.now) (due result) }
 {
-    spent(alloc, ballots.candidates(), last, order, margin)
+    spent(alloc, votes.candidates(), last, order, margin)
 }

@@ -7,9 +7,10 @@ ghost use Rattle.search_commands.specs.Trial.{contest_of, trial_candidates, Trie
 
 use crate::answers::{first_tie, spent, spent_sets};
 use crate::trial_texts::{contest_id, lines, trial_candidates};
+use ballot_reader::Votes;
 use cli_base::{Answer, AnswerKind, Refusal};
 use command::TrialTask;
-use contest_search::{Found, Searchable, find};
+use contest_search::{Found, find};
 use desk::Gate;
 use irv_base::Name;
 use std::alloc::Global;
@@ -26,12 +27,11 @@ pub fn answer<R: AllocGlobal + Threads + Sync, G: Gate + Sync>(
     ensures { IsOneOrMemory (Tries task.now) (due result) }
 {
     let alloc = rt.alloc();
-    let id = contest_id();
     let names = trial_candidates(alloc, task.candidates)?;
     let records = trial_records(alloc, task.number, task.candidates, task.ballots)?;
-    let contest = Searchable::new(&id, &names, &records);
-    let found = find(rt, &contest, task.workers, task.budget, gate)?;
-    found_answer(alloc, &names, task, found)
+    let votes = Votes::new(contest_id(), names, records);
+    let found = find(rt, &votes, task.workers, task.budget, gate)?;
+    found_answer(alloc, votes.candidates(), task, found)
 }
 
 // What is told of what the search found.

@@ -1,1 +1,2 @@
 pub mod Trims
+mod OfVotes

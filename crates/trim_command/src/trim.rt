@@ -1,6 +1,7 @@
 // `trim BALLOTS ASSERTIONS`: an assertion file that a check accepts, without the claims that can go.
 ghost use Rattle.std.specs.Prelude.{◌≡◌, ◌≤◌, Ok, Some};
 ghost use Rattle.desk.specs.Count.{Rose};
+ghost use Rattle.ballot_reader.specs.Ballots.{BallotFile, votes_of};
 ghost use Rattle.assertion_file.specs.Content.{IsSound, candidate_count};
 ghost use Rattle.cover_checker.specs.Covers.{covered_is};
 ghost use Rattle.cover_checker.specs.Findings.{assertions_of};
@@ -14,13 +15,13 @@ ghost use Rattle.command.specs.Trim.{IsWithinLimits};
 ghost use Rattle.trim_command.specs.Trim.{Trims, after_ballots, script, trim_verdict};
 
 use assertion_file::{AssertionFile, print_file};
-use ballot_reader::Ballots;
+use ballot_reader::Votes;
 use budget::Budget;
 use check_command::check::{check, spent_answer, spent_sets_answer};
 use cli_base::{Answer, AnswerKind, Refusal};
 use command::{FileName, TrimTask};
 use desk::Desk;
-use input_files::{assertions_in, ballots_in, bytes_of};
+use input_files::{assertions_in, bytes_of, votes_in};
 use std::alloc::Global;
 use std::thread::Threads;
 use trimmer::{TrimFault, trim};
@@ -42,43 +43,43 @@ pub fn answer<R: AllocGlobal + Threads + Sync, D: Desk>(
 {
     let alloc = rt.alloc();
     let bytes = bytes_of(alloc, desk, &task.ballots)?;
-    let ballots = ballots_in(alloc, &task.ballots, &bytes, task.contest.as_ref())?;
-    after_ballots(rt, desk, &ballots, &task.assertions, task.budget)
+    let votes = votes_in(alloc, &task.ballots, &bytes, task.contest.as_ref())?;
+    after_votes(rt, desk, &votes, &task.assertions, task.budget)
 }
 
-// The same of ballots that are read.
-fn after_ballots<R: AllocGlobal + Threads + Sync, D: Desk>(
+// The same of votes that are read.
+fn after_votes<R: AllocGlobal + Threads + Sync, D: Desk>(
     rt: &R,
     desk: &mut D,
-    ballots: &Ballots,
+    votes: &Votes,
     assertions: &FileName,
     budget: Budget,
 ) -> Result<Answer, Refusal>
     ensures held { D.held desk.new ≡ D.held desk.old }
     ensures later { D.faults desk.old ≤ D.faults desk.new }
-    ensures due { HasCome
+    ensures due { (ballots : BallotFile) → votes.now ≡ votes_of ballots → HasCome
         (ByDesk (D.held desk.old) (Rose (D.faults desk.old) (D.faults desk.new)))
         (D.served desk.old) (D.served desk.new)
-        (Runs (after_ballots assertions.now budget ballots.now)) (due result) }
+        (Runs (after_ballots assertions.now budget ballots)) (due result) }
     ensures served { IsAccountedFor 1 (D.served desk.old) (D.served desk.new) (due result).status }
 {
     let alloc = rt.alloc();
     let bytes = bytes_of(alloc, desk, assertions)?;
     let file = assertions_in(alloc, assertions, &bytes)?;
-    of_file(rt, ballots, &file, budget)
+    of_file(rt, votes, &file, budget)
 }
 
 // The same of a file that is read.
 fn of_file<R: AllocGlobal + Threads + Sync>(
     rt: &R,
-    ballots: &Ballots,
+    votes: &Votes,
     file: &AssertionFile,
     budget: Budget,
 ) -> Result<Answer, Refusal>
     requires { IsSound file.now }
-    ensures { IsOneOrMemory (Trims budget ballots.now file.now) (due result) }
+    ensures { IsOneOrMemory (Trims budget votes.now file.now) (due result) }
 {
-    let checked = check(rt, ballots, file, budget)?;
+    let checked = check(rt, votes, file, budget)?;
     if checked.kind == AnswerKind::Done {
         accepted(rt.alloc(), file, budget)
     } else {

@@ -2,6 +2,7 @@
 use super::THREE_CANDIDATES;
 use crate::texts::altered;
 use assertion_file::{FRule, FileFault, print_file, read_file};
+use file_fault::Rule;
 use std::alloc::{AllocError, Global};
 use std::test::Fail;
 

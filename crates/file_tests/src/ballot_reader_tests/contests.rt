@@ -82,7 +82,7 @@ fn reads_one_contest(rt: HostRuntime) {
 }
 
 // What a file is refused by, whether all its contests are read or the one with this id.
-fn refusal(rt: &HostRuntime, file: &[u8], id: &[u8]) -> Option<(BRule, u32)> {
+fn refusal(rt: &HostRuntime, file: &[u8], id: &[u8]) -> Option<(BRule, u64)> {
     let asked = Name::read(id)?;
     let all = read_contests(rt.alloc(), file).err()?;
     let own = read_ballots(rt.alloc(), file, Some(&asked)).err()?;
@@ -94,7 +94,7 @@ fn refusal(rt: &HostRuntime, file: &[u8], id: &[u8]) -> Option<(BRule, u32)> {
 
 #[test]
 fn refuses_what_stands_first(rt: HostRuntime) {
-    let files: [(&[u8], &[u8], BRule, u32); 10] = [
+    let files: [(&[u8], &[u8], BRule, u64); 10] = [
         (b"0", b"7", BRule::B1, 1),
         (b"2\nContest,7,1,A\n7,b", b"7", BRule::B2, 3),
         (b"2\nContest,7,2,A,A\nContest,8,1,A", b"8", BRule::B4, 2),

@@ -2,7 +2,7 @@
 use manifest::{MRule, ManifestFault, read_manifest};
 
 /// Whether the manifest is refused by this rule at this record.
-pub(super) fn is_refused(rt: &HostRuntime, file: &[u8], by: MRule, place: u32) -> bool {
+pub(super) fn is_refused(rt: &HostRuntime, file: &[u8], by: MRule, place: u64) -> bool {
     match read_manifest(rt.alloc(), file) {
         Err(ManifestFault::Refused { rule, at }) => rule == by && at == place,
         _ => false,
@@ -35,7 +35,7 @@ fn first_records_that_are_no_header(rt: HostRuntime) {
 
 #[test]
 fn records_without_two_fields(rt: HostRuntime) {
-    let files: [(&str, &[u8], u32); 5] = [
+    let files: [(&str, &[u8], u64); 5] = [
         ("one field", b"batch,cards\nb\n".as_slice(), 2),
         ("three fields", b"batch,cards\nb,1\nc,1,\n".as_slice(), 3),
         (
@@ -61,7 +61,7 @@ fn records_without_two_fields(rt: HostRuntime) {
 
 #[test]
 fn numbers_of_cards(rt: HostRuntime) {
-    let files: [(&str, &[u8], u32); 8] = [
+    let files: [(&str, &[u8], u64); 8] = [
         ("no cards", b"batch,cards\nb,0".as_slice(), 2),
         (
             "behind blank lines",
@@ -90,7 +90,7 @@ fn numbers_of_cards(rt: HostRuntime) {
 
 #[test]
 fn ids_of_batches(rt: HostRuntime) {
-    let files: [(&str, &[u8], u32); 8] = [
+    let files: [(&str, &[u8], u64); 8] = [
         ("twice", b"batch,cards\nb,1\nb,1".as_slice(), 3),
         (
             "twice, once in quotes",

@@ -3,6 +3,7 @@ use super::ranked;
 use assorters::Seen;
 use csv::ByteRecord;
 use csv_rows::{Fields, Rows};
+use file_fault::Rule;
 use irv_base::Name;
 use seen_file::{VRule, is_told, seen_of_record};
 

@@ -1,7 +1,6 @@
 use Rattle.std.proofs.Common.{◌∙◌, ◌++◌, ◌∷◌, [], length, refl, sym, ap, arith, length-append}
-use Rattle.std.proofs.lemmas.List.{length-map}
-use Rattle.ballot_reader.specs.Grammar.{Contest, ballot_ids, ballot_of}
-use Rattle.ballot_reader.proofs.Adding.{keeps_audited, length-parts}
+use Rattle.ballot_reader.specs.Grammar.{ballot_of}
+use Rattle.ballot_reader.proofs.Adding.{keeps_audited, length-met, length-parts}
 use Rattle.ballot_reader.proofs.Behind.{ballots-more}
 use Rattle.ballot_reader.proofs.read.ballots_left.Goals as goal
 
@@ -13,7 +12,7 @@ records-init c =
 pub add-requires-clause-noted : goal.add-requires-clause-noted
 add-requires-clause-noted c =
     let (ballots, so_far) = c.records.invariant in
-    ap length so_far.is_kept.noted ∙ length-map c.args.contests.now (λ (contest : Contest). ballot_ids contest.id ballots)
+    length-met ballots c.args.contests.now c.records.kept.met so_far.is_kept.noted
 
 pub add-requires-clause-parted : goal.add-requires-clause-parted
 add-requires-clause-parted c =

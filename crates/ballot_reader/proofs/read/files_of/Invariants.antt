@@ -9,4 +9,4 @@ use Rattle.ballot_reader.proofs.read.files_of.Given as goal
 abbrev pub invariant-loop-contest : goal.invariant-loop-contest
 invariant-loop-contest l =
     (ballots : List Ballot) → IsKept l.fn.contests.items EachContest ballots l.fn.kept →
-    FiledSoFar l.fn.contests.items ballots (into_iter_items l.contest-iterator) (into_iter_items l.noted) (into_iter_items l.parts) l.files.items
+    FiledSoFar l.fn.contests.items ballots (into_iter_items l.contest-iterator) (into_iter_items l.parts) l.files.items

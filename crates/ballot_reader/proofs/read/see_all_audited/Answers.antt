@@ -16,5 +16,6 @@ returns-clause-refused c =
     let place = c.in-Some.place in
     let contest = c.index-contests-place.result in
     let there = slice_get_read contests (length contests) place contest refl c.in-Some.ensures.within c.index-contests-place.is in
-    ap (unless_unsized contests) (found_at (λ (x : Contest). not (has_audited_size x.candidates)) contests place (sym c.in-Some.ensures.place) ∙ there)
-    ∙ ap (λ (x : Contest). Err (record { rule = B3; at = x.at })) (sym c.contest.view_is)
+    rw c.at_record.ensures
+    (ap (unless_unsized contests) (found_at (λ (x : Contest). not (has_audited_size x.candidates)) contests place (sym c.in-Some.ensures.place) ∙ there)
+    ∙ ap (λ (x : Contest). Err (record { rule = B3; at = x.at })) (sym c.contest.view_is))

@@ -9,7 +9,7 @@ use Rattle.contest_search.proofs.found.tie_of.Goals as goal
 -- without a tie the contest would be decided
 pub unreachable-requires : goal.unreachable-requires
 unreachable-requires c =
-    let contest = c.args.contest.now in
+    let contest = c.args.votes.now in
     let t = c.args.tabulated.now in
     let free = subst (λ o. MatchOption o (HasNoTie contest.rankings t.order) (IsTieOf (candidate_count contest) contest.rankings)) c.in-None.is
     (c.tie.ensures (candidate_count contest) contest.rankings c.requires.tabulation) in

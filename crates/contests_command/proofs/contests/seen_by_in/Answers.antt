@@ -1,15 +1,7 @@
-use Rattle.std.proofs.Common.{refl, subst}
-use Rattle.cli_base.specs.Outcome.{file_refusal, broken_at}
-use Rattle.cli_base.specs.declared.outcome.RefusalKind.TheVariants.{Input}
-use Rattle.cli_base.specs.Due.{due_refusal, IsOrMemory}
-use Rattle.input_files.specs.Refusals.{refused_seen}
-use Rattle.input_files.proofs.Judging.{refused_by_rule}
+use Rattle.seen_file.specs.Faults.{rule_name}
+use Rattle.input_files.proofs.Judging.{refused_for}
 use Rattle.contests_command.proofs.contests.seen_by_in.Goals as goal
 
-pub returns-in-Err-Refused-clause-refused : goal.returns-in-Err-Refused-clause-refused
-returns-in-Err-Refused-clause-refused c =
-    let name = c.args.file.now in
-    refused_by_rule (refused_seen name) name c.as_str.result.now _ _ _ _ _ _ (rw c.in-Err-Refused.field-0-is at c.in-Err-Refused.ensures.refused) refl
-    c.as_str.ensures c.name.ensures
-    (subst (λ at. IsOrMemory (file_refusal Input c.as_str.result.now (broken_at c.name.result.now at)) (due_refusal c.refuse_at.result)) c.from.ensures
-    c.refuse_at.ensures)
+pub returns-in-Err-clause-refused : goal.returns-in-Err-clause-refused
+returns-in-Err-clause-refused c =
+    refused_for rule_name c.args.file.now _ c.in-Err.fault c.refuse_file.result c.in-Err.ensures.refused c.refuse_file.ensures

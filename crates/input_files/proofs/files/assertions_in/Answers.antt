@@ -1,10 +1,7 @@
-use Rattle.std.proofs.Common.{refl}
-use Rattle.input_files.specs.Refusals.{refused_assertions}
-use Rattle.input_files.proofs.Judging.{refused_by_rule}
+use Rattle.assertion_file.specs.Faults.{rule_name}
+use Rattle.input_files.proofs.Judging.{refused_for}
 use Rattle.input_files.proofs.files.assertions_in.Goals as goal
 
-pub returns-in-Err-Refused : goal.returns-in-Err-Refused
-returns-in-Err-Refused c =
-    let name = c.args.file.now in
-    refused_by_rule (refused_assertions name) name c.as_str.result.now _ _ _ _ _ _ (rw c.in-Err-Refused.field-0-is at c.in-Err-Refused.ensures.refused) refl
-    c.as_str.ensures c.name.ensures c.refuse_at.ensures
+pub returns-in-Err : goal.returns-in-Err
+returns-in-Err c =
+    refused_for rule_name c.args.file.now _ c.in-Err.fault c.refuse_file.result c.in-Err.ensures.refused c.refuse_file.ensures

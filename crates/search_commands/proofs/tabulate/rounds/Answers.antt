@@ -10,9 +10,9 @@ pub returns : goal.returns
 returns c =
     let t = c.args.tabulated.now in
     let shown = bytes_of c.into_bytes.result c.in_ok-text.text c.into_bytes.ensures.value ∙ c.in_ok-text.ensures in
-    let lines : HasRounds c.args.ballots.now _ = record {
+    let lines : HasRounds c.args.votes.now _ = record {
       winner = t.winner;
-      won = won_by c.args.ballots.now t c.requires.is;
+      won = won_by c.args.votes.now t c.requires.is;
       decided = c.requires.decided;
       shown = shown;
     } in

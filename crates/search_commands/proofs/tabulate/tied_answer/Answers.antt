@@ -8,5 +8,5 @@ use Rattle.search_commands.proofs.tabulate.tied_answer.Goals as goal
 pub returns : goal.returns
 returns c =
     let tie = c.args.tie.now in
-    let told = tie_told c.args.ballots.now c.candidates.result.now tie.round tie.tied tie.tally c.candidates.ensures.same c.requires in
-    told_as (Tabulates c.args.nodes c.args.ballots.now) _ (due c.first_tie.result) (inr (inl (_, told, refl))) c.first_tie.ensures
+    let told = tie_told c.args.votes.now c.candidates.result.now tie.round tie.tied tie.tally c.candidates.ensures.same c.requires in
+    told_as (Tabulates c.args.nodes c.args.votes.now) _ (due c.first_tie.result) (inr (inl (_, told, refl))) c.first_tie.ensures

@@ -8,7 +8,7 @@ use Rattle.search_commands.proofs.tabulate.told.Goals as goal
 
 pub rounds-requires-clause-decided : goal.rounds-requires-clause-decided
 rounds-requires-clause-decided g c =
-    let ballots = c.args.ballots.now in
+    let ballots = c.args.votes.now in
     let t = c.args.tabulated.now in
     let is = tabulated_there ballots c.args.counted.now.bag t c.requires in
     elected_untied ballots t is

@@ -10,5 +10,5 @@ pub accepted-requires : goal.accepted-requires
 accepted-requires g c =
     let file = c.args.file.now in
     let done : c.in_ok-checked.checked.kind ≡ Done = search rules in
-    accepted-covered c.args.budget c.args.ballots.now file c.requires
-    (done-answer c.args.budget c.args.ballots.now file (due (Ok c.in_ok-checked.checked)) c.in_ok-checked.ensures (ap status_of done))
+    accepted-covered c.args.budget c.args.votes.now file c.requires
+    (done-answer c.args.budget c.args.votes.now file (due (Ok c.in_ok-checked.checked)) c.in_ok-checked.ensures (ap status_of done))

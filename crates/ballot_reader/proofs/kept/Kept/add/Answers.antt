@@ -1,10 +1,11 @@
-use Rattle.std.proofs.Common.{◌<◌, ◌∙◌, Some, length, refl, sym, ap, subst, arith}
+use Rattle.std.proofs.Common.{◌<◌, ◌∙◌, Some, None, length, refl, sym, ap, subst, arith}
+use Rattle.std.specs.List.{slice_get}
 use Rattle.std.proofs.lemmas.Bool.{not-true}
 use Rattle.std.proofs.lemmas.Option.{slice_get_read}
 use Rattle.irv_base.specs.declared.limits.TheConstants.{MOST_RECORDS}
 use Rattle.ballot_reader.specs.Grammar.{Ballot, ballot_ids, ranking_of}
 use Rattle.ballot_reader.specs.Kept.{IsKept, KeptBallots}
-use Rattle.ballot_reader.proofs.Adding.{IsNew, Meets, kept-more, ranked, some_of, stood}
+use Rattle.ballot_reader.proofs.Adding.{IsNew, Meets, again, kept-more, met-at, none_of, not-false, ranked, some_of}
 use Rattle.ballot_reader.proofs.Ended.{got}
 use Rattle.ballot_reader.proofs.Firsts.{is_ranking}
 use Rattle.ballot_reader.proofs.kept.Kept.add.Goals as goal
@@ -18,8 +19,10 @@ returns-clause-kept c = λ wanted ballots before.
     let head = c.in-Ok.head in
     let contest = c.index-contests-head.result in
     let there = slice_get_read contests (length contests) head.contest contest refl c.in-Ok.ensures.within c.index-contests-head.is in
-    let old = stood contests wanted ballots _ head.contest contest kept there in
-    let absent = not-true _ (sym (c.in_ok-note.ensures.new (ballot_ids contest.id ballots) old) ∙ c.if-not-branch.false) in
+    let (noted, at, met) = met-at ballots contests _ head.contest contest kept.noted there in
+    let ids = ballot_ids contest.id ballots in
+    let absent = not-true _ (sym (c.in_ok-note.ensures.new ids noted at met) ∙ c.if-not-branch.false) in
+    let (more, put, are_noted) = c.in_ok-note.ensures.noted ids noted at met c.if-not-branch.false in
     let known = sym c.in_ok-keep.ensures.known ∙ c.if-not-branch-2.false in
     let (ranking, e) = some_of (ranking_of contest.candidates head.preferences) known in
     let valid = is_ranking contest.candidates head.preferences ranking e in
@@ -36,6 +39,52 @@ returns-clause-kept c = λ wanted ballots before.
     )) in (
       ballot,
       ranked contests ballots c.args.at row head.contest head.id.now head.preferences contest meets absent (Some ranking) e,
-      kept-more contests wanted ballots _ _ head.contest contest ballot part c.requires.differ kept c.if-self-ge-MOST_RECORDS.false new has
-          (c.in_ok-note.ensures.noted (ballot_ids contest.id ballots) old c.if-not-branch.false) (c.in_ok-keep.ensures.kept ranking e part has) refl,
+      kept-more contests wanted ballots _ _ head.contest contest ballot part more c.requires.differ kept c.if-self-ge-MOST_RECORDS.false new has
+          put are_noted (c.in_ok-keep.ensures.kept ranking e part has) refl,
     )
+
+pub keep-requires-clause-sized : goal.keep-requires-clause-sized
+keep-requires-clause-sized c = λ part at.
+    let contests = c.args.contests.now in
+    let place = c.in-Ok.head.contest in
+    let contest = c.index-contests-head.result in
+    let there = slice_get_read contests (length contests) place contest refl c.in-Ok.ensures.within c.index-contests-head.is in
+    c.requires.sized place contest part there (sym (ap (λ (k : KeptBallots). slice_get k.parts place) c.self.view_is) ∙ at)
+
+pub returns-then-not-branch-clause-refused : goal.returns-then-not-branch-clause-refused
+returns-then-not-branch-clause-refused c = rw c.at_record-then-not-branch.ensures (λ wanted ballots before.
+    let contests = c.args.contests.now in
+    let kept = subst (IsKept contests wanted ballots) (sym c.self.view_is) before in
+    let head = c.in-Ok.head in
+    let (contest, there) = got contests head.contest c.in-Ok.ensures.within in
+    let (noted, at, met) = met-at ballots contests _ head.contest contest kept.noted there in
+    let old = c.in_ok-note.ensures.new (ballot_ids contest.id ballots) noted at met in
+    let meets : Meets contests ballots c.args.at c.args.fields head.contest head.id.now head.preferences contest =
+    record {
+      room = omega (arith, kept.counted, c.if-self-ge-MOST_RECORDS.false);
+      follows = c.in-Ok.ensures.follows ballots c.args.at;
+      there = there;
+    }
+    in
+    let among = not-false _ (sym old ∙ c.if-not-branch.true) in
+    (again contests ballots c.args.at c.args.fields head.contest head.id.now head.preferences contest meets among, refl))
+
+pub returns-then-not-branch-2-clause-refused : goal.returns-then-not-branch-2-clause-refused
+returns-then-not-branch-2-clause-refused c = rw c.at_record-then-not-branch-2.ensures (λ wanted ballots before.
+    let contests = c.args.contests.now in
+    let kept = subst (IsKept contests wanted ballots) (sym c.self.view_is) before in
+    let head = c.in-Ok.head in
+    let contest = c.index-contests-head.result in
+    let there = slice_get_read contests (length contests) head.contest contest refl c.in-Ok.ensures.within c.index-contests-head.is in
+    let (noted, at, met) = met-at ballots contests _ head.contest contest kept.noted there in
+    let old = c.in_ok-note.ensures.new (ballot_ids contest.id ballots) noted at met in
+    let meets : Meets contests ballots c.args.at c.args.fields head.contest head.id.now head.preferences contest =
+    record {
+      room = omega (arith, kept.counted, c.if-self-ge-MOST_RECORDS.false);
+      follows = c.in-Ok.ensures.follows ballots c.args.at;
+      there = there;
+    }
+    in
+    let absent = not-true _ (sym old ∙ c.if-not-branch.false) in
+    let none = none_of (ranking_of contest.candidates head.preferences) (sym c.in_ok-keep.ensures.known ∙ c.if-not-branch-2.true) in
+    (ranked contests ballots c.args.at c.args.fields head.contest head.id.now head.preferences contest meets absent None none, refl))

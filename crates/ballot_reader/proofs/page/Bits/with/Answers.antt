@@ -1,7 +1,7 @@
 use Rattle.std.proofs.Common.{ap, bit_or, ◌∙◌, ◌^◌}
 use Rattle.irv_base.proofs.Bits.{has-with}
 use Rattle.ballot_reader.specs.Ids.{has_bit}
-use Rattle.ballot_reader.proofs.page.Page.with.Goals as goal
+use Rattle.ballot_reader.proofs.page.Bits.with.Goals as goal
 
 pub returns : goal.returns
 returns c = λ other.

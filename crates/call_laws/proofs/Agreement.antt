@@ -9,9 +9,10 @@ use Rattle.cli_base.proofs.Scripts.{determined, some_is}
 use Rattle.command_line.specs.Line.{command_of}
 use Rattle.command_line.specs.declared.commands.Command.{Command}
 use Rattle.command_line.specs.declared.commands.Command.TheVariants.{Contests}
+use Rattle.raire_cli.specs.Asks.{Asks}
 use Rattle.call_laws.specs.Agreement.{HoldTheSame, MayBeSpent, SameFilesSameAnswer}
 use Rattle.raire_cli.specs.Answers.{script_of, asked_by, is_open}
-use Rattle.raire_cli.specs.Contests.{AsksForContests, HaveNodes}
+use Rattle.raire_cli.specs.Contests.{HaveNodes}
 use Rattle.call_laws.proofs.ContestsOnce.{contests_once}
 use Rattle.raire_cli.proofs.EachCommand.{agrees_by, agrees_exactly}
 
@@ -35,7 +36,7 @@ unspent_same d e first second (inr (budgeted, other, inl four)) = absurd (first 
 unspent_same d e first second (inr (budgeted, other, inr four)) = absurd (second four)
 
 module _ (words : List (List ℕ)) (files others : List File) (same : HoldTheSame files others) (d e : Outcome) (first : MayBeSpent words → d.status ≢ 4)
-    (second : MayBeSpent words → e.status ≢ 4) (suffice : (asks : AsksForContests words) → HaveNodes asks.task files) where
+    (second : MayBeSpent words → e.status ≢ 4) (suffice : (asks : Asks Contests words) → HaveNodes asks.task files) where
   one_open : (command : Command) → command_of words ≡ Some command → is_open command ≡ true → May (AsHeld files) (script_of command) d →
       May (AsHeld files) (script_of command) e → d ≡ e
   one_open (Contests task) is searched may_d may_e = contests_once files task (suffice (record { task = task; asked = is })) d e may_d may_e

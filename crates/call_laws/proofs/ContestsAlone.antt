@@ -10,7 +10,8 @@ use Rattle.ballot_reader.specs.Ballots.{BallotFile}
 use Rattle.ballot_reader.specs.Grammar.{contests_from}
 use Rattle.manifest.specs.Cards.{Batches}
 use Rattle.manifest.specs.Manifest.{manifest_of}
-use Rattle.seen_file.specs.Reading.{Refusal, card_of, read_after, with_card}
+use Rattle.seen_file.specs.Reading.{card_of, read_after, with_card}
+use Rattle.file_fault.specs.Refusals.{Refusal}
 use Rattle.seen_file.specs.Seen.{Entry}
 use Rattle.seen_file.specs.declared.fault.VRule.{VRule}
 use Rattle.contest_set.specs.Ends.{AreEnds, EndsAs}
@@ -49,7 +50,7 @@ module _ (ballots : BallotFile) (places : List ℕ) (batches : Batches) where
   row-moved earlier (id ∷ contest ∷ word ∷ rest) =
       ap (with_card (card_of batches id word rest)) (λ i card. entry-moved earlier word rest card (is_same ballots.contest contest) i)
 
-  each-moved : (read : Result (List ContestEntry) Refusal) → for_each_contest (moved ballots places ∷ []) read ≡ for_each_contest (ballots ∷ []) read
+  each-moved : (read : Result (List ContestEntry) (Refusal VRule)) → for_each_contest (moved ballots places ∷ []) read ≡ for_each_contest (ballots ∷ []) read
   each-moved (Ok entries) = refl
   each-moved (Err refusal) = refl
 
@@ -110,14 +111,14 @@ block_alone words others files more audit single place ballots end listed ended 
     let task = audit.asks.task in
     let batches = audit.inputs.batches in
     let workers = single.asks.task.workers in
-    let rows = numbered_records audit.bytes.ballots in
+    let rows = numbered_records audit.bytes.cards.ballots in
     let seen-rows = numbered_records audit.bytes.seen in
     let (places, said) = said_alone rows audit.inputs.list place ballots audit.say.ballots listed in
     let there : BallotFile = moved ballots places in
     let list : single.inputs.list ≡ there ∷ [] = only single.say.ballots (ap contests_from alone-there.ballots ∙ said) in
     let cards : single.inputs.batches ≡ batches = only single.say.manifest (ap manifest_of alone-there.manifest ∙ audit.say.manifest) in
     let (entries, seen-at, is) = end-of batches (terms_of task) audit.inputs.list audit.inputs.seen audit.ends place ballots end audit.are listed ended in
-    let differ = (contests_are audit.bytes.ballots audit.inputs.list audit.say.ballots).differ in
+    let differ = (contests_are audit.bytes.cards.ballots audit.inputs.list audit.say.ballots).differ in
     let by-itself = seen_alone batches audit.inputs.list seen-rows audit.inputs.seen place ballots entries differ audit.say.seen listed seen-at in
     let seen : single.inputs.seen ≡ entries ∷ [] = only single.say.seen
     ((λ i. seen_by_rows (cards i) (list i) (alone-there.seen i)) ∙ seen-moved ballots places batches (records_about ballots.contest seen-rows) ∙ by-itself) in

@@ -7,13 +7,13 @@ use Rattle.contest_set.specs.Ends.{AreWithinLimits, IsAudited}
 use Rattle.contest_set.specs.declared.end.ContestEnd.TheVariants.{Audited}
 use Rattle.contest_set.proofs.RiskLimit.{end_is_counted}
 use Rattle.contests_command.specs.Contests.{terms_of}
-use Rattle.raire_cli.specs.Contests.{AsksForContests}
+use Rattle.raire_cli.specs.Asks.{Asks}
 use Rattle.call_laws.specs.ContestsLimit.{ContestIsCounted}
 use Rattle.call_laws.proofs.ContestsAlone.{end-of}
 use Rattle.call_laws.proofs.PollsLimit.{some_card}
 
 -- the terms of words are within their limits
-pub within_limits : {words : List (List ℕ)} (asks : AsksForContests words) → AreWithinLimits (terms_of asks.task)
+pub within_limits : {words : List (List ℕ)} (asks : Asks Contests words) → AreWithinLimits (terms_of asks.task)
 within_limits {words} asks =
     let checked : IsWithinLimits asks.task = are_checked words (Contests asks.task) asks.asked in record {
       some_draws = checked.draws.0;
@@ -36,4 +36,4 @@ contest_is_counted words files audit place ballots entries file counts risks act
     let same : own ≡ entries = cc both in
     let its = subst (λ s. IsAudited batches (terms_of task) ballots s file counts.items risks.items true) same is in
     (end_is_counted batches (terms_of task) most ballots entries file counts.items risks.items actual (within_limits audit.asks) few
-    (some_card audit.bytes.manifest batches audit.say.manifest) long its true-entries).1
+    (some_card audit.bytes.cards.manifest batches audit.say.manifest) long its true-entries).1

@@ -7,7 +7,9 @@ use Rattle.csv_rows.specs.Fields.{numbered_records}
 use Rattle.irv_base.specs.Names.{Id}
 use Rattle.irv_base.specs.declared.limits.TheConstants.{GREATEST_LIMIT}
 use Rattle.ballot_reader.specs.Ballots.{BallotFile}
-use Rattle.ballot_reader.specs.Grammar.{Contest, Refusal, ballots_of, contests_of}
+use Rattle.ballot_reader.specs.Grammar.{Contest, ballots_of, contests_of}
+use Rattle.ballot_reader.specs.declared.fault.BRule.{BRule}
+use Rattle.file_fault.specs.Refusals.{Refusal}
 use Rattle.ballot_reader.specs.Laws.{IsOfEach, contests_listed}
 use Rattle.ballot_reader.proofs.Each.{contests_are_each}
 use Rattle.ballot_laws.proofs.Sound.{read_is_sound as read_ballots_are_sound}
@@ -29,6 +31,7 @@ use Rattle.contest_set.specs.declared.terms.SharedTerms.{SharedTerms}
 use Rattle.contest_set.proofs.Joining.{each-linked}
 use Rattle.contest_set.proofs.RiskLimit.{each_risk_limit, end_is_counted}
 use Rattle.contests_command.specs.Contests.{terms_of}
+use Rattle.raire_cli.specs.CardFiles.{CardBytes}
 use Rattle.raire_cli.specs.Contests.{AuditsContests}
 use Rattle.call_laws.specs.ContestsLimit.{drawn}
 use Rattle.call_laws.specs.ContestsSignedOff.{AnnouncedContest, ContestSignedOffAreFew, IsContestSignedOffOn}
@@ -55,7 +58,7 @@ read_by_id bytes list place ballots is at =
           let rest : map (λ (contest : Contest). ballots_of bytes (Some contest.id)) contests ≡ map Ok files = cc each in
           one contests files k rest at
 
-      by : (listed : Result (List Contest) Refusal) → IsOfEach (ballots_of bytes) listed (Ok list) →
+      by : (listed : Result (List Contest) (Refusal BRule)) → IsOfEach (ballots_of bytes) listed (Ok list) →
           (asked : Option Id) × (ballots_of bytes asked ≡ Ok ballots)
       by (Err refusal) (other, all) = absurd (cc other)
       by (Ok contests) each = one contests list place each at
@@ -78,10 +81,10 @@ module _ (announced : AnnouncedContest) (actual : List (List ℕ)) (most : ℕ) 
     limits = within_limits on.audit.asks
 
     same_list : on.audit.inputs.list ≡ announced.list
-    same_list = only (subst (λ bytes. contests_of bytes ≡ Ok on.audit.inputs.list) on.same_ballots on.audit.say.ballots) announced.ballots_say
+    same_list = only (subst (λ (bytes : CardBytes). contests_of bytes.ballots ≡ Ok on.audit.inputs.list) on.same_files on.audit.say.ballots) announced.ballots_say
 
     same_batches : batches ≡ announced.batches
-    same_batches = only (subst (λ bytes. manifest_of bytes ≡ Ok batches) on.same_manifest on.audit.say.manifest) announced.manifest_says
+    same_batches = only (subst (λ (bytes : CardBytes). manifest_of bytes.manifest ≡ Ok batches) on.same_files on.audit.say.manifest) announced.manifest_says
 
     listed : slice_get on.audit.inputs.list announced.place ≡ Some announced.ballots
     listed = ap (λ list. slice_get list announced.place) same_list ∙ announced.listed
@@ -115,7 +118,7 @@ module _ (announced : AnnouncedContest) (actual : List (List ℕ)) (most : ℕ) 
         let each : length (linked_of batches announced.ballots) ≡ length (cards_of batches) =
         length-map (cards_of batches) (recorded_of announced.ballots) in
         let (is_sequence, may) = end_is_counted batches its_terms most announced.ballots on.entries on.file on.counts.items on.risks.items actual limits on.few
-        (some_card on.audit.bytes.manifest batches on.audit.say.manifest) (long ∙ sym cards) is_audited on.true_entries in
+        (some_card on.audit.bytes.cards.manifest batches on.audit.say.manifest) (long ∙ sym cards) is_audited on.true_entries in
         subst (Counted batches on.audit.asks.task.limit on.audit.asks.task.gamma on.file) (sym on.of_seed)
         (subst (λ n. IsSequence n most (drawn on.audit most)) (sym each) is_sequence, may)
 

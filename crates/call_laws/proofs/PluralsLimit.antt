@@ -19,7 +19,8 @@ use Rattle.session_state.specs.RiskOfValues.{AreSignedOff, AreTerms, MayBeSigned
 use Rattle.session_state.specs.Sessions.{is_signed_off}
 use Rattle.session_file.proofs.SoundFiles.{read_is_sound}
 use Rattle.plurality_commands.specs.Outcome.{outcome_in}
-use Rattle.raire_cli.specs.Pluralities.{CardBytes, Counted, SayCounted, claims, recorded}
+use Rattle.raire_cli.specs.CardFiles.{CardBytes}
+use Rattle.raire_cli.specs.Pluralities.{Counted, SayCounted, claims, recorded}
 use Rattle.call_laws.specs.PluralLaws.{AnnouncedPlurality, IsPluralSignedOffOn, PluralSignedOffAreFew, PluralSignedOffIsCounted}
 use Rattle.raire_cli.proofs.PluralLimited.{fits}
 use Rattle.raire_cli.proofs.NextRounds.{round_is_counted}
@@ -27,7 +28,7 @@ use Rattle.raire_cli.proofs.Said.{only}
 
 pub plural_signed_off_is_counted : PluralSignedOffIsCounted
 plural_signed_off_is_counted words files next on actual most signed few long entries =
-    (round_is_counted on.inputs.session (recorded on.inputs) on.inputs.entries (values_of on.inputs.counted.outcome) (claims on.inputs) (fits on)
+    (round_is_counted on.inputs.session (recorded on.inputs) on.inputs.entries (values_of on.inputs.basis.outcome) (claims on.inputs) (fits on)
     on.asks.task.draws most next actual on.is_next signed few long entries).1
 
 -- ---- what was announced
@@ -59,11 +60,11 @@ module _ (announced : AnnouncedPlurality) (actual : List (List ℕ)) (most : ℕ
       × MayBeSignedOff limit gamma (claims_of counted.outcome) (linked_of counted.batches counted.ballots) actual sequence
 
   module _ (sequence : List ℕ) (audit : IsPluralSignedOffOn announced actual most sequence) where
-    same-counted : audit.on.inputs.counted ≡ announced.counted
+    same-counted : audit.on.inputs.basis ≡ announced.counted
     same-counted =
-        said-once (Some announced.counted.ballots.contest) announced.bytes audit.on.inputs.counted announced.counted
-        (subst (λ contest. SayCounted (Some contest) announced.bytes audit.on.inputs.counted) audit.same_contest
-        (subst (λ bytes. SayCounted (Some audit.on.inputs.session.contest) bytes audit.on.inputs.counted) audit.same_files audit.on.say.counted))
+        said-once (Some announced.counted.ballots.contest) announced.bytes audit.on.inputs.basis announced.counted
+        (subst (λ contest. SayCounted (Some contest) announced.bytes audit.on.inputs.basis) audit.same_contest
+        (subst (λ bytes. SayCounted (Some audit.on.inputs.session.contest) bytes audit.on.inputs.basis) audit.same_files audit.on.say.basis))
         announced.say
 
     terms : AreTerms announced.limit announced.gamma
@@ -75,15 +76,15 @@ module _ (announced : AnnouncedPlurality) (actual : List (List ℕ)) (most : ℕ
         }
 
     own : length actual ≡ length (cards_of announced.counted.batches) →
-        IsCounted audit.on.inputs.counted audit.on.inputs.session.session.limit audit.on.inputs.session.session.gamma sequence
+        IsCounted audit.on.inputs.basis audit.on.inputs.session.session.limit audit.on.inputs.session.session.gamma sequence
     own long =
         let inputs = audit.on.inputs in
-        let cards : length (cards_of inputs.counted.batches) ≡ length (cards_of announced.counted.batches) =
+        let cards : length (cards_of inputs.basis.batches) ≡ length (cards_of announced.counted.batches) =
         ap (λ (counted : Counted). length (cards_of counted.batches)) same-counted in
-        let each : length (recorded inputs) ≡ length (cards_of inputs.counted.batches) =
-        length-map (cards_of inputs.counted.batches) (recorded_of inputs.counted.ballots) in
-        subst (IsCounted inputs.counted inputs.session.session.limit inputs.session.session.gamma) (sym audit.of_seed)
-        (round_is_counted inputs.session (recorded inputs) inputs.entries (values_of inputs.counted.outcome) (claims inputs) (fits audit.on)
+        let each : length (recorded inputs) ≡ length (cards_of inputs.basis.batches) =
+        length-map (cards_of inputs.basis.batches) (recorded_of inputs.basis.ballots) in
+        subst (IsCounted inputs.basis inputs.session.session.limit inputs.session.session.gamma) (sym audit.of_seed)
+        (round_is_counted inputs.session (recorded inputs) inputs.entries (values_of inputs.basis.outcome) (claims inputs) (fits audit.on)
         audit.on.asks.task.draws most audit.next actual audit.on.is_next audit.signed_off audit.few (long ∙ sym cards ∙ sym each) audit.true_entries)
 
     counted : length actual ≡ length (cards_of announced.counted.batches) → IsCounted announced.counted announced.limit announced.gamma sequence

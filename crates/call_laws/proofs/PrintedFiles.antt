@@ -41,9 +41,10 @@ use Rattle.search_commands.proofs.Searches.{done_is, found_by as searches_found}
 use Rattle.session_commands.specs.Accepted.{is_accepted}
 use Rattle.session_commands.specs.Open as opened
 use Rattle.session_commands.proofs.Acceptance.{decided}
+use Rattle.raire_cli.specs.Asks.{Asks}
 use Rattle.call_laws.specs.Agreement.{Call}
 use Rattle.raire_cli.specs.Answers.{asked, asked_by}
-use Rattle.raire_cli.specs.Confirmation.{AsksFor, AsksForSearch}
+use Rattle.raire_cli.specs.Confirmation.{AsksFor}
 use Rattle.call_laws.specs.PrintedFiles.{HasPrinted, PrintedIsAccepted, PrintedIsOpened}
 use Rattle.call_laws.proofs.Agreement.{not_spent}
 use Rattle.call_laws.proofs.Ended.{ends_with}
@@ -56,7 +57,7 @@ one_text sink before text other told_before told_after took =
     append_cancel_left before text other (subst (λ s. Appends s (Some (before ++ text)) other) told_before
     (subst (λ s. Appends sink.before s other) told_after took))
 
-module _ {words : List (List ℕ)} (files : List File) (search : AsksForSearch words) where
+module _ {words : List (List ℕ)} (files : List File) (search : Asks Search words) where
   abbrev task : SearchTask
   task = search.task
 
@@ -145,7 +146,7 @@ module _ (budget : Budget) (least : ℕ) (plan : Option PlanTerms) (limits : IfS
 
 pub printed_is_accepted : PrintedIsAccepted
 printed_is_accepted words others search check files more first second text printed holds settled =
-    let task = check.task in
+    let task = check.asks.task in
     let found = found files search first text printed in
     let file = file_of search.task.plan found.has in
     let limits = (are_checked words (Search search.task) search.asked).plan in
@@ -164,8 +165,8 @@ printed_is_accepted words others search check files more first second text print
     let comes : MayCome (AsHeld more) (asked_by (Some (Check task))) (outcome yes) =
     may_say more task.ballots (refused_ballots task.ballots) (λ bytes. ballots_of bytes task.contest) with_ballots found.bytes
     (holds.same_ballots ∙ found.held) found.is_short found.ballots (ap (ballots_of found.bytes) check.same_contest ∙ found.read) (outcome yes) after in
-    (ends_with others more (outcome yes) (subst (λ command. MayCome (AsHeld more) (asked_by command) (outcome yes)) (sym check.asked_for) comes)
-    (λ asks. absurd (not_spent others (Check task) check.asked_for refl asks))).alone second settled
+    (ends_with others more (outcome yes) (subst (λ command. MayCome (AsHeld more) (asked_by command) (outcome yes)) (sym check.asks.asked) comes)
+    (λ asks. absurd (not_spent others (Check task) check.asks.asked refl asks))).alone second settled
 
 -- ---- a session
 
@@ -180,7 +181,7 @@ cards-ok name ballots manifest bytes batches is placed =
 
 pub printed_is_opened : PrintedIsOpened
 printed_is_opened words others search opening files more first second text printed holds cards settled =
-    let task = opening.task in
+    let task = opening.asks.task in
     let found = found files search first text printed in
     let ballots = found.ballots in
     let file = file_of search.task.plan found.has in
@@ -216,5 +217,5 @@ printed_is_opened words others search opening files more first second text print
     let comes : MayCome held (asked_by (Some (Open task))) due =
     may_say more task.ballots (refused_ballots task.ballots) (λ bytes. ballots_of bytes task.contest) with_ballots found.bytes
     (holds.same_ballots ∙ found.held) found.is_short ballots (ap (ballots_of found.bytes) opening.same_contest ∙ found.read) due from_manifest in
-    (ends_with others more due (subst (λ command. MayCome held (asked_by command) due) (sym opening.asked_for) comes)
-    (λ asks. absurd (not_spent others (Open task) opening.asked_for refl asks))).alone second settled
+    (ends_with others more due (subst (λ command. MayCome held (asked_by command) due) (sym opening.asks.asked) comes)
+    (λ asks. absurd (not_spent others (Open task) opening.asks.asked refl asks))).alone second settled

@@ -20,15 +20,15 @@ use Rattle.cli_base.specs.Script.{Script, Ends, AsHeld, ComesTo, Concludes, May,
 use Rattle.cli_base.specs.declared.outcome.AnswerKind.TheVariants.{Done}
 use Rattle.cli_base.proofs.Scripts.{ended, some_is}
 use Rattle.cli_base.proofs.Statuses.{answer_verdict, stopped}
-use Rattle.command_line.specs.declared.commands.Command.TheVariants.{Check}
+use Rattle.command_line.specs.declared.commands.Command.TheVariants.{Check, Trim}
 use Rattle.check_command.specs.Check.{Checks, after_ballots as check_after_ballots, yes_text}
 use Rattle.check_command.proofs.Checks.{accepted_is_yes}
 use Rattle.input_files.specs.Refusals.{refused_assertions, refused_ballots}
 use Rattle.trim_command.specs.Trim.{Trims, after_ballots, script, trim_verdict, verdict_on}
+use Rattle.raire_cli.specs.Asks.{Asks}
 use Rattle.call_laws.specs.Agreement.{Call}
 use Rattle.raire_cli.specs.Answers.{asked, asked_by}
 use Rattle.call_laws.specs.PrintedFiles.{HasPrinted, TrimmedIsAccepted, TrimmedIsTrimmed}
-use Rattle.raire_cli.specs.Trims.{AsksForTrim}
 use Rattle.call_laws.proofs.Agreement.{not_spent}
 use Rattle.call_laws.proofs.Ended.{ends_with}
 use Rattle.call_laws.proofs.PrintedFiles.{one_text}
@@ -37,7 +37,7 @@ use Rattle.raire_cli.proofs.Trims.{Left, accepted_left, left_by, reads_back}
 
 -- ---- what was printed
 
-module _ {words : List (List ℕ)} (files : List File) (trim : AsksForTrim words) where
+module _ {words : List (List ℕ)} (files : List File) (trim : Asks Trim words) where
   left_in : (d : Outcome) → d.status ≡ 0 → MayCome (AsHeld files) (asked words) d → Left words files trim d.out
   left_in d zero may = elim (ended (AsHeld files) (script trim.task) d (subst (λ command. MayCome (AsHeld files) (asked_by command) d) trim.asked may)) [
     | inl (v, concludes, is) ↦
@@ -62,7 +62,7 @@ module _ {words : List (List ℕ)} (files : List File) (trim : AsksForTrim words
 
 pub trimmed_is_accepted : TrimmedIsAccepted
 trimmed_is_accepted words others trim check files more first second text printed holds settled =
-    let task = check.task in
+    let task = check.asks.task in
     let l = left_of_call files trim first text printed in
     let reads : assertion_file_of text ≡ Ok l.left = subst (λ t. assertion_file_of t ≡ Ok l.left) (sym l.shown) (reads_back words files trim text l) in
     let yes : Verdict = Answered Done (yes_text l.left) in
@@ -77,8 +77,8 @@ trimmed_is_accepted words others trim check files more first second text printed
     may_say more task.ballots (refused_ballots task.ballots) (λ bytes. ballots_of bytes task.contest) with_ballots l.are.ballot_bytes
     (holds.same_ballots ∙ l.are.ballots_held) l.is_short l.ballots (ap (ballots_of l.are.ballot_bytes) check.same_contest ∙ l.are.ballots_say) (outcome yes)
     after in
-    (ends_with others more (outcome yes) (subst (λ command. MayCome (AsHeld more) (asked_by command) (outcome yes)) (sym check.asked_for) comes)
-    (λ asks. absurd (not_spent others (Check task) check.asked_for refl asks))).alone second settled
+    (ends_with others more (outcome yes) (subst (λ command. MayCome (AsHeld more) (asked_by command) (outcome yes)) (sym check.asks.asked) comes)
+    (λ asks. absurd (not_spent others (Check task) check.asks.asked refl asks))).alone second settled
 
 -- ---- a trim
 
@@ -102,12 +102,12 @@ module _ (budget : Budget) (ballots : BallotFile) (file left : Content) (accepte
 
 pub trimmed_is_trimmed : TrimmedIsTrimmed
 trimmed_is_trimmed words others trim again files more first second text printed holds settled =
-    let task = again.task in
+    let task = again.asks.task in
     let l = left_of_call files trim first text printed in
     let reads : assertion_file_of text ≡ Ok l.left = subst (λ t. assertion_file_of t ≡ Ok l.left) (sym l.shown) (reads_back words files trim text l) in
     let (out, err, may, took, took_err) = settled.answer.quiet settled.quiet settled.memory in
     let ended : Outcome = record { status = second.status; out = out; err = err } in
-    let comes : May (AsHeld more) (script task) ended = subst (λ command. MayCome (AsHeld more) (asked_by command) ended) again.asked_for may in
+    let comes : May (AsHeld more) (script task) ended = subst (λ command. MayCome (AsHeld more) (asked_by command) ended) again.asks.asked may in
     let with_ballots : List ℕ → BallotFile → Script = λ bytes ballots. after_ballots task.assertions task.budget ballots in
     let after : May (AsHeld more) (after_ballots task.assertions task.budget l.ballots) ended =
     says more task.ballots (refused_ballots task.ballots) (λ bytes. ballots_of bytes task.contest) with_ballots l.are.ballot_bytes

@@ -1,5 +1,5 @@
 -- A session of one card that goes on by a draw, and isn't signed off yet.
-use Rattle.std.proofs.Common.{◌≡◌, inl, inr, ℕ, ◌<◌, ◌≤◌, nat_le, true, List, [], ◌∷◌, get_or, None, Some, Ok, codes, All, refl, sym, subst, arith}
+use Rattle.std.proofs.Common.{◌≡◌, inl, inr, ℕ, ◌<◌, ◌≤◌, nat_le, true, List, [], ◌∷◌, get_or, length, None, Some, Ok, codes, All, refl, sym, subst, arith}
 use Rattle.std.proofs.lemmas.Bool.Decides.{leb_tells}
 use Rattle.std.proofs.lemmas.List.Elements.{All-cons, All-nil}
 use Rattle.std.proofs.lemmas.List.Sums.{AllPass-from_list_all}
@@ -14,13 +14,13 @@ use Rattle.desk.specs.Desk.{File}
 use Rattle.irv_base.specs.declared.limits.TheConstants.{MOST_DRAWS}
 use Rattle.assertions.specs.declared.assertion.Assertion.TheVariants.{Neb}
 use Rattle.assertions.specs.declared.assertion.Claim.{Claim}
-use Rattle.assertion_file.specs.Content.{Content as FileContent, IsMargin, IsSound as IsSoundFile, IsSoundClaim}
+use Rattle.assertion_file.specs.Content.{Content as FileContent, IsMargin, IsSound as IsSoundFile, IsSoundClaim, margins_of}
 use Rattle.assertion_file.specs.Reading.{assertion_file_of}
 use Rattle.assertion_file.specs.Text.{assertion_file_text, file_value}
 use Rattle.assertion_file.proofs.Printed.{printed_reads_back}
 use Rattle.ballot_reader.specs.Ballots.{BallotFile}
 use Rattle.ballot_reader.specs.Grammar.{ballots_of}
-use Rattle.manifest.specs.Cards.{Batches}
+use Rattle.manifest.specs.Cards.{Batches, cards_of}
 use Rattle.manifest.specs.Linked.{first_without_card, linked_of}
 use Rattle.manifest.specs.Manifest.{manifest_of}
 use Rattle.assorters.specs.declared.seen.Seen.TheVariants.{Found}
@@ -29,6 +29,7 @@ use Rattle.seen_file.specs.Seen.{Entry}
 use Rattle.km_risk.specs.Printed.{printed_risk}
 use Rattle.session_state.specs.Claims.{values_of}
 use Rattle.session_state.specs.Content.{Content, IsSound}
+use Rattle.session_state.specs.Inputs.{has_facts}
 use Rattle.session_state.specs.Sessions.{IsRound, Round}
 use Rattle.session_file.specs.Forms.{HasForms}
 use Rattle.session_file.specs.Text.{session_text, session_value}
@@ -40,8 +41,8 @@ use Rattle.command_line.specs.declared.commands.Command.TheVariants.{Audit}
 use Rattle.budget.specs.declared.budget.Budget.TheVariants.{Nodes}
 use Rattle.budget.specs.declared.limits.TheConstants.{DEFAULT_NODES}
 use Rattle.session_commands.specs.Accepted.{is_accepted, on_if}
-use Rattle.session_commands.specs.Audit.{after_assertions, after_ballots, after_check, after_facts, after_manifest, after_session, script, same_assertions, same_facts}
-use Rattle.session_rounds.specs.Rounds.{Compared, GoesOn, next_session, same_ballots, same_manifest, session_to_go_on, verdict_of}
+use Rattle.session_commands.specs.Audit.{after_assertions, after_ballots, after_check, after_manifest, after_session, script, same_assertions}
+use Rattle.session_rounds.specs.Rounds.{Compared, GoesOn, next_session, one_round, same_ballots, same_manifest, session_to_go_on, verdict_of, with_seen}
 use Rattle.command.specs.declared.audit.AuditTask.{AuditTask}
 use Rattle.input_files.specs.Judged.{told}
 use Rattle.input_files.specs.Refusals.{refused_seen}
@@ -252,8 +253,8 @@ of_assertions = rw (assertions_hash, file_read) refl
 accepted : is_accepted (Nodes DEFAULT_NODES) ballots file ≡ true
 accepted = refl
 
-of_facts : same_facts asks session batches file ≡ Ok session
-of_facts = refl
+agrees : has_facts session (length (cards_of batches)) file.contest (margins_of file) ≡ true
+agrees = refl
 
 of_seen : told (refused_seen asks.seen) (seen_of batches file.candidates seen_bytes) ≡ Ok entries
 of_seen = rw seen_read refl
@@ -264,7 +265,7 @@ held = AsHeld audit_files
 abbrev due : Outcome
 due = outcome verdict
 
-seen_counted : May held (after_facts asks session ballots batches file) due
+seen_counted : May held (with_seen asks.session asks.seen asks.draws session (values_of file) batches (linked_of batches ballots) file.candidates) due
 seen_counted =
     inr (
       seen_bytes,
@@ -275,7 +276,9 @@ seen_counted =
     )
 
 facts_hold : May held (after_check asks session ballots batches file) due
-facts_hold = going held (same_facts asks session batches file) session (λ same. after_facts asks same ballots batches file) due of_facts seen_counted
+facts_hold =
+    subst (λ agree. May held (one_round asks.session asks.seen asks.draws agree session (values_of file) batches (linked_of batches ballots) file.candidates) due)
+    (sym agrees) seen_counted
 
 assertions_hold : May held (after_assertions asks session ballots batches file) due
 assertions_hold =

@@ -6,8 +6,10 @@ use Rattle.cli_base.specs.Ends.{Writing, Took}
 use Rattle.cli_base.specs.Statuses.{IsAnswered, IsQuiet}
 use Rattle.command_line.specs.Line.{command_of}
 use Rattle.command_line.specs.declared.commands.Command.{Command}
+use Rattle.command_line.specs.declared.commands.Command.TheVariants.{Contests}
+use Rattle.raire_cli.specs.Asks.{Asks}
 use Rattle.raire_cli.specs.Answers.{asked, is_open}
-use Rattle.raire_cli.specs.Contests.{AsksForContests, HaveNodes}
+use Rattle.raire_cli.specs.Contests.{HaveNodes}
 
 -- what is seen of a call of `run`: the desk's count of faults before and after it, its status, and what its sinks took
 pub record Call : Type 0 where
@@ -35,7 +37,7 @@ pub record IsSettled (words : List (List ℕ)) (files : List File) (call : Call)
   pub memory : call.status ≢ 9
   pub unspent : MayBeSpent words → call.status ≢ 4
   -- the nodes of an audit of all contests are as many as may be needed in each
-  pub suffice : (asks : AsksForContests words) → HaveNodes asks.task files
+  pub suffice : (asks : Asks Contests words) → HaveNodes asks.task files
 
 -- each name has the same bytes in both, or is in neither
 abbrev pub HoldTheSame : List File → List File → Type 0

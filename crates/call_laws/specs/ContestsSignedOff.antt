@@ -17,9 +17,9 @@ use Rattle.audit_session.specs.Laws.{AreTrueEntries}
 use Rattle.audit_laws.specs.RiskLimit.{MayElectAnother}
 use Rattle.contest_search.specs.Certificate.{IsCertificateOfDecided}
 use Rattle.contest_set.specs.declared.end.ContestEnd.TheVariants.{Audited}
+use Rattle.raire_cli.specs.CardFiles.{CardBytes}
 use Rattle.raire_cli.specs.Contests.{AuditsContests}
 use Rattle.call_laws.specs.ContestsLimit.{drawn}
-use Rattle.raire_cli.specs.Pluralities.{CardBytes}
 
 -- ---- what is given
 
@@ -59,8 +59,7 @@ module _ (announced : AnnouncedContest) (actual : List (List ℕ)) (most : ℕ) 
     pub risks : Vec ℕ Global
     pub signed_off : slice_get audit.ends announced.place ≡ Some (Audited file counts risks true)
     -- it stands on the files and the terms that were announced
-    pub same_ballots : audit.bytes.ballots ≡ announced.bytes.ballots
-    pub same_manifest : audit.bytes.manifest ≡ announced.bytes.manifest
+    pub same_files : audit.bytes.cards ≡ announced.bytes
     pub same_limit : audit.asks.task.limit ≡ announced.limit
     pub same_gamma : audit.asks.task.gamma ≡ announced.gamma
     -- it ends at one of the draws of the sequence, at whichever

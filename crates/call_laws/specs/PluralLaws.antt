@@ -10,11 +10,13 @@ use Rattle.session_state.specs.RiskOfValues.{MayBeSignedOff}
 use Rattle.session_state.specs.Sessions.{is_signed_off}
 use Rattle.audit_session.specs.Laws.{AreTrueEntries}
 use Rattle.plurality.specs.RiskLimit.{HaveAnother}
+use Rattle.raire_cli.specs.CardFiles.{CardBytes}
 use Rattle.raire_cli.specs.NextRound.{drawn}
-use Rattle.raire_cli.specs.Pluralities.{CardBytes, Counted, PluralGoesOn, RoundInputs, SayCounted, claims, recorded}
+use Rattle.raire_cli.specs.Pluralities.{Counted, PluralGoesOn, SayCounted, claims, recorded}
+use Rattle.raire_cli.specs.RoundFiles.{RoundInputs}
 
 -- the cards that the seed of the session draws
-abbrev pub drawn_in : RoundInputs → ℕ → List ℕ
+abbrev pub drawn_in : RoundInputs Counted → ℕ → List ℕ
 drawn_in inputs = drawn inputs.session (recorded inputs) inputs.entries
 
 -- ---- a session that is signed off
@@ -57,7 +59,7 @@ module _ (announced : AnnouncedPlurality) (actual : List (List ℕ)) (most : ℕ
     pub on : PluralGoesOn words files next
     pub signed_off : IsTrue (is_signed_off next.session)
     -- it stands on the files that were announced, and its session has the contest and the terms
-    pub same_files : on.bytes.cards ≡ announced.bytes
+    pub same_files : on.bytes.basis ≡ announced.bytes
     pub same_contest : on.inputs.session.contest ≡ announced.counted.ballots.contest
     pub same_limit : on.inputs.session.session.limit ≡ announced.limit
     pub same_gamma : on.inputs.session.session.gamma ≡ announced.gamma

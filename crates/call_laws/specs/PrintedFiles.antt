@@ -10,15 +10,11 @@ use Rattle.manifest.specs.Linked.{first_without_card}
 use Rattle.manifest.specs.Manifest.{manifest_of}
 use Rattle.cli_base.specs.Ends.{Took}
 use Rattle.cli_base.specs.Statuses.{IsAnswered}
-use Rattle.command.specs.declared.check.CheckTask.{CheckTask}
-use Rattle.command.specs.declared.open.OpenTask.{OpenTask}
-use Rattle.command.specs.declared.trim.TrimTask.{TrimTask}
-use Rattle.command_line.specs.Line.{command_of}
-use Rattle.command_line.specs.declared.commands.Command.TheVariants.{Check, Open, Trim}
+use Rattle.command_line.specs.declared.commands.Command.TheVariants.{Check, Open, Trim, Search}
+use Rattle.raire_cli.specs.Asks.{Asks}
 use Rattle.call_laws.specs.Agreement.{Call, Failed, IsSettled}
 use Rattle.raire_cli.specs.Answers.{asked}
-use Rattle.raire_cli.specs.Confirmation.{AsksFor, AsksForSearch}
-use Rattle.raire_cli.specs.Trims.{AsksForTrim}
+use Rattle.raire_cli.specs.Confirmation.{AsksFor}
 
 -- The call was of these words, over a desk that holds these files. It ended with status 0, and `out`, which tells what it takes, took
 -- this text.
@@ -55,61 +51,58 @@ pub record HoldsCards (words : List (List ℕ)) (files more : List File)
 
 -- they ask for a check, with the contest and the budget of the first call
 pub record ChecksTheSame (contest : Option Id) (budget : Budget) (others : List (List ℕ)) : Type 0 where
-  pub task : CheckTask
-  pub asked_for : command_of others ≡ Some (Check task)
-  pub same_contest : task.contest ≡ contest
-  pub same_budget : task.budget ≡ budget
+  pub asks : Asks Check others
+  pub same_contest : asks.task.contest ≡ contest
+  pub same_budget : asks.task.budget ≡ budget
 
 -- they ask that a session be opened, with them
 pub record OpensTheSame (contest : Option Id) (budget : Budget) (others : List (List ℕ)) : Type 0 where
-  pub task : OpenTask
-  pub asked_for : command_of others ≡ Some (Open task)
-  pub same_contest : task.contest ≡ contest
-  pub same_budget : task.budget ≡ budget
+  pub asks : Asks Open others
+  pub same_contest : asks.task.contest ≡ contest
+  pub same_budget : asks.task.budget ≡ budget
 
 -- they ask for a trim, with them
 pub record TrimsTheSame (contest : Option Id) (budget : Budget) (others : List (List ℕ)) : Type 0 where
-  pub task : TrimTask
-  pub asked_for : command_of others ≡ Some (Trim task)
-  pub same_contest : task.contest ≡ contest
-  pub same_budget : task.budget ≡ budget
+  pub asks : Asks Trim others
+  pub same_contest : asks.task.contest ≡ contest
+  pub same_budget : asks.task.budget ≡ budget
 
 -- ---- the laws
 
 -- A check accepts what a search printed: it ends with status 0, if nothing fails in it and memory is found.
 abbrev pub PrintedIsAccepted : Type 0
 PrintedIsAccepted =
-    (words others : List (List ℕ)) (search : AsksForSearch words)
+    (words others : List (List ℕ)) (search : Asks Search words)
     (check : ChecksTheSame search.task.contest search.task.budget others) (files more : List File) (first second : Call)
     (text : List ℕ) → HasPrinted words files first text →
-    HoldsPrinted search.task.ballots files more text check.task.ballots check.task.assertions →
+    HoldsPrinted search.task.ballots files more text check.asks.task.ballots check.asks.task.assertions →
     IsSettled others more second → second.status ≡ 0
 
 -- A session is opened with it, where each ballot has a card.
 abbrev pub PrintedIsOpened : Type 0
 PrintedIsOpened =
-    (words others : List (List ℕ)) (search : AsksForSearch words)
+    (words others : List (List ℕ)) (search : Asks Search words)
     (opening : OpensTheSame search.task.contest search.task.budget others) (files more : List File) (first second : Call)
     (text : List ℕ) → HasPrinted words files first text →
-    HoldsPrinted search.task.ballots files more text opening.task.ballots opening.task.assertions →
-    HoldsCards words files more opening.task.manifest → IsSettled others more second → second.status ≡ 0
+    HoldsPrinted search.task.ballots files more text opening.asks.task.ballots opening.asks.task.assertions →
+    HoldsCards words files more opening.asks.task.manifest → IsSettled others more second → second.status ≡ 0
 
 -- A check accepts what a trim printed.
 abbrev pub TrimmedIsAccepted : Type 0
 TrimmedIsAccepted =
-    (words others : List (List ℕ)) (trim : AsksForTrim words)
+    (words others : List (List ℕ)) (trim : Asks Trim words)
     (check : ChecksTheSame trim.task.contest trim.task.budget others)
     (files more : List File) (first second : Call) (text : List ℕ) →
     HasPrinted words files first text →
-    HoldsPrinted trim.task.ballots files more text check.task.ballots check.task.assertions →
+    HoldsPrinted trim.task.ballots files more text check.asks.task.ballots check.asks.task.assertions →
     IsSettled others more second → second.status ≡ 0
 
 -- Trimmed again it is printed as it is, unless the budget is spent.
 abbrev pub TrimmedIsTrimmed : Type 0
 TrimmedIsTrimmed =
-    (words others : List (List ℕ)) (trim : AsksForTrim words)
+    (words others : List (List ℕ)) (trim : Asks Trim words)
     (again : TrimsTheSame trim.task.contest trim.task.budget others)
     (files more : List File) (first second : Call) (text : List ℕ) →
     HasPrinted words files first text →
-    HoldsPrinted trim.task.ballots files more text again.task.ballots again.task.assertions →
+    HoldsPrinted trim.task.ballots files more text again.asks.task.ballots again.asks.task.assertions →
     IsSettled others more second → (second.status ≡ 4) ⊎ ((second.status ≡ 0) × Took second.out text)

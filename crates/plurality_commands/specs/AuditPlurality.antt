@@ -4,6 +4,7 @@ use Rattle.ballot_reader.specs.Ballots.{BallotFile}
 use Rattle.manifest.specs.Cards.{Batches, cards_of}
 use Rattle.manifest.specs.Linked.{linked_of}
 use Rattle.session_state.specs.Content.{Content}
+use Rattle.session_state.specs.Inputs.{has_facts}
 use Rattle.command.specs.declared.audit_plurality.AuditPluralityTask.{AuditPluralityTask}
 use Rattle.cli_base.specs.Outcome.{Verdict}
 use Rattle.cli_base.specs.Script.{Script, Read}
@@ -11,8 +12,8 @@ use Rattle.cli_base.specs.declared.outcome.AnswerKind.{AnswerKind}
 use Rattle.cli_base.specs.declared.outcome.AnswerKind.TheVariants.{Done, Tie, Unconfirmed}
 use Rattle.input_files.specs.Judged.{then_judged, unless, go_on}
 use Rattle.plurality.specs.Plural.{Outcome, values_of}
-use Rattle.session_rounds.specs.Refusals.{other_digest, without_facts}
-use Rattle.session_rounds.specs.Rounds.{session_to_go_on, with_ballots, with_manifest, with_seen}
+use Rattle.session_rounds.specs.Refusals.{other_digest}
+use Rattle.session_rounds.specs.Rounds.{session_to_go_on, with_ballots, with_manifest, one_round}
 use Rattle.plurality_commands.specs.Outcome.{if_won}
 
 module _ (task : AuditPluralityTask) where
@@ -22,28 +23,14 @@ module _ (task : AuditPluralityTask) where
       then_judged (session_to_go_on task.session task.draws bytes) (λ session.
       unless (other_digest task.session session.digests.assertions []) (Ok session))
 
-  -- the session has the cards, the contest and the margins that the ballots give
-  abbrev pub same_facts :
-      Content → BallotFile → Batches → Outcome → Result Content Verdict
-  same_facts session ballots batches outcome =
-      unless
-      (without_facts task.session session (length (cards_of batches)) ballots.contest
-      outcome.margins)
-      (Ok session)
-
   -- ---- the files, the last one first
 
-  -- what is seen of the cards is read, and the session goes on by the claims of the outcome
-  abbrev pub after_facts : Content → BallotFile → Batches → Outcome → Script
-  after_facts session ballots batches outcome =
-      with_seen task.session task.seen task.draws session (values_of outcome) batches
-      (linked_of batches ballots) ballots.candidates
-
-  -- the session has to be one of the inputs
+  -- the session has to be one of the inputs, and goes on by the claims of the outcome
   abbrev pub after_count : Content → BallotFile → Batches → Outcome → Script
   after_count session ballots batches outcome =
-      go_on (same_facts session ballots batches outcome) (λ same.
-      after_facts same ballots batches outcome)
+      one_round task.session task.seen task.draws
+      (has_facts session (length (cards_of batches)) ballots.contest outcome.margins)
+      session (values_of outcome) batches (linked_of batches ballots) ballots.candidates
 
   -- once the ballots have their cards, they are counted
   abbrev pub after_manifest : Content → BallotFile → Batches → Script

@@ -1,18 +1,15 @@
 // `plurality SESSION BALLOTS MANIFEST SEEN`: the session of a plurality contest goes on by a round.
-ghost use Rattle.std.specs.Prelude.{◌≡◌, ◌≤◌, length, None, Ok, IfOk, IfErr};
+ghost use Rattle.std.specs.Prelude.{◌≡◌, ◌≤◌, Ok, IfOk};
 ghost use Rattle.desk.specs.Count.{Rose};
 ghost use Rattle.irv_base.specs.declared.limits.TheConstants.{MOST_DRAWS};
-ghost use Rattle.manifest.specs.Cards.{cards_of};
 ghost use Rattle.manifest.specs.Linked.{linked_of};
 ghost use Rattle.cli_base.specs.Accounts.{IsAccountedFor};
 ghost use Rattle.cli_base.specs.Begun.{HasCome};
-ghost use Rattle.cli_base.specs.Due.{due, due_refusal};
+ghost use Rattle.cli_base.specs.Due.{due};
 ghost use Rattle.cli_base.specs.Script.{ByDesk, Runs};
-ghost use Rattle.input_files.specs.Judged.{IsJudged, IsTold};
-ghost use Rattle.session_state.specs.Inputs.{HasFacts};
-ghost use Rattle.session_rounds.specs.Refusals.{without_facts};
+ghost use Rattle.input_files.specs.Judged.{IsJudged};
 ghost use Rattle.session_rounds.specs.Rounds.{MayGoOn};
-ghost use Rattle.plurality_commands.specs.AuditPlurality.{after_ballots, after_count, after_facts, after_manifest, after_session, plural_session, script};
+ghost use Rattle.plurality_commands.specs.AuditPlurality.{after_ballots, after_count, after_manifest, after_session, plural_session, script};
 ghost use Rattle.plurality_commands.specs.Outcome.{outcome_in};
 
 use crate::no_winner::no_winner;
@@ -23,7 +20,7 @@ use desk::Desk;
 use input_files::{Cards, bytes_of};
 use plurality::{Plural, plurality};
 use session_rounds::{
-    RoundTask, same_ballots, same_digest, same_manifest, session_to_go_on, with_facts, with_seen,
+    RoundBasis, RoundTask, one_round, same_ballots, same_digest, same_manifest, session_to_go_on,
 };
 use session_state::{Session, has_facts_of};
 use std::alloc::Global;
@@ -138,7 +135,7 @@ fn count<D: Desk>(
     }
 }
 
-// The session has to be one of the cards, and of the margins of the outcome; then it goes on by the claims of the outcome.
+// The session has to be one of the inputs, and goes on by the claims of the outcome.
 fn after_count<D: Desk>(
     alloc: Global,
     desk: &mut D,
@@ -160,48 +157,21 @@ fn after_count<D: Desk>(
         (due result) }
     ensures served { IsAccountedFor 1 (D.served desk.old) (D.served desk.new) (due result).status }
 {
-    same_facts(
-        alloc,
-        task,
+    let agree = has_facts_of(
         &session,
         cards.manifest.cards(),
-        ballots,
-        plural,
-    )?;
+        ballots.contest(),
+        plural.margins(),
+    );
     let round = RoundTask {
         session: &task.session,
         seen: &task.seen,
         draws: task.draws,
     };
-    with_seen(
-        alloc,
-        desk,
-        &round,
-        session,
-        plural,
+    let inputs = RoundBasis {
         cards,
-        ballots.candidates(),
-    )
-}
-
-// The session has so many cards, and the contest and the margins of the ballots' outcome.
-fn same_facts(
-    alloc: Global,
-    task: &AuditPluralityTask,
-    session: &Session,
-    cards: u32,
-    ballots: &Ballots,
-    plural: &Plural,
-) -> Result<(), Refusal>
-    ensures facts { IfOk result (λ _.
-        HasFacts session.now cards ballots.now.contest plural.now.margins) }
-    ensures same { IfOk result (λ _.
-        without_facts task.now.session session.now cards ballots.now.contest plural.now.margins
-        ≡ None) }
-    ensures refused { IfErr result (λ refusal.
-        IsTold (without_facts task.now.session session.now cards
-        ballots.now.contest plural.now.margins) (due_refusal refusal)) }
-{
-    let agree = has_facts_of(session, cards, ballots.contest(), plural.margins());
-    with_facts(alloc, &task.session, agree)
+        claims: plural,
+        candidates: ballots.candidates(),
+    };
+    one_round(alloc, desk, &round, session, agree, &inputs)
 }

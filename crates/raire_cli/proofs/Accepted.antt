@@ -16,7 +16,9 @@ use Rattle.cli_base.specs.declared.outcome.AnswerKind.TheVariants.{Done}
 use Rattle.check_command.specs.Check.{yes_text, verdict_on, Checks, after_ballots}
 use Rattle.input_files.specs.Refusals.{refused_assertions, refused_ballots}
 use Rattle.assertion_file.proofs.SoundFiles.{read_is_sound}
-use Rattle.raire_cli.specs.Acceptance.{AsksForCheck, HasAssertions, HasBallots, HoldsAsked}
+use Rattle.command_line.specs.declared.commands.Command.TheVariants.{Check}
+use Rattle.raire_cli.specs.Asks.{Asks}
+use Rattle.raire_cli.specs.Acceptance.{HasAssertions, HasBallots, HoldsAsked}
 use Rattle.raire_cli.specs.Answers.{asked, asked_by}
 use Rattle.raire_cli.proofs.Said.{said}
 
@@ -38,7 +40,7 @@ accepted_answer file (Err Memory) text told = absurd (cc told)
 yes_is : (file : Content) (text : List ℕ) → verdict_on file (Ok Accepted) ≡ Some (Answered Done text) → text ≡ yes_text file
 yes_is file text told = cc
 
-module _ (words : List (List ℕ)) (files : List File) (asks : AsksForCheck words) (text : List ℕ) where
+module _ (words : List (List ℕ)) (files : List File) (asks : Asks Check words) (text : List ℕ) where
   -- the file of the words holds, and this is what is told of it
   abbrev Held : Type 0
   Held = (file : Content) × HoldsAsked words files file × (text ≡ yes_text file)

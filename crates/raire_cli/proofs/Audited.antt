@@ -32,22 +32,24 @@ use Rattle.cli_base.proofs.AmongKinds.{not_among}
 use Rattle.command.specs.declared.audit.AuditTask.{AuditTask}
 use Rattle.check_command.specs.Check.{Checks, kinds, verdict_on}
 use Rattle.check_command.proofs.Checks.{answer-kind}
-use Rattle.input_files.specs.Judged.{told}
-use Rattle.input_files.specs.Refusals.{refused_assertions, refused_seen}
-use Rattle.input_files.proofs.Going.{told-only}
+use Rattle.input_files.specs.Refusals.{refused_assertions}
 use Rattle.session_commands.specs.Accepted.{if_accepted, is_accepted, on_if}
-use Rattle.session_commands.specs.Audit.{after_assertions, after_ballots, after_check, after_facts, after_manifest, after_session, same_assertions, same_facts, script}
-use Rattle.session_rounds.specs.Refusals.{other_digest, without_facts}
-use Rattle.session_rounds.specs.Rounds.{Compared, GoesOn as GoesTo, kind_of, next_session, same_ballots, same_manifest, session_to_go_on, verdict_of}
+use Rattle.session_commands.specs.Audit.{after_assertions, after_ballots, after_check, after_manifest, after_session, same_assertions, script}
+use Rattle.session_rounds.specs.Refusals.{other_digest}
+use Rattle.session_rounds.specs.Rounds.{Compared, kind_of, next_session, same_ballots, same_manifest, session_to_go_on, verdict_of}
 use Rattle.session_commands.proofs.Acceptance.{decided}
-use Rattle.session_commands.proofs.Audits.{assertions-only, same_facts-only}
+use Rattle.session_commands.proofs.Audits.{assertions-only}
 use Rattle.session_rounds.proofs.OneRound.{ballots-only, manifest-only, next-only, session-only}
+use Rattle.command_line.specs.declared.commands.Command.TheVariants.{Audit}
+use Rattle.raire_cli.specs.Asks.{Asks}
 use Rattle.raire_cli.specs.Answers.{asked, asked_by}
-use Rattle.raire_cli.specs.Audits.{AllBytes, AreAllHeld, AsksForAudit, GoesOn, Inputs, claims, recorded}
+use Rattle.raire_cli.specs.Audits.{GoesOn, claims, names_of, recorded}
+use Rattle.raire_cli.specs.Basis.{AreHeld, Basis, FileBytes}
+use Rattle.raire_cli.specs.RoundFiles.{AreRoundFiles, RoundBytes, RoundInputs}
 use Rattle.raire_cli.proofs.Accepted.{accepted_answer}
 use Rattle.raire_cli.proofs.NextRounds.{Fitting, next_of, next_round, said_ballots, said_manifest, said_session}
 use Rattle.raire_cli.proofs.Said.{held_whole, told_ok, unless_ok, value_of}
-use Rattle.raire_cli.proofs.Unrefused.{facts_kept, same_digest}
+use Rattle.raire_cli.proofs.Unrefused.{round_on, same_digest}
 
 -- an audit that was answered, or isn't signed off yet
 abbrev pub IsKind : AnswerKind → Type 0
@@ -76,7 +78,7 @@ accepted_on readings budget ballots file next kind text of comes = by (is_accept
 
 -- ---- the session goes on
 
-module _ (inputs : Inputs) (bytes : List ℕ) (read : session_of bytes ≡ Some inputs.session)
+module _ (inputs : RoundInputs Basis) (bytes : List ℕ) (read : session_of bytes ≡ Some inputs.session)
     (facts : HasFacts inputs.session (length (cards_of inputs.basis.batches)) inputs.basis.file.contest (margins_of inputs.basis.file)) where
   -- the session fits the claims of the file and what is recorded of the cards
   pub fitting : Fitting inputs.session (recorded inputs) (values_of inputs.basis.file) (claims inputs)
@@ -98,18 +100,9 @@ module _ (task : AuditTask) where
       let (digest, read) = unless_ok (other_digest task.assertions session.digests.assertions bytes) _ file is in
       (same_digest task.assertions session.digests.assertions bytes digest, told_ok (refused_assertions task.assertions) (assertion_file_of bytes) file read)
 
-  said_facts : (session same : Content) (batches : Batches) (file : FileContent) → same_facts task session batches file ≡ Ok same →
-      HasFacts session (length (cards_of batches)) file.contest (margins_of file) × (session ≡ same)
-  said_facts session same batches file is =
-      let (none, ok) = unless_ok (without_facts task.session session (length (cards_of batches)) file.contest (margins_of file)) _ same is in (
-        facts_are session (length (cards_of batches)) file.contest (margins_of file)
-            (facts_kept task.session (has_facts session (length (cards_of batches)) file.contest (margins_of file)) none),
-        cc ok,
-      )
-
 -- ---- the files, one after the other
 
-module _ (words : List (List ℕ)) (files : List File) (asks : AsksForAudit words) (kind : AnswerKind) (text : List ℕ) (of : IsKind kind) where
+module _ (words : List (List ℕ)) (files : List File) (asks : Asks Audit words) (kind : AnswerKind) (text : List ℕ) (of : IsKind kind) where
   abbrev readings : Readings
   readings = AsHeld files
 
@@ -126,14 +119,15 @@ module _ (words : List (List ℕ)) (files : List File) (asks : AsksForAudit word
   whole : (name bytes : List ℕ) → AsHeld files name (Bytes bytes) → held_bytes name files ≡ Some bytes
   whole name bytes there = held_whole (held_bytes name files) bytes there
 
-  abbrev compared_of : Inputs → Compared
+  abbrev compared_of : RoundInputs Basis → Compared
   compared_of inputs = record { recorded = recorded inputs; entries = inputs.entries }
 
-  abbrev round_of : Inputs → Result Content Verdict
+  abbrev round_of : RoundInputs Basis → Result Content Verdict
   round_of inputs = next_session task.session task.seen task.draws inputs.session (values_of inputs.basis.file) (compared_of inputs)
 
   -- all files are read, and nothing was wrong with them
-  gone : (bytes : AllBytes) → AreAllHeld task files bytes → (inputs : Inputs) → session_to_go_on task.session task.draws bytes.session ≡ Ok inputs.session →
+  gone : (bytes : RoundBytes FileBytes) → AreRoundFiles task.session task.seen (AreHeld (names_of task)) files bytes → (inputs : RoundInputs Basis) →
+      session_to_go_on task.session task.draws bytes.session ≡ Ok inputs.session →
       same_ballots task.ballots inputs.session bytes.basis.ballots ≡ Ok inputs.basis.ballots →
       same_manifest task.ballots task.manifest inputs.session inputs.basis.ballots bytes.basis.manifest ≡ Ok inputs.basis.batches →
       same_assertions task inputs.session bytes.basis.assertions ≡ Ok inputs.basis.file → is_accepted task.budget inputs.basis.ballots inputs.basis.file ≡ true →
@@ -157,7 +151,7 @@ module _ (words : List (List ℕ)) (files : List File) (asks : AsksForAudit word
           held = held;
           inputs = inputs;
           say = record { session = read; basis = record { ballots = ballots; manifest = manifest; assertions = assertions }; seen = is_v };
-          of_files = record { digests = λ i. record { ballots = digest_b i; manifest = digest_m i; assertions = digest_a i }; facts = facts };
+          of_files = record { digests_are = record { ballots = digest_b; manifest = digest_m; assertions = digest_a }; facts = facts };
           together = record { placed = placed; holds = (accepted_iff_holds task.budget inputs.basis.ballots inputs.basis.file Accepted sound found).0 refl };
           is_next = next_round inputs.session (recorded inputs) inputs.entries (values_of inputs.basis.file) (claims inputs)
               (fitting inputs bytes.session read facts) task.session task.seen task.draws next more ok;
@@ -181,25 +175,11 @@ module _ (words : List (List ℕ)) (files : List File) (asks : AsksForAudit word
               (record { session = session; basis = record { ballots = ballots; batches = batches; file = file }; entries = entries }) is_s is_b is_m is_a
               accepted facts is_v ends
 
-          from_facts : HasFacts session (length (cards_of batches)) file.contest (margins_of file) → Concludes readings (after_facts task session ballots batches file) verdict → Gone
-          from_facts facts (v, there, rest) =
-              let (entries, is, ends) = value_of readings (told (refused_seen task.seen) (seen_of batches file.candidates v))
-              (λ entries. Ends (GoesTo task.session task.seen task.draws session (values_of file) (record { recorded = linked_of batches ballots; entries = entries })))
-              kind text
-              (told-only (refused_seen task.seen) (seen_of batches file.candidates v) (λ why. tt)) rest in
-              from_seen facts v (whole task.seen v there) entries (told_ok (refused_seen task.seen) (seen_of batches file.candidates v) entries is) ends
-
-          from_same : (same : Content) → same_facts task session batches file ≡ Ok same →
-              Concludes readings (after_facts task same ballots batches file) verdict → Gone
-          from_same same is on =
-              let (facts, same-is) = said_facts task session same batches file is in
-              from_facts facts (subst (λ content. Concludes readings (after_facts task content ballots batches file) verdict) (sym same-is) on)
-
           from_check : Concludes readings (after_check task session ballots batches file) verdict → Gone
           from_check comes =
-              let (same, is, on) = value_of readings (same_facts task session batches file) (λ same. after_facts task same ballots batches file) kind text
-              (same_facts-only task session batches file) comes in
-              from_same same is on
+              let (agrees, seen) = round_on files task.session task.seen task.draws (has_facts session (length (cards_of batches)) file.contest (margins_of file)) session
+              (values_of file) batches (linked_of batches ballots) file.candidates kind text comes in
+              from_seen (facts_are session (length (cards_of batches)) file.contest (margins_of file) agrees) seen.bytes seen.held seen.value seen.is seen.rest
 
         from_assertions : (a : List ℕ) → held_bytes task.assertions files ≡ Some a → (file : FileContent) → same_assertions task session a ≡ Ok file →
             Concludes readings (after_assertions task session ballots batches file) verdict → Gone

@@ -25,27 +25,28 @@ use Rattle.cli_base.proofs.Clauses.{bad_words_clause, contests_clause, statuses_
 use Rattle.cli_base.proofs.ConfirmedKinds.{done_is_confirmed, unconfirmed_is_not}
 use Rattle.command_line.specs.Line.{command_of, is_line}
 use Rattle.command_line.specs.declared.commands.Command.{Command}
-use Rattle.command_line.specs.declared.commands.Command.TheVariants.{Contests}
+use Rattle.command_line.specs.declared.commands.Command.TheVariants.{Contests, Audit, AuditPlurality, Check, Open, OpenPlurality, Poll, Search, Trim}
 use Rattle.command_line.proofs.Checked.{have_meanings}
 use Rattle.check_command.specs.Check.{yes_text}
 use Rattle.session_state.specs.Content.{Content as SessionContent}
 use Rattle.session_state.specs.Sessions.{is_signed_off}
 use Rattle.session_file.specs.Text.{session_text}
+use Rattle.raire_cli.specs.Asks.{Asks}
 use Rattle.raire_cli.specs.Answers.{asked, asked_by, is_of_contests, is_open, of_contests}
-use Rattle.raire_cli.specs.Confirmation.{AsksForSearch, ConfirmsAsked, GivesReason, IsConfirmed, IsReasoned}
-use Rattle.raire_cli.specs.Acceptance.{AsksForCheck, HoldsAsked, IsUpheld}
+use Rattle.raire_cli.specs.Confirmation.{ConfirmsAsked, GivesReason, IsConfirmed, IsReasoned}
+use Rattle.raire_cli.specs.Acceptance.{HoldsAsked, IsUpheld}
 use Rattle.raire_cli.specs.Budgets.{budget_of}
 use Rattle.raire_cli.specs.Sets.{IsNeverSpentBySets, IsSpentBySets, MoreCount}
-use Rattle.raire_cli.specs.Trims.{AsksForTrim, IsTrimmed, IsTrimmedOf}
+use Rattle.raire_cli.specs.Trims.{IsTrimmed, IsTrimmedOf}
 use Rattle.raire_cli.specs.Promises.{IsComplete, IsTabulationComplete, IsTrialComplete, IsExactUnlessOpen, HasCause}
 use Rattle.raire_cli.specs.Undecided.{IsAbout, IsTied, IsTieComplete, TellsTie}
-use Rattle.raire_cli.specs.Audits.{AsksForAudit, GoesOn, IsAudited}
-use Rattle.raire_cli.specs.Pluralities.{AsksForPlurality, AsksForPluralRound, IsPluralityAudited, IsPluralityOpened, OpensPlurality, PluralGoesOn}
+use Rattle.raire_cli.specs.Audits.{GoesOn, IsAudited}
+use Rattle.raire_cli.specs.Pluralities.{IsPluralityAudited, IsPluralityOpened, OpensPlurality, PluralGoesOn}
 use Rattle.raire_cli.specs.PluralityTies.{TellsPluralityTie}
-use Rattle.raire_cli.specs.Polls.{AsksForPoll, IsPollOf, IsPolled, is_confirmed_by, told_of}
+use Rattle.raire_cli.specs.Polls.{IsPollOf, IsPolled, is_confirmed_by, told_of}
 use Rattle.raire_cli.specs.Enough.{AreEnough, Judging, IsNeverSpent, judging_of}
-use Rattle.raire_cli.specs.Openings.{AsksForOpening, Opens, IsOpened}
-use Rattle.raire_cli.specs.Contests.{AsksForContests, AuditsContests, IsAuditedByContest, blocks_of}
+use Rattle.raire_cli.specs.Openings.{Opens, IsOpened}
+use Rattle.raire_cli.specs.Contests.{AuditsContests, IsAuditedByContest, blocks_of}
 use Rattle.raire_cli.proofs.Accepted.{held_of}
 use Rattle.raire_cli.proofs.ContestsRefused.{refused_anyway}
 use Rattle.raire_cli.proofs.ContestsAudited.{audited_by}
@@ -90,7 +91,7 @@ asked_exact : (words : List (List ℕ)) (command : Command) → command_of words
 asked_exact words command is closed = subst (λ c. AgreeOn Same (asked_by c)) (sym is) (agrees_exactly command closed)
 
 -- of another command than an audit of all contests
-without_contests : (words : List (List ℕ)) (command : Option Command) → command_of words ≡ command → (AsksForContests words → ⊥) →
+without_contests : (words : List (List ℕ)) (command : Option Command) → command_of words ≡ command → (Asks Contests words → ⊥) →
     of_contests command ≡ false
 without_contests words None is none = refl
 without_contests words (Some (Contests task)) is none = absurd (none (record { task = task; asked = is }))
@@ -104,7 +105,7 @@ module _ (words : List (List ℕ)) {held : Option (List File)} {failed : Type 0}
     (story : Story (asked words) held failed before after status out err) where
   pub headline_clause : IsConfirmed held words status out
   headline_clause = if_some held (λ files. status ≡ 0 → (text : List ℕ) × ComesTo (AsHeld files) (asked words) (Answered Done text) × Took out text)
-      (λ files. AsksForSearch words → status ≡ 0 → (file : Content) × ConfirmsAsked words files file × Took out (assertion_file_text file))
+      (λ files. Asks Search words → status ≡ 0 → (file : Content) × ConfirmsAsked words files file × Took out (assertion_file_text file))
       (λ files answer asks zero.
       let (text, comes, took) = answer zero in
       let (file, confirms, shown) = confirms_asked words files asks text comes in
@@ -129,7 +130,7 @@ module _ (words : List (List ℕ)) {held : Option (List File)} {failed : Type 0}
 
   pub accepted_clause : IsUpheld held words status out
   accepted_clause = if_some held (λ files. status ≡ 0 → (text : List ℕ) × ComesTo (AsHeld files) (asked words) (Answered Done text) × Took out text)
-      (λ files. AsksForCheck words → status ≡ 0 → (file : Content) × HoldsAsked words files file × Took out (yes_text file))
+      (λ files. Asks Check words → status ≡ 0 → (file : Content) × HoldsAsked words files file × Took out (yes_text file))
       (λ files answer asks zero.
       let (text, comes, took) = answer zero in
       let (file, holds, shown) = held_of words files asks text comes in
@@ -138,7 +139,7 @@ module _ (words : List (List ℕ)) {held : Option (List File)} {failed : Type 0}
 
   pub trimmed_clause : IsTrimmed held words status out
   trimmed_clause = if_some held (λ files. status ≡ 0 → (text : List ℕ) × ComesTo (AsHeld files) (asked words) (Answered Done text) × Took out text)
-      (λ files. AsksForTrim words → status ≡ 0 → (left : Content) × IsTrimmedOf words files left × Took out (assertion_file_text left))
+      (λ files. Asks Trim words → status ≡ 0 → (left : Content) × IsTrimmedOf words files left × Took out (assertion_file_text left))
       (λ files answer asks zero.
       let (text, comes, took) = answer zero in
       let (left, is, shown) = printed_of words files asks text comes in
@@ -147,7 +148,7 @@ module _ (words : List (List ℕ)) {held : Option (List File)} {failed : Type 0}
 
   pub opened_clause : IsOpened held words status out
   opened_clause = if_some held (λ files. status ≡ 0 → (text : List ℕ) × ComesTo (AsHeld files) (asked words) (Answered Done text) × Took out text)
-      (λ files. AsksForOpening words → status ≡ 0 → (session : SessionContent) × Opens words files session × Took out (session_text session))
+      (λ files. Asks Open words → status ≡ 0 → (session : SessionContent) × Opens words files session × Took out (session_text session))
       (λ files answer asks zero.
       let (text, comes, took) = answer zero in
       let (session, opens, shown) = is_opened words files asks text comes in
@@ -155,7 +156,7 @@ module _ (words : List (List ℕ)) {held : Option (List File)} {failed : Type 0}
       (answered_with story Done)
 
   -- an audit that ends with an answer of this kind, and its session
-  audited-of : (files : List File) (kind : AnswerKind) → IsKind kind → AsksForAudit words →
+  audited-of : (files : List File) (kind : AnswerKind) → IsKind kind → Asks Audit words →
       (text : List ℕ) × ComesTo (AsHeld files) (asked words) (Answered kind text) × Took out text →
       (next : SessionContent) × (on : GoesOn words files next) × Took out (session_text next) × (kind ≡ kind_of next.session)
   audited-of files kind of asks (text, comes, took) =
@@ -189,7 +190,7 @@ module _ (words : List (List ℕ)) {held : Option (List File)} {failed : Type 0}
     ]
 
   -- a poll that ends with an answer of this kind
-  polled-of : (files : List File) (kind : AnswerKind) → IsKind kind → AsksForPoll words →
+  polled-of : (files : List File) (kind : AnswerKind) → IsKind kind → Asks Poll words →
       (text : List ℕ) × ComesTo (AsHeld files) (asked words) (Answered kind text) × Took out text →
       (of : IsPollOf words files) × Took out (told_of of) × (kind ≡ confirmed_kind (is_confirmed_by of))
   polled-of files kind of asks (text, comes, took) =
@@ -216,7 +217,7 @@ module _ (words : List (List ℕ)) {held : Option (List File)} {failed : Type 0}
 
   pub opened_plurality_clause : IsPluralityOpened held words status out
   opened_plurality_clause = if_some held (λ files. status ≡ 0 → (text : List ℕ) × ComesTo (AsHeld files) (asked words) (Answered Done text) × Took out text)
-      (λ files. AsksForPlurality words → status ≡ 0 → (session : SessionContent) × OpensPlurality words files session × Took out (session_text session))
+      (λ files. Asks OpenPlurality words → status ≡ 0 → (session : SessionContent) × OpensPlurality words files session × Took out (session_text session))
       (λ files answer asks zero.
       let (text, comes, took) = answer zero in
       let (session, opens, shown) = plural_is_opened words files asks text comes in
@@ -224,7 +225,7 @@ module _ (words : List (List ℕ)) {held : Option (List File)} {failed : Type 0}
       (answered_with story Done)
 
   -- a round that ends with an answer of this kind, and its session
-  plural-of : (files : List File) (kind : AnswerKind) → IsKind kind → AsksForPluralRound words →
+  plural-of : (files : List File) (kind : AnswerKind) → IsKind kind → Asks AuditPlurality words →
       (text : List ℕ) × ComesTo (AsHeld files) (asked words) (Answered kind text) × Took out text →
       (next : SessionContent) × (on : PluralGoesOn words files next) × Took out (session_text next) × (kind ≡ kind_of next.session)
   plural-of files kind of asks (text, comes, took) =
@@ -260,7 +261,7 @@ module _ (words : List (List ℕ)) {held : Option (List File)} {failed : Type 0}
   -- ---- all contests of a file
 
   -- an audit of them that ends with an answer of this kind
-  contests-of : (files : List File) (kind : AnswerKind) → AsksForContests words →
+  contests-of : (files : List File) (kind : AnswerKind) → Asks Contests words →
       (text : List ℕ) × ComesTo (AsHeld files) (asked words) (Answered kind text) × Took out text →
       (audit : AuditsContests words files) × Took out (blocks_of audit) × (kind ≡ confirmed_kind (all_signed audit.ends))
   contests-of files kind asks (text, comes, took) =
@@ -288,7 +289,7 @@ module _ (words : List (List ℕ)) {held : Option (List File)} {failed : Type 0}
   causes : of_contests (command_of words) ≡ false → Statuses (asked words) held failed before after status out err
   causes one = statuses_clause story (agrees_by (command_of words) one)
 
-  contests_causes : AsksForContests words → ContestsStatuses (asked words) held failed before after status out err
+  contests_causes : Asks Contests words → ContestsStatuses (asked words) held failed before after status out err
   contests_causes asks =
       contests_clause story (subst (λ command. AgreeOn SameButContests (asked_by command)) (sym asks.asked) (contests_agree asks.task))
 
@@ -380,7 +381,7 @@ module _ (words : List (List ℕ)) {held : Option (List File)} {failed : Type 0}
         (IsOfOne → IfSome h (λ files. status ≡ 4 → HasAnswer (asked words) files Spent)) → IsTabulationComplete h words failed status out err
     by None done spent = tt
     by (Some files) done spent = λ ok quiet.
-        let one : IsOfOne = ap of_contests ok.asked in
+        let one : IsOfOne = ap of_contests ok.asks.asked in
         settled files (never_stopped words files ok) quiet (spent one) ((done one).1 (has_rounds words files ok))
 
   -- ---- a trial that can't be spent

@@ -16,8 +16,10 @@ use Rattle.command.specs.declared.contests.ContestsTask.{ContestsTask}
 use Rattle.input_files.specs.Refusals.{refused_ballots, refused_manifest, refused_seen}
 use Rattle.contests_command.specs.Contests.{Audits, IsTold, after_ballots, after_manifest}
 use Rattle.contests_command.specs.Table.{all_signed, contests_table}
+use Rattle.command_line.specs.declared.commands.Command.TheVariants.{Contests}
+use Rattle.raire_cli.specs.Asks.{Asks}
 use Rattle.raire_cli.specs.Answers.{asked, asked_by}
-use Rattle.raire_cli.specs.Contests.{AsksForContests, AuditsContests, blocks_of}
+use Rattle.raire_cli.specs.Contests.{AuditsContests, blocks_of}
 use Rattle.raire_cli.proofs.Said.{said}
 
 -- an answer tells how each contest ends
@@ -28,7 +30,7 @@ told_of task list batches seen kind text (inl unplaced) = let e = unplaced.refus
 told_of task list batches seen kind text (inr (inl unseen)) = let e = unseen.refused in absurd (cc e)
 told_of task list batches seen kind text (inr (inr is)) = let e = is.told in (is, cc e, cc e)
 
-module _ (words : List (List ℕ)) (files : List File) (asks : AsksForContests words) (kind : AnswerKind) (text : List ℕ) where
+module _ (words : List (List ℕ)) (files : List File) (asks : Asks Contests words) (kind : AnswerKind) (text : List ℕ) where
   pub audited_by : ComesTo (AsHeld files) (asked words) (Answered kind text) →
       (audit : AuditsContests words files) × (text ≡ blocks_of audit) × (kind ≡ confirmed_kind (all_signed audit.ends))
   audited_by comes =
@@ -42,8 +44,8 @@ module _ (words : List (List ℕ)) (files : List File) (asks : AsksForContests w
       let (is, kind-is, text-is) = told_of task b.value m.value s.value kind text s.rest in (
         record {
           asks = asks;
-          bytes = record { ballots = b.bytes; manifest = m.bytes; seen = s.bytes };
-          held = record { ballots = b.held; manifest = m.held; seen = s.held };
+          bytes = record { cards = record { ballots = b.bytes; manifest = m.bytes }; seen = s.bytes };
+          held = record { cards = record { held_ballots = b.held; held_manifest = m.held }; seen = s.held };
           inputs = record { list = b.value; batches = m.value; seen = s.value };
           say = record { ballots = b.is; manifest = m.is; seen = s.is };
           placed = is.placed;

@@ -18,8 +18,10 @@ use Rattle.command.specs.declared.contests.ContestsTask.{ContestsTask}
 use Rattle.contests_command.specs.Contests.{Audits, after_ballots, after_manifest, script}
 use Rattle.input_files.specs.Judged.{told, go_on}
 use Rattle.input_files.specs.Refusals.{no_card, no_record_text, refused_ballots, refused_manifest, refused_seen}
+use Rattle.command_line.specs.declared.commands.Command.TheVariants.{Contests}
+use Rattle.raire_cli.specs.Asks.{Asks}
 use Rattle.raire_cli.specs.Answers.{asked, asked_by}
-use Rattle.raire_cli.specs.Contests.{AsksForContests, IsRefusedAnyway}
+use Rattle.raire_cli.specs.Contests.{IsRefusedAnyway}
 use Rattle.raire_cli.proofs.Said.{none_is_some}
 
 module _ (files : List File) where
@@ -77,7 +79,7 @@ module _ (files : List File) where
           same ∙ ap outcome (audit_alone list batches seen v is ends)))))))
 
 pub refused_anyway : (words : List (List ℕ)) {held : Option (List File)} {failed : Type 0} {status : ℕ} {out err : Writing} →
-    IsAnswered (asked words) held failed status out err → AsksForContests words →
+    IsAnswered (asked words) held failed status out err → Asks Contests words →
     IfSome held (λ files. IsRefusedAnyway words files → (status ≡ 2) ⊎ IsUndone status)
 refused_anyway words {held} {failed} {status} {out} {err} answered asks = by held answered where
   by : (h : Option (List File)) → IsAnswered (asked words) h failed status out err →

@@ -24,7 +24,8 @@ use Rattle.cli_base.specs.declared.outcome.AnswerKind.TheVariants.{Tie as TieKin
 use Rattle.input_files.specs.Judged.{told, go_on}
 use Rattle.report.specs.Ends.{tie_text}
 use Rattle.plurality_commands.specs.Outcome.{if_won, outcome_in, tied}
-use Rattle.raire_cli.specs.Pluralities.{RoundInputs, claims, recorded}
+use Rattle.raire_cli.specs.Pluralities.{Counted, claims, recorded}
+use Rattle.raire_cli.specs.RoundFiles.{RoundInputs}
 use Rattle.raire_cli.proofs.Audited.{IsKind}
 use Rattle.raire_cli.proofs.NextRounds.{Fitting}
 
@@ -45,18 +46,18 @@ tied_in bytes contest ballots tie read is =
     let fewest = (ballots_fit bytes contest ballots read).fewest in
     (tie_law (length ballots.candidates) ballots.rankings tie (omega (arith, fewest))).0 is
 
-module _ (inputs : RoundInputs) (bytes : List ℕ) (read : session_of bytes ≡ Some inputs.session)
-    (counted : outcome_in inputs.counted.ballots ≡ Ok inputs.counted.outcome)
-    (facts : HasFacts inputs.session (length (cards_of inputs.counted.batches)) inputs.counted.ballots.contest inputs.counted.outcome.margins) where
+module _ (inputs : RoundInputs Counted) (bytes : List ℕ) (read : session_of bytes ≡ Some inputs.session)
+    (counted : outcome_in inputs.basis.ballots ≡ Ok inputs.basis.outcome)
+    (facts : HasFacts inputs.session (length (cards_of inputs.basis.batches)) inputs.basis.ballots.contest inputs.basis.outcome.margins) where
   -- the session fits the claims of the outcome and what is recorded of the cards
-  pub plural_fitting : Fitting inputs.session (recorded inputs) (values_of inputs.counted.outcome) (claims inputs)
+  pub plural_fitting : Fitting inputs.session (recorded inputs) (values_of inputs.basis.outcome) (claims inputs)
   plural_fitting =
-      let outcome = inputs.counted.outcome in
-      let n = length inputs.counted.ballots.candidates in
+      let outcome = inputs.basis.outcome in
+      let n = length inputs.basis.ballots.candidates in
       record {
         sound = (read_is_sound bytes inputs.session read).0;
-        same_cards = facts.cards_are ∙ sym (length-map (cards_of inputs.counted.batches) (recorded_of inputs.counted.ballots));
-        each = ap length facts.margins_are ∙ margin_each n inputs.counted.ballots.rankings outcome counted
+        same_cards = facts.cards_are ∙ sym (length-map (cards_of inputs.basis.batches) (recorded_of inputs.basis.ballots));
+        each = ap length facts.margins_are ∙ margin_each n inputs.basis.ballots.rankings outcome counted
             ∙ sym (length-map outcome.losers (lead outcome.winner));
         assorters = each-assorter outcome;
         same_claims = ap (audited_by (values_of outcome)) facts.margins_are;

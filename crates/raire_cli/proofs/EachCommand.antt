@@ -43,8 +43,8 @@ use Rattle.plurality_commands.proofs.Opens as plurality_opens
 use Rattle.plurality_commands.proofs.Audits as plurality_audits
 use Rattle.contests_command.proofs.Audits as contest_audits
 use Rattle.command.specs.declared.contests.ContestsTask.{ContestsTask}
+use Rattle.raire_cli.specs.Asks.{Asks}
 use Rattle.raire_cli.specs.Answers.{script_of, asked_by, has_nodes, is_of_contests, is_open, of_contests}
-use Rattle.raire_cli.specs.Confirmation.{AsksForSearch}
 use Rattle.raire_cli.proofs.EitherBudget.{search_agrees, trial_agrees}
 
 -- how far the ends of a script agree
@@ -149,7 +149,7 @@ tells_no_tie readings text command none comes = never readings Tie text command 
 
 -- A full count is called for by a search alone.
 pub counts_in_full : (words : List (List ℕ)) (readings : Readings) (text : List ℕ) (command : Option Command) → command_of words ≡ command →
-    ComesTo readings (asked_by command) (Answered FullCount text) → AsksForSearch words
+    ComesTo readings (asked_by command) (Answered FullCount text) → Asks Search words
 counts_in_full words readings text None is comes = absurd comes
 counts_in_full words readings text (Some (Search task)) is comes = record { task = task; asked = is }
 counts_in_full words readings text (Some command) is comes = absurd (never readings FullCount text command refl comes)

@@ -1,5 +1,5 @@
 -- A command that judges an assertion file isn't spent where its budget is enough.
-use Rattle.std.proofs.Common.{◌≡◌, ℕ, ◌≤◌, ◌-◌, ◌*◌, List, Bool, true, false, Option, None, Some, Result, Ok, Err, MatchBool, map, refl, sym, ap, subst, arith}
+use Rattle.std.proofs.Common.{◌≡◌, ℕ, ◌≤◌, ◌-◌, ◌*◌, List, length, Bool, true, false, Option, None, Some, Result, Ok, Err, MatchBool, map, refl, sym, ap, subst, arith}
 use Rattle.std.specs.Prelude.{option_map, unwrap_or}
 use Rattle.std.specs.Option.{option_or}
 use Rattle.sha2.specs.Sha256.{sha256}
@@ -9,17 +9,18 @@ use Rattle.budget.specs.declared.budget.Budget.{Budget}
 use Rattle.budget.specs.declared.budget.Budget.TheVariants.{Nodes}
 use Rattle.ballot_reader.specs.Ballots.{BallotFile}
 use Rattle.ballot_reader.specs.Grammar.{ballots_of}
-use Rattle.manifest.specs.Cards.{Batches}
+use Rattle.manifest.specs.Cards.{Batches, cards_of}
 use Rattle.manifest.specs.Linked.{linked_of}
 use Rattle.manifest.specs.Manifest.{manifest_of}
 use Rattle.sampler.specs.Draws.{drawn_card}
 use Rattle.seen_file.specs.Reading.{seen_of}
 use Rattle.seen_file.specs.Seen.{Entry}
-use Rattle.assertion_file.specs.Content.{Content as FileContent, IsSound, candidate_count}
+use Rattle.assertion_file.specs.Content.{Content as FileContent, IsSound, candidate_count, margins_of}
 use Rattle.assertion_file.specs.Reading.{assertion_file_of}
 use Rattle.assertion_file.proofs.SoundFiles.{read_is_sound}
 use Rattle.session_state.specs.Claims.{values_of}
 use Rattle.session_state.specs.Content.{Content}
+use Rattle.session_state.specs.Inputs.{has_facts}
 use Rattle.session_state.specs.Sessions.{is_signed_off}
 use Rattle.audit_session.specs.Refusals.{unseen_draw}
 use Rattle.session_state.specs.declared.digests.Digests.{Digests}
@@ -63,11 +64,12 @@ use Rattle.session_commands.specs.Accepted.{if_accepted, is_accepted, on_if}
 use Rattle.session_commands.specs.Audit as audit
 use Rattle.session_commands.specs.Open as opening
 use Rattle.session_rounds.specs.Rounds.{same_ballots, same_manifest, session_to_go_on, verdict_of}
-use Rattle.session_commands.proofs.Audits.{assertions-only, same_facts-only}
+use Rattle.session_commands.proofs.Audits.{assertions-only}
 use Rattle.session_rounds.proofs.OneRound.{ballots-only, manifest-only, next-only, session-only}
 use Rattle.raire_cli.specs.Answers.{asked, asked_by, script_of}
 use Rattle.raire_cli.specs.Enough.{AreEnough, Judging, judging_of}
 use Rattle.raire_cli.proofs.Said.{held_whole, value_of, told_ok, unless_ok}
+use Rattle.raire_cli.proofs.Unrefused.{round_on}
 
 -- ---- a check
 
@@ -139,12 +141,11 @@ module _ (files : List File) (text : List ℕ) where
 
   pub facts-never : (task : AuditTask) (session : Content) (ballots : BallotFile) (batches : Batches) (file : FileContent) →
       Never (audit.after_check task session ballots batches file)
-  facts-never task session ballots batches file =
-      after_value (audit.same_facts task session batches file) _ (same_facts-only task session batches file) (λ same is (v, at_v, from_v).
-      after_value (told (refused_seen task.seen) (seen_of batches file.candidates v)) _
-      (told-only (refused_seen task.seen) (seen_of batches file.candidates v) (λ why. tt)) (λ entries is_v ends.
-      next-never _ (next-only task.session task.seen task.draws same (values_of file) (record { recorded = linked_of batches ballots; entries = entries }))
-      ends) from_v)
+  facts-never task session ballots batches file comes =
+      let (agrees, seen) = round_on files task.session task.seen task.draws (has_facts session (length (cards_of batches)) file.contest (margins_of file)) session
+      (values_of file) batches (linked_of batches ballots) file.candidates Spent text comes in
+      next-never _ (next-only task.session task.seen task.draws session (values_of file) (record { recorded = linked_of batches ballots; entries = seen.value }))
+      seen.rest
 
 module _ (files : List File) (judging : Judging) (enough : AreEnough files judging) (text : List ℕ) where
   -- the budget of a command that judges the assertion file is enough for what that says

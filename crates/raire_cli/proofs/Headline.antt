@@ -15,12 +15,14 @@ use Rattle.contest_search.specs.Contest.{candidate_count}
 use Rattle.contest_search.proofs.ReadBallots.{ballots_fit}
 use Rattle.search_commands.specs.Search.{HasCertificate, HasFullCount, Searches, full_count_lines, has_cards, printed}
 use Rattle.search_commands.proofs.Searches.{done_is, found_by, full_count_is}
+use Rattle.command_line.specs.declared.commands.Command.TheVariants.{Search}
+use Rattle.raire_cli.specs.Asks.{Asks}
 use Rattle.raire_cli.specs.Answers.{asked, asked_by}
-use Rattle.raire_cli.specs.Confirmation.{AsksForSearch, ConfirmsAsked, GivesReason}
+use Rattle.raire_cli.specs.Confirmation.{ConfirmsAsked, GivesReason}
 use Rattle.raire_cli.proofs.Confirmed.{certificate-confirms, confirms-least}
 use Rattle.raire_cli.proofs.Said.{IsSaid, said}
 
-module _ (words : List (List ℕ)) (files : List File) (asks : AsksForSearch words) where
+module _ (words : List (List ℕ)) (files : List File) (asks : Asks Search words) where
   -- how a search goes on with its ballots
   abbrev pub searching : List ℕ → BallotFile → Script
   searching bytes ballots = Ends (Searches asks.task ballots)

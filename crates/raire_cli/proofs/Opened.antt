@@ -25,9 +25,11 @@ use Rattle.input_files.proofs.Going.{cards-only}
 use Rattle.session_commands.specs.Accepted.{is_accepted}
 use Rattle.session_commands.specs.Open.{Opens as EndsSo, all_digests, after_ballots, after_manifest, opened}
 use Rattle.session_commands.proofs.Acceptance.{decided}
+use Rattle.command_line.specs.declared.commands.Command.TheVariants.{Open}
+use Rattle.raire_cli.specs.Asks.{Asks}
 use Rattle.raire_cli.specs.Answers.{asked, asked_by}
 use Rattle.raire_cli.specs.Basis.{AreHeld, Basis, FileBytes, digests_of}
-use Rattle.raire_cli.specs.Openings.{AsksForOpening, Opens, names_of}
+use Rattle.raire_cli.specs.Openings.{Opens, names_of}
 use Rattle.raire_cli.proofs.Audited.{not_checked}
 use Rattle.raire_cli.proofs.Said.{held_whole, said, said_cards, value_of}
 
@@ -42,7 +44,7 @@ said_opened task ballots batches file digests text ends = by (is_accepted task.b
   by true accepted is = (accepted, is)
   by false out checks = absurd (not_checked task.budget ballots file Done text (inl refl) out checks)
 
-module _ (words : List (List ℕ)) (files : List File) (asks : AsksForOpening words) (text : List ℕ) where
+module _ (words : List (List ℕ)) (files : List File) (asks : Asks Open words) (text : List ℕ) where
   -- the words open a session, and this tells it
   abbrev IsOpen : Type 0
   IsOpen = (session : Content) × Opens words files session × (text ≡ session_text session)

@@ -1,5 +1,5 @@
 -- Status 0 and 10 of a round of a plurality contest come with the session that its files make, and status 3 with the tie.
-use Rattle.std.proofs.Common.{◌≡◌, inr, ℕ, ◌<◌, ◌≤◌, List, [], length, Bool, true, false, Some, Result, Ok, Err, sym, subst}
+use Rattle.std.proofs.Common.{◌≡◌, inr, ℕ, ◌<◌, ◌≤◌, List, [], length, Bool, true, false, Some, Result, Ok, Err, subst}
 use Rattle.sha2.specs.Sha256.{sha256}
 use Rattle.desk.specs.Desk.{File, held_bytes}
 use Rattle.ballot_reader.specs.Ballots.{BallotFile}
@@ -17,27 +17,28 @@ use Rattle.audit_session.specs.Refusals.{last_draws}
 use Rattle.plurality.specs.Plural.{Outcome, values_of}
 use Rattle.cli_base.specs.Confirmed.{confirmed_kind}
 use Rattle.cli_base.specs.Outcome.{Verdict, Answered, Refused}
-use Rattle.cli_base.specs.Script.{Readings, AsHeld, Bytes, Concludes, ComesTo, Ends, limit}
+use Rattle.cli_base.specs.Script.{Readings, AsHeld, Bytes, Concludes, ComesTo, limit}
 use Rattle.cli_base.specs.declared.outcome.AnswerKind.{AnswerKind}
 use Rattle.cli_base.specs.declared.outcome.AnswerKind.TheVariants.{Tie as TieKind}
 use Rattle.command.specs.declared.audit_plurality.AuditPluralityTask.{AuditPluralityTask}
-use Rattle.input_files.specs.Judged.{told}
-use Rattle.input_files.specs.Refusals.{refused_seen}
-use Rattle.input_files.proofs.Going.{OnlyRefuses, told-only}
-use Rattle.session_rounds.specs.Refusals.{other_digest, without_facts}
-use Rattle.session_rounds.specs.Rounds.{Compared, GoesOn as GoesTo, kind_of, next_session, same_ballots, same_manifest, session_to_go_on, verdict_of}
+use Rattle.input_files.proofs.Going.{OnlyRefuses}
+use Rattle.session_rounds.specs.Refusals.{other_digest}
+use Rattle.session_rounds.specs.Rounds.{Compared, kind_of, next_session, same_ballots, same_manifest, session_to_go_on, verdict_of}
 use Rattle.session_rounds.proofs.OneRound.{ballots-only, manifest-only, next-only}
-use Rattle.plurality_commands.specs.AuditPlurality.{after_ballots, after_count, after_facts, after_manifest, after_session, plural_session, same_facts}
+use Rattle.plurality_commands.specs.AuditPlurality.{after_ballots, after_count, after_manifest, after_session, plural_session}
 use Rattle.plurality_commands.specs.Outcome.{outcome_in}
-use Rattle.plurality_commands.proofs.Audits.{plural-only, same_facts-only}
+use Rattle.plurality_commands.proofs.Audits.{plural-only}
+use Rattle.command_line.specs.declared.commands.Command.TheVariants.{AuditPlurality}
+use Rattle.raire_cli.specs.Asks.{Asks}
 use Rattle.raire_cli.specs.Answers.{asked, asked_by}
-use Rattle.raire_cli.specs.Pluralities.{AsksForPluralRound, PluralGoesOn, RoundInputs, claims, recorded}
+use Rattle.raire_cli.specs.Pluralities.{Counted, PluralGoesOn, claims, recorded}
+use Rattle.raire_cli.specs.RoundFiles.{RoundInputs}
 use Rattle.raire_cli.specs.PluralityTies.{TellsPluralityTie}
 use Rattle.raire_cli.proofs.Audited.{IsKind}
 use Rattle.raire_cli.proofs.Counting.{plural_fitting, tied_in, tied_on, wins_of, won_on}
 use Rattle.raire_cli.proofs.NextRounds.{next_of, next_round, said_ballots, said_manifest, said_session}
-use Rattle.raire_cli.proofs.Said.{held_whole, short_of, then_ok, told_ok, unless_ok, value_of}
-use Rattle.raire_cli.proofs.Unrefused.{facts_kept, same_digest}
+use Rattle.raire_cli.proofs.Said.{held_whole, short_of, then_ok, unless_ok, value_of}
+use Rattle.raire_cli.proofs.Unrefused.{round_on, same_digest}
 
 -- ---- what the files say
 
@@ -54,19 +55,9 @@ module _ (task : AuditPluralityTask) where
         subst (λ (content : Content). content.digests.assertions ≡ sha256 []) same (same_digest task.session read.digests.assertions [] digest),
       )
 
-  said_facts : (session same : Content) (ballots : BallotFile) (batches : Batches) (outcome : Outcome) →
-      same_facts task session ballots batches outcome ≡ Ok same →
-      HasFacts session (length (cards_of batches)) ballots.contest outcome.margins × (session ≡ same)
-  said_facts session same ballots batches outcome is =
-      let (none, ok) = unless_ok (without_facts task.session session (length (cards_of batches)) ballots.contest outcome.margins) _ same is in (
-        facts_are session (length (cards_of batches)) ballots.contest outcome.margins
-            (facts_kept task.session (has_facts session (length (cards_of batches)) ballots.contest outcome.margins) none),
-        cc ok,
-      )
-
 -- ---- the files, one after the other
 
-module _ (words : List (List ℕ)) (files : List File) (asks : AsksForPluralRound words) (kind : AnswerKind) (text : List ℕ) where
+module _ (words : List (List ℕ)) (files : List File) (asks : Asks AuditPlurality words) (kind : AnswerKind) (text : List ℕ) where
   abbrev readings : Readings
   readings = AsHeld files
 
@@ -139,24 +130,24 @@ module _ (words : List (List ℕ)) (files : List File) (asks : AsksForPluralRoun
     abbrev Gone : Type 0
     Gone = (next : Content) × PluralGoesOn words files next × (text ≡ session_text next) × (kind ≡ kind_of next.session)
 
-    abbrev compared_of : RoundInputs → Compared
+    abbrev compared_of : RoundInputs Counted → Compared
     compared_of inputs = record { recorded = recorded inputs; entries = inputs.entries }
 
-    abbrev round_of : RoundInputs → Result Content Verdict
-    round_of inputs = next_session task.session task.seen task.draws inputs.session (values_of inputs.counted.outcome) (compared_of inputs)
+    abbrev round_of : RoundInputs Counted → Result Content Verdict
+    round_of inputs = next_session task.session task.seen task.draws inputs.session (values_of inputs.basis.outcome) (compared_of inputs)
 
     gone : (read : Read) (outcome : Outcome) → outcome_in read.ballots ≡ Ok outcome →
         HasFacts read.session (length (cards_of read.batches)) read.ballots.contest outcome.margins → (v : List ℕ) →
         held_bytes task.seen files ≡ Some v → (entries : List Entry) → seen_of read.batches read.ballots.candidates v ≡ Ok entries →
         verdict ≡ verdict_of (round_of (record {
           session = read.session;
-          counted = record { ballots = read.ballots; batches = read.batches; outcome = outcome };
+          basis = record { ballots = read.ballots; batches = read.batches; outcome = outcome };
           entries = entries;
         })) → Gone
     gone read outcome won facts v held_v entries is_v ends =
-        let inputs : RoundInputs = record {
+        let inputs : RoundInputs Counted = record {
           session = read.session;
-          counted = record { ballots = read.ballots; batches = read.batches; outcome = outcome };
+          basis = record { ballots = read.ballots; batches = read.batches; outcome = outcome };
           entries = entries;
         } in
         let (says, more, digest_a) = said_plural task read.s read.session read.is_s in
@@ -167,16 +158,16 @@ module _ (words : List (List ℕ)) (files : List File) (asks : AsksForPluralRoun
           next,
           record {
             asks = asks;
-            bytes = record { session = read.s; cards = record { ballots = read.b; manifest = read.m }; seen = v };
-            held = record { session = read.held_s; cards = record { held_ballots = read.held_b; held_manifest = read.held_m }; seen = held_v };
+            bytes = record { session = read.s; basis = record { ballots = read.b; manifest = read.m }; seen = v };
+            held = record { session = read.held_s; basis = record { held_ballots = read.held_b; held_manifest = read.held_m }; seen = held_v };
             inputs = inputs;
             say = record {
               session = says;
-              counted =
+              basis =
                   record { ballots = ballots; manifest = manifest; placed = placed; wins = wins_of read.ballots outcome won; outcome = won };
               seen = is_v;
             };
-            of_files = record { digests = λ i. record { ballots = digest_b i; manifest = digest_m i; assertions = digest_a i }; facts = facts };
+            of_files = record { digests_are = record { ballots = digest_b; manifest = digest_m; assertions = digest_a }; facts = facts };
             is_next = next_round inputs.session (recorded inputs) inputs.entries (values_of outcome) (claims inputs)
                 (plural_fitting inputs read.s says won facts) task.session task.seen task.draws next more ok;
           },
@@ -184,26 +175,14 @@ module _ (words : List (List ℕ)) (files : List File) (asks : AsksForPluralRoun
           kind-is,
         )
 
-    from_facts : (read : Read) (outcome : Outcome) → outcome_in read.ballots ≡ Ok outcome →
-        HasFacts read.session (length (cards_of read.batches)) read.ballots.contest outcome.margins →
-        Concludes readings (after_facts task read.session read.ballots read.batches outcome) verdict → Gone
-    from_facts read outcome won facts (v, there, rest) =
-        let (entries, is, ends) = value_of readings (told (refused_seen task.seen) (seen_of read.batches read.ballots.candidates v))
-        (λ entries. Ends (GoesTo task.session task.seen task.draws read.session (values_of outcome)
-        (record { recorded = linked_of read.batches read.ballots; entries = entries }))) kind text
-        (told-only (refused_seen task.seen) (seen_of read.batches read.ballots.candidates v) (λ why. tt)) rest in
-        gone read outcome won facts v (whole task.seen v there) entries
-        (told_ok (refused_seen task.seen) (seen_of read.batches read.ballots.candidates v) entries is) ends
-
     from_count : (read : Read) (outcome : Outcome) → outcome_in read.ballots ≡ Ok outcome →
         Concludes readings (after_count task read.session read.ballots read.batches outcome) verdict → Gone
     from_count read outcome won comes =
-        let (same, is, on) = value_of readings (same_facts task read.session read.ballots read.batches outcome)
-        (λ same. after_facts task same read.ballots read.batches outcome) kind text
-        (same_facts-only task read.session read.ballots read.batches outcome) comes in
-        let (facts, same-is) = said_facts task read.session same read.ballots read.batches outcome is in
-        from_facts read outcome won facts
-        (subst (λ content. Concludes readings (after_facts task content read.ballots read.batches outcome) verdict) (sym same-is) on)
+        let (agrees, seen) = round_on files task.session task.seen task.draws
+        (has_facts read.session (length (cards_of read.batches)) read.ballots.contest outcome.margins) read.session (values_of outcome) read.batches
+        (linked_of read.batches read.ballots) read.ballots.candidates kind text comes in
+        gone read outcome won (facts_are read.session (length (cards_of read.batches)) read.ballots.contest outcome.margins agrees) seen.bytes seen.held
+        seen.value seen.is seen.rest
 
     pub plural_goes_on : ComesTo (AsHeld files) (asked words) verdict → Gone
     plural_goes_on comes =
@@ -213,7 +192,7 @@ module _ (words : List (List ℕ)) (files : List File) (asks : AsksForPluralRoun
 
 -- ---- a tie
 
-module _ (words : List (List ℕ)) (files : List File) (asks : AsksForPluralRound words) (text : List ℕ) where
+module _ (words : List (List ℕ)) (files : List File) (asks : Asks AuditPlurality words) (text : List ℕ) where
   -- a round tells no tie
   session_tells_none : (signed : Bool) → TieKind ≡ confirmed_kind signed → ⊥
   session_tells_none true is = cc is
@@ -228,14 +207,11 @@ module _ (words : List (List ℕ)) (files : List File) (asks : AsksForPluralRoun
       Concludes (AsHeld files) (after_count asks.task session ballots batches outcome) (Answered TieKind text) → ⊥
   count_tells_none session ballots batches outcome comes =
       let task = asks.task in
-      let (same, is, (v, there, rest)) = value_of (AsHeld files) (same_facts task session ballots batches outcome)
-      (λ same. after_facts task same ballots batches outcome) TieKind text (same_facts-only task session ballots batches outcome) comes in
-      let compared : List Entry → Compared = λ entries. record { recorded = linked_of batches ballots; entries = entries } in
-      let (entries, is_v, ends) = value_of (AsHeld files) (told (refused_seen task.seen) (seen_of batches ballots.candidates v))
-      (λ entries. Ends (GoesTo task.session task.seen task.draws same (values_of outcome) (compared entries))) TieKind text
-      (told-only (refused_seen task.seen) (seen_of batches ballots.candidates v) (λ why. tt)) rest in
-      round_tells_none (next_session task.session task.seen task.draws same (values_of outcome) (compared entries))
-      (next-only task.session task.seen task.draws same (values_of outcome) (compared entries)) ends
+      let (agrees, seen) = round_on files task.session task.seen task.draws (has_facts session (length (cards_of batches)) ballots.contest outcome.margins) session
+      (values_of outcome) batches (linked_of batches ballots) ballots.candidates TieKind text comes in
+      let compared : Compared = record { recorded = linked_of batches ballots; entries = seen.value } in
+      round_tells_none (next_session task.session task.seen task.draws session (values_of outcome) compared)
+      (next-only task.session task.seen task.draws session (values_of outcome) compared) seen.rest
 
   pub round_tie : ComesTo (AsHeld files) (asked words) (Answered TieKind text) → TellsPluralityTie words files text
   round_tie comes =

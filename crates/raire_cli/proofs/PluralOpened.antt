@@ -20,8 +20,10 @@ use Rattle.input_files.proofs.Going.{cards-only}
 use Rattle.report.specs.Ends.{tie_text}
 use Rattle.plurality_commands.specs.OpenPlurality.{after_ballots, digests_of as digests_with, opened, opened_or_tied}
 use Rattle.plurality_commands.specs.Outcome.{outcome_in}
+use Rattle.command_line.specs.declared.commands.Command.TheVariants.{OpenPlurality}
+use Rattle.raire_cli.specs.Asks.{Asks}
 use Rattle.raire_cli.specs.Answers.{asked, asked_by}
-use Rattle.raire_cli.specs.Pluralities.{AsksForPlurality, OpensPlurality, digests_of}
+use Rattle.raire_cli.specs.Pluralities.{OpensPlurality, digests_of}
 use Rattle.raire_cli.specs.PluralityTies.{TellsPluralityTie}
 use Rattle.raire_cli.proofs.Counting.{tied_in, wins_of}
 use Rattle.raire_cli.proofs.Said.{held_whole, said, said_cards, value_of}
@@ -41,7 +43,7 @@ module _ (task : OpenPluralityTask) (ballots : BallotFile) (batches : Batches) (
 
 -- ---- the files, one after the other
 
-module _ (words : List (List ℕ)) (files : List File) (asks : AsksForPlurality words) (kind : AnswerKind) (text : List ℕ) where
+module _ (words : List (List ℕ)) (files : List File) (asks : Asks OpenPlurality words) (kind : AnswerKind) (text : List ℕ) where
   abbrev task : OpenPluralityTask
   task = asks.task
 
@@ -83,7 +85,7 @@ module _ (words : List (List ℕ)) (files : List File) (asks : AsksForPlurality 
       (subst (λ command. ComesTo (AsHeld files) (asked_by command) (Answered kind text)) asks.asked comes) in
       with_manifest is.bytes is.held is.is_short is.value is.is is.rest
 
-module _ (words : List (List ℕ)) (files : List File) (asks : AsksForPlurality words) (text : List ℕ) where
+module _ (words : List (List ℕ)) (files : List File) (asks : Asks OpenPlurality words) (text : List ℕ) where
   pub plural_is_opened : ComesTo (AsHeld files) (asked words) (Answered Done text) →
       (session : Content) × OpensPlurality words files session × (text ≡ session_text session)
   plural_is_opened comes =

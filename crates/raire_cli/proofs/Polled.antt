@@ -23,8 +23,10 @@ use Rattle.command.specs.declared.poll.PollTask.{PollTask}
 use Rattle.input_files.specs.Refusals.{no_record_text, refused_assertions, refused_manifest, refused_seen}
 use Rattle.poll_command.specs.Poll.{Polls, after_assertions, after_cover, after_manifest, answered, if_covered, is_yes, poll_text, spent, standing, uncovered, unless_ended}
 use Rattle.poll_command.proofs.Polled.{covering}
+use Rattle.command_line.specs.declared.commands.Command.TheVariants.{Poll}
+use Rattle.raire_cli.specs.Asks.{Asks}
 use Rattle.raire_cli.specs.Answers.{asked, asked_by}
-use Rattle.raire_cli.specs.Polls.{AsksForPoll, IsPollOf, PollInputs, cards, is_confirmed_by, told_of}
+use Rattle.raire_cli.specs.Polls.{IsPollOf, PollInputs, cards, is_confirmed_by, told_of}
 use Rattle.raire_cli.proofs.Audited.{IsKind}
 use Rattle.raire_cli.proofs.Said.{said}
 
@@ -68,7 +70,7 @@ module _ (task : PollTask) (batches : Batches) (file : Content) (entries : List 
 
 -- ---- the files, one after the other
 
-module _ (words : List (List ℕ)) (files : List File) (asks : AsksForPoll words) (kind : AnswerKind) (text : List ℕ) (of : IsKind kind) where
+module _ (words : List (List ℕ)) (files : List File) (asks : Asks Poll words) (kind : AnswerKind) (text : List ℕ) (of : IsKind kind) where
   pub polled_by : ComesTo (AsHeld files) (asked words) (Answered kind text) →
       (poll : IsPollOf words files) × (text ≡ told_of poll) × (kind ≡ confirmed_kind (is_confirmed_by poll))
   polled_by comes =

@@ -16,7 +16,7 @@ use Rattle.raire_cli.specs.Promises.{IsTabulable}
 use Rattle.raire_cli.proofs.Undecided.{comes_of, ends_there}
 
 module _ (words : List (List ℕ)) (files : List File) (ok : IsTabulable words files) where
-  not_stopped : (text : List ℕ) → HasStopped ok.task.nodes ok.ballots text → ⊥
+  not_stopped : (text : List ℕ) → HasStopped ok.asks.task.nodes ok.ballots text → ⊥
   not_stopped text stopped = by ok.budget where
     same : stopped.is.won.order ≡ ok.won.order
     same = same_tabulated ok.ballots stopped.is.winner ok.winner stopped.is.won ok.won
@@ -25,21 +25,21 @@ module _ (words : List (List ℕ)) (files : List File) (ok : IsTabulable words f
     work order = work_for (candidate_count ok.ballots) ok.ballots.rankings order stopped.last
 
     by : HasNoTie ok.ballots.rankings ok.won.order
-        ⊎ ((c : ℕ) → IsOther ok.ballots ok.winner c → work_for (candidate_count ok.ballots) ok.ballots.rankings ok.won.order c ≤ ok.task.nodes) → ⊥
+        ⊎ ((c : ℕ) → IsOther ok.ballots ok.winner c → work_for (candidate_count ok.ballots) ok.ballots.rankings ok.won.order c ≤ ok.asks.task.nodes) → ⊥
     by (inl free) = stopped.is.tied (subst (HasNoTie ok.ballots.rankings) (sym same) free)
     by (inr budget) =
         let one = winner-one ok.ballots stopped.is.winner ok.winner stopped.is.won ok.won in
-        let enough : work ok.won.order ≤ ok.task.nodes = budget stopped.last (subst (λ v. IsOther ok.ballots v stopped.last) one stopped.is.named) in
-        let above : ok.task.nodes < work stopped.is.won.order = stopped.is.cause.above in
+        let enough : work ok.won.order ≤ ok.asks.task.nodes = budget stopped.last (subst (λ v. IsOther ok.ballots v stopped.last) one stopped.is.named) in
+        let above : ok.asks.task.nodes < work stopped.is.won.order = stopped.is.cause.above in
         let alike : work stopped.is.won.order ≡ work ok.won.order = ap work same in
         omega (arith, enough, above, alike)
 
   pub never_stopped : HasAnswer (asked words) files Spent → ⊥
   never_stopped (text, comes) =
-      by (ends_there files ok.task.ballots ok.task.contest (Tabulates ok.task.nodes) ok.ballots ok.are Spent text
-      (subst (λ command. ComesTo (AsHeld files) (asked_by command) (Answered Spent text)) ok.asked comes))
+      by (ends_there files ok.asks.task.ballots ok.asks.task.contest (Tabulates ok.asks.task.nodes) ok.ballots ok.are Spent text
+      (subst (λ command. ComesTo (AsHeld files) (asked_by command) (Answered Spent text)) ok.asks.asked comes))
     where
-      by : Tabulates ok.task.nodes ok.ballots (Answered Spent text) → ⊥
+      by : Tabulates ok.asks.task.nodes ok.ballots (Answered Spent text) → ⊥
       by (inl (other, has, e)) = cc e
       by (inr (inl (other, has, e))) = cc e
       by (inr (inr (other, has, e))) = not_stopped other has
@@ -49,6 +49,6 @@ module _ (words : List (List ℕ)) (files : List File) (ok : IsTabulable words f
       let text = tabulation_text ok.ballots ok.won.order ok.winner in
       let has : HasRounds ok.ballots text = record { winner = ok.winner; won = ok.won; decided = ok.decided; shown = refl } in (
         text,
-        subst (λ command. ComesTo (AsHeld files) (asked_by command) (Answered Done text)) (sym ok.asked)
-            (comes_of files ok.task.ballots ok.task.contest (Tabulates ok.task.nodes) ok.ballots ok.are (Answered Done text) (inl (text, has, refl))),
+        subst (λ command. ComesTo (AsHeld files) (asked_by command) (Answered Done text)) (sym ok.asks.asked)
+            (comes_of files ok.asks.task.ballots ok.asks.task.contest (Tabulates ok.asks.task.nodes) ok.ballots ok.are (Answered Done text) (inl (text, has, refl))),
       )

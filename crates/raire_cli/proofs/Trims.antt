@@ -28,8 +28,10 @@ use Rattle.cli_base.specs.Script.{Script, Ends, AsHeld, ComesTo, limit}
 use Rattle.cli_base.specs.declared.outcome.AnswerKind.TheVariants.{Done}
 use Rattle.input_files.specs.Refusals.{refused_assertions, refused_ballots}
 use Rattle.trim_command.specs.Trim.{Trims, after_ballots, trim_verdict, verdict_on}
+use Rattle.command_line.specs.declared.commands.Command.TheVariants.{Trim}
+use Rattle.raire_cli.specs.Asks.{Asks}
 use Rattle.raire_cli.specs.Answers.{asked, asked_by}
-use Rattle.raire_cli.specs.Trims.{AsksForTrim, AreTrimFiles, IsTrimmedOf}
+use Rattle.raire_cli.specs.Trims.{AreTrimFiles, IsTrimmedOf}
 use Rattle.raire_cli.proofs.Accepted.{accepted_answer}
 use Rattle.raire_cli.proofs.Said.{said}
 
@@ -105,7 +107,7 @@ trimmed_reads_back bytes budget file left read is =
     (printed_reads_back (record file { claims = left.claims; plan = left.plan }) (part_sound file left.claims left.plan part sound planned)
     (part_names file left.claims left.plan names))
 
-module _ (words : List (List ℕ)) (files : List File) (asks : AsksForTrim words) (text : List ℕ) where
+module _ (words : List (List ℕ)) (files : List File) (asks : Asks Trim words) (text : List ℕ) where
   -- what a trim that answers has read, and what is left of it
   pub record Left : Type 0 where
     pub ballots : BallotFile

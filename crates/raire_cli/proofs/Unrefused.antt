@@ -5,9 +5,13 @@ use Rattle.std.specs.List.{range_with_len}
 use Rattle.std.proofs.lemmas.Bool.{cases_Bool}
 use Rattle.std.proofs.lemmas.Bool.Decides.{leb_tells}
 use Rattle.sha2.specs.Sha256.{sha256}
-use Rattle.irv_base.specs.Names.{is_same}
+use Rattle.desk.specs.Desk.{File}
+use Rattle.irv_base.specs.Names.{Id, is_same}
+use Rattle.manifest.specs.Cards.{Batches}
+use Rattle.manifest.specs.declared.recorded.Recorded.{Recorded}
 use Rattle.manifest.proofs.Numbers.{same-equal}
 use Rattle.km_risk.specs.declared.draws.Counts.{Counts}
+use Rattle.session_state.specs.Content.{Content}
 use Rattle.session_state.specs.Sessions.{Round}
 use Rattle.audit_session.specs.Going.{all_counts}
 use Rattle.audit_session.specs.Refusals.{changed_from, changed_in, first_of, last_draws, same_counts, without_record}
@@ -15,10 +19,15 @@ use Rattle.audit_session.specs.declared.compared.Drawn.{Drawn}
 use Rattle.audit_session.specs.declared.fault.AdvanceFault.{AdvanceFault}
 use Rattle.audit_session.specs.declared.fault.AdvanceFault.TheVariants.{NoRecord, Changed}
 use Rattle.sampler.specs.Draws.{drawn_card}
+use Rattle.seen_file.specs.Reading.{seen_of}
 use Rattle.seen_file.specs.Seen.{Entry}
-use Rattle.cli_base.specs.Outcome.{Refused}
-use Rattle.session_rounds.specs.Refusals.{had_text, other_digest, other_facts, differs_text, refused_by}
-use Rattle.session_rounds.specs.Rounds.{had_as_many}
+use Rattle.cli_base.specs.Outcome.{Answered, Refused}
+use Rattle.cli_base.specs.Script.{AsHeld, Concludes, Ends}
+use Rattle.cli_base.specs.declared.outcome.AnswerKind.{AnswerKind}
+use Rattle.input_files.specs.Refusals.{refused_seen}
+use Rattle.session_rounds.specs.Refusals.{had_text, other_digest, differs_text, refused_by}
+use Rattle.session_rounds.specs.Rounds.{GoesOn, had_as_many, one_round}
+use Rattle.raire_cli.proofs.Said.{IsSaid, said}
 
 pub same_digest : (name expected bytes : List ℕ) → other_digest name expected bytes ≡ None → expected ≡ sha256 bytes
 same_digest name expected bytes none = elim (cases_Bool (is_same expected (sha256 bytes))) [
@@ -70,6 +79,17 @@ unchanged session seen values drawn number (round ∷ rounds) =
     first-told session seen (changed_in number 1 round.counts (all_counts values (take round.draws drawn))) (changed_from values drawn (number + 1) rounds)
     (changed-told session seen number 1 round.counts (all_counts values (take round.draws drawn))) (unchanged session seen values drawn (number + 1) rounds)
 
-pub facts_kept : (name : List ℕ) (fits : Bool) → (if fits then None else Some (other_facts name)) ≡ None → fits ≡ true
-facts_kept name true none = refl
-facts_kept name false none = absurd (cc none)
+-- ---- a round that answers
+
+-- the session agrees with its inputs, and the seen file is held and says something
+pub round_on : (files : List File) (name seen : List ℕ) (draws : ℕ) (agree : Bool) (session : Content) (values : List (List ℕ → ℕ)) (batches : Batches)
+    (recorded : List Recorded) (candidates : List Id) (kind : AnswerKind) (text : List ℕ) →
+    Concludes (AsHeld files) (one_round name seen draws agree session values batches recorded candidates) (Answered kind text) →
+    (agree ≡ true) × IsSaid files seen (seen_of batches candidates)
+    (λ bytes entries. Ends (GoesOn name seen draws session values (record { recorded = recorded; entries = entries }))) kind text
+round_on files name seen draws true session values batches recorded candidates kind text comes = (
+  refl,
+  said files seen (refused_seen seen) (seen_of batches candidates)
+      (λ bytes entries. Ends (GoesOn name seen draws session values (record { recorded = recorded; entries = entries }))) kind text (λ why. tt) comes,
+)
+round_on files name seen draws false session values batches recorded candidates kind text comes = absurd (cc comes)

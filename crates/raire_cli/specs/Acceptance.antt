@@ -7,25 +7,19 @@ use Rattle.assertion_file.specs.Content.{Content}
 use Rattle.assertion_file.specs.Reading.{assertion_file_of}
 use Rattle.cover_checker.specs.Holds.{Holds}
 use Rattle.cli_base.specs.Ends.{Writing, Took}
-use Rattle.command_line.specs.Line.{command_of}
 use Rattle.command_line.specs.declared.commands.Command.TheVariants.{Check}
-use Rattle.command.specs.declared.check.CheckTask.{CheckTask}
 use Rattle.check_command.specs.Check.{yes_text}
-
--- the words ask for a check
-pub record AsksForCheck (words : List (List ℕ)) : Type 0 where
-  pub task : CheckTask
-  pub asked : command_of words ≡ Some (Check task)
+use Rattle.raire_cli.specs.Asks.{Asks}
 
 -- its ballot file is held, and says this of the contest
-pub record HasBallots {words : List (List ℕ)} (asked : AsksForCheck words) (files : List File)
+pub record HasBallots {words : List (List ℕ)} (asked : Asks Check words) (files : List File)
     (ballots : BallotFile) : Type 0 where
   pub bytes : List ℕ
   pub held : held_bytes asked.task.ballots files ≡ Some bytes
   pub accepted : ballots_of bytes asked.task.contest ≡ Ok ballots
 
 -- its assertion file is held, and says this
-pub record HasAssertions {words : List (List ℕ)} (asked : AsksForCheck words) (files : List File)
+pub record HasAssertions {words : List (List ℕ)} (asked : Asks Check words) (files : List File)
     (file : Content) : Type 0 where
   pub bytes : List ℕ
   pub held : held_bytes asked.task.assertions files ≡ Some bytes
@@ -33,7 +27,7 @@ pub record HasAssertions {words : List (List ℕ)} (asked : AsksForCheck words) 
 
 -- this is what the assertion file of the words says, and it holds of the ballots of the contest that was asked for
 pub record HoldsAsked (words : List (List ℕ)) (files : List File) (file : Content) : Type 0 where
-  pub asks : AsksForCheck words
+  pub asks : Asks Check words
   pub ballots : BallotFile
   pub of_ballots : HasBallots asks files ballots
   pub of_assertions : HasAssertions asks files file
@@ -43,5 +37,5 @@ pub record HoldsAsked (words : List (List ℕ)) (files : List File) (file : Cont
 
 -- Status 0 of a check: its assertion file holds of the ballots, and `out` has `yes`, the number of its assertions and its margin.
 abbrev pub IsUpheld : Option (List File) → List (List ℕ) → ℕ → Writing → Type 0
-IsUpheld held words status out = IfSome held (λ files. AsksForCheck words → status ≡ 0 →
+IsUpheld held words status out = IfSome held (λ files. Asks Check words → status ≡ 0 →
     (file : Content) × HoldsAsked words files file × Took out (yes_text file))

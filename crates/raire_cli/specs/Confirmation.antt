@@ -12,11 +12,10 @@ use Rattle.assertion_file.specs.Content.{Content}
 use Rattle.assertion_file.specs.Text.{assertion_file_text}
 use Rattle.report.specs.Texts.{order_text}
 use Rattle.cli_base.specs.Ends.{Writing, Took}
-use Rattle.command_line.specs.Line.{command_of}
 use Rattle.command_line.specs.declared.commands.Command.TheVariants.{Search}
-use Rattle.command.specs.declared.search.SearchTask.{SearchTask}
 use Rattle.contest_search.specs.Contest.{candidate_count, IsElected, IsWon}
 use Rattle.search_commands.specs.Search.{full_count_lines, has_cards, plan_by}
+use Rattle.raire_cli.specs.Asks.{Asks}
 
 -- an assertion among n candidates that is true of the records, by the margin that is claimed
 pub record ClaimHolds (n : ℕ) (records : List (List ℕ)) (claim : Claim) : Type 0 where
@@ -51,16 +50,11 @@ pub record Confirms (n : ℕ) (records : List (List ℕ)) (winner : ℕ) (file :
 
 -- ---- a search
 
--- the words ask for a search
-pub record AsksForSearch (words : List (List ℕ)) : Type 0 where
-  pub task : SearchTask
-  pub asked : command_of words ≡ Some (Search task)
-
 -- its file is held and accepted, each ballot of the contest has one of the cards that the words give, if they give a number, and the
 -- tabulated order elects this candidate
 pub record AsksFor (words : List (List ℕ)) (files : List File) (ballots : BallotFile)
     (winner : ℕ) : Type 0 where
-  pub search : AsksForSearch words
+  pub search : Asks Search words
   pub bytes : List ℕ
   pub held : held_bytes search.task.ballots files ≡ Some bytes
   pub accepted : ballots_of bytes search.task.contest ≡ Ok ballots
@@ -105,7 +99,7 @@ pub record GivesReason (words : List (List ℕ)) (files : List File) (text : Lis
 -- margin refutes the printed order. Where the words give a number of cards, the printed draws are those of a clean audit; else there are
 -- none.
 abbrev pub IsConfirmed : Option (List File) → List (List ℕ) → ℕ → Writing → Type 0
-IsConfirmed held words status out = IfSome held (λ files. AsksForSearch words → status ≡ 0 →
+IsConfirmed held words status out = IfSome held (λ files. Asks Search words → status ≡ 0 →
     (file : Content) × ConfirmsAsked words files file × Took out (assertion_file_text file))
 
 -- Status 5: each way of breaking ties elects the winner. An order that elects another candidate is printed, and no true

@@ -14,31 +14,25 @@ use Rattle.cli_base.specs.Ends.{Writing, Took}
 use Rattle.cli_base.specs.Outcome.{Refused}
 use Rattle.cli_base.specs.Script.{AsHeld, ComesTo}
 use Rattle.command.specs.declared.contests.ContestsTask.{ContestsTask}
-use Rattle.command_line.specs.Line.{command_of}
 use Rattle.command_line.specs.declared.commands.Command.TheVariants.{Contests}
 use Rattle.contests_command.specs.Contests.{SufficeFor, terms_of}
 use Rattle.contests_command.specs.Table.{all_signed, contests_table}
 use Rattle.input_files.specs.Refusals.{no_record_text}
+use Rattle.raire_cli.specs.Asks.{Asks}
+use Rattle.raire_cli.specs.CardFiles.{AreCardFiles, CardBytes}
 use Rattle.raire_cli.specs.Answers.{asked}
-
--- the words ask for an audit of all contests
-pub record AsksForContests (words : List (List ℕ)) : Type 0 where
-  pub task : ContestsTask
-  pub asked : command_of words ≡ Some (Contests task)
 
 -- ---- its files
 
 -- the bytes of its three files
 pub record ContestsBytes : Type 0 where
-  pub ballots : List ℕ
-  pub manifest : List ℕ
+  pub cards : CardBytes
   pub seen : List ℕ
 
 -- the files of the words are held, and have these bytes
 pub record AreContestsFiles (task : ContestsTask) (files : List File)
     (bytes : ContestsBytes) : Type 0 where
-  pub ballots : held_bytes task.ballots files ≡ Some bytes.ballots
-  pub manifest : held_bytes task.manifest files ≡ Some bytes.manifest
+  pub cards : AreCardFiles task.ballots task.manifest files bytes.cards
   pub seen : held_bytes task.seen files ≡ Some bytes.seen
 
 -- the ballots of each contest, the cards, and what is seen of some cards for each contest
@@ -49,8 +43,8 @@ pub record ContestsInputs : Type 0 where
 
 -- the bytes say so
 pub record SayContests (bytes : ContestsBytes) (inputs : ContestsInputs) : Type 0 where
-  pub ballots : contests_of bytes.ballots ≡ Ok inputs.list
-  pub manifest : manifest_of bytes.manifest ≡ Ok inputs.batches
+  pub ballots : contests_of bytes.cards.ballots ≡ Ok inputs.list
+  pub manifest : manifest_of bytes.cards.manifest ≡ Ok inputs.batches
   pub seen : seen_by inputs.batches inputs.list bytes.seen ≡ Ok inputs.seen
 
 -- ---- nodes that suffice
@@ -65,7 +59,7 @@ HaveNodes task files =
 
 -- the audit of the words
 pub record AuditsContests (words : List (List ℕ)) (files : List File) : Type 0 where
-  pub asks : AsksForContests words
+  pub asks : Asks Contests words
   pub bytes : ContestsBytes
   pub held : AreContestsFiles asks.task files bytes
   pub inputs : ContestsInputs
@@ -94,6 +88,6 @@ IsRefusedAnyway words files =
 -- Status 0 and 10 of an audit of all contests: `out` tells how each contest of the file ends. It is 0 exactly where each is signed off.
 abbrev pub IsAuditedByContest : Option (List File) → List (List ℕ) → ℕ → Writing → Type 0
 IsAuditedByContest held words status out =
-    IfSome held (λ files. AsksForContests words → (status ≡ 0) ⊎ (status ≡ 10) →
+    IfSome held (λ files. Asks Contests words → (status ≡ 0) ⊎ (status ≡ 10) →
     (audit : AuditsContests words files) × Took out (blocks_of audit)
     × ((status ≡ 0) ↔ IsTrue (all_signed audit.ends)))

@@ -1,10 +1,13 @@
 pub mod Answers
+pub mod Asks
 pub mod Confirmation
 pub mod Acceptance
 pub mod Trims
 pub mod Polls
 pub mod Basis
 pub mod NextRound
+pub mod CardFiles
+pub mod RoundFiles
 pub mod Audits
 pub mod Openings
 pub mod Enough

@@ -1,19 +1,14 @@
 -- What it means that the session of an audit is opened.
-use Rattle.std.specs.Prelude.{◌≡◌, ℕ, List, length, Option, Some, IfSome}
+use Rattle.std.specs.Prelude.{◌≡◌, ℕ, List, length, Option, IfSome}
 use Rattle.desk.specs.Desk.{File}
 use Rattle.manifest.specs.Cards.{cards_of}
 use Rattle.session_state.specs.Content.{Content, begun}
 use Rattle.session_file.specs.Text.{session_text}
 use Rattle.cli_base.specs.Ends.{Writing, Took}
 use Rattle.command.specs.declared.open.OpenTask.{OpenTask}
-use Rattle.command_line.specs.Line.{command_of}
 use Rattle.command_line.specs.declared.commands.Command.TheVariants.{Open}
+use Rattle.raire_cli.specs.Asks.{Asks}
 use Rattle.raire_cli.specs.Basis.{AreHeld, Basis, BelongTogether, FileBytes, FileNames, Say, digests_of}
-
--- the words ask that a session be opened
-pub record AsksForOpening (words : List (List ℕ)) : Type 0 where
-  pub task : OpenTask
-  pub asked : command_of words ≡ Some (Open task)
 
 -- the names of the files that it is to stand on
 abbrev pub names_of : OpenTask → FileNames
@@ -24,7 +19,7 @@ names_of task =
 
 -- the words open this session
 pub record Opens (words : List (List ℕ)) (files : List File) (session : Content) : Type 0 where
-  pub asks : AsksForOpening words
+  pub asks : Asks Open words
   pub bytes : FileBytes
   pub held : AreHeld (names_of asks.task) files bytes
   pub basis : Basis
@@ -39,5 +34,5 @@ pub record Opens (words : List (List ℕ)) (files : List File) (session : Conten
 
 -- Status 0 of `open`: `out` has the session that the words open.
 abbrev pub IsOpened : Option (List File) → List (List ℕ) → ℕ → Writing → Type 0
-IsOpened held words status out = IfSome held (λ files. AsksForOpening words → status ≡ 0 →
+IsOpened held words status out = IfSome held (λ files. Asks Open words → status ≡ 0 →
     (session : Content) × Opens words files session × Took out (session_text session))

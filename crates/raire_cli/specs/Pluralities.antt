@@ -1,7 +1,7 @@
 -- What it means that the session of an audit of a plurality contest is opened, and that it goes on.
-use Rattle.std.specs.Prelude.{◌≡◌, ◌⊎◌, ◌↔◌, ℕ, List, [], length, Option, None, Some, IfSome, Ok, IsTrue}
+use Rattle.std.specs.Prelude.{◌≡◌, ◌⊎◌, ◌↔◌, ℕ, List, [], length, Option, None, IfSome, Ok, IsTrue}
 use Rattle.sha2.specs.Sha256.{sha256}
-use Rattle.desk.specs.Desk.{File, held_bytes}
+use Rattle.desk.specs.Desk.{File}
 use Rattle.irv_base.specs.Names.{Id}
 use Rattle.ballot_reader.specs.Ballots.{BallotFile}
 use Rattle.ballot_reader.specs.Grammar.{ballots_of}
@@ -9,46 +9,22 @@ use Rattle.manifest.specs.Cards.{Batches, cards_of}
 use Rattle.manifest.specs.Linked.{first_without_card, linked_of}
 use Rattle.manifest.specs.Manifest.{manifest_of}
 use Rattle.manifest.specs.declared.recorded.Recorded.{Recorded}
-use Rattle.seen_file.specs.Reading.{seen_of}
-use Rattle.seen_file.specs.Seen.{Entry}
 use Rattle.session_state.specs.Content.{Content, begun_with}
 use Rattle.session_state.specs.Draws.{Audited}
-use Rattle.session_state.specs.Inputs.{HasFacts}
+use Rattle.session_state.specs.Inputs.{IsOf}
 use Rattle.session_state.specs.Sessions.{is_signed_off}
 use Rattle.session_state.specs.declared.digests.Digests.{Digests}
-use Rattle.session_file.specs.Reading.{session_of}
 use Rattle.session_file.specs.Text.{session_text}
 use Rattle.plurality.specs.Plural.{Outcome, claims_of, outcome_of}
 use Rattle.plurality.specs.Plurality.{WinsPlurality}
 use Rattle.cli_base.specs.Ends.{Writing, Took}
-use Rattle.command.specs.declared.audit_plurality.AuditPluralityTask.{AuditPluralityTask}
-use Rattle.command.specs.declared.open_plurality.OpenPluralityTask.{OpenPluralityTask}
-use Rattle.command_line.specs.Line.{command_of}
 use Rattle.command_line.specs.declared.commands.Command.TheVariants.{AuditPlurality, OpenPlurality}
+use Rattle.raire_cli.specs.Asks.{Asks}
+use Rattle.raire_cli.specs.CardFiles.{AreCardFiles, CardBytes}
 use Rattle.raire_cli.specs.NextRound.{IsNextRound, WereWithin}
-
--- the words ask that the session of an audit of a plurality contest be opened
-pub record AsksForPlurality (words : List (List ℕ)) : Type 0 where
-  pub task : OpenPluralityTask
-  pub asked : command_of words ≡ Some (OpenPlurality task)
-
--- the words ask for a round of such an audit
-pub record AsksForPluralRound (words : List (List ℕ)) : Type 0 where
-  pub task : AuditPluralityTask
-  pub asked : command_of words ≡ Some (AuditPlurality task)
+use Rattle.raire_cli.specs.RoundFiles.{AreRoundFiles, RoundBytes, RoundInputs, SayRound}
 
 -- ---- the contest and its cards
-
--- the bytes of a ballot file and of a manifest
-pub record CardBytes : Type 0 where
-  pub ballots : List ℕ
-  pub manifest : List ℕ
-
--- the files of these names are held, and have these bytes
-pub record AreCardFiles (ballots manifest : List ℕ) (files : List File)
-    (bytes : CardBytes) : Type 0 where
-  pub held_ballots : held_bytes ballots files ≡ Some bytes.ballots
-  pub held_manifest : held_bytes manifest files ≡ Some bytes.manifest
 
 -- there is no assertion file: its digest is that of no bytes
 abbrev pub digests_of : CardBytes → Digests
@@ -83,7 +59,7 @@ pub record SayCounted (contest : Option Id) (bytes : CardBytes) (counted : Count
 -- the words open this session
 pub record OpensPlurality (words : List (List ℕ)) (files : List File)
     (session : Content) : Type 0 where
-  pub asks : AsksForPlurality words
+  pub asks : Asks OpenPlurality words
   pub bytes : CardBytes
   pub held : AreCardFiles asks.task.ballots asks.task.manifest files bytes
   pub counted : Counted
@@ -95,56 +71,28 @@ pub record OpensPlurality (words : List (List ℕ)) (files : List File)
 
 -- ---- a session goes on
 
--- the bytes of the four files of a round
-pub record RoundBytes : Type 0 where
-  pub session : List ℕ
-  pub cards : CardBytes
-  pub seen : List ℕ
-
--- the files of the words are held, and have these bytes
-pub record AreRoundFiles (task : AuditPluralityTask) (files : List File)
-    (bytes : RoundBytes) : Type 0 where
-  pub session : held_bytes task.session files ≡ Some bytes.session
-  pub cards : AreCardFiles task.ballots task.manifest files bytes.cards
-  pub seen : held_bytes task.seen files ≡ Some bytes.seen
-
--- the session so far, what it stands on, and what is seen of some cards
-pub record RoundInputs : Type 0 where
-  pub session : Content
-  pub counted : Counted
-  pub entries : List Entry
-
--- the bytes say so, of the session's contest
-pub record SayRound (bytes : RoundBytes) (inputs : RoundInputs) : Type 0 where
-  pub session : session_of bytes.session ≡ Some inputs.session
-  pub counted : SayCounted (Some inputs.session.contest) bytes.cards inputs.counted
-  pub seen : seen_of inputs.counted.batches inputs.counted.ballots.candidates bytes.seen
-      ≡ Ok inputs.entries
-
--- the session stands on these files: it has their digests, and their cards, contest and margins
-pub record IsOfCounted (bytes : CardBytes) (session : Content) (counted : Counted) : Type 0 where
-  pub digests : session.digests ≡ digests_of bytes
-  pub facts : HasFacts session (length (cards_of counted.batches)) counted.ballots.contest
-      counted.outcome.margins
-
-module _ (inputs : RoundInputs) where
+module _ (inputs : RoundInputs Counted) where
   -- what is recorded of each card
   abbrev pub recorded : List Recorded
-  recorded = linked_of inputs.counted.batches inputs.counted.ballots
+  recorded = linked_of inputs.basis.batches inputs.basis.ballots
 
   -- that the winner has more first preferences, for each loser
   abbrev pub claims : List Audited
-  claims = claims_of inputs.counted.outcome
+  claims = claims_of inputs.basis.outcome
 
 -- the session of the words goes on, and then is this
 pub record PluralGoesOn (words : List (List ℕ)) (files : List File)
     (next : Content) : Type 0 where
-  pub asks : AsksForPluralRound words
-  pub bytes : RoundBytes
-  pub held : AreRoundFiles asks.task files bytes
-  pub inputs : RoundInputs
-  pub say : SayRound bytes inputs
-  pub of_files : IsOfCounted bytes.cards inputs.session inputs.counted
+  pub asks : Asks AuditPlurality words
+  pub bytes : RoundBytes CardBytes
+  pub held : AreRoundFiles asks.task.session asks.task.seen
+      (AreCardFiles asks.task.ballots asks.task.manifest) files bytes
+  pub inputs : RoundInputs Counted
+  pub say : SayRound SayCounted inputs.basis.batches inputs.basis.ballots.candidates bytes inputs
+  -- the session has the digests of the files, and their cards, contest and margins
+  pub of_files : IsOf inputs.session (digests_of bytes.basis)
+      (length (cards_of inputs.basis.batches)) inputs.basis.ballots.contest
+      inputs.basis.outcome.margins
   pub is_next : IsNextRound inputs.session (recorded inputs) inputs.entries (claims inputs)
       asks.task.draws next
 
@@ -160,14 +108,14 @@ WerePluralWithin on =
 -- Status 0 where a plurality session is to be opened: `out` has the session that the words open.
 abbrev pub IsPluralityOpened : Option (List File) → List (List ℕ) → ℕ → Writing → Type 0
 IsPluralityOpened held words status out =
-    IfSome held (λ files. AsksForPlurality words → status ≡ 0 →
+    IfSome held (λ files. Asks OpenPlurality words → status ≡ 0 →
     (session : Content) × OpensPlurality words files session × Took out (session_text session))
 
 -- Status 0 and 10 of a round: `out` has the session with one round more, which is that of its files. It is 0 exactly where the
 -- session is signed off. Then the exact risk of each claim was within the limit.
 abbrev pub IsPluralityAudited : Option (List File) → List (List ℕ) → ℕ → Writing → Type 0
 IsPluralityAudited held words status out =
-    IfSome held (λ files. AsksForPluralRound words → (status ≡ 0) ⊎ (status ≡ 10) →
+    IfSome held (λ files. Asks AuditPlurality words → (status ≡ 0) ⊎ (status ≡ 10) →
     (next : Content) × (on : PluralGoesOn words files next) × Took out (session_text next)
     × ((status ≡ 0) ↔ IsTrue (is_signed_off next.session))
     × (status ≡ 0 → WerePluralWithin on))

@@ -7,17 +7,18 @@ use Rattle.session_file.specs.Reading.{session_of}
 use Rattle.plurality.specs.Ties.{AreTied}
 use Rattle.plurality.specs.Plural.{Tie}
 use Rattle.report.specs.Ends.{tie_text}
+use Rattle.command_line.specs.declared.commands.Command.TheVariants.{AuditPlurality, OpenPlurality}
+use Rattle.raire_cli.specs.Asks.{Asks}
 use Rattle.raire_cli.specs.Ballots.{AreBallots}
-use Rattle.raire_cli.specs.Pluralities.{AsksForPlurality, AsksForPluralRound}
 
 -- the words open a session of this contest
 pub record OpensOf (words : List (List ℕ)) (files : List File) (ballots : BallotFile) : Type 0 where
-  pub asks : AsksForPlurality words
+  pub asks : Asks OpenPlurality words
   pub are : AreBallots files asks.task.ballots asks.task.contest ballots
 
 -- the words ask for a round of a session of this contest
 pub record RoundOf (words : List (List ℕ)) (files : List File) (ballots : BallotFile) : Type 0 where
-  pub asks : AsksForPluralRound words
+  pub asks : Asks AuditPlurality words
   pub bytes : List ℕ
   pub held : held_bytes asks.task.session files ≡ Some bytes
   pub session : Content

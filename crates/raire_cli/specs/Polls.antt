@@ -14,14 +14,9 @@ use Rattle.audit_laws.specs.Claims.{Cover, claimed}
 use Rattle.polling.specs.Polls.{is_confirmed}
 use Rattle.cli_base.specs.Ends.{Writing, Took}
 use Rattle.command.specs.declared.poll.PollTask.{PollTask}
-use Rattle.command_line.specs.Line.{command_of}
 use Rattle.command_line.specs.declared.commands.Command.TheVariants.{Poll}
 use Rattle.poll_command.specs.Poll.{poll_text}
-
--- the words ask for a poll
-pub record AsksForPoll (words : List (List ℕ)) : Type 0 where
-  pub task : PollTask
-  pub asked : command_of words ≡ Some (Poll task)
+use Rattle.raire_cli.specs.Asks.{Asks}
 
 -- ---- its files
 
@@ -67,7 +62,7 @@ module _ (task : PollTask) (inputs : PollInputs) where
 
 -- the poll of the words
 pub record IsPollOf (words : List (List ℕ)) (files : List File) : Type 0 where
-  pub asks : AsksForPoll words
+  pub asks : Asks Poll words
   pub bytes : PollBytes
   pub held : ArePollFiles asks.task files bytes
   pub inputs : PollInputs
@@ -92,6 +87,6 @@ is_confirmed_by poll = confirms poll.asks.task poll.inputs
 -- Status 0 and 10 of a poll: `out` tells the poll of the words and files. It is 0 exactly where that confirms each claim.
 abbrev pub IsPolled : Option (List File) → List (List ℕ) → ℕ → Writing → Type 0
 IsPolled held words status out =
-    IfSome held (λ files. AsksForPoll words → (status ≡ 0) ⊎ (status ≡ 10) →
+    IfSome held (λ files. Asks Poll words → (status ≡ 0) ⊎ (status ≡ 10) →
     (poll : IsPollOf words files) × Took out (told_of poll)
     × ((status ≡ 0) ↔ IsTrue (is_confirmed_by poll)))

@@ -8,18 +8,17 @@ use Rattle.ballot_reader.specs.Ballots.{BallotFile}
 use Rattle.cli_base.specs.Script.{limit}
 use Rattle.cli_base.specs.Ends.{Writing}
 use Rattle.cli_base.specs.Statuses.{ContestsStatuses, IsQuiet, IsUndone, Exactly, IsExact, Statuses}
-use Rattle.command.specs.declared.tabulate.TabulateTask.{TabulateTask}
-use Rattle.command.specs.declared.trial.TrialTask.{TrialTask}
 use Rattle.command_line.specs.Line.{command_of, is_line}
 use Rattle.command_line.specs.declared.commands.Command.{Command}
-use Rattle.command_line.specs.declared.commands.Command.TheVariants.{Tabulate, Trial}
+use Rattle.command_line.specs.declared.commands.Command.TheVariants.{Tabulate, Trial, Contests}
 use Rattle.contest_search.specs.Contest.{candidate_count, IsElected, IsOther, IsWon}
 use Rattle.search_commands.specs.Trial.{contest_of}
+use Rattle.raire_cli.specs.Asks.{Asks}
 use Rattle.raire_cli.specs.Answers.{asked, is_open}
 use Rattle.raire_cli.specs.Ballots.{AreBallots}
 use Rattle.raire_cli.specs.Budgets.{Suffices}
 use Rattle.raire_cli.specs.Confirmation.{AsksFor}
-use Rattle.raire_cli.specs.Contests.{AsksForContests, IsRefusedAnyway}
+use Rattle.raire_cli.specs.Contests.{IsRefusedAnyway}
 
 -- The words ask for a search of a file that is held, not too long and accepted, with as many cards as ballots if they give a number.
 -- Its contest is decided: each way of breaking its ties elects the winner. The budget has as many nodes as may be needed for each
@@ -41,16 +40,15 @@ IsComplete held words failed status out err =
 -- The words ask for a tabulation of a file that is held, not too long and accepted, and its contest is decided. No round has a tie,
 -- or the budget has as many nodes as the race may need for each candidate who didn't win.
 pub record IsTabulable (words : List (List ℕ)) (files : List File) : Type 0 where
-  pub task : TabulateTask
-  pub asked : command_of words ≡ Some (Tabulate task)
+  pub asks : Asks Tabulate words
   pub ballots : BallotFile
-  pub are : AreBallots files task.ballots task.contest ballots
+  pub are : AreBallots files asks.task.ballots asks.task.contest ballots
   pub winner : ℕ
   pub won : IsWon ballots winner
   pub decided : IsElected ballots winner
   pub budget : HasNoTie ballots.rankings won.order
       ⊎ ((c : ℕ) → IsOther ballots winner c →
-      work_for (candidate_count ballots) ballots.rankings won.order c ≤ task.nodes)
+      work_for (candidate_count ballots) ballots.rankings won.order c ≤ asks.task.nodes)
 
 -- Such a tabulation ends with its rounds, if memory was found and no count of faults rose.
 abbrev pub IsTabulationComplete : Option (List File) → List (List ℕ) → Type 0 → ℕ → Writing →
@@ -59,15 +57,10 @@ IsTabulationComplete held words failed status out err =
     IfSome held (λ files. IsTabulable words files → IsQuiet failed out err →
     (status ≡ 0) ⊎ (status ≡ 9))
 
--- the words ask for a trial
-pub record AsksForTrial (words : List (List ℕ)) : Type 0 where
-  pub task : TrialTask
-  pub asked : command_of words ≡ Some (Trial task)
-
 -- The words ask for a trial. The budget has as many nodes as may be needed for each candidate whom the tabulated order of its
 -- contest doesn't elect, or as many sets as are needed.
 pub record IsTriable (words : List (List ℕ)) : Type 0 where
-  pub trial : AsksForTrial words
+  pub trial : Asks Trial words
   pub budget : (winner : ℕ) (won : IsWon (contest_of trial.task) winner) →
       Suffices trial.task.budget (contest_of trial.task) won.order winner
 
@@ -86,11 +79,11 @@ IsExactUnlessOpen held words status =
 pub record HasCause (held : Option (List File)) (words : List (List ℕ)) (failed : Type 0)
     (before after : Served) (status : ℕ) (out err : Writing) : Type 0 where
   pub by_words : Exactly 1 status (is_line words ≡ false)
-  pub by_files : (AsksForContests words → ⊥) →
+  pub by_files : (Asks Contests words → ⊥) →
       Statuses (asked words) held failed before after status out err
   -- in an audit of all contests the budget of each may be spent
-  pub by_contests : AsksForContests words →
+  pub by_contests : Asks Contests words →
       ContestsStatuses (asked words) held failed before after status out err
   -- but it hides no refusal other than that a drawn card has no record
-  pub refused_anyway : AsksForContests words → IfSome held (λ files.
+  pub refused_anyway : Asks Contests words → IfSome held (λ files.
       IsRefusedAnyway words files → (status ≡ 2) ⊎ IsUndone status)

@@ -11,13 +11,8 @@ use Rattle.cover_checker.specs.declared.checked.Checked.TheVariants.{Accepted}
 use Rattle.trimmer.specs.Laws.{IsIrredundant, IsPartOf, IsPlannedAlike}
 use Rattle.cli_base.specs.Ends.{Writing, Took}
 use Rattle.command.specs.declared.trim.TrimTask.{TrimTask}
-use Rattle.command_line.specs.Line.{command_of}
 use Rattle.command_line.specs.declared.commands.Command.TheVariants.{Trim}
-
--- the words ask for a trim
-pub record AsksForTrim (words : List (List ℕ)) : Type 0 where
-  pub task : TrimTask
-  pub asked : command_of words ≡ Some (Trim task)
+use Rattle.raire_cli.specs.Asks.{Asks}
 
 -- its files are held, and say this
 pub record AreTrimFiles (task : TrimTask) (files : List File) (ballots : BallotFile)
@@ -31,7 +26,7 @@ pub record AreTrimFiles (task : TrimTask) (files : List File) (ballots : BallotF
 
 -- this is the assertion file of the words, trimmed
 pub record IsTrimmedOf (words : List (List ℕ)) (files : List File) (left : Content) : Type 0 where
-  pub asks : AsksForTrim words
+  pub asks : Asks Trim words
   pub ballots : BallotFile
   pub file : Content
   pub are : AreTrimFiles asks.task files ballots file
@@ -53,5 +48,5 @@ pub record IsTrimmedOf (words : List (List ℕ)) (files : List File) (left : Con
 
 -- Status 0 of a trim: `out` has the assertion file of the words without the claims that can go.
 abbrev pub IsTrimmed : Option (List File) → List (List ℕ) → ℕ → Writing → Type 0
-IsTrimmed held words status out = IfSome held (λ files. AsksForTrim words → status ≡ 0 →
+IsTrimmed held words status out = IfSome held (λ files. Asks Trim words → status ≡ 0 →
     (left : Content) × IsTrimmedOf words files left × Took out (assertion_file_text left))

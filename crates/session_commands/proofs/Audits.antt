@@ -2,12 +2,13 @@
 use Rattle.std.proofs.Common.{Bool, true, false, List, length, ℕ, refl, ap}
 use Rattle.budget.specs.declared.budget.Budget.{Budget}
 use Rattle.ballot_reader.specs.Ballots.{BallotFile}
-use Rattle.manifest.specs.Cards.{Batches, cards_of}
+use Rattle.manifest.specs.Cards.{cards_of}
 use Rattle.manifest.specs.Linked.{linked_of}
 use Rattle.assertion_file.specs.Content.{Content as FileContent, margins_of}
 use Rattle.assertion_file.specs.Reading.{assertion_file_of}
 use Rattle.session_state.specs.Claims.{values_of}
 use Rattle.session_state.specs.Content.{Content}
+use Rattle.session_state.specs.Inputs.{has_facts}
 use Rattle.check_command.specs.Check as check
 use Rattle.check_command.specs.Check.{Checks}
 use Rattle.check_command.proofs.Checks.{checks-one, checks-kind}
@@ -19,10 +20,10 @@ use Rattle.command.specs.declared.audit.AuditTask.{AuditTask}
 use Rattle.input_files.specs.Refusals.{refused_assertions}
 use Rattle.input_files.proofs.Going.{OnlyRefuses, go_on-agrees, go_on-kinds, told-only, unless-only}
 use Rattle.session_commands.specs.Accepted.{if_accepted, is_accepted, on_if}
-use Rattle.session_commands.specs.Audit.{kinds, after_check, same_assertions, same_facts, script}
-use Rattle.session_rounds.specs.Refusals.{other_digest, without_facts}
+use Rattle.session_commands.specs.Audit.{kinds, after_check, same_assertions, script}
+use Rattle.session_rounds.specs.Refusals.{other_digest}
 use Rattle.session_rounds.specs.Rounds.{same_ballots, same_manifest, session_to_go_on}
-use Rattle.session_rounds.proofs.OneRound.{ballots-only, digest-only, facts-only, manifest-only, session-only, with_seen-agrees, with_seen-kinds}
+use Rattle.session_rounds.proofs.OneRound.{ballots-only, digest-only, manifest-only, one_round-agrees, one_round-kinds, session-only}
 
 -- ---- the files that are refused
 
@@ -31,11 +32,6 @@ module _ (task : AuditTask) where
   assertions-only session bytes =
       unless-only (other_digest task.assertions session.digests.assertions bytes) _ (digest-only task.assertions session.digests.assertions bytes)
       (told-only (refused_assertions task.assertions) (assertion_file_of bytes) (λ why. tt))
-
-  pub same_facts-only : (session : Content) (batches : Batches) (file : FileContent) → OnlyRefuses (same_facts task session batches file)
-  same_facts-only session batches file =
-      unless-only (without_facts task.session session (length (cards_of batches)) file.contest (margins_of file)) _
-      (facts-only task.session session (length (cards_of batches)) file.contest (margins_of file)) tt
 
 -- ---- where a check has to accept
 
@@ -69,8 +65,7 @@ agrees task = λ s. go_on-agrees (session_to_go_on task.session task.draws s) _ 
     λ m. go_on-agrees (same_manifest task.ballots task.manifest session ballots m) _ (λ batches.
     λ a. go_on-agrees (same_assertions task session a) _ (λ file.
     accepted-agrees task.budget ballots file (after_check task session ballots batches file) (
-    go_on-agrees (same_facts task session batches file) _ (λ same.
-    with_seen-agrees task.session task.seen task.draws same (values_of file) batches (linked_of batches ballots) file.candidates))))))
+    one_round-agrees task.session task.seen task.draws (has_facts session (length (cards_of batches)) file.contest (margins_of file)) session (values_of file) batches (linked_of batches ballots) file.candidates)))))
 
 pub kinds_are : (task : AuditTask) → AreOfKind kinds (script task)
 kinds_are task = λ s. go_on-kinds kinds (session_to_go_on task.session task.draws s) _ (session-only task.session task.draws s) (λ session.
@@ -78,6 +73,5 @@ kinds_are task = λ s. go_on-kinds kinds (session_to_go_on task.session task.dra
     λ m. go_on-kinds kinds (same_manifest task.ballots task.manifest session ballots m) _ (manifest-only task.ballots task.manifest session ballots m) (λ batches.
     λ a. go_on-kinds kinds (same_assertions task session a) _ (assertions-only task session a) (λ file.
     accepted-kinds task.budget ballots file (after_check task session ballots batches file) (
-    go_on-kinds kinds (same_facts task session batches file) _ (same_facts-only task session batches file) (λ same.
-    with_seen-kinds task.session task.seen task.draws kinds (among kinds Done refl) (among kinds Unconfirmed refl) same (values_of file) batches
-    (linked_of batches ballots) file.candidates))))))
+    one_round-kinds task.session task.seen task.draws kinds (among kinds Done refl) (among kinds Unconfirmed refl) (has_facts session (length (cards_of batches)) file.contest (margins_of file)) session
+    (values_of file) batches (linked_of batches ballots) file.candidates)))))

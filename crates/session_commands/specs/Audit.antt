@@ -1,5 +1,5 @@
 -- `audit SESSION BALLOTS MANIFEST ASSERTIONS SEEN`: the session goes on by a round.
-use Rattle.std.specs.Prelude.{ℕ, List, [], ◌∷◌, length, Result, Ok}
+use Rattle.std.specs.Prelude.{ℕ, List, [], ◌∷◌, length, Result}
 use Rattle.ballot_reader.specs.Ballots.{BallotFile}
 use Rattle.manifest.specs.Cards.{Batches, cards_of}
 use Rattle.manifest.specs.Linked.{linked_of}
@@ -7,6 +7,7 @@ use Rattle.assertion_file.specs.Content.{Content as FileContent, margins_of}
 use Rattle.assertion_file.specs.Reading.{assertion_file_of}
 use Rattle.session_state.specs.Claims.{values_of}
 use Rattle.session_state.specs.Content.{Content}
+use Rattle.session_state.specs.Inputs.{has_facts}
 use Rattle.command.specs.declared.audit.AuditTask.{AuditTask}
 use Rattle.cli_base.specs.Outcome.{Verdict}
 use Rattle.cli_base.specs.Script.{Script, Read}
@@ -15,34 +16,25 @@ use Rattle.cli_base.specs.declared.outcome.AnswerKind.TheVariants.{Done, Spent, 
 use Rattle.input_files.specs.Judged.{told, unless, go_on}
 use Rattle.input_files.specs.Refusals.{refused_assertions}
 use Rattle.session_commands.specs.Accepted.{if_accepted}
-use Rattle.session_rounds.specs.Refusals.{other_digest, without_facts}
-use Rattle.session_rounds.specs.Rounds.{session_to_go_on, with_ballots, with_manifest, with_seen}
+use Rattle.session_rounds.specs.Refusals.{other_digest}
+use Rattle.session_rounds.specs.Rounds.{session_to_go_on, with_ballots, with_manifest, one_round}
 
 module _ (task : AuditTask) where
-  -- ---- the assertions, and whether the session is one of them and of the cards
+  -- ---- the assertions
 
   abbrev pub same_assertions : Content → List ℕ → Result FileContent Verdict
   same_assertions session bytes =
       unless (other_digest task.assertions session.digests.assertions bytes)
       (told (refused_assertions task.assertions) (assertion_file_of bytes))
 
-  abbrev pub same_facts : Content → Batches → FileContent → Result Content Verdict
-  same_facts session batches file =
-      unless (without_facts task.session session (length (cards_of batches)) file.contest (margins_of file))
-      (Ok session)
-
   -- ---- the files, the last one first
 
-  -- what is seen of the cards is read, and the session goes on by the claims of the file
-  abbrev pub after_facts : Content → BallotFile → Batches → FileContent → Script
-  after_facts session ballots batches file =
-      with_seen task.session task.seen task.draws session (values_of file) batches
-      (linked_of batches ballots) file.candidates
-
-  -- the session has to be one of the inputs
+  -- the session has to be one of the inputs, and goes on by the claims of the file
   abbrev pub after_check : Content → BallotFile → Batches → FileContent → Script
   after_check session ballots batches file =
-      go_on (same_facts session batches file) (λ same. after_facts same ballots batches file)
+      one_round task.session task.seen task.draws
+      (has_facts session (length (cards_of batches)) file.contest (margins_of file))
+      session (values_of file) batches (linked_of batches ballots) file.candidates
 
   abbrev pub after_assertions : Content → BallotFile → Batches → FileContent → Script
   after_assertions session ballots batches file =

@@ -27,7 +27,7 @@ pub(crate) fn unless_accepted<R: AllocGlobal + Threads + Sync>(
         (due (Ok answer)).status ≢ 0)) }
     ensures memory { IfErr result (λ refusal. due_refusal refusal ≡ out_of_memory) }
 {
-    let answer = check(rt, ballots, file, budget)?;
+    let answer = check(rt, ballots.votes(), file, budget)?;
     match answer.kind {
         AnswerKind::Done => Ok(None),
         _ => Ok(Some(answer)),

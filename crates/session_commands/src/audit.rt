@@ -1,28 +1,27 @@
 // `audit SESSION BALLOTS MANIFEST ASSERTIONS SEEN`: the session goes on by a round.
-ghost use Rattle.std.specs.Prelude.{◌≡◌, ◌≤◌, length};
+ghost use Rattle.std.specs.Prelude.{◌≡◌, ◌≤◌};
 ghost use Rattle.desk.specs.Count.{Rose};
 ghost use Rattle.irv_base.specs.declared.limits.TheConstants.{MOST_DRAWS};
-ghost use Rattle.manifest.specs.Cards.{cards_of};
 ghost use Rattle.manifest.specs.Linked.{linked_of};
-ghost use Rattle.assertion_file.specs.Content.{margins_of};
 ghost use Rattle.cli_base.specs.Accounts.{IsAccountedFor};
 ghost use Rattle.cli_base.specs.Begun.{HasCome};
 ghost use Rattle.cli_base.specs.Due.{due};
 ghost use Rattle.cli_base.specs.Script.{ByDesk, Runs};
-ghost use Rattle.session_state.specs.Inputs.{HasFacts};
-ghost use Rattle.session_commands.specs.Audit.{after_ballots, after_facts, after_manifest, after_session, script};
+ghost use Rattle.session_commands.specs.Audit.{after_ballots, after_check, after_manifest, after_session, script};
 ghost use Rattle.session_rounds.specs.Rounds.{MayGoOn};
 
 use crate::accepted::unless_accepted;
-use crate::same::{same_assertions, same_facts};
+use crate::same::same_assertions;
 use assertion_file::AssertionFile;
 use ballot_reader::Ballots;
 use cli_base::{Answer, Refusal};
 use command::AuditTask;
 use desk::Desk;
 use input_files::{Cards, bytes_of};
-use session_rounds::{RoundTask, same_ballots, same_manifest, session_to_go_on, with_seen};
-use session_state::Session;
+use session_rounds::{
+    RoundBasis, RoundTask, one_round, same_ballots, same_manifest, session_to_go_on,
+};
+use session_state::{Session, has_facts};
 use std::alloc::Global;
 use std::thread::Threads;
 
@@ -99,7 +98,7 @@ fn after_ballots<R: AllocGlobal + Threads + Sync, D: Desk>(
     after_manifest(rt, desk, task, session, ballots, &cards)
 }
 
-// The assertions are read. A check has to accept them, and the session to be one of these cards and assertions.
+// The assertions are read. A check has to accept them.
 fn after_manifest<R: AllocGlobal + Threads + Sync, D: Desk>(
     rt: &R,
     desk: &mut D,
@@ -124,12 +123,11 @@ fn after_manifest<R: AllocGlobal + Threads + Sync, D: Desk>(
     if let Some(answer) = unless_accepted(rt, ballots, &file, task.budget)? {
         return Ok(answer);
     }
-    same_facts(alloc, task, &session, cards.manifest.cards(), &file)?;
-    after_facts(alloc, desk, task, session, ballots, cards, &file)
+    after_check(alloc, desk, task, session, ballots, cards, &file)
 }
 
-// The session goes on by the claims of the file.
-fn after_facts<D: Desk>(
+// The session has to be one of the inputs, and goes on by the claims of the file.
+fn after_check<D: Desk>(
     alloc: Global,
     desk: &mut D,
     task: &AuditTask,
@@ -140,20 +138,24 @@ fn after_facts<D: Desk>(
 ) -> Result<Answer, Refusal>
     requires may { MayGoOn task.now.draws session }
     requires linked { cards.now.linked ≡ linked_of cards.now.manifest ballots.now }
-    requires facts { HasFacts session (length (cards_of cards.now.manifest))
-        file.now.contest (margins_of file.now) }
     ensures held { D.held desk.new ≡ D.held desk.old }
     ensures later { D.faults desk.old ≤ D.faults desk.new }
     ensures due { HasCome
         (ByDesk (D.held desk.old) (Rose (D.faults desk.old) (D.faults desk.new)))
         (D.served desk.old) (D.served desk.new)
-        (Runs (after_facts task.now session ballots.now cards.now.manifest file.now)) (due result) }
+        (Runs (after_check task.now session ballots.now cards.now.manifest file.now)) (due result) }
     ensures served { IsAccountedFor 1 (D.served desk.old) (D.served desk.new) (due result).status }
 {
+    let agree = has_facts(&session, cards.manifest.cards(), file);
     let round = RoundTask {
         session: &task.session,
         seen: &task.seen,
         draws: task.draws,
     };
-    with_seen(alloc, desk, &round, session, file, cards, file.candidates())
+    let inputs = RoundBasis {
+        cards,
+        claims: file,
+        candidates: file.candidates(),
+    };
+    one_round(alloc, desk, &round, session, agree, &inputs)
 }

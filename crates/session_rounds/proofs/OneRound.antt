@@ -8,7 +8,6 @@ use Rattle.manifest.specs.Cards.{Batches}
 use Rattle.manifest.specs.declared.recorded.Recorded.{Recorded}
 use Rattle.seen_file.specs.Reading.{seen_of}
 use Rattle.session_state.specs.Content.{Content}
-use Rattle.session_state.specs.Inputs.{has_facts}
 use Rattle.session_state.specs.Sessions.{Round, is_signed_off}
 use Rattle.session_file.specs.Reading.{session_of}
 use Rattle.session_file.specs.Text.{session_text}
@@ -23,8 +22,8 @@ use Rattle.cli_base.specs.declared.outcome.AnswerKind.TheVariants.{Done, Unconfi
 use Rattle.input_files.specs.Judged.{told}
 use Rattle.input_files.specs.Refusals.{refused_ballots, refused_seen}
 use Rattle.input_files.proofs.Going.{IsRefusal, OnlyRefuses, cards-only, go_on-agrees, go_on-kinds, told-only, then-only, unless-only}
-use Rattle.session_rounds.specs.Refusals.{differs_text, had_text, other_digest, other_facts, refused_by, refused_session, without_facts}
-use Rattle.session_rounds.specs.Rounds.{Compared, changed, had_as_many, next_session, same_ballots, same_manifest, session_answer, session_in, session_to_go_on, unseen, verdict_of, with_seen}
+use Rattle.session_rounds.specs.Refusals.{differs_text, had_text, other_digest, refused_by, refused_session}
+use Rattle.session_rounds.specs.Rounds.{Compared, changed, had_as_many, next_session, one_round, same_ballots, same_manifest, session_answer, session_in, session_to_go_on, unseen, verdict_of, with_seen}
 
 -- ---- the files that are refused
 
@@ -53,13 +52,6 @@ fault-only session seen (Some (NoRecord card k)) = tt
 fault-only session seen (Some (Changed round claim expected found)) = tt
 fault-only session seen (Some Memory) = tt
 
-pub facts-only : (name : List ℕ) (session : Content) (cards : ℕ) (contest : Id) (margins : List ℕ) →
-    IfSome (without_facts name session cards contest margins) IsRefusal
-facts-only name session cards contest margins = by (has_facts session cards contest margins) where
-  by : (b : Bool) → IfSome (if b then None else Some (other_facts name)) IsRefusal
-  by true = tt
-  by false = tt
-
 pub session-only : (name : List ℕ) (draws : ℕ) (bytes : List ℕ) → OnlyRefuses (session_to_go_on name draws bytes)
 session-only name draws bytes = then-only (session_in name bytes) _ (session_in-only name bytes) (λ session.
     unless-only (had_as_many name draws session.session.rounds) _ (many-only name draws session.session.rounds) tt)
@@ -84,10 +76,15 @@ module _ (name seen : List ℕ) (draws : ℕ) where
 
   -- ---- the end
 
-  pub with_seen-agrees : (session : Content) (values : List (List ℕ → ℕ)) (batches : Batches) (recorded : List Recorded) (candidates : List Id) →
+  with_seen-agrees : (session : Content) (values : List (List ℕ → ℕ)) (batches : Batches) (recorded : List Recorded) (candidates : List Id) →
       Agree Same (with_seen name seen draws session values batches recorded candidates)
   with_seen-agrees session values batches recorded candidates =
       λ bytes. go_on-agrees (told (refused_seen seen) (seen_of batches candidates bytes)) _ (λ entries v w p q. ap outcome (p ∙ sym q))
+
+  pub one_round-agrees : (agree : Bool) (session : Content) (values : List (List ℕ → ℕ)) (batches : Batches) (recorded : List Recorded) (candidates : List Id) →
+      Agree Same (one_round name seen draws agree session values batches recorded candidates)
+  one_round-agrees true session values batches recorded candidates = with_seen-agrees session values batches recorded candidates
+  one_round-agrees false session values batches recorded candidates = λ v w p q. ap outcome (p ∙ sym q)
 
   module _ (kinds : List AnswerKind) (done : Contains kinds Done) (unconfirmed : Contains kinds Unconfirmed) where
     session_answer-kind : (session : Content) → IsOfKind kinds (session_answer session)
@@ -101,9 +98,14 @@ module _ (name seen : List ℕ) (draws : ℕ) where
     verdict-kind (Err (Refused name text)) only = tt
     verdict-kind (Err (Answered kind text)) only = absurd only
 
-    pub with_seen-kinds : (session : Content) (values : List (List ℕ → ℕ)) (batches : Batches) (recorded : List Recorded) (candidates : List Id) →
+    with_seen-kinds : (session : Content) (values : List (List ℕ → ℕ)) (batches : Batches) (recorded : List Recorded) (candidates : List Id) →
         AreOfKind kinds (with_seen name seen draws session values batches recorded candidates)
     with_seen-kinds session values batches recorded candidates =
         λ bytes. go_on-kinds kinds (told (refused_seen seen) (seen_of batches candidates bytes)) _
         (told-only (refused_seen seen) (seen_of batches candidates bytes) (λ why. tt))
         (λ entries v is. subst (IsOfKind kinds) (sym is) (verdict-kind _ (next-only session values _)))
+
+    pub one_round-kinds : (agree : Bool) (session : Content) (values : List (List ℕ → ℕ)) (batches : Batches) (recorded : List Recorded) (candidates : List Id) →
+        AreOfKind kinds (one_round name seen draws agree session values batches recorded candidates)
+    one_round-kinds true session values batches recorded candidates = with_seen-kinds session values batches recorded candidates
+    one_round-kinds false session values batches recorded candidates = λ v is. subst (IsOfKind kinds) (sym is) tt

@@ -9,11 +9,13 @@ use Rattle.audit_session.specs.declared.fault.AdvanceFault.{AdvanceFault}
 use Rattle.audit_session.specs.declared.fault.AdvanceFault.TheVariants.{Smaller, NoRecord, Changed, Memory}
 use Rattle.cli_base.specs.Outcome.{Outcome, Verdict, Refused, outcome}
 use Rattle.cli_base.specs.Due.{due_refusal, IsOrMemory, IsOneOrMemory}
+use Rattle.cli_base.specs.Script.{ends}
 use Rattle.cli_base.specs.declared.outcome.Refusal.{Refusal as Stop}
+use Rattle.cli_base.proofs.Begun.{EndsNow}
 use Rattle.session_rounds.specs.Rounds.{Compared, MayGoOn, changed, had_as_many, next_session, unseen, verdict_of}
 use Rattle.input_files.specs.Judged.{unless, IsTold, IsStopped}
 use Rattle.input_files.proofs.Judging.{told_as, unless_stopped}
-use Rattle.session_rounds.specs.Refusals.{had_text, refused_round, refused_by}
+use Rattle.session_rounds.specs.Refusals.{had_text, other_facts, refused_round, refused_by}
 
 none_of : {A : Type 0} (a b : Option A) → first_of a b ≡ None → (a ≡ None) × (b ≡ None)
 none_of None b h = (refl, h)
@@ -79,3 +81,8 @@ pub verdict_stopped : (judged : Result Content Verdict) (stop : Stop) → IsStop
     IsOneOrMemory (λ verdict. verdict ≡ verdict_of judged) (due_refusal stop)
 verdict_stopped judged stop (inl (verdict, is, due)) = inl (verdict, sym (ap verdict_of is), due)
 verdict_stopped judged stop (inr memory) = inr memory
+
+-- a session that isn't one of its inputs is told
+pub other_told : (name : List ℕ) (due : Outcome) → IsOrMemory (outcome (other_facts name)) due → EndsNow (ends (other_facts name)) due
+other_told name due (inl is) = inl (other_facts name, refl, is)
+other_told name due (inr memory) = inr memory

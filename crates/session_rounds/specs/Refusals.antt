@@ -3,10 +3,8 @@ use Rattle.std.specs.Prelude.{ℕ, List, ◌++◌, Option, None, Some, option_an
 use Rattle.std.specs.Fmt.{decimal}
 use Rattle.hex.specs.Hex.{encode_lower}
 use Rattle.sha2.specs.Sha256.{sha256}
-use Rattle.irv_base.specs.Names.{Id, is_same}
+use Rattle.irv_base.specs.Names.{is_same}
 use Rattle.km_risk.specs.declared.draws.Counts.{Counts}
-use Rattle.session_state.specs.Content.{Content}
-use Rattle.session_state.specs.Inputs.{has_facts}
 use Rattle.audit_session.specs.declared.fault.AdvanceFault.{AdvanceFault}
 use Rattle.audit_session.specs.declared.fault.AdvanceFault.TheVariants.{Smaller, NoRecord, Changed, Memory}
 use Rattle.report.specs.Risks.{counts_text}
@@ -31,13 +29,9 @@ other_digest name expected bytes =
     if is_same expected (sha256 bytes) then None
     else Some (Refused name (differs_text expected (sha256 bytes)))
 
+-- the cards, the contest or the margins of a session aren't those of the other files
 abbrev pub other_facts : List ℕ → Verdict
 other_facts name = Refused name (codes "S5")
-
--- a session is refused where its cards, its contest or its margins aren't those of the other files
-abbrev pub without_facts : List ℕ → Content → ℕ → Id → List ℕ → Option Verdict
-without_facts name session cards contest margins =
-    if has_facts session cards contest margins then None else Some (other_facts name)
 
 -- ---- a session that doesn't go on
 

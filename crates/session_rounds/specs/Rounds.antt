@@ -1,5 +1,5 @@
 -- A round of a session, whatever its claims are: each file is judged, that it is the one of the session before what it says; then the session goes on.
-use Rattle.std.specs.Prelude.{◌≡◌, ◌<◌, ◌≤◌, ℕ, nat_le, if◌then◌else◌, List, length, map, Option, None, Some, ok_or, Result, Ok, Err}
+use Rattle.std.specs.Prelude.{◌≡◌, ◌<◌, ◌≤◌, ℕ, nat_le, Bool, true, false, if◌then◌else◌, List, length, map, Option, None, Some, ok_or, Result, Ok, Err}
 use Rattle.irv_base.specs.Names.{Id}
 use Rattle.irv_base.specs.declared.limits.TheConstants.{MOST_DRAWS}
 use Rattle.ballot_reader.specs.Ballots.{BallotFile}
@@ -17,12 +17,12 @@ use Rattle.session_file.specs.Reading.{session_of}
 use Rattle.session_file.specs.Text.{session_text}
 use Rattle.cli_base.specs.Confirmed.{confirmed_kind}
 use Rattle.cli_base.specs.Outcome.{Verdict, Answered, Refused}
-use Rattle.cli_base.specs.Script.{Script, Read, Ends}
+use Rattle.cli_base.specs.Script.{Script, Read, Ends, ends}
 use Rattle.cli_base.specs.declared.outcome.AnswerKind.{AnswerKind}
 use Rattle.input_files.specs.Cards.{cards_for}
 use Rattle.input_files.specs.Judged.{told, then_judged, unless, go_on}
 use Rattle.input_files.specs.Refusals.{refused_ballots, refused_seen}
-use Rattle.session_rounds.specs.Refusals.{had_text, other_digest, refused_by, refused_session}
+use Rattle.session_rounds.specs.Refusals.{had_text, other_digest, other_facts, refused_by, refused_session}
 
 -- ---- the session file
 
@@ -128,3 +128,10 @@ module _ (name seen : List ℕ) (draws : ℕ) where
   with_seen session values batches recorded candidates = Read seen (λ bytes.
       go_on (told (refused_seen seen) (seen_of batches candidates bytes)) (λ entries.
       Ends (GoesOn session values (record { recorded = recorded; entries = entries }))))
+
+  -- a round, or S5 where the session isn't one of its inputs
+  abbrev pub one_round :
+      Bool → Content → List (List ℕ → ℕ) → Batches → List Recorded → List Id → Script
+  one_round true session values batches recorded candidates =
+      with_seen session values batches recorded candidates
+  one_round false session values batches recorded candidates = ends (other_facts name)

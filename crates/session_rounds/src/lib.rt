@@ -8,6 +8,6 @@ mod sessions;
 mod texts;
 
 pub use digests::{digest_of, same_digest};
-pub use round::{RoundTask, with_seen};
-pub use same::{same_ballots, same_manifest, with_facts};
+pub use round::{RoundBasis, RoundTask, one_round};
+pub use same::{same_ballots, same_manifest};
 pub use sessions::{session_in, session_to_go_on};

@@ -1,5 +1,5 @@
 // The next round of a session, whatever its claims are.
-ghost use Rattle.std.specs.Prelude.{◌≡◌, ◌≤◌, length};
+ghost use Rattle.std.specs.Prelude.{◌≡◌, ◌≤◌, length, IsTrue};
 ghost use Rattle.desk.specs.Count.{Rose};
 ghost use Rattle.irv_base.specs.declared.limits.TheConstants.{ROOM};
 ghost use Rattle.cli_base.specs.Accounts.{IsAccountedFor};
@@ -8,11 +8,11 @@ ghost use Rattle.cli_base.specs.Due.{due, due_refusal, IsOneOrMemory};
 ghost use Rattle.cli_base.specs.Script.{ByDesk, Runs};
 ghost use Rattle.input_files.specs.Judged.{IsJudged, IsTold};
 ghost use Rattle.session_rounds.specs.Refusals.{refused_round};
-ghost use Rattle.session_rounds.specs.Rounds.{GoesOn, MayGoOn, next_session, session_answer, with_seen};
+ghost use Rattle.session_rounds.specs.Rounds.{GoesOn, MayGoOn, next_session, one_round, session_answer, with_seen};
 
 use crate::texts::{changed_text, had_text};
 use audit_session::{AdvanceFault, Claims, advance_by};
-use cli_base::{Answer, Refusal, confirmed_kind};
+use cli_base::{Answer, Refusal, RefusalKind, confirmed_kind, refuse};
 use command::FileName;
 use desk::Desk;
 use input_files::{Cards, bytes_of, no_record_text, refuse_for, seen_in};
@@ -32,6 +32,17 @@ pub struct RoundTask<'t> {
     pub seen: &'t FileName,
     /// How many draws there are then, counted from the first of the audit.
     pub draws: u32,
+}
+
+/// What a round goes by: the cards, and claims about a contest.
+#[derive(Drop)]
+pub struct RoundBasis<'i, T> {
+    /// The cards of the ballots, with what is recorded of each.
+    pub cards: &'i Cards,
+    /// The claims.
+    pub claims: &'i T,
+    /// The ids of the candidates of the contest.
+    pub candidates: &'i [Name],
 }
 
 // Why a session doesn't go on.
@@ -110,31 +121,63 @@ fn go_on<T: Claims>(
     session_answer(alloc, &session)
 }
 
-/// What is seen of the cards is read, by the ids of the candidates, and the session goes on.
-pub fn with_seen<D: Desk, T: Claims>(
+// What is seen of the cards is read, by the ids of the candidates, and the session goes on.
+fn with_seen<D: Desk, T: Claims>(
     alloc: Global,
     desk: &mut D,
     task: &RoundTask,
     session: Session,
-    claims: &T,
-    cards: &Cards,
-    candidates: &[Name],
+    inputs: &RoundBasis<T>,
 ) -> Result<Answer, Refusal>
-    requires cards { session.session.cards ≡ length cards.now.linked }
-    requires each { length session.session.margins ≡ length (T.values claims.now) }
+    requires cards { session.session.cards ≡ length inputs.now.cards.now.linked }
+    requires each { length session.session.margins ≡ length (T.values inputs.now.claims.now) }
     requires may { MayGoOn task.now.draws session }
-    requires few { length candidates.now ≤ ROOM }
+    requires few { length inputs.now.candidates.now ≤ ROOM }
     ensures held { D.held desk.new ≡ D.held desk.old }
     ensures later { D.faults desk.old ≤ D.faults desk.new }
     ensures due { HasCome
         (ByDesk (D.held desk.old) (Rose (D.faults desk.old) (D.faults desk.new)))
         (D.served desk.old) (D.served desk.new)
         (Runs (with_seen task.now.session.now task.now.seen.now task.now.draws session
-        (T.values claims.now) cards.now.manifest cards.now.linked candidates.now))
+        (T.values inputs.now.claims.now) inputs.now.cards.now.manifest
+        inputs.now.cards.now.linked inputs.now.candidates.now))
         (due result) }
     ensures served { IsAccountedFor 1 (D.served desk.old) (D.served desk.new) (due result).status }
 {
+    let cards = inputs.cards;
     let bytes = bytes_of(alloc, desk, task.seen)?;
-    let seen = seen_in(alloc, task.seen, &cards.manifest, candidates, &bytes)?;
-    go_on(alloc, task, session, &cards.linked, claims, &seen)
+    let seen = seen_in(alloc, task.seen, &cards.manifest, inputs.candidates, &bytes)?;
+    go_on(alloc, task, session, &cards.linked, inputs.claims, &seen)
+}
+
+/// The session with a round more, by what is seen of the cards, where `agree` says that its cards, contest and margins are those of the
+/// inputs; else S5.
+pub fn one_round<D: Desk, T: Claims>(
+    alloc: Global,
+    desk: &mut D,
+    task: &RoundTask,
+    session: Session,
+    agree: bool,
+    inputs: &RoundBasis<T>,
+) -> Result<Answer, Refusal>
+    requires cards { IsTrue agree → session.session.cards ≡ length inputs.now.cards.now.linked }
+    requires each { IsTrue agree →
+        length session.session.margins ≡ length (T.values inputs.now.claims.now) }
+    requires may { MayGoOn task.now.draws session }
+    requires few { length inputs.now.candidates.now ≤ ROOM }
+    ensures held { D.held desk.new ≡ D.held desk.old }
+    ensures later { D.faults desk.old ≤ D.faults desk.new }
+    ensures due { HasCome
+        (ByDesk (D.held desk.old) (Rose (D.faults desk.old) (D.faults desk.new)))
+        (D.served desk.old) (D.served desk.new)
+        (Runs (one_round task.now.session.now task.now.seen.now task.now.draws agree session
+        (T.values inputs.now.claims.now) inputs.now.cards.now.manifest
+        inputs.now.cards.now.linked inputs.now.candidates.now))
+        (due result) }
+    ensures served { IsAccountedFor 1 (D.served desk.old) (D.served desk.new) (due result).status }
+{
+    if !agree {
+        return Err(refuse(alloc, RefusalKind::Input, task.session.as_str(), "S5"));
+    }
+    with_seen(alloc, desk, task, session, inputs)
 }

@@ -1,14 +1,12 @@
-// The files of a session: each has the digest that the session has of it, before it is read, and the session has their facts.
-ghost use Rattle.std.specs.Prelude.{◌≡◌, Ok, None, Some, IfOk, IfErr, IsTrue, IsFalse};
+// The files of a session: each has the digest that the session has of it, before it is read.
+ghost use Rattle.std.specs.Prelude.{◌≡◌, Ok, None, IfOk, IfErr};
 ghost use Rattle.manifest.specs.Linked.{first_without_card, linked_of};
-ghost use Rattle.cli_base.specs.Due.{due_refusal};
-ghost use Rattle.input_files.specs.Judged.{IsJudged, IsStopped, IsTold};
-ghost use Rattle.session_rounds.specs.Refusals.{other_facts};
+ghost use Rattle.input_files.specs.Judged.{IsJudged, IsStopped};
 ghost use Rattle.session_rounds.specs.Rounds.{same_ballots, same_manifest};
 
 use crate::digests::same_digest;
 use ballot_reader::Ballots;
-use cli_base::{Refusal, RefusalKind, refuse};
+use cli_base::Refusal;
 use command::FileName;
 use input_files::{Cards, ballots_in, cards_for};
 use session_state::Session;
@@ -47,17 +45,4 @@ pub fn same_manifest(
 {
     same_digest(alloc, manifest, &session.digests().manifest, bytes)?;
     cards_for(alloc, name, ballots, manifest, bytes)
-}
-
-/// The session in a file with this name is refused where its facts don't agree with those of the other files.
-pub fn with_facts(alloc: Global, name: &FileName, agree: bool) -> Result<(), Refusal>
-    ensures agree { IfOk result (λ _. IsTrue agree) }
-    ensures differ { IfErr result (λ _. IsFalse agree) }
-    ensures refused { IfErr result (λ refusal.
-        IsTold (Some (other_facts name.now)) (due_refusal refusal)) }
-{
-    if agree {
-        return Ok(());
-    }
-    Err(refuse(alloc, RefusalKind::Input, name.as_str(), "S5"))
 }

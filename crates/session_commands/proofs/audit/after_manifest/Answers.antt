@@ -1,19 +1,14 @@
-use Rattle.std.proofs.Common.{◌≡◌, ◌≢◌, refl, inr, Ok, None, IfSome, ap, is_none, length, subst, sym, ◌∙◌}
+use Rattle.std.proofs.Common.{◌≢◌, refl, inr, Ok, IfSome, ap, is_none, subst, sym, ◌∙◌}
 use Rattle.std.proofs.lemmas.Result.{err_from_is_err_and}
-use Rattle.manifest.specs.Cards.{cards_of}
-use Rattle.assertion_file.specs.Content.{margins_of}
 use Rattle.cli_base.specs.Due.{due, due_refusal, IsOneOrMemory}
 use Rattle.cli_base.proofs.Steps.{accounted_on, ended_accounted}
 use Rattle.check_command.specs.Check.{Checks}
-use Rattle.session_commands.specs.Audit.{same_assertions, same_facts, after_assertions, after_check, after_facts}
-use Rattle.session_rounds.specs.Refusals.{without_facts}
-use Rattle.input_files.specs.Judged.{unless, IsStopped, IsTold}
+use Rattle.session_commands.specs.Audit.{same_assertions, after_assertions, after_check}
+use Rattle.input_files.specs.Judged.{IsStopped}
 use Rattle.cli_base.proofs.Statuses.{differ, status_in}
 use Rattle.session_commands.proofs.Audits.{assertions-only}
-use Rattle.session_rounds.proofs.OneRound.{facts-only}
-use Rattle.session_commands.proofs.Checked.{accepted_now, accepted_on, checked_now}
-use Rattle.input_files.proofs.Going.{judged_on, stopped_now, read_last, read_on, read_stopped, raised, stopped_accounted, unless-only}
-use Rattle.input_files.proofs.Judging.{unless_passed, unless_stopped}
+use Rattle.session_commands.proofs.Checked.{accepted_on, checked_now}
+use Rattle.input_files.proofs.Going.{read_last, read_on, read_stopped, raised, stopped_accounted}
 use Rattle.cli_base.proofs.Begun.{memory_now, stopped_at}
 use Rattle.session_commands.proofs.audit.after_manifest.Goals as goal
 
@@ -69,38 +64,6 @@ returns-in-Some-clause-served g c =
     (ended_accounted _ _ verdicts (due (Ok c.in-Some.answer))
     (subst (λ found. IfSome found (λ answer. IsOneOrMemory verdicts (due (Ok answer)))) c.in-Some.is c.in_ok-answer.ensures.other) c.in_ok-bytes.ensures.served)
 
-pub returns-in_err-same_facts-clause-due : goal.returns-in_err-same_facts-clause-due
-returns-in_err-same_facts-clause-due g c =
-    let task = c.args.task.now in
-    let session = c.args.session in
-    let ballots = c.args.ballots.now in
-    let batches = c.args.cards.now.manifest in
-    let judged = same_assertions task session in
-    let file = c.in_ok-file.file in
-    let is = ap judged (sym c.deref.ensures.value) ∙ c.in_ok-file.ensures in
-    let refusal = c.in_err-same_facts.field-0.0 in
-    let wrong = without_facts task.session session (length (cards_of batches)) file.contest (margins_of file) in
-    let told : IsTold wrong (due_refusal refusal) =
-    subst (λ cards. IsTold (without_facts task.session session cards file.contest (margins_of file)) (due_refusal refusal)) c.cards.ensures.all c.in_err-same_facts.ensures.refused in
-    let yes = c.in_ok-answer.ensures.accepted ∙ ap is_none c.in_default.is in
-    let p = err_from_is_err_and c.from_residual-in_err-same_facts.result c.from_residual-in_err-same_facts.ensures.1 in
-    rw (p.1, p.2)
-    (read_last _ _ _ _ c.in_ok-bytes.bytes.items judged (λ bytes. after_assertions task session ballots batches) c.in_ok-bytes.ensures.begun c.in_ok-bytes.ensures.read file
-    (due_refusal refusal) is
-    (accepted_now task.budget ballots file (after_check task session ballots batches file) (due_refusal refusal) yes
-    (stopped_now (same_facts task session batches file) (λ same. after_facts task same ballots batches file) refusal
-    (unless_stopped wrong (Ok session) refusal told))))
-
-pub returns-in_err-same_facts-clause-served : goal.returns-in_err-same_facts-clause-served
-returns-in_err-same_facts-clause-served g c =
-    let refusal = c.in_err-same_facts.field-0.0 in
-    let wrong = without_facts c.args.task.now.session c.args.session c.cards.result c.in_ok-file.file.contest (margins_of c.in_ok-file.file) in
-    let p = err_from_is_err_and c.from_residual-in_err-same_facts.result c.from_residual-in_err-same_facts.ensures.1 in
-    rw (p.1, p.2)
-    (stopped_accounted 1 _ _ (unless wrong (Ok c.args.session)) refusal
-    (unless-only wrong (Ok c.args.session) (facts-only c.args.task.now.session c.args.session c.cards.result c.in_ok-file.file.contest (margins_of c.in_ok-file.file)) tt)
-    (unless_stopped wrong (Ok c.args.session) refusal c.in_err-same_facts.ensures.refused) c.in_ok-bytes.ensures.served)
-
 pub returns-clause-due : goal.returns-clause-due
 returns-clause-due g c =
     let task = c.args.task.now in
@@ -110,18 +73,14 @@ returns-clause-due g c =
     let judged = same_assertions task session in
     let file = c.in_ok-file.file in
     let is = ap judged (sym c.deref.ensures.value) ∙ c.in_ok-file.ensures in
-    let wrong = without_facts task.session session (length (cards_of batches)) file.contest (margins_of file) in
-    let right : wrong ≡ None = ap (λ cards. without_facts task.session session cards file.contest (margins_of file)) (sym c.cards.ensures.all) ∙ c.in_ok-same_facts.ensures.same in
     let yes = c.in_ok-answer.ensures.accepted ∙ ap is_none c.in_default.is in
     read_on _ _ _ _ c.in_ok-bytes.bytes.items judged (λ bytes. after_assertions task session ballots batches) c.in_ok-bytes.ensures.begun c.in_ok-bytes.ensures.read _ _ file
-    (due c.after_facts.result)
-    c.in_ok-bytes.ensures.held c.in_ok-bytes.ensures.later c.after_facts.ensures.later is
-    (accepted_on task.budget ballots file _ (after_check task session ballots batches file) (due c.after_facts.result) yes
-    (judged_on _ (same_facts task session batches file) (λ same. after_facts task same ballots batches file) session (due c.after_facts.result)
-    (unless_passed wrong (Ok session) right) c.after_facts.ensures.due))
+    (due c.after_check.result)
+    c.in_ok-bytes.ensures.held c.in_ok-bytes.ensures.later c.after_check.ensures.later is
+    (accepted_on task.budget ballots file _ (after_check task session ballots batches file) (due c.after_check.result) yes c.after_check.ensures.due)
 
 pub returns-clause-served : goal.returns-clause-served
-returns-clause-served g c = accounted_on _ _ _ _ c.in_ok-bytes.ensures.served c.after_facts.ensures.served
+returns-clause-served g c = accounted_on _ _ _ _ c.in_ok-bytes.ensures.served c.after_check.ensures.served
 
 pub returns-in_err-bytes-clause-due : goal.returns-in_err-bytes-clause-due
 returns-in_err-bytes-clause-due g c =

@@ -15,10 +15,10 @@ pub returns-clause-due : goal.returns-clause-due
 returns-clause-due g c =
     let task = c.args.task.now in
     let words = told (refused_seen task.seen.now) in
-    let cards = c.args.cards.now in
-    let candidates = c.args.candidates.now in
+    let cards = c.args.inputs.now.cards.now in
+    let candidates = c.args.inputs.now.candidates.now in
     read_last _ _ _ _ c.in_ok-bytes.bytes.items (λ bytes. words (seen_of cards.manifest candidates bytes))
-    (λ bytes entries. Ends (GoesOn task.session.now task.seen.now task.draws c.args.session (g.T.Claims.values c.args.claims.now)
+    (λ bytes entries. Ends (GoesOn task.session.now task.seen.now task.draws c.args.session (g.T.Claims.values c.args.inputs.now.claims.now)
     (record { recorded = cards.linked; entries = entries })))
     c.in_ok-bytes.ensures.begun c.in_ok-bytes.ensures.read c.in_ok-seen.seen (due c.go_on.result)
     (ap (λ bytes. words (seen_of cards.manifest candidates bytes)) (sym c.deref.ensures.value) ∙ c.in_ok-seen.ensures)
@@ -28,21 +28,21 @@ pub returns-clause-served : goal.returns-clause-served
 returns-clause-served g c =
     let task = c.args.task.now in
     ended_accounted _ _
-    (GoesOn task.session.now task.seen.now task.draws c.args.session (g.T.Claims.values c.args.claims.now)
-    (record { recorded = c.args.cards.now.linked; entries = c.in_ok-seen.seen }))
+    (GoesOn task.session.now task.seen.now task.draws c.args.session (g.T.Claims.values c.args.inputs.now.claims.now)
+    (record { recorded = c.args.inputs.now.cards.now.linked; entries = c.in_ok-seen.seen }))
     (due c.go_on.result) c.go_on.ensures c.in_ok-bytes.ensures.served
 
 pub returns-in_err-seen-clause-due : goal.returns-in_err-seen-clause-due
 returns-in_err-seen-clause-due g c =
     let task = c.args.task.now in
     let words = told (refused_seen task.seen.now) in
-    let cards = c.args.cards.now in
-    let candidates = c.args.candidates.now in
+    let cards = c.args.inputs.now.cards.now in
+    let candidates = c.args.inputs.now.candidates.now in
     let refusal = c.in_err-seen.field-0.0 in
     let p = err_from_is_err_and c.from_residual-in_err-seen.result c.from_residual-in_err-seen.ensures.1 in
     rw (p.1, p.2)
     (read_stopped _ _ _ _ c.in_ok-bytes.bytes.items (λ bytes. words (seen_of cards.manifest candidates bytes))
-    (λ bytes entries. Ends (GoesOn task.session.now task.seen.now task.draws c.args.session (g.T.Claims.values c.args.claims.now)
+    (λ bytes entries. Ends (GoesOn task.session.now task.seen.now task.draws c.args.session (g.T.Claims.values c.args.inputs.now.claims.now)
     (record { recorded = cards.linked; entries = entries })))
     c.in_ok-bytes.ensures.begun c.in_ok-bytes.ensures.read refusal
     (subst (λ bytes. IsStopped (words (seen_of cards.manifest candidates bytes)) refusal) c.deref.ensures.value c.in_err-seen.ensures))
@@ -50,7 +50,7 @@ returns-in_err-seen-clause-due g c =
 pub returns-in_err-seen-clause-served : goal.returns-in_err-seen-clause-served
 returns-in_err-seen-clause-served g c =
     let words = refused_seen c.args.task.now.seen.now in
-    let read = seen_of c.args.cards.now.manifest c.args.candidates.now c.deref.result.now in
+    let read = seen_of c.args.inputs.now.cards.now.manifest c.args.inputs.now.candidates.now c.deref.result.now in
     let p = err_from_is_err_and c.from_residual-in_err-seen.result c.from_residual-in_err-seen.ensures.1 in
     rw (p.1, p.2) (stopped_accounted 0 _ _ (told words read) c.in_err-seen.field-0.0
     (told-only words read (λ why. tt)) c.in_err-seen.ensures c.in_ok-bytes.ensures.served)

@@ -65,6 +65,8 @@ REFUSED = [
     ("no candidate of the contest", HEAD + b"1,t_1,1,4\n", "B8 at 3"),
     ("a candidate of the other contest", TWO + b"1,t_1,3\n\n2,t_1,3\n", "B8 at 5", "--contest", "1"),
     ("a ballot's id twice", HEAD + b"1,t_1,1\n1,t_1,2\n", "B9 at 4"),
+    ("a ballot's id twice, with a space in it", HEAD + b"1,t 00001,1\n1,t 00001,2\n", "B9 at 4"),
+    ("an id twice, behind one with another front", HEAD + b"1,a_00001,1\n1,b_00001,2\n1,a_00001,2\n", "B9 at 5"),
     ("a ballot's id twice, once in quotes", HEAD + b'1,t_1,1\r\n\r\n1,"t_1",2\r\n', "B9 at 4"),
     ("twice comes before its preferences", HEAD + b"1,t_1,1\n1,t_1,9\n", "B9 at 4"),
     ("its id comes before its contest", HEAD + b"9,,1\n", "B4 at 3"),

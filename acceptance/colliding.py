@@ -134,9 +134,9 @@ def ballots(runs):
     write_ballots("honest", honest)
     write_ballots("colliding", colliding)
     runs.pair("ids of ballots", ["tabulate", "honest"], ["tabulate", "colliding"])
-    write_ballots("honest", honest[:-1] + honest[:1])
-    write_ballots("colliding", colliding[:-1] + colliding[:1])
-    runs.pair("ids of ballots, the last repeats the first", ["tabulate", "honest"], ["tabulate", "colliding"])
+    write_ballots("honest", honest[:-1] + honest[1:2])
+    write_ballots("colliding", colliding[:-1] + colliding[1:2])  # the first alone has the page of them all
+    runs.pair("ids of ballots, the last repeats the second", ["tabulate", "honest"], ["tabulate", "colliding"])
     write("honest", ["2\nContest,1,2,a,b\nContest,2,2,a,b\n1,x,a\n", *(f"2,{ballot},a\n" for ballot in honest[:-1])])
     write("colliding", ["2\nContest,1,2,a,b\nContest,2,2,a,b\n1,x,a\n", *(f"2,{ballot},a\n" for ballot in colliding[:-1])])
     runs.pair("ids of ballots of another contest", ["tabulate", "honest", "--contest=1"], ["tabulate", "colliding", "--contest=1"])

@@ -5,6 +5,7 @@ acceptance/hints.py PROGRAM makes files that break a rule each, and compares the
 standard output and the program's own line have to stay as they are, also where the line can't be made. The last line says how many
 came out as they should.
 """
+import errno
 import json
 import os
 import re
@@ -19,6 +20,7 @@ import walk
 TOP = os.path.dirname(os.path.dirname(os.path.abspath(__file__)))
 sys.path.append(os.path.join(TOP, "hints"))
 
+import rules  # noqa: E402
 import table  # noqa: E402
 
 POINTER = "./raire help tells the commands, ./raire help COMMAND the files and options of one"
@@ -62,6 +64,8 @@ OF_BALLOTS = [
     ("1\nContest,9,2,Ann,Ann\n", "B4", '"Ann" stands twice. Record 2, line 2: Contest,9,2,Ann,Ann'),
     (HEAD + "9,,Ann\n", "B4", "The id is empty. Record 3, line 3: 9,,Ann"),
     (HEAD + f"9,{'b' * 65},Ann\n", "B4", f'"{"b" * 65}" has 65 bytes, and 64 are the most. Record 3, line 3: 9,{"b" * 65},Ann'),
+    (HEAD + "9,b\x01,Ann\n", "B4", r'"b\x01" is no id. Record 3, line 3: 9,b\x01,Ann'),
+    (HEAD + "9,Zo\xeb\x7f,Ann\n", "B4", r'"Zoë\x7f" is no id. Record 3, line 3: 9,Zoë\x7f,Ann'),
     (HEAD + '9,b_1,Ann\n9,"b_2,Ben\n9,b_3,Ann\n', "B4",
      '"b_2,Ben\\n9,b_3,Ann" is no id. A quote in line 4 isn\'t closed in that line. Record 4, line 4: 9,"b_2,Ben\\n9,b_3,Ann'),
     (HEAD + '9,"b\r1",Ann\n', "B4", '"b\\r1" is no id. A quote in line 3 isn\'t closed in that line. Record 3, line 3: 9,"b\\r1",Ann'),
@@ -72,12 +76,16 @@ OF_BALLOTS = [
     (HEAD + "Contest,8,2,Cy,Di\n", "B7", "The number of contests in the first record, 1, is too small. Record 3, line 3: Contest,8,2,Cy,Di"),
     (HEAD + "9,b_1,Ben,ANN\n", "B8", '"ANN" is no candidate; the contest has "Ann". Record 3, line 3: 9,b_1,Ben,ANN'),
     (HEAD + "9,b_1,Ben\r9,b_2,\x1b[2J\r", "B8", r'"\x1b[2J" is no candidate; the contest has "Ann", "Ben". Record 4, line 4: 9,b_2,\x1b[2J'),
+    ("1\nContest,9,2,A\\x01n,Ben\n9,b_1,A\x01n\n", "B8", r'"A\x01n" is no candidate; the contest has "A\x01n", "Ben". Record 3, line 3: 9,b_1,A\x01n'),
     (HEAD + "9,b_1,Ben\n\n9,b_1,Ann\n", "B9", '"b_1" stood in record 3, line 3. Record 4, line 5: 9,b_1,Ann'),
 ]
 # A manifest, by `sample`.
 OF_MANIFEST = [
     ("Batch,Cards\nb,3\n", "M1", 'It begins with "Batch,Cards"; its letters have to be small'),
     ("batch,number\nb,3\n", "M1", 'It begins with "batch,number"'),
+    ("batch,cards,\nb,3,\n", "M1", 'It begins with "batch,cards,"; a comma too many stands behind cards'),
+    ("Batch,cards, ,\nb,3\n", "M1", 'It begins with "Batch,cards, ,"; its letters have to be small; 2 commas too many stand behind cards'),
+    ("batch,cards,place\nb,3,hall\n", "M1", 'It begins with "batch,cards,place"; "place" stands behind them'),
     (BALLOTS, "M1", 'It begins with "1", as a ballot file does'),
     ("batch;cards\nb;3\n", "M1", 'It begins with "batch;cards"; its semicolons have to be commas'),
     ("batch,cards\nb;3\n", "M2", "It has 1 field; its semicolons have to be commas. Record 2, line 2: b;3"),
@@ -133,18 +141,22 @@ OF_ASSERTIONS = [
         (('"version":2', '"version":5000000000'), "F2", f'Its "version" is 5000000000, and 0 to {MOST_NUMBER}, in digits alone, is looked for'),
         (('"version":2', '"version":"2"'), "F2", f'Its "version" is "2", and 0 to {MOST_NUMBER}, in digits alone, is looked for'),
         (('"draws":null,', '"draws":0,'), "F6", f'Its draws are 0. Assertion 1: {{"draws":0,{CLAIM[1:]}'),
-        (('"draws":null,', '"draws":100001,'), "F6", f'Its draws are 100,001. Assertion 1: {{"draws":100001,{CLAIM[1:]}'),
-        (('"cards":4', '"cards":2'), "F6", "It says 2 cards for 3 records"), (('"cards":4', '"cards":10000001'), "F6", "It says 10,000,001 cards"),
+        (('"draws":null,', '"draws":100001,'), "F6", f'Its draws are 100001. Assertion 1: {{"draws":100001,{CLAIM[1:]}'),
+        (('"cards":4', '"cards":2'), "F6", "It says 2 cards for 3 records"), (('"cards":4', '"cards":10000001'), "F6", "It says 10000001 cards"),
         (('"limit":50000', '"limit":0'), "F6", "Its limit is 0, and 1 to 999999 is looked for"),
         (('"gamma":100', '"gamma":501'), "F6", "Its gamma is 501, and 1 to 500 is looked for"),
     ]],
     (CHANGED('"records":3', '"records":5'), "F7", "The assertions are about 5 ballots, and the manifest has 4 cards"),
 ]
+OF_CONTESTS = 'The contest\'s id stands between the card and "{}": such a file is for ./raire contests alone'
 # Seen cards, by `audit` and by `poll` with four draws, of cards 1, 2, 3 and 4 (seed 10).
 OF_SEEN = [
     (BALLOTS, "V1", 'It begins with "1", as a ballot file does'),
     ("b_1;ballot\n", "V1", "It has 1 field; its semicolons have to be commas. Record 1, line 1: b_1;ballot"),
     ("b_1,ballots,Ann\n", "V1", '"ballots" is no word of a seen card; nearly right is "ballot". Record 1, line 1: b_1,ballots,Ann'),
+    ("b_1,Ann,ballots\n", "V1", '"Ann" is no word of a seen card; they are "ballot", "missing". Record 1, line 1: b_1,Ann,ballots'),
+    ("b_1,9,ballot,Ann\n", "V1", f'{OF_CONTESTS.format("ballot")}. Record 1, line 1: b_1,9,ballot,Ann'),
+    (SEEN + "b_2,ballots,missing\n", "V1", f'{OF_CONTESTS.format("missing")}. Record 2, line 2: b_2,ballots,missing'),
     ("b_1,missing,Ann\n", "V1", '"Ann" stands behind missing. Record 1, line 1: b_1,missing,Ann'),
     ("b_01,ballot\n", "V2", '"b_01" has a zero in front of its number; there is "b_1". Record 1, line 1: b_01,ballot'),
     ("B_1,ballot\n", "V2", '"B" is no batch; the manifest has "b". Record 1, line 1: B_1,ballot'),
@@ -175,6 +187,7 @@ OF_WORDS = [
     *[([script, "x"], f'"{script}" is no command; it is a script of its own: ./{script}') for script in SCRIPTS],
     (["audit", "--draw", "5"], '"--draw" is no option of audit; nearly right is "--draws"'),
     (["search", "-x", "b"], '"-x" is no option of search; it has --contest, --workers, --nodes, --sets, --floor, --cards, --limit, --gamma'),
+    (["search", "---sets", "1"], '"---sets" is no option of search; nearly right is "--sets"'),
     (["search", "--help"], '"--help" is no option of search; its page: ./raire help search'),
     (["report", "s", "-h"], '"-h" is no option of report; its page: ./raire help report'),
     (["search", "-"], '"-" is no file; standard input is the file /dev/stdin'),
@@ -260,8 +273,10 @@ def rules_are_told(tried):
     stand = {match[1] for cells in table.rows("faults.md") if len(cells) == 4 and (match := table.KEYS.match(cells[1]))}
     tried.see("each rule stands in faults.md", rules == {key for key in stand if re.fullmatch("[BFMSV][0-9]+", key)}, sorted(stand))
     known = {name: number for name, number in vars(limits).items() if name.isupper()}
-    for rule in ("M3", "M5"):
-        tried.see(f"a number stands in {rule} as in a manifest", re.search("[0-9]{7}", table.causes()[rule]) and not re.search("[0-9],[0-9]", table.causes()[rule]))
+    for rule, cause in table.causes().items():
+        tried.see(f"a number stands in {rule} as in a file", not re.search("[0-9],[0-9]", cause), cause)
+    for rule in ("B10", "F6", "M3", "M5", "too long"):
+        tried.see(f"the limit stands in {rule}", re.search("[0-9]{7}", table.causes()[rule]), table.causes()[rule])
     for name, number in table.limits().items():
         tried.see(f"{name} is {number}", known.get(name, int(number.replace(",", ""))) == int(number.replace(",", "")))
 
@@ -300,6 +315,10 @@ def audits_are_told(tried):
     tried.breaks("seen.csv", SEEN, "V4", told, "poll", *files[1:], "seen.csv", "--seed=10", "--draws=9")
     swapped = ["audit", "open.json", "manifest.csv", "ballots.raire", "assertions.json", "seen.csv", "--draws=9"]
     tried.says(swapped, f'S2: {table.causes()["S2"]}. "ballots.raire" has the first digest; see the order of the files. {END}')
+    write("changed.json", session.decode().replace('"contest":"9"', '"contest":"8"'))
+    told = f'B5: {table.causes()["B5, of a session"]}. The session is of contest "8", and the file has "9". {END}'
+    status, err = tried.says(["audit", "changed.json", *files, "seen.csv", "--draws=9"], told)
+    tried.see("a session of another contest is B5", status == 2 and err == "raire: ballots.raire: B5 at 1\n", err)
     write("other.json", ASSERTIONS)
     tried.says(["report", "other.json"], f"S1: {table.causes()['S1']}. It is an assertion file. {END}")
     write("again.json", "")
@@ -329,6 +348,11 @@ def pluralities_are_told(tried):
     write("first.json", session.decode())
     tried.breaks("seen.csv", "b_1,ballot,Anne\n", "V5", '"Anne" is no candidate; the contest has "Ann". Record 1, line 1: b_1,ballot,Anne',
                  "plurality", "first.json", *files, "seen.csv", "--draws=4")
+    tried.breaks("seen.csv", "b_1,9,missing\n", "V1", f'{OF_CONTESTS.format("missing")}. Record 1, line 1: b_1,9,missing',
+                 "plurality", "first.json", *files, "seen.csv", "--draws=4")
+    write("changed.json", session.decode().replace('"contest":"9"', '"contest":"8"'))
+    told = f'B5: {table.causes()["B5, of a session"]}. The session is of contest "8", and the file has "9". {END}'
+    tried.says(["plurality", "changed.json", *files, "seen.csv", "--draws=4"], told)
     head = f"S2: {table.causes()['S2']}."
     told = "The session was opened with an assertion file; audit goes on with it"
     tried.says(["plurality", "open.json", *files, "seen.csv", "--draws=4"], f"{head} {told}. {END}")
@@ -341,10 +365,34 @@ def words_are_told(tried):
         write(name, "")
     for words, told in OF_WORDS:
         tried.says(words, f"{told}. {POINTER}")
+    paths_are_told(tried)
+
+
+def paths_are_told(tried):
+    """Of a path that leads to no file, and of a file that can't be read, the true cause."""
     tried.says(["tabulate", "ballot.raire"], f'no such file: {table.causes()["no such file"]}. Nearly right is "ballots.raire". {END}')
-    tried.says(["tabulate", "."], f'read fault: {table.causes()["read fault"]}. It is a folder. {END}')
-    for path in ("ballots.raire/x", "ballots.raire/x/y"):
-        tried.says(["tabulate", path], f'read fault: {table.causes()["read fault"]}. "ballots.raire" is a file, and no folder. {END}')
+    os.symlink("nowhere", "dangling")
+    tried.says(["tabulate", "dangling"], f'no such file: {table.causes()["no such file"]}. It is a link, and where it leads there is no file. {END}')
+    tried.says(["tabulate", "dangling/x"], f'no such file: {table.causes()["no such file"]}. There is no folder "dangling". {END}')
+    write("odd\\x01", "")
+    tried.says(["tabulate", "odd\x01"], f'no such file: {table.causes()["no such file"]}. {END}')
+    os.symlink("circle", "circle")
+    faults = {
+        ".": "It is a folder", "ballots.raire/x": '"ballots.raire" is a file, and no folder', "ballots.raire/x/y": '"ballots.raire" is a file, and no folder',
+        "b" * 300: "Its name is longer than the system takes", "b/" * 3_000: "Its name is longer than the system takes",
+        **dict.fromkeys(("circle", "circle/x"), "Its links lead in a circle, or are more than the system follows"),
+        "/proc/self/mem": f"The system says: {os.strerror(errno.EIO)}",
+    }
+    no_right = "You have no right to read it, or to go through a folder of its path"
+    tried.see("a right that is missing is told", rules.why_unreadable("x", errno.EACCES) == no_right)
+    write("closed.raire", BALLOTS)
+    os.chmod("closed.raire", 0)
+    for path, told in {**faults, **({"closed.raire": no_right} if os.geteuid() else {})}.items():
+        tried.says(["tabulate", path], f'read fault: {table.causes()["read fault"]}. {told}. {END}')
+    write("large.raire", "")
+    os.truncate("large.raire", limits.MOST_FILE_BYTES + 1)
+    tried.says(["tabulate", "large.raire"], f'too long: {table.causes()["too long"]}. It has {limits.MOST_FILE_BYTES + 1} bytes, and {limits.MOST_FILE_BYTES} are the most. {END}')
+    os.remove("large.raire")
 
 
 def budgets_are_told(tried):

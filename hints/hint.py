@@ -61,7 +61,7 @@ def found(call, path, said):
     if rule in ("B1", "M1"):
         return [rules.begins(data, "a ballot file" if rule == "B1" else "a manifest")]
     if rule == "B5":
-        return rules.contest_asked_for(data, contest_of(call))
+        return rules.contest_of_session(data, contest_of(call)) if "SESSION" in files else rules.contest_asked_for(data, contest_of(call))
     if rule == "B11":
         return rules.more_ballots(data, contest_of(call), call.options["cards"])
     if rule == "M7":
@@ -149,8 +149,8 @@ def sentences(program, status, line):
     path, said = refusal_in(told_by(program, line, status) or "", call)
     if path is None:
         return []
-    key = said if said in FOUND else said.split()[0]
-    head = f"{key}: {table.causes()[key]}"
+    key, causes = said if said in FOUND else said.split()[0], table.causes()
+    head = f"{key}: {causes.get(key + table.OF_A_SESSION * ('SESSION' in call.files), causes[key])}"
     try:
         return [head, *(FOUND[key](path) if key in FOUND else found(call, path, said)), "What to do: docs/faults.md"]
     except (LookupError, TypeError, ValueError, AttributeError, StopIteration, OSError):

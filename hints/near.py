@@ -2,7 +2,7 @@
 import difflib
 import unicodedata
 
-from records import has_line_end, quoted, shown
+from records import decoded, quoted, shown
 
 MOST_NAME_BYTES = 64
 MOST_LOOKED_AT = 5_000
@@ -21,24 +21,32 @@ def letters(text):
 
 
 def nearest(text, names):
-    """The one of these names that was probably meant, or None."""
-    names = list(names)[:MOST_LOOKED_AT]
+    """The one of these names that was probably meant, or None: never one that looks as the text does."""
+    names = [name for name in list(names)[:MOST_LOOKED_AT] if quoted(name) != quoted(text)]
     alike = [name for name in names if letters(name) == letters(text) != ""]
     return next(iter(alike or difflib.get_close_matches(text, names, 1, ALIKE)), None)
 
 
+def meant(text, names, else_told, dashes=""):
+    """What is nearly right, or what else is told."""
+    near = nearest(text, names)
+    return f"nearly right is {quoted(dashes + near)}" if near else else_told
+
+
 def in_plain_letters(text):
-    """An id that could be written for this text, or None."""
+    """An id that could be written for this text, or None. Of a text that no line can show nobody knows what was meant."""
+    if not decoded(text).isprintable():
+        return None
     plain = unicodedata.normalize("NFKD", shown(text, 1_000)).encode("ascii", "ignore").decode()
-    plain = " ".join("".join(" " if c in ',"' or not c.isprintable() else c for c in plain).split())
+    plain = " ".join("".join(" " if c in ',"' else c for c in plain).split())
     return plain if is_id(plain) else None
 
 
 def why_no_id(text, most=MOST_NAME_BYTES):
-    """Why this text is no id of so many bytes at most. One of several lines was none that somebody meant, so nothing is offered for it."""
+    """Why this text is no id of so many bytes at most."""
     if text == "":
         return "The id is empty"
     if len(text) > most:
         return f"{quoted(text)} has {len(text)} bytes, and {most} are the most"
-    plain = None if has_line_end(text) else in_plain_letters(text)
+    plain = in_plain_letters(text)
     return f"{quoted(text)} is no id" + (f'; "{plain}" would be one' if plain else "")

@@ -54,13 +54,17 @@ def has_line_end(text):
     return "\n" in text or "\r" in text
 
 
-def shown(text, most=120):
-    """A text of a file on one line: as UTF-8 where it is that, nothing that a terminal obeys, and no longer than `most`."""
+def decoded(text):
+    """A text of a file as UTF-8, where it is that."""
     try:
-        text = text.encode("latin-1").decode("utf-8")
+        return text.encode("latin-1").decode("utf-8")
     except UnicodeError:
-        pass
-    text = "".join(c if c.isprintable() else c.encode("unicode_escape").decode() for c in text.rstrip("\r\n"))
+        return text
+
+
+def shown(text, most=120):
+    """A text of a file on one line: nothing that a terminal obeys, and no longer than `most`."""
+    text = "".join(c if c.isprintable() else c.encode("unicode_escape").decode() for c in decoded(text).rstrip("\r\n"))
     return text if len(text) <= most else text[: most - 2] + ".."
 
 

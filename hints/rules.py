@@ -3,13 +3,14 @@
 It judges no file: that a rule is broken, and where, the program has said. Each function answers some sentences, of the files that
 the call names and the place that the program told.
 """
+import errno
 import hashlib
 import json
 import os
 import re
 import sys
 
-from near import is_id, nearest, why_no_id
+from near import is_id, meant, nearest, why_no_id
 from records import has_line_end, listed, quoted, record_at, records, shown
 from table import limits
 
@@ -52,7 +53,7 @@ def begins(data, wanted):
     told = f"It begins with {quoted(first.text if first else data[:60].decode('latin-1'))}"
     if kind and kind != wanted:
         return told + f", as {kind} does"
-    return told + (semicolons(first) or no_header(first, wanted) or capitals(first, wanted))
+    return told + (semicolons(first) or no_header(first, wanted) or nearly_a_manifest(first, wanted))
 
 
 def semicolons(record):
@@ -66,10 +67,15 @@ def no_header(record, wanted):
     return "; a ballot file has no header: its first record is the number of contests" if is_header else ""
 
 
-def capitals(record, wanted):
-    """M1"""
-    is_meant = wanted == "a manifest" and record and [text.lower() for text in record.fields] == ["batch", "cards"]
-    return "; its letters have to be small" if is_meant else ""
+def nearly_a_manifest(record, wanted):
+    """M1 of a record that begins with the two words."""
+    words, more = (record.fields[:2], record.fields[2:]) if record else ([], [])
+    if wanted != "a manifest" or [word.lower() for word in words] != ["batch", "cards"]:
+        return ""
+    told = "" if words == ["batch", "cards"] else "; its letters have to be small"
+    if more and not any(more):
+        return told + ("; a comma too many stands" if len(more) == 1 else f"; {len(more)} commas too many stand") + " behind cards"
+    return told + (f"; {quoted(','.join(more))} stands behind them" if more else "")
 
 
 def json_members(data):
@@ -81,7 +87,7 @@ def json_members(data):
 
 
 def plural(number, one):
-    return f"{number:,} {one}{'s' * (number != 1)}"
+    return f"{number} {one}{'s' * (number != 1)}"
 
 
 def most_of(name):
@@ -157,8 +163,13 @@ def contest_asked_for(data, asked):
     told = f"The file has the contests {listed(list(heads))}"
     if asked is None:
         return [told, "--contest says which is meant"]
-    near = nearest(asked, heads)
-    return [told, f"{quoted(asked)} is none of them" + (f"; nearly right is {quoted(near)}" if near else "")]
+    near = meant(asked, heads, "")
+    return [told, f"{quoted(asked)} is none of them" + (f"; {near}" if near else "")]
+
+
+def contest_of_session(data, name):
+    """B5 where the contest is that of a session"""
+    return [f"The session is of contest {quoted(name)}, and the file has {listed(list(heads_of(data)))}"]
 
 
 def short_ballot(data, at):
@@ -281,10 +292,13 @@ def seen_record(data, at, has_contest):
         return [begins(data, "a file of seen cards")]
     if has_contest and fields[1:2] and fields[1] in WORDS:
         told = f"The contest's id is missing between the card and {quoted(fields[1])}"
+    elif not has_contest and fields[2:3] and fields[1] not in WORDS and fields[2] in WORDS:
+        told = f"The contest's id stands between the card and {quoted(fields[2])}: such a file is for ./raire contests alone"
     elif len(fields) < 2 + has_contest:
         told = f"It has {plural(len(fields), 'field')}" + (", and 3 are wanted at least" if has_contest else "") + semicolons(record)
     elif fields[1 + has_contest] not in WORDS:
-        told = is_none("word of a seen card", fields[1 + has_contest], WORDS, "nearly right is")
+        word = fields[1 + has_contest]
+        told = f"{quoted(word)} is no word of a seen card; {meant(word, WORDS, 'they are ' + listed(WORDS))}"
     else:
         told = f"{quoted(next(text for text in fields[2 + has_contest:] if text))} stands behind missing"
     return [told, where(record)]
@@ -444,7 +458,7 @@ def wrong_margin(file, margin):
     if not 1 <= file["records"] <= most_of("MOST_RECORDS"):
         return f"It says {plural(file['records'], 'record')}"
     if margin > file["records"]:
-        return f"Its margin {margin:,} is above the {plural(file['records'], 'record')}"
+        return f"Its margin {margin} is above the {plural(file['records'], 'record')}"
     return None if margin else "Its margin is 0"
 
 
@@ -458,7 +472,7 @@ def wrong_terms(file):
         return f"It says {plural(file['cards'], 'card')}"
     most = {"gamma": most_of("GREATEST_GAMMA"), "limit": most_of("GREATEST_LIMIT")}
     name = next((name for name in most if not 1 <= file[name] <= most[name]), None)
-    return name and f"Its {name} is {file[name]:,}, and 1 to {most[name]} is looked for"
+    return name and f"Its {name} is {file[name]}, and 1 to {most[name]} is looked for"
 
 
 def wrong_draws(file, one):
@@ -467,7 +481,7 @@ def wrong_draws(file, one):
         return None
     if not is_counted(one["draws"]):
         return f"Its draws are {shown(json.dumps(one['draws']), 70)}, and null or 1 to {most_of('MOST_DRAWS')}, in digits alone, is looked for"
-    return None if 1 <= one["draws"] <= most_of("MOST_DRAWS") else f"Its draws are {one['draws']:,}"
+    return None if 1 <= one["draws"] <= most_of("MOST_DRAWS") else f"Its draws are {one['draws']}"
 
 
 def wrong_part(file, one):
@@ -535,6 +549,8 @@ def other_audit(command):
 # ---- files that can't be read
 
 def no_such_file(path):
+    if os.path.islink(path):
+        return ["It is a link, and where it leads there is no file"]
     folder = os.path.dirname(path) or "."
     if not os.path.isdir(folder):
         return [f"There is no folder {quoted(folder)}"]
@@ -543,15 +559,22 @@ def no_such_file(path):
 
 
 def unreadable(path):
-    if os.path.isdir(path):
-        return ["It is a folder"]
+    """Why a file can't be read, as the system says where it is read once more."""
     try:
-        os.stat(path)
-    except NotADirectoryError:
-        return [f"{quoted(file_before(path))} is a file, and no folder"]
-    except OSError:
-        pass
-    return [] if os.access(path, os.R_OK) else ["You have no right to read it"]
+        with open(path, "rb") as file:
+            file.read(most_of("MOST_FILE_BYTES") + 1)
+    except OSError as fault:
+        return [why_unreadable(path, fault.errno)]
+    return []
+
+
+def why_unreadable(path, fault):
+    told = {
+        errno.EISDIR: "It is a folder", errno.ENOTDIR: f"{quoted(file_before(path))} is a file, and no folder",
+        errno.EACCES: "You have no right to read it, or to go through a folder of its path", errno.EPERM: "You have no right to read it",
+        errno.ENAMETOOLONG: "Its name is longer than the system takes", errno.ELOOP: "Its links lead in a circle, or are more than the system follows",
+    }
+    return told.get(fault, f"The system says: {os.strerror(fault)}")
 
 
 def file_before(path):
@@ -563,4 +586,4 @@ def file_before(path):
 
 
 def size(path):
-    return [f"It has {os.path.getsize(path):,} bytes, and {limits()['MOST_FILE_BYTES']} are the most"]
+    return [f"It has {os.path.getsize(path)} bytes, and {most_of('MOST_FILE_BYTES')} are the most"]

@@ -5,7 +5,7 @@ import re
 DOCS = os.path.join(os.path.dirname(os.path.dirname(os.path.abspath(__file__))), "docs")
 # What the program says, and none of the tools beside it: a line of theirs begins with their name.
 KEYS = re.compile(r"`(?:raire: (?:<[a-z]+>: )?)?([BFMSV][0-9]+|bad words|no such file|too long|read fault)\b")
-COMMA_SEPARATED = "BMV"  # the rules of such files: a number with commas in it is none there
+OF_A_SESSION = ", of a session"  # a row about a call that has one
 
 
 def rows(page):
@@ -34,10 +34,9 @@ def in_words(cell, numbers):
 
 
 def causes():
-    """Of each rule, and of each line that names none, the cause. The first row that has it counts."""
-    found, numbers = {}, limits()
-    digits = {name: number.replace(",", "") for name, number in numbers.items()}
+    """Of each rule, and of each line that names none, the cause. The first row that has it counts. Numbers are written in digits alone, as in the files."""
+    found, digits = {}, {name: number.replace(",", "") for name, number in limits().items()}
     for cells in rows("faults.md"):
         if len(cells) == 4 and cells[0].isdigit() and (key := KEYS.match(cells[1])):
-            found.setdefault(key[1], in_words(cells[2], digits if key[1][0] in COMMA_SEPARATED else numbers))
+            found.setdefault(key[1] + OF_A_SESSION * cells[1].endswith(OF_A_SESSION), in_words(cells[2], digits))
     return found

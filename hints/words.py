@@ -3,7 +3,7 @@ import os
 import re
 from typing import NamedTuple
 
-from near import is_id, nearest
+from near import is_id, meant
 from records import quoted
 from table import DOCS
 
@@ -73,11 +73,6 @@ def is_value(name, option, text):
     return re.fullmatch("[0-9]{1,10}", text) is not None and option.low <= int(text) <= option.high
 
 
-def meant(text, names, else_told, dashes=""):
-    near = nearest(text, names)
-    return f"nearly right is {quoted(dashes + near)}" if near else else_told
-
-
 def call_of(words):
     """What the words ask for. The first word that is wrong is told."""
     commands = forms()
@@ -137,7 +132,8 @@ def option_in(word, rest, command, form):
         raise Wrong('"-" is no file; standard input is the file /dev/stdin')
     if not word.startswith("--") or name not in form.options:
         all_told = "it has " + (", ".join(f"--{name}" for name in form.options) or "none")
-        told = meant(name.strip("-"), form.options, all_told, "--")
+        bare = name.strip("-")
+        told = f'nearly right is "--{bare}"' if bare in form.options else meant(bare, form.options, all_told, "--")
         file = f"; the file of this name is {quoted(f'./{word}')}" if os.path.exists(word) else ""
         raise Wrong(f"{quoted(word)} is no option of {command}; {told}{file}")
     option = form.options[name]

@@ -1,5 +1,5 @@
 #!/usr/bin/env python3
-"""Tries the script ./raire: its help, what it says of bad words, and how it builds, with a stand-in for `rt`.
+"""Tries the script ./raire: its help and that of the scripts beside it, what it says of bad words, and how it builds, with a stand-in for `rt`.
 
 acceptance/script.py PROGRAM copies the script with crates.txt and docs/help to a folder of its own. There a stand-in
 notes what it is asked for, so that nothing is proved. The commands and links of README and docs/ are tried too. The
@@ -207,6 +207,25 @@ def pages_are_true():
                 yield f"{page}: {line}: {ran.stderr}", ran.returncode in (0, 3, 4, 5, 6, 10) or told
 
 
+def scripts_tell_their_help(folder):
+    """Each script at the top prints its page, also where Python has none of the libraries; what wants one says so."""
+    for library in ("ijson", "jinja2", "openpyxl"):
+        with open(os.path.join(folder, f"{library}.py"), "w") as file:
+            file.write("raise ImportError\n")
+    given = {**os.environ, "PYTHONPATH": folder, "PYTHONDONTWRITEBYTECODE": "1"}
+    for page in sorted(os.listdir(os.path.join(TOP, "docs", "help"))):
+        script = os.path.join(TOP, page.removesuffix(".txt"))
+        if os.path.isfile(script) and page != "raire.txt":
+            with open(os.path.join(TOP, "docs", "help", page)) as file:
+                wanted = (0, file.read(), "")
+            for word in ("--help", "-h", "help"):
+                ran = subprocess.run([script, word], capture_output=True, text=True, env=given)
+                yield f"{page} behind {word}: {ran}", (ran.returncode, ran.stdout, ran.stderr) == wanted
+    for name, words, told in (("show", ["x"], "show: templates are missing"), ("convert", ["plain", "x"], "convert: a library is missing")):
+        ran = subprocess.run([os.path.join(TOP, name), *words], capture_output=True, text=True, env=given)
+        yield f"{name} without its library: {ran}", (ran.returncode, ran.stdout) == (1, "") and ran.stderr.startswith(told)
+
+
 def options_are_told(program):
     """Each command has a page, and each option of a page is one of the command."""
     pages = os.path.join(TOP, "docs", "help")
@@ -234,9 +253,9 @@ def options_are_told(program):
 
 def main():
     failed = tried = 0
-    with tempfile.TemporaryDirectory() as folder:
+    with tempfile.TemporaryDirectory() as folder, tempfile.TemporaryDirectory() as without:
         copy = Copy(folder)
-        for cases in (helps(copy), builds(copy), minutes_left(), options_are_told(sys.argv[1]), pictures_are_drawn(), pages_are_true()):
+        for cases in (helps(copy), builds(copy), minutes_left(), scripts_tell_their_help(without), options_are_told(sys.argv[1]), pictures_are_drawn(), pages_are_true()):
             for shows, holds in cases:
                 tried += 1
                 if not holds:

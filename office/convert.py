@@ -16,7 +16,7 @@ from convert_export import chosen, NAME, told
 from convert_rules import Rules, RULES
 from limits import MOST_LISTED
 from plain_audit import number_in
-from words import help_of, see_output, Words
+from words import see_output, Words
 
 # Of each form what reads it, the options that it has beside those of all forms, and the rules that have a meaning for it.
 FORMATS = {
@@ -115,9 +115,6 @@ def put(file):
 
 
 def answer(words):
-    if words[:1] in (["--help"], ["-h"], ["help"]):
-        sys.stdout.write(help_of(NAME))
-        return
     given = words_of(words)
     see_output(NAME, given.files)
     see_beside(given)

@@ -9,7 +9,7 @@ import sys
 import tarfile
 
 from ask import Refusal, TOP
-from words import help_of, put, Words
+from words import ask_for_help, help_of, put, Words
 
 NAME = "release"
 PROGRAM = "crates/raire/out/raire"
@@ -129,7 +129,7 @@ def built():
 
 def main(words):
     try:
-        if words[:1] in (["--help"], ["-h"], ["help"]):
+        if ask_for_help(words):
             put(NAME, help_of(NAME))
             return 0
         parser = Words(NAME)

@@ -29,6 +29,10 @@ class Words(argparse.ArgumentParser):
         raise Refusal(1, f"{self.prog}: {message}; ./raire help {self.prog} tells its words\n")
 
 
+def ask_for_help(words):
+    return words[:1] in (["--help"], ["-h"], ["help"])
+
+
 def help_of(name):
     with open(os.path.join(TOP, "docs", "help", f"{name}.txt")) as file:
         return file.read()
@@ -55,7 +59,7 @@ def put(name, text):
 def main(name, answer, words):
     """The status of a command. `answer` gives its text, and what is told beside it."""
     try:
-        text, account = (help_of(name), "") if words[:1] in (["--help"], ["-h"], ["help"]) else answer(words)
+        text, account = (help_of(name), "") if ask_for_help(words) else answer(words)
         put(name, text)
         sys.stderr.write(account)
     except Refusal as refusal:

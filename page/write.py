@@ -3,7 +3,10 @@ import os
 import re
 import sys
 
-import jinja2
+try:
+    import jinja2
+except ImportError:  # the help wants no templates
+    jinja2 = None
 
 import audit
 import county
@@ -549,6 +552,8 @@ def page_of(words):
     if words[:1] in (["--help"], ["-h"], ["help"]):
         with open(HELP) as file:
             return file.read()
+    if jinja2 is None:
+        raise told("templates are missing: apt-get install python3-jinja2")
     paths, options = words_of(words)
     see_output(paths)
     page = Page(files.given(paths), options, Program())

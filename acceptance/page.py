@@ -249,7 +249,7 @@ def sessions(shows, tried):
         tried.see(f"{told} is told", status == 2 and page == "" and err.startswith(f"raire: {name}: S1\nshow: {name}: {told}"), (status, err))
     write("m.csv", "batch,cards\nb,0\n")
     walk.write_stand_in(os.path.abspath(shows.given["PROGRAM"]), "./adds")
-    for name, told in (("a.json", "show: a.json: round 1 doesn't"), ("m.csv", "raire: M3: the number of cards isn't one")):
+    for name, told in (("a.json", "show: a.json: round 1 doesn't"), ("m.csv", "raire: M3: the number of cards isn't a number")):
         status, page, err = shows.run(name, program=os.path.abspath("adds"))
         tried.see(f"{told} is told behind ./raire's line", page == "" and err.split("\n")[1].startswith(told), (status, err))
     lines = shows.run("a.json", program=os.path.abspath("adds"))[2].split("\n")

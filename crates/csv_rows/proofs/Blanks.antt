@@ -1,5 +1,5 @@
 -- The fields of a line, byte after byte: whether they are a blank record, and how many they are.
-use Rattle.std.proofs.Common.{◌≡◌, ◌+◌, ◌∙◌, ◌∷◌, ◌==◌, [], ℕ, Bool, true, false, List, length, refl, sym, ap, subst, arith, inl, inr}
+use Rattle.std.proofs.Common.{◌≡◌, ◌∙◌, ◌∷◌, ◌==◌, [], ℕ, Bool, true, false, List, length, refl, sym, ap, subst, arith, inl, inr}
 use Rattle.std.proofs.lemmas.Bool.{cases_Bool, eqb-true, ne_eqb, or_cases}
 use Rattle.csv_rows.specs.Rows.{Fields}
 use Rattle.csv_rows.specs.Fields.{is_blank, is_blank_record, trimmed, trimmed_end, trimmed_fields, trimmed_start}

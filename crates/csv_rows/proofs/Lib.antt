@@ -8,3 +8,6 @@ pub mod Plain
 pub mod Single
 pub mod Marks
 pub mod Bare
+mod Apart
+mod Whole
+mod Passing

@@ -1,8 +1,8 @@
 -- The records of a plain text are its lines, parted at commas.
-use Rattle.std.proofs.Common.{le_refl, ◌≡◌, ◌≤◌, ◌<◌, ◌+◌, ◌∙◌, ◌∷◌, ◌++◌, ◌==◌, [], ℕ, Bool, true, false, List, Option, Some, None, length, refl, sym, ap, subst, arith, inl, inr, append_assoc}
-use Rattle.std.specs.Prelude.{◌||◌, if◌then◌else◌, not}
+use Rattle.std.proofs.Common.{le_refl, ap₂, ◌≡◌, ◌≤◌, ◌<◌, ◌+◌, ◌∙◌, ◌∷◌, ◌++◌, ◌==◌, [], ℕ, Bool, true, false, List, Option, Some, None, length, refl, sym, ap, subst, arith, inl, inr, append_assoc}
+use Rattle.std.specs.Prelude.{◌&&◌, ◌||◌, if◌then◌else◌, not}
 use Rattle.std.specs.List.{list_any}
-use Rattle.std.proofs.lemmas.Bool.{cases_Bool, eqb-true, not-true}
+use Rattle.std.proofs.lemmas.Bool.{cases_Bool, eqb-true, false≢true, not-true}
 use Rattle.std.proofs.lemmas.List.{append-nil}
 use Rattle.csv.specs.Machine.{Read, after_end, ends_at_end, next_record}
 use Rattle.csv.specs.Reading.{default_config, records, records_from, strip_bom}
@@ -37,6 +37,48 @@ plain-behind (b ∷ text) h =
     by true h k = h
     by false h k = k
 
+-- ---- a text whose first line is plain
+
+-- up to the end of its first line a text has no odd byte
+abbrev pub is_plain_line : List ℕ → Bool
+is_plain_line [] = true
+is_plain_line (b ∷ text) = if is_line_end b then true else (not (is_odd_byte b) && is_plain_line text)
+
+not-odd : (odd rest : Bool) → (not odd && rest) ≡ true → (odd ≡ false) × (rest ≡ true)
+not-odd false rest h = (refl, h)
+not-odd true rest h = absurd cc
+
+pub line-parts : (b : ℕ) (text : List ℕ) → is_line_end b ≡ false → is_plain_line (b ∷ text) ≡ true →
+    ((b == 34) ≡ false) × ((b == 239) ≡ false) × (is_plain_line text ≡ true)
+line-parts b text on h =
+    let whole : (not (is_odd_byte b) && is_plain_line text) ≡ true = rw on at h in
+    let (even, rest) = not-odd (is_odd_byte b) (is_plain_line text) whole in
+    let (quote, mark) = or-false (b == 34) (b == 239) even in
+    (quote, mark, rest)
+
+line-end-no-quote : (b : ℕ) → is_line_end b ≡ true → (b == 34) ≡ false
+line-end-no-quote b line = elim (cases_Bool (b == 34)) [
+  | inl quote ↦ absurd (false≢true (sym (ap is_line_end (eqb-true b 34 quote)) ∙ line))
+  | inr other ↦ other
+]
+
+no-quote : (b : ℕ) (text : List ℕ) → is_plain_line (b ∷ text) ≡ true → (b == 34) ≡ false
+no-quote b text h = elim (cases_Bool (is_line_end b)) [
+  | inl line ↦ line-end-no-quote b line
+  | inr on ↦ (line-parts b text on h).0
+]
+
+pub plain-line : (text : List ℕ) → is_plain text ≡ true → is_plain_line text ≡ true
+plain-line [] h = refl
+plain-line (b ∷ text) h =
+    let (quote, mark, rest) = plain-parts b text h in
+    by (is_line_end b) (ap₂ (λ x y. x || y) quote mark) (plain-line text rest)
+  where
+    by : (line : Bool) → is_odd_byte b ≡ false → is_plain_line text ≡ true →
+        (if line then true else (not (is_odd_byte b) && is_plain_line text)) ≡ true
+    by true even rest = refl
+    by false even rest = rw even rest
+
 -- ---- what the machine does in a line
 
 -- the state behind the end of the first line
@@ -54,11 +96,11 @@ between-behind (b ∷ text) = by (is_line_end b) (b == 13) (between-behind text)
   by true false h = refl
   by false cr h = h
 
-field-start : (fields : Fields) (field text : List ℕ) → is_plain text ≡ true →
+field-start : (fields : Fields) (field text : List ℕ) → is_plain_line text ≡ true →
     next_record default_config st.StartField fields field text ≡ next_record default_config st.InField fields field text
 unfolding next_record
 field-start fields field [] h = refl
-field-start fields field (b ∷ text) h = rw (plain-parts b text h).0 refl
+field-start fields field (b ∷ text) h = rw (no-quote b text h) refl
 
 front-none : (fields : Fields) → with_front [] fields ≡ fields
 front-none [] = refl
@@ -72,14 +114,14 @@ abbrev read_line : Fields → List ℕ → Option Read
 read_line fields text = Some (fields, state_behind text, behind_line text)
 
 -- what is read of a line, from within the field at hand
-reads : (fields : Fields) (field text : List ℕ) → is_plain text ≡ true →
+reads : (fields : Fields) (field text : List ℕ) → is_plain_line text ≡ true →
     next_record default_config st.InField fields field text ≡ read_line (fields ++ with_front field (fields_in text)) text
 unfolding next_record state_behind
 reads fields field [] h = ap (λ last. Some (fields ++ last ∷ [], st.StartRecord, [])) (sym (append-nil field))
 reads fields field (b ∷ text) h =
-    let rest = (plain-parts b text h).2 in
     elim (cases_Bool (b == 44)) [
       | inl comma ↦
+          let rest = (line-parts b text (not-comma b comma) h).2 in
           let apart : (fields ++ field ∷ []) ++ with_front [] (fields_in text) ≡ fields ++ (field ++ []) ∷ fields_in text =
           ap (λ more. (fields ++ field ∷ []) ++ more) (front-none (fields_in text)) ∙ append_assoc fields (field ∷ []) (fields_in text)
           ∙ ap (λ f. fields ++ f ∷ fields_in text) (sym (append-nil field)) in
@@ -87,7 +129,9 @@ reads fields field (b ∷ text) h =
           ∙ ap (λ all. read_line all text) apart)
       | inr other ↦ elim (cases_Bool (is_line_end b)) [
         | inl line ↦ rw (other, line) (ap (λ last. Some (fields ++ last ∷ [], after_end term.CRLF b, text)) (sym (append-nil field)))
-        | inr on ↦ rw (other, on) (reads fields (field ++ b ∷ []) text rest ∙ ap (λ more. read_line (fields ++ more) text) (front-more field b (fields_in text)))
+        | inr on ↦
+            let rest = (line-parts b text on h).2 in
+            rw (other, on) (reads fields (field ++ b ∷ []) text rest ∙ ap (λ more. read_line (fields ++ more) text) (front-more field b (fields_in text)))
       ]
     ]
 
@@ -136,7 +180,7 @@ unfolding next_record
 starts b text on = rw on refl
 
 -- an empty line is no record, and would have no number
-pub line-step : (text : List ℕ) → is_plain text ≡ true →
+pub line-step : (text : List ℕ) → is_plain_line text ≡ true →
     numbered (records default_config text) ≡ numbered (fields_in text ∷ records default_config (behind_line text))
 line-step [] h = refl
 line-step (b ∷ text) h = elim (cases_Bool (is_line_end b)) [
@@ -150,12 +194,16 @@ line-step (b ∷ text) h = elim (cases_Bool (is_line_end b)) [
       (between-records (state_behind line) left (between-behind line))))
 ]
 
+pub unmarked-first : (b : ℕ) (text : List ℕ) → (b == 239) ≡ false → strip_bom (b ∷ text) ≡ b ∷ text
+unfolding strip_bom
+unmarked-first b [] h = refl
+unmarked-first b (c ∷ []) h = refl
+unmarked-first b (c ∷ d ∷ text) h = rw h refl
+
 unmarked : (text : List ℕ) → is_plain text ≡ true → strip_bom text ≡ text
 unfolding strip_bom
 unmarked [] h = refl
-unmarked (a ∷ []) h = refl
-unmarked (a ∷ b ∷ []) h = refl
-unmarked (a ∷ b ∷ c ∷ text) h = rw (plain-parts a (b ∷ c ∷ text) h).1 refl
+unmarked (b ∷ text) h = unmarked-first b text (plain-parts b text h).1
 
 pub plain-records : (text : List ℕ) → is_plain text ≡ true → records_of text ≡ records default_config text
 plain-records text h = ap (records default_config) (unmarked text h)

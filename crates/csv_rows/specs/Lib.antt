@@ -6,3 +6,4 @@ pub mod Places
 pub mod Sources
 pub mod Numbers
 pub mod Lanes
+pub mod Pieces

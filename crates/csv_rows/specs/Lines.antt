@@ -1,5 +1,5 @@
 -- The lines of a plain text, and the fields of a line.
-use Rattle.std.specs.Prelude.{ℕ, Bool, not, ◌||◌, ◌==◌, if◌then◌else◌, List, [], ◌∷◌, ◌++◌, Option, Some, None}
+use Rattle.std.specs.Prelude.{ℕ, Bool, true, not, ◌||◌, ◌==◌, if◌then◌else◌, List, [], ◌∷◌, ◌++◌, Option, Some, None}
 use Rattle.std.specs.List.{list_any}
 use Rattle.std.proofs.Common.{Bor}
 use Rattle.csv_rows.specs.Rows.{Fields}
@@ -32,6 +32,16 @@ fields_in (b ∷ text) =
 abbrev pub behind_line : List ℕ → List ℕ
 behind_line [] = []
 behind_line (b ∷ text) = if is_line_end b then text else behind_line text
+
+-- a text of whole lines: it is empty, or its last byte ends a line
+abbrev pub are_whole_lines : List ℕ → Bool
+are_whole_lines [] = true
+are_whole_lines (b ∷ []) = is_line_end b
+are_whole_lines (b ∷ next ∷ text) = are_whole_lines (next ∷ text)
+
+-- no line ends in it
+abbrev pub is_unended : List ℕ → Bool
+is_unended text = not (list_any is_line_end text)
 
 -- the fields behind a comma, up to the end of the line; none where no comma stood
 abbrev pub fields_behind : Option (Bor (List ℕ)) → Fields

@@ -1,12 +1,12 @@
 // The lines of a plain text. Nothing of them is copied.
-ghost use Rattle.std.specs.Prelude.{◌≡◌, ◌+◌, ◌≤◌, ◌∷◌, IfSome, drop, length};
+ghost use Rattle.std.specs.Prelude.{◌≡◌, ◌+◌, ◌≤◌, ◌∷◌, ◌++◌, IfSome, IsTrue, drop, length};
 ghost use Rattle.memchr.specs.Find.{IsFirstByte, Nowhere, Passes, is_byte2, is_byte3};
 ghost use Rattle.csv_rows.specs.Fields.{is_blank_record, trimmed_fields};
-ghost use Rattle.csv_rows.specs.Lines.{behind_line, fields_behind, fields_in, is_line_end, is_plain};
+ghost use Rattle.csv_rows.specs.Lines.{are_whole_lines, behind_line, fields_behind, fields_in, is_line_end, is_plain, is_unended};
 
 use crate::lanes::{FIELD_LANES, LINE_LANES, bytes_in_field, bytes_in_line};
 use crate::trim::is_blank;
-use memchr::memchr2_iter;
+use memchr::{memchr2_iter, memrchr2};
 
 pub const COMMA: u8 = b',';
 
@@ -91,6 +91,18 @@ fn first_line_end(text: &[u8]) -> Option<usize>
         from += LINE_LANES;
     }
     line_end_from(text, from)
+}
+
+/// The whole lines at the front of a text, with the end of the last of them, and the line behind them, which has no end.
+pub fn whole_lines(text: &[u8]) -> (&[u8], &[u8])
+    ensures parts { text.now ≡ result.0.now ++ result.1.now }
+    ensures whole { IsTrue (are_whole_lines result.0.now) }
+    ensures last { IsTrue (is_unended result.1.now) }
+{
+    match memrchr2(CARRIAGE_RETURN, LINE_FEED, text) {
+        Some(end) => text.split_at(end + 1),
+        None => (&text[..0], text),
+    }
 }
 
 /// What stands behind the end of the first line.

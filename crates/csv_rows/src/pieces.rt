@@ -1,0 +1,105 @@
+// A text that comes in pieces.
+ghost use Rattle.std.specs.Prelude.{◌≡◌, ◌<◌, ◌++◌, [], List, ℕ, IfOk, IfSome, OnOk, is_some, length};
+ghost use Rattle.csv_rows.specs.Fields.{numbered_records};
+ghost use Rattle.csv_rows.specs.Pieces.{IsBehind, StandApart, can_be_read};
+ghost use Rattle.csv_rows.specs.Rows.{Fields};
+
+use crate::lines::{LINE_FEED, whole_lines};
+use crate::mark::{BYTE_ORDER_MARK, without_mark};
+use crate::records::Records;
+use irv_base::Memory;
+use std::alloc::Global;
+use std::marker::Model;
+
+/// How many bytes of whole lines are looked at, at most. Where more are at hand, they couldn't be passed, and each piece would have them
+/// looked at again.
+pub const MOST_AT_HAND: usize = 1 << 20;
+
+/// What is at hand of a text that comes in pieces: its whole lines, and the last line, of which more may come. Lines whose records are
+/// read are passed, so that the text is never held whole.
+///
+/// To a contract it is these two.
+#[derive(Drop)]
+pub struct Pieces {
+    lines: Vec<u8>,
+    last: Vec<u8>,
+}
+
+impl Model for Pieces {
+    ghost use Rattle.csv_rows.specs.Pieces.{AtHand};
+
+    ghost Value = { AtHand };
+
+    ghost view = { λ p. record { lines = p.lines.items; last = p.last.items } };
+}
+
+impl Pieces {
+    /// A text of which nothing came yet.
+    pub fn new(alloc: Global) -> Pieces
+        ensures { IsBehind [] [] result }
+    {
+        Pieces {
+            lines: Vec::new(alloc),
+            last: Vec::new(alloc),
+        }
+    }
+
+    /// Takes the bytes that come next.
+    pub fn take(&mut self, piece: &[u8]) -> Result<(), Memory>
+        ensures { OnOk result ((text : List ℕ) → (rows : List Fields)
+            → IsBehind text rows self.old → IsBehind (text ++ piece.now) rows self.new) }
+    {
+        let (lines, last) = whole_lines(piece);
+        if lines.is_empty() {
+            self.last.extend_from_slice(piece)?;
+            return Ok(());
+        }
+        self.lines.extend_from_slice(&self.last)?;
+        self.lines.extend_from_slice(lines)?;
+        self.last.clear();
+        self.last.extend_from_slice(last)?;
+        Ok(())
+    }
+
+    /// The numbered records of the whole lines, where what stands behind these can't change them: they have no double quote and no byte
+    /// EF but that of a byte order mark, which would be whole. Lines that are many aren't looked at.
+    pub fn records(&self) -> Option<Records<'_>>
+        ensures told { is_some result ≡ can_be_read self.now.lines }
+        ensures some { IfSome result (λ _. 0 < length self.now.lines) }
+        ensures records { IfSome result (λ records.
+            records.left ≡ numbered_records self.now.lines) }
+        ensures apart { IfSome result (λ _. StandApart self.now.lines) }
+    {
+        if self.lines.len() < BYTE_ORDER_MARK.len() || self.lines.len() > MOST_AT_HAND {
+            return None;
+        }
+        let lines = without_mark(&self.lines);
+        if lines.is_empty() {
+            return None;
+        }
+        Records::of_plain(lines)
+    }
+
+    /// The records of the whole lines are read: what stands behind them is at hand.
+    pub fn pass(&mut self)
+        requires some { 0 < length self.old.lines }
+        requires apart { StandApart self.old.lines }
+        ensures short { length self.new.lines ≡ 1 }
+        ensures passed { (text : List ℕ) → (rows : List Fields) → IsBehind text rows self.old
+            → IsBehind text (rows ++ numbered_records self.old.lines) self.new }
+    {
+        self.lines.truncate(1);
+        self.lines[0] = LINE_FEED;
+    }
+
+    /// All that is at hand, when nothing more comes.
+    pub fn into_text(self) -> Result<Vec<u8>, Memory>
+        ensures { IfOk result (λ rest. (text : List ℕ) → (rows : List Fields)
+            → IsBehind text rows self
+            → numbered_records text ≡ rows ++ numbered_records rest.items) }
+    {
+        let Pieces { mut lines, last } = self;
+        lines.extend_from_slice(&last)?;
+        Ok(lines)
+    }
+}

@@ -1,14 +1,12 @@
 -- How a command ends, once a file is read.
-use Rattle.std.proofs.Common.{◌≡◌, true, List, Result, Err, ℕ, inl, inr, refl, sym, ap, subst, ◌∙◌}
+use Rattle.std.proofs.Common.{◌≡◌, true, List, ℕ, inl, inr, sym, ap, subst, ◌∙◌}
 use Rattle.std.proofs.Common.{Vec, String, string_bytes}
 use Rattle.std.specs.String.{string_vec}
 use Rattle.std.specs.declared.alloc.Global.{Global}
-use Rattle.cli_base.specs.Outcome.{Outcome, Verdict, Answered, Refused, One, outcome, file_refusal, broken_at}
+use Rattle.cli_base.specs.Outcome.{Outcome, Verdict, Answered, Refused, One, outcome}
 use Rattle.cli_base.specs.declared.outcome.AnswerKind.{AnswerKind}
-use Rattle.cli_base.specs.declared.outcome.RefusalKind.TheVariants.{Input}
 use Rattle.cli_base.specs.Script.{IsOfKind, SameButBudget}
-use Rattle.cli_base.specs.Due.{due_refusal, IsOrMemory, IsOneOrMemory, IsReadAs}
-use Rattle.cli_base.specs.declared.outcome.Refusal.{Refusal}
+use Rattle.cli_base.specs.Due.{IsOneOrMemory}
 use Rattle.cli_base.proofs.AmongKinds.{among, is_among}
 
 -- ---- a file that is refused

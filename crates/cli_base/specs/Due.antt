@@ -1,6 +1,7 @@
 -- What the code's answers and refusals come to.
-use Rattle.std.specs.Prelude.{◌≡◌, ◌⊎◌, ℕ, List, Result, Ok, Err, Vec, string_bytes, []}
+use Rattle.std.specs.Prelude.{◌≡◌, ◌⊎◌, ℕ, List, Option, Result, Ok, Err, Vec, string_bytes, []}
 use Rattle.std.specs.declared.alloc.Global.{Global}
+use Rattle.desk.specs.Taker.{TookMore}
 use Rattle.cli_base.specs.Outcome.{Outcome, Verdict, Answered, outcome, refusal_status, bad_words, out_of_memory}
 use Rattle.cli_base.specs.Script.{Readings, Bytes, MayStop}
 use Rattle.cli_base.specs.declared.outcome.Answer.{Answer}
@@ -17,15 +18,25 @@ abbrev pub due : Result Answer Refusal → Outcome
 due (Ok answer) = outcome (Answered answer.kind answer.text.items)
 due (Err refusal) = due_refusal refusal
 
--- a file was read whole, or the call is to stop, for its sake or for want of memory
-abbrev pub IsRead : Readings → List ℕ → Result (Vec ℕ Global) Refusal → Type 0
-IsRead readings name (Ok bytes) = readings name (Bytes bytes.items)
-IsRead readings name (Err refusal) =
+-- the call is to stop, for the sake of a file or for want of memory
+abbrev pub StopsAt : Readings → List ℕ → Refusal → Type 0
+StopsAt readings name refusal =
     MayStop readings name (due_refusal refusal) ⊎ (due_refusal refusal ≡ out_of_memory)
 
+-- a file was read whole, or the call is to stop
+abbrev pub IsRead : Readings → List ℕ → Result (Vec ℕ Global) Refusal → Type 0
+IsRead readings name (Ok bytes) = readings name (Bytes bytes.items)
+IsRead readings name (Err refusal) = StopsAt readings name refusal
+
+-- a file was read whole, and a taker has taken its bytes behind what it had
+abbrev pub IsTaken : {T : Type 0} → (T → Option (List ℕ)) → (T → List ℕ → Type 0) → T → T → Readings →
+    List ℕ → Type 0
+IsTaken sought has_taken old new readings name =
+    (bytes : List ℕ) × readings name (Bytes bytes) × TookMore sought has_taken old new bytes
+
 -- a reading that went well ends nothing yet
-abbrev pub status_so_far : Result (Vec ℕ Global) Refusal → ℕ
-status_so_far (Ok bytes) = 0
+abbrev pub status_so_far : {T : Type 0} → Result T Refusal → ℕ
+status_so_far (Ok read) = 0
 status_so_far (Err refusal) = (due_refusal refusal).status
 
 -- this outcome, or want of memory

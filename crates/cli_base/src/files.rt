@@ -1,14 +1,14 @@
 // Files are read whole, or refused.
-ghost use Rattle.std.specs.Prelude.{◌≡◌, ◌≤◌, ◌++◌, IfOk, string_bytes, codes};
+ghost use Rattle.std.specs.Prelude.{◌≡◌, ◌≤◌, ◌++◌, OnOk, IfOk, IfErr, string_bytes, codes};
 ghost use Rattle.desk.specs.Count.{one_more, Rose};
 ghost use Rattle.cli_base.specs.Script.{ByDesk};
 ghost use Rattle.cli_base.specs.Outcome.{line, file_refusal, broken_at};
 ghost use Rattle.cli_base.specs.Accounts.{IsAccountedFor};
 ghost use Rattle.cli_base.specs.declared.outcome.RefusalKind.TheVariants.{Input};
-ghost use Rattle.cli_base.specs.Due.{due_refusal, IsRead, IsOrMemory, status_so_far};
+ghost use Rattle.cli_base.specs.Due.{due_refusal, IsRead, IsTaken, IsOrMemory, StopsAt, status_so_far};
 
 use crate::outcome::{Refusal, RefusalKind};
-use desk::{Desk, DeskFault, read_all};
+use desk::{Desk, DeskFault, Taker, read_into};
 use irv_base::MOST_FILE_BYTES;
 use std::alloc::{AllocError, Global};
 
@@ -22,8 +22,30 @@ pub fn read_file<D: Desk>(alloc: Global, desk: &mut D, file: &str) -> Result<Vec
     ensures served { IsAccountedFor 1
         (D.served desk.old) (D.served desk.new) (status_so_far result) }
 {
-    match read_all(alloc, desk, file, MOST_FILE_BYTES) {
-        Ok(bytes) => Ok(bytes),
+    let mut bytes = Vec::new(alloc);
+    read_file_into(alloc, desk, file, &mut bytes)?;
+    Ok(bytes)
+}
+
+/// Reads a file into what takes its bytes, piece by piece, or says why the call stops there. Then some pieces may have been taken.
+pub fn read_file_into<D: Desk, T: Taker>(
+    alloc: Global,
+    desk: &mut D,
+    file: &str,
+    into: &mut T,
+) -> Result<(), Refusal>
+    ensures held { D.held desk.new ≡ D.held desk.old }
+    ensures later { D.faults desk.old ≤ D.faults desk.new }
+    ensures read { OnOk result (IsTaken T.sought T.has_taken into.old into.new
+        (ByDesk (D.held desk.old) (Rose (D.faults desk.old) (D.faults desk.new))) file.now) }
+    ensures stopped { IfErr result (StopsAt
+        (ByDesk (D.held desk.old) (Rose (D.faults desk.old) (D.faults desk.new))) file.now) }
+    ensures begun { (D.served desk.new).begins ≡ one_more (D.served desk.old).begins }
+    ensures served { IsAccountedFor 1
+        (D.served desk.old) (D.served desk.new) (status_so_far result) }
+{
+    match read_into(desk, file, MOST_FILE_BYTES as u32, into) {
+        Ok(()) => Ok(()),
         Err(DeskFault::Missing) => Err(refuse(alloc, RefusalKind::Missing, file, "no such file")),
         Err(DeskFault::TooLong) => Err(refuse(alloc, RefusalKind::TooLong, file, "too long")),
         Err(DeskFault::ReadFault) => Err(refuse(alloc, RefusalKind::ReadFault, file, "read fault")),

@@ -8,5 +8,5 @@ mod outcome;
 
 pub use confirmed::confirmed_kind;
 pub use delivery::deliver;
-pub use files::{read_file, refuse, refuse_at};
+pub use files::{read_file, read_file_into, refuse, refuse_at};
 pub use outcome::{Answer, AnswerKind, Refusal, RefusalKind};

@@ -4,6 +4,7 @@ pub mod Passing
 pub mod Served
 pub mod Reading
 pub mod Sink
+pub mod Taker
 pub mod Calls
 pub mod MemoryDesk
 pub mod MemorySink

@@ -1,17 +1,31 @@
 -- How the reading of a whole file ends.
-use Rattle.std.specs.Prelude.{◌≡◌, ◌≤◌, ◌<◌, ℕ, List, length, Option, None, Some, Result, Ok, Err, ⊤, Vec}
-use Rattle.std.specs.declared.alloc.Global.{Global}
+use Rattle.std.specs.Prelude.{◌≡◌, ◌≤◌, ◌<◌, ℕ, List, length, Option, None, Some, IfSome, Result, Err, ⊤}
 use Rattle.desk.specs.Count.{one_more}
+use Rattle.desk.specs.Desk.{File, held_bytes}
+use Rattle.desk.specs.Taker.{TookMore}
 use Rattle.desk.specs.declared.whole.DeskFault.{DeskFault}
 use Rattle.desk.specs.declared.whole.DeskFault.TheVariants.{Missing, ReadFault, TooLong, Memory}
 
--- what is held under the name is given whole, or nothing is, or it is longer than the limit
-abbrev pub IsReadOf : Option (List ℕ) → ℕ → Result (Vec ℕ Global) DeskFault → Type 0
-IsReadOf held limit (Ok bytes) = (held ≡ Some bytes.items) × (length bytes.items ≤ limit)
-IsReadOf held limit (Err Missing) = held ≡ None
-IsReadOf held limit (Err TooLong) = (bytes : List ℕ) × (held ≡ Some bytes) × (limit < length bytes)
-IsReadOf held limit (Err ReadFault) = ⊤
-IsReadOf held limit (Err Memory) = ⊤
+-- why what is held under the name isn't given: nothing is held, or it is longer than the limit, or another reason
+abbrev pub IsWhyUnread : Option (List ℕ) → ℕ → DeskFault → Type 0
+IsWhyUnread held limit Missing = held ≡ None
+IsWhyUnread held limit TooLong = (bytes : List ℕ) × (held ≡ Some bytes) × (limit < length bytes)
+IsWhyUnread held limit ReadFault = ⊤
+IsWhyUnread held limit Memory = ⊤
+
+-- the bytes are what is held under the name, where that is told
+abbrev pub AreHeld : Option (List File) → List ℕ → List ℕ → Type 0
+AreHeld held name bytes = IfSome held (λ files. held_bytes name files ≡ Some bytes)
+
+-- Bytes came that are these, within the limit, as many as the desk has served, and a taker has taken them behind what it had.
+pub record TookAll
+    {T : Type 0} (sought : T → Option (List ℕ)) (has_taken : T → List ℕ → Type 0) (old new : T)
+    (AreThese : List ℕ → Type 0) (limit served : ℕ) : Type 0 where
+  pub bytes : List ℕ
+  pub these : AreThese bytes
+  pub short : length bytes ≤ limit
+  pub all : length bytes ≡ served
+  pub took : TookMore sought has_taken old new bytes
 
 -- one more miss where the file is missing
 abbrev pub misses_after_reading : {T : Type 0} → Result T DeskFault → ℕ → ℕ

@@ -12,6 +12,7 @@ mod memory_sink;
 mod served;
 mod sink;
 mod stream_sink;
+mod taker;
 mod whole;
 
 pub use desk::{Desk, Failed};
@@ -22,4 +23,5 @@ pub use memory_sink::MemorySink;
 pub use served::Served;
 pub use sink::Sink;
 pub use stream_sink::StreamSink;
-pub use whole::{DeskFault, read_all, write_all};
+pub use taker::Taker;
+pub use whole::{DeskFault, read_into, write_all};

@@ -1,14 +1,13 @@
 // Whole files and whole texts.
-ghost use Rattle.std.specs.Prelude.{◌≡◌, ◌≤◌, ◌<◌, ◌⊎◌, ◌↔◌, true, false, max, Some, vec_len, OnOk, OnErr, IfOk, IfSome, IsErrOf};
+ghost use Rattle.std.specs.Prelude.{◌≡◌, ◌≤◌, ◌<◌, ◌⊎◌, ◌↔◌, true, false, max, Some, OnOk, OnErr, IfErr, IfSome, IsErrOf};
 ghost use Rattle.desk.specs.Count.{one_more, Rose, HasCause};
 ghost use Rattle.desk.specs.Desk.{held_bytes};
 ghost use Rattle.desk.specs.Sink.{Took, TookPrefix};
 ghost use Rattle.desk.specs.Passing.{too_long_after};
-ghost use Rattle.desk.specs.Reading.{IsReadOf, misses_after_reading};
+ghost use Rattle.desk.specs.Reading.{AreHeld, IsWhyUnread, TookAll, misses_after_reading};
 ghost use Rattle.desk.specs.declared.whole.DeskFault.TheVariants.{ReadFault, Memory};
 
-use crate::{Desk, Failed, Sink};
-use std::alloc::{AllocError, Global};
+use crate::{Desk, Failed, Sink, Taker};
 use std::error::Error;
 use std::fmt;
 
@@ -46,10 +45,10 @@ impl From<Failed> for DeskFault {
     }
 }
 
-impl From<AllocError> for DeskFault {
+impl From<irv_base::Memory> for DeskFault {
     ghost from_gives = { λ _ e. e ≡ Memory };
 
-    fn from(_: AllocError) -> Self {
+    fn from(_: irv_base::Memory) -> Self {
         DeskFault::Memory
     }
 }
@@ -57,22 +56,23 @@ impl From<AllocError> for DeskFault {
 // How many bytes are asked for at once.
 const PIECE: usize = 65_536;
 
-/// Reads the whole file of a name, if it has at most `limit` bytes.
-pub fn read_all<D: Desk>(
-    alloc: Global,
+/// Reads the whole file of a name into what takes its bytes, piece by piece, if it has at most `limit` bytes. Where it fails, some pieces
+/// may have been taken.
+pub fn read_into<D: Desk, T: Taker>(
     desk: &mut D,
     name: &str,
-    limit: u64,
-) -> Result<Vec<u8>, DeskFault>
-    // Where the desk tells its files: the bytes that it holds, or why they aren't given.
-    ensures bytes { IfSome (D.held desk.old) (λ files.
-        IsReadOf (held_bytes name.now files) limit result) }
-    ensures limit { IfOk result (λ bytes. vec_len bytes ≤ limit) }
+    limit: u32,
+    into: &mut T,
+) -> Result<(), DeskFault>
+    // All that came was taken. Where the desk tells its files, that is what it holds, or why it isn't given.
+    ensures taken { OnOk result (TookAll T.sought T.has_taken into.old into.new
+        (AreHeld (D.held desk.old) name.now) limit (D.served desk.new).bytes) }
+    ensures unread { IfSome (D.held desk.old) (λ files.
+        IfErr result (IsWhyUnread (held_bytes name.now files) limit)) }
 
-    // Told or not: one file was begun, and the bytes are all that came. The file is missing exactly where `begin`
-    // answered false, and it is too long exactly where more than `limit` bytes came.
+    // Told or not: one file was begun. It is missing exactly where `begin` answered false, and it is too long exactly
+    // where more than `limit` bytes came.
     ensures begins { (D.served desk.new).begins ≡ one_more (D.served desk.old).begins }
-    ensures all { IfOk result (λ bytes. vec_len bytes ≡ (D.served desk.new).bytes) }
     ensures missing { (D.served desk.new).misses ≡
         misses_after_reading result (D.served desk.old).misses }
     ensures too_long { IsErrOf result DeskFault.TooLong ↔ (limit < (D.served desk.new).bytes) }
@@ -95,16 +95,18 @@ pub fn read_all<D: Desk>(
     if !desk.begin(name)? {
         return Err(DeskFault::Missing);
     }
-    read_begun(alloc, desk, limit)
+    read_begun(desk, limit, into)
 }
 
 // Reads what is left of the begun file, of which nothing came yet.
-fn read_begun<D: Desk>(alloc: Global, desk: &mut D, limit: u64) -> Result<Vec<u8>, DeskFault>
+fn read_begun<D: Desk, T: Taker>(desk: &mut D, limit: u32, into: &mut T) -> Result<(), DeskFault>
     requires begun { D.begun desk.old ≡ true }
     requires start { (D.served desk.old).bytes ≡ 0 }
-    ensures bytes { IfSome (D.left desk.old) (λ left. IsReadOf (Some left) limit result) }
-    ensures limit { IfOk result (λ bytes. vec_len bytes ≤ limit) }
-    ensures all { IfOk result (λ bytes. vec_len bytes ≡ (D.served desk.new).bytes) }
+    ensures taken { OnOk result (TookAll T.sought T.has_taken into.old into.new
+        (λ bytes. IfSome (D.left desk.old) (λ left. left ≡ bytes))
+        limit (D.served desk.new).bytes) }
+    ensures unread { IfSome (D.left desk.old) (λ left.
+        IfErr result (IsWhyUnread (Some left) limit)) }
     ensures present { IsErrOf result DeskFault.Missing → ⊥ }
     ensures begins { (D.served desk.new).begins ≡ (D.served desk.old).begins }
     ensures misses { (D.served desk.new).misses ≡ (D.served desk.old).misses }
@@ -121,17 +123,18 @@ fn read_begun<D: Desk>(alloc: Global, desk: &mut D, limit: u64) -> Result<Vec<u8
     ensures held { D.held desk.new ≡ D.held desk.old }
     ensures ended { IsErrOf result DeskFault.ReadFault → D.begun desk.new ≡ false }
 {
-    let mut bytes = Vec::new(alloc);
+    let mut came: u64 = 0;
     let mut piece = [0u8; PIECE];
     loop {
         let count = desk.read(&mut piece)?;
         if count == 0 {
-            return Ok(bytes);
+            return Ok(());
         }
-        if (bytes.len() as u64).saturating_add(count as u64) > limit {
+        came += count as u64;
+        if came > u64::from(limit) {
             return Err(DeskFault::TooLong);
         }
-        bytes.extend_from_slice(&piece[..count])?;
+        into.take(&piece[..count])?;
     }
 }
 

@@ -1,11 +1,10 @@
-use Rattle.std.proofs.Common.{ap, Err}
-use Rattle.cli_base.proofs.ReadFiles.{too_long_stops, fault_stops}
+use Rattle.std.proofs.Common.{ℕ, List, [], sym, subst}
+use Rattle.desk.specs.Count.{Rose}
+use Rattle.cli_base.specs.Script.{Bytes, ByDesk}
 use Rattle.cli_base.proofs.files.read_file.Goals as goal
 
-pub returns-in-Err-TooLong-clause-read : goal.returns-in-Err-TooLong-clause-read
-returns-in-Err-TooLong-clause-read g c =
-    too_long_stops _ _ c.args.file.now _ (rw c.in-Err-TooLong.field-0-is at c.in-Err-TooLong.ensures.bytes) c.refuse-in-Err-TooLong.ensures
-
-pub returns-in-Err-ReadFault-clause-read : goal.returns-in-Err-ReadFault-clause-read
-returns-in-Err-ReadFault-clause-read g c =
-    fault_stops _ _ c.args.file.now _ (c.in-Err-ReadFault.ensures.cause (ap Err c.in-Err-ReadFault.field-0-is)) c.refuse-in-Err-ReadFault.ensures
+pub returns-clause-read : goal.returns-clause-read
+returns-clause-read g c =
+    let (bytes, there, took) = c.in_ok-read_file_into.ensures.read in
+    let readings = ByDesk (g.D.Desk.held c.args.desk.now) (Rose (g.D.Desk.faults c.args.desk.now) (g.D.Desk.faults c.read_file_into.new.desk)) in
+    subst (λ came. readings c.args.file.now (Bytes came)) (sym {A = List ℕ} (took.taken [] c.new-bytes.ensures.items)) there

@@ -5,7 +5,7 @@ use Rattle.irv_base.specs.Names.{Id}
 use Rattle.ballot_reader.specs.Ballots.{BallotFile}
 use Rattle.file_fault.specs.Refusals.{and_then, Refusal, Refuses}
 use Rattle.ballot_reader.specs.Grammar.{Ballot, Contest, all_audited, asked_for, ballot_of, ballots_after, ballots_behind, contests_behind, contests_in, file_of, audited_contest, then_on}
-use Rattle.ballot_reader.specs.Kept.{IsKept, KeptBallots}
+use Rattle.ballot_reader.specs.Kept.{IsKeptUpTo, KeptBallots}
 use Rattle.file_fault.specs.declared.fault.Fault.{Fault}
 use Rattle.ballot_reader.specs.declared.fault.BRule.{BRule}
 use Rattle.file_fault.specs.declared.fault.Fault.TheVariants.{Refused, Memory}
@@ -13,27 +13,27 @@ use Rattle.ballot_reader.specs.declared.wanted.Wanted.{Wanted}
 
 -- ---- one ballot after the other
 
--- the records are these ballots, and then those from number at on; of the ballots this is kept
-pub record BallotsSoFar (contests : List Contest) (wanted : Wanted) (rows : List Fields) (ballots : List Ballot) (at : ℕ) (rest : List Fields)
-    (kept : KeptBallots) : Type 0 where
-  pub split : ballots_after contests [] (2 + length contests) rows ≡ ballots_after contests ballots at rest
-  pub is_kept : IsKept contests wanted ballots kept
-  pub numbered : at ≡ 2 + length contests + kept.count
+-- behind these ballots the records are others, and then those from number at on; of the ballots this is kept
+pub record BallotsSoFar (contests : List Contest) (wanted : Wanted) (earlier : List Ballot) (first : ℕ) (rows : List Fields) (ballots : List Ballot) (at : ℕ)
+    (rest : List Fields) (kept : KeptBallots) : Type 0 where
+  pub split : ballots_after contests earlier first rows ≡ ballots_after contests ballots at rest
+  pub up_to : IsKeptUpTo contests wanted ballots at kept
 
-pub ballots-more : (contests : List Contest) (rows : List Fields) (ballots : List Ballot) (at : ℕ) (row : Fields) (rest : List Fields) (ballot : Ballot)
-    → ballots_after contests [] (2 + length contests) rows ≡ ballots_after contests ballots at (row ∷ rest) → ballot_of contests ballots at row ≡ Ok ballot
-    → ballots_after contests [] (2 + length contests) rows ≡ ballots_after contests (ballots ++ ballot ∷ []) (at + 1) rest
-ballots-more contests rows ballots at row rest ballot split h = split
+pub ballots-more : (contests : List Contest) (earlier : List Ballot) (first : ℕ) (rows : List Fields) (ballots : List Ballot) (at : ℕ) (row : Fields)
+    (rest : List Fields) (ballot : Ballot)
+    → ballots_after contests earlier first rows ≡ ballots_after contests ballots at (row ∷ rest) → ballot_of contests ballots at row ≡ Ok ballot
+    → ballots_after contests earlier first rows ≡ ballots_after contests (ballots ++ ballot ∷ []) (at + 1) rest
+ballots-more contests earlier first rows ballots at row rest ballot split h = split
     ∙ ap (λ o. and_then at o (λ (b : Ballot). ballots_after contests (ballots ++ b ∷ []) (at + 1) rest)) h
 
 -- ---- the whole
 
-refused-on : {A B : Type 0} (said : Result A (Refusal BRule)) (more : A → Result B (Refusal BRule)) (fault : Fault BRule) → Refuses said fault →
+pub refused-on : {A B : Type 0} (said : Result A (Refusal BRule)) (more : A → Result B (Refusal BRule)) (fault : Fault BRule) → Refuses said fault →
     Refuses (then_on said more) fault
 refused-on said more (Refused rule at) h = ap (λ r. then_on r more) h
 refused-on said more Memory h = tt
 
-same-refusal : {B : Type 0} (said other : Result B (Refusal BRule)) (fault : Fault BRule) → said ≡ other → Refuses other fault → Refuses said fault
+pub same-refusal : {B : Type 0} (said other : Result B (Refusal BRule)) (fault : Fault BRule) → said ≡ other → Refuses other fault → Refuses said fault
 same-refusal said other (Refused rule at) e h = e ∙ h
 same-refusal said other Memory e h = tt
 
@@ -47,12 +47,12 @@ pub with-contests : (n : ℕ) (asked : Option Id) (rows : List Fields) (contests
     ballots_behind (Some n) asked rows ≡ after_contests asked n rows contests
 with-contests n asked rows contests h = ap (λ r. then_on r (after_contests asked n rows)) h
 
-with-audited : (n : ℕ) (asked : Option Id) (rows : List Fields) (contests : List Contest) (chosen : Contest) → contests_in n [] 2 rows ≡ Ok contests →
+pub with-audited : (n : ℕ) (asked : Option Id) (rows : List Fields) (contests : List Contest) (chosen : Contest) → contests_in n [] 2 rows ≡ Ok contests →
     audited_contest (asked_for contests asked) ≡ Ok chosen
     → ballots_behind (Some n) asked rows ≡ after_sized asked n rows contests chosen
 with-audited n asked rows contests chosen h s = with-contests n asked rows contests h ∙ ap (λ r. then_on r (after_sized asked n rows contests)) s
 
-left : (n : ℕ) (rows rest : List Fields) (contests : List Contest) → length contests ≡ n → rest ≡ drop n rows →
+pub left : (n : ℕ) (rows rest : List Fields) (contests : List Contest) → length contests ≡ n → rest ≡ drop n rows →
     ballots_after contests [] (2 + n) (drop n rows) ≡ ballots_after contests [] (2 + length contests) rest
 left n rows rest contests l e = ap (λ m. ballots_after contests [] (2 + m) (drop n rows)) (sym l) ∙ ap (ballots_after contests [] (2 + length contests)) (sym e)
 

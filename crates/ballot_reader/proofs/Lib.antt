@@ -18,3 +18,5 @@ pub mod Marks
 pub mod Noting
 pub mod Halves
 pub mod Eight
+pub mod Beginning
+pub mod Staged

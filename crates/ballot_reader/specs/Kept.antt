@@ -139,6 +139,14 @@ KeepsAudited contests parts =
     (place : ℕ) (contest : Contest) (part : KeptPart) → slice_get contests place ≡ Some contest →
     slice_get parts place ≡ Some (Some part) → IsTrue (has_audited_size contest.candidates)
 
+-- it is what is kept of these ballots, behind which comes the record number at; the contests that are wanted can be audited
+pub record IsKeptUpTo
+    (contests : List Contest) (wanted : Wanted) (ballots : List Ballot) (at : ℕ)
+    (kept : KeptBallots) : Type 0 where
+  pub is_kept : IsKept contests wanted ballots kept
+  pub sized : WantsAudited contests wanted
+  pub numbered : at ≡ 2 + length contests + length ballots
+
 -- the record number at is refused so; memory may always be wanting
 abbrev pub RefusesRecord : {A : Type 0} → Result A BRule → ℕ → Fault BRule → Type 0
 RefusesRecord judged at (Refused rule place) = (judged ≡ Err rule) × (place ≡ at)

@@ -5,3 +5,5 @@ pub mod Ids
 pub mod Kept
 pub mod Noted
 pub mod Laws
+pub mod Begun
+pub mod Stages

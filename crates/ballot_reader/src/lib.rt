@@ -2,6 +2,7 @@
 #![tactic(auto)]
 
 mod ballots;
+mod begun;
 mod contest;
 mod count;
 pub mod examples;
@@ -20,7 +21,9 @@ mod preferences;
 mod read;
 mod same;
 mod sorted;
+mod stage;
 mod votes;
+mod votes_reader;
 mod wanted;
 
 pub use ballots::Ballots;
@@ -28,5 +31,6 @@ pub use fault::{BRule, BallotFault};
 pub use ids::Ids;
 pub use limits::{MOST_CONTESTS, MOST_LISTED};
 pub use preferences::ranking_of;
-pub use read::{read_ballots, read_contests, read_votes};
+pub use read::{read_ballots, read_contests};
 pub use votes::Votes;
+pub use votes_reader::VotesReader;

@@ -8,7 +8,7 @@ ghost use Rattle.ballot_reader.specs.declared.wanted.Wanted.TheVariants.{One, Vo
 ghost use Rattle.ballot_reader.specs.Ballots.{AreBallots, AreCandidates, BallotFile, votes_of, votes_with};
 ghost use Rattle.ballot_reader.specs.Grammar.{Ballot, Contest as ContestRecord, all_audited, asked_for, audited_contest, ballots_after, ballots_behind, ballots_from, ballots_of, contest_count, contests_behind, contests_from, contests_in, contests_of, file_of, has_audited_size};
 ghost use Rattle.file_fault.specs.Refusals.{Refuses};
-ghost use Rattle.ballot_reader.specs.Kept.{IsKept, WantsAudited, contest_ids, file_with, is_wanted, keeps_origins, part_of};
+ghost use Rattle.ballot_reader.specs.Kept.{IsKept, IsKeptUpTo, WantsAudited, contest_ids, file_with, is_wanted, keeps_origins, part_of};
 
 use crate::ballots::Ballots;
 use crate::contest::{Contest, contest_of};
@@ -28,8 +28,8 @@ const FIRST_CONTEST: u32 = 2;
 // How many bytes a ballot's record has, or about that. Room is made for so many ballots first, and for more when they come.
 const RECORD_BYTES: usize = 40;
 
-// The contests in the next n records.
-fn contests_left(
+/// The contests in the next n records.
+pub fn contests_left(
     alloc: Global,
     n: u32,
     records: &mut Records<'_>,
@@ -81,8 +81,8 @@ fn has_audited_size(contest: &Contest) -> bool
     (FEWEST_CANDIDATES as usize..=MOST_CANDIDATES as usize).contains(&size)
 }
 
-// The place of the contest that is audited.
-fn audited_place(contests: &[Contest], asked: Option<&Name>) -> Result<usize, BallotFault>
+/// The place of the contest that is audited.
+pub fn audited_place(contests: &[Contest], asked: Option<&Name>) -> Result<usize, BallotFault>
     ensures within { IfOk result (λ k. k < length contests.now) }
     ensures audited { IfOk result (λ k. (chosen : ContestRecord)
         × (slice_get contests.now k ≡ Some chosen)
@@ -123,6 +123,42 @@ fn see_all_audited(contests: &[Contest]) -> Result<(), BallotFault>
     Err(BallotFault::at_record(BRule::B3, contest.at))
 }
 
+/// Keeps the ballots in the records that are left, the first of which has this number, and tells the number that comes next.
+pub fn add_ballots(
+    contests: &[Contest],
+    kept: &mut Kept,
+    first: u32,
+    records: &mut Records<'_>,
+) -> Result<u32, BallotFault>
+    requires few { length contests.now ≤ MOST_CONTESTS }
+    requires differ { IsTrue (all_differ (contest_ids contests.now)) }
+    requires kept { (wanted : WantedContests) × (earlier : List Ballot)
+        × IsKeptUpTo contests.now wanted earlier first kept.old }
+    ensures read { IfOk result (λ next. (wanted : WantedContests) → (earlier : List Ballot)
+        → IsKeptUpTo contests.now wanted earlier first kept.old
+        → (ballots : List Ballot)
+        × (ballots_after contests.now earlier first records.old.left ≡ Ok ballots)
+        × IsKeptUpTo contests.now wanted ballots next kept.new) }
+    ensures refused { IfErr result (λ fault. (wanted : WantedContests) → (earlier : List Ballot)
+        → IsKeptUpTo contests.now wanted earlier first kept.old
+        → Refuses (ballots_after contests.now earlier first records.old.left) fault) }
+{
+    let mut at = first;
+    'records: while records.read()? {
+        kept.add(contests, at, records.fields())?;
+        at += 1;
+    }
+    Ok(at)
+}
+
+/// The number of the record of the first ballot.
+pub fn first_ballot(contests: &[Contest]) -> u32
+    requires { length contests.now ≤ MOST_CONTESTS }
+    ensures { result ≡ 2 + length contests.now }
+{
+    FIRST_CONTEST + contests.len() as u32
+}
+
 // What is kept of the ballots in the records that are left.
 fn ballots_left(
     alloc: Global,
@@ -141,11 +177,7 @@ fn ballots_left(
         (Refuses (ballots_after contests.now [] (2 + length contests.now) records.old.left)) }
 {
     let mut kept = Kept::nothing(alloc, contests, wanted, room)?;
-    let mut at = FIRST_CONTEST + contests.len() as u32;
-    'records: while records.read()? {
-        kept.add(contests, at, records.fields())?;
-        at += 1;
-    }
+    add_ballots(contests, &mut kept, first_ballot(contests), records)?;
     Ok(kept)
 }
 
@@ -218,8 +250,8 @@ fn file_of(
     ballots_with(alloc, contest, part)
 }
 
-// The contest at a place with the rankings of the ballots that are kept.
-fn votes_kept(
+/// The contest at a place with the rankings of the ballots that are kept.
+pub fn votes_kept(
     alloc: Global,
     contests: Vec<Contest>,
     audited: usize,
@@ -277,27 +309,6 @@ fn ballots_behind(
     Ok(file_of(alloc, contests, audited, kept)?)
 }
 
-// Their votes alone.
-fn votes_behind(
-    alloc: Global,
-    n: u32,
-    asked: Option<&Name>,
-    room: usize,
-    records: &mut Records<'_>,
-) -> Result<Votes, BallotFault>
-    requires { n ≤ MOST_CONTESTS }
-    ensures read { IfOk result (λ votes. (file : BallotFile)
-        × (ballots_behind (Some n) (option_copied asked.entry) records.old.left ≡ Ok file)
-        × (votes ≡ votes_of file)) }
-    ensures refused { IfErr result
-        (Refuses (ballots_behind (Some n) (option_copied asked.entry) records.old.left)) }
-{
-    let contests = contests_left(alloc, n, records)?;
-    let audited = audited_place(&contests, asked)?;
-    let kept = ballots_left(alloc, &contests, Wanted::VotesOf(audited), room, records)?;
-    Ok(votes_kept(alloc, contests, audited, kept)?)
-}
-
 // The same as `ballots_behind` of all contests.
 fn contests_behind(
     alloc: Global,
@@ -316,8 +327,8 @@ fn contests_behind(
     Ok(files_of(alloc, contests, kept)?)
 }
 
-// The number of contests in the first record.
-fn first_count(records: &mut Records<'_>) -> Result<u32, BallotFault>
+/// The number of contests in the first record.
+pub fn first_count(records: &mut Records<'_>) -> Result<u32, BallotFault>
     ensures few { IfOk result (λ n. n ≤ MOST_CONTESTS) }
     ensures read { IfOk result (λ n. (first : FieldList)
         × (records.old.left ≡ first ∷ records.new.left) × (contest_count first ≡ Some n)) }
@@ -367,18 +378,6 @@ pub fn read_ballots(
     let mut records = Records::of(alloc, without_mark(bytes));
     let n = first_count(&mut records)?;
     ballots_behind(alloc, n, contest, room_for(bytes), &mut records)
-}
-
-/// Reads a ballot file as `read_ballots` does, and keeps the votes alone: no ids of ballots and no places.
-pub fn read_votes(alloc: Global, bytes: &[u8], contest: Option<&Name>) -> Result<Votes, BallotFault>
-    ensures read { IfOk result (λ votes. (file : BallotFile)
-        × (ballots_of bytes.now (option_copied contest.entry) ≡ Ok file)
-        × (votes ≡ votes_of file)) }
-    ensures refused { IfErr result (Refuses (ballots_of bytes.now (option_copied contest.entry))) }
-{
-    let mut records = Records::of(alloc, without_mark(bytes));
-    let n = first_count(&mut records)?;
-    votes_behind(alloc, n, contest, room_for(bytes), &mut records)
 }
 
 /// Reads all contests of a ballot file, in their order there, each as `read_ballots` reads it by its id.

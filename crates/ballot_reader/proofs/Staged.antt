@@ -1,0 +1,103 @@
+-- A ballot file comes in pieces, and is read as far as it goes.
+use Rattle.std.proofs.Common.{◌≡◌, ◌∙◌, ◌++◌, [], ℕ, List, Option, refl, sym, subst, append_assoc, length, true, false, inl, inr}
+use Rattle.std.proofs.lemmas.Bool.{cases_Bool, false≢true}
+use Rattle.std.proofs.lemmas.List.{append-nil}
+use Rattle.csv_rows.specs.Fields.{numbered_records}
+use Rattle.csv_rows.specs.Pieces.{AtHand, IsBehind, can_be_read, text_of}
+use Rattle.csv_rows.specs.Rows.{Fields}
+use Rattle.file_fault.specs.Refusals.{Refuses}
+use Rattle.file_fault.specs.declared.fault.Fault.{Fault}
+use Rattle.irv_base.specs.Names.{Id}
+use Rattle.ballot_reader.specs.Grammar.{ballots_from, ballots_of}
+use Rattle.ballot_reader.specs.Stages.{HasPassed, HasReached, HasRead, HasTaken, HoldsLittle, LacksContests, VotesSoFar}
+use Rattle.ballot_reader.specs.declared.fault.BRule.{BRule}
+use Rattle.ballot_reader.specs.declared.stage.Stage.{Stage}
+use Rattle.ballot_reader.specs.declared.stage.Stage.TheVariants.{Contests, Ballots, Refused}
+
+-- once refused, a file stays refused
+pub refused-on : (asked : Option Id) (rows more : List Fields) (fault : Fault BRule) → HasReached asked rows (Refused fault) →
+    HasReached asked (rows ++ more) (Refused fault)
+refused-on asked rows more fault refused =
+    λ rest. subst (λ (l : List Fields). Refuses (ballots_from asked l) fault) (sym (append_assoc rows more rest)) (refused (more ++ rest))
+
+still-refused : (asked : Option Id) (bytes piece : List ℕ) (fault : Fault BRule) → ((more : List ℕ) → Refuses (ballots_of (bytes ++ more) asked) fault) →
+    (more : List ℕ) → Refuses (ballots_of ((bytes ++ piece) ++ more) asked) fault
+still-refused asked bytes piece fault refused more =
+    subst (λ (l : List ℕ). Refuses (ballots_of l asked) fault) (sym (append_assoc bytes piece more)) (refused (piece ++ more))
+
+-- a piece is at hand, and nothing of it is read
+pub at_hand-more : (asked : Option Id) (old new : AtHand) (bytes piece : List ℕ) (stage : Stage) →
+    ((text : List ℕ) (given : List Fields) → IsBehind text given old → IsBehind (text ++ piece) given new) →
+    HasTaken (record { asked = asked; at_hand = old; stage = stage }) bytes → HasTaken (record { asked = asked; at_hand = new; stage = stage }) (bytes ++ piece)
+at_hand-more asked old new bytes piece Contests more (rows, behind, reached) = (rows, more bytes rows behind, reached)
+at_hand-more asked old new bytes piece (Ballots begun) more (rows, behind, reached) = (rows, more bytes rows behind, reached)
+at_hand-more asked old new bytes piece (Refused fault) more refused = still-refused asked bytes piece fault refused
+
+-- records are read, and what is at hand stands behind them
+pub reached-here : (asked : Option Id) (at_hand : AtHand) (bytes : List ℕ) (rows : List Fields) (stage : Stage) → IsBehind bytes rows at_hand →
+    HasReached asked rows stage → HasTaken (record { asked = asked; at_hand = at_hand; stage = stage }) bytes
+reached-here asked at_hand bytes rows Contests behind reached = (rows, behind, reached)
+reached-here asked at_hand bytes rows (Ballots begun) behind reached = (rows, behind, reached)
+reached-here asked at_hand bytes rows (Refused fault) behind refused =
+    λ more. subst (λ (l : List Fields). Refuses (ballots_from asked l) fault) (sym (behind.says more)) (refused (numbered_records (text_of at_hand ++ more)))
+
+-- what isn't refused is read so far
+pub has-read : (reader : VotesSoFar) (bytes : List ℕ) (stage : Stage) → reader.stage ≡ stage → ((fault : Fault BRule) → stage ≡ Refused fault → ⊥) →
+    HasTaken reader bytes → HasRead reader bytes
+has-read reader bytes stage is going taken = by reader.stage (λ fault e. going fault (sym is ∙ e)) taken where
+  by : (s : Stage) → ((fault : Fault BRule) → s ≡ Refused fault → ⊥) → HasTaken (record { asked = reader.asked; at_hand = reader.at_hand; stage = s }) bytes →
+      HasRead (record { asked = reader.asked; at_hand = reader.at_hand; stage = s }) bytes
+  by Contests going taken = taken
+  by (Ballots begun) going taken = taken
+  by (Refused fault) going taken = absurd (going fault refl)
+
+pub refused-more : (reader : VotesSoFar) (bytes piece : List ℕ) (fault : Fault BRule) → reader.stage ≡ Refused fault → HasTaken reader bytes →
+    HasTaken reader (bytes ++ piece)
+refused-more reader bytes piece fault is taken = by reader.stage is taken where
+  by : (s : Stage) → s ≡ Refused fault → HasTaken (record { asked = reader.asked; at_hand = reader.at_hand; stage = s }) bytes →
+      HasTaken (record { asked = reader.asked; at_hand = reader.at_hand; stage = s }) (bytes ++ piece)
+  by Contests e taken = absurd cc
+  by (Ballots begun) e taken = absurd cc
+  by (Refused other) e taken = still-refused reader.asked bytes piece other taken
+
+-- a file that is refused, of which nothing more comes
+pub refused-whole : (reader : VotesSoFar) (bytes : List ℕ) (fault : Fault BRule) → reader.stage ≡ Refused fault → HasTaken reader bytes →
+    Refuses (ballots_of bytes reader.asked) fault
+refused-whole reader bytes fault is taken = by reader.stage is taken where
+  by : (s : Stage) → s ≡ Refused fault → HasTaken (record { asked = reader.asked; at_hand = reader.at_hand; stage = s }) bytes →
+      Refuses (ballots_of bytes reader.asked) fault
+  by Contests e taken = absurd cc
+  by (Ballots begun) e taken = absurd cc
+  by (Refused other) e taken =
+      let same : other ≡ fault = cc in
+      subst (Refuses (ballots_of bytes reader.asked)) same
+      (subst (λ (l : List ℕ). Refuses (ballots_of l reader.asked) other) (append-nil bytes) (taken []))
+
+-- ---- what is held
+
+short : (lines : List ℕ) → length lines ≡ 1 → can_be_read lines ≡ false
+short lines h = rw h refl
+
+-- the lines were passed
+pub passed-all : (reader : VotesSoFar) → length reader.at_hand.lines ≡ 1 → HasPassed reader
+passed-all reader h = by reader.stage where
+  none : can_be_read reader.at_hand.lines ≡ false
+  none = short reader.at_hand.lines h
+
+  by : (s : Stage) → HoldsLittle reader s
+  by Contests = λ readable. absurd (false≢true (sym none ∙ readable))
+  by (Ballots begun) = none
+  by (Refused fault) = tt
+
+-- they couldn't be read
+pub passed-none : (reader : VotesSoFar) →
+    (can_be_read reader.at_hand.lines ≡ true → (reader.stage ≡ Contests) × LacksContests reader.asked (numbered_records reader.at_hand.lines)) → HasPassed reader
+passed-none reader lacking = by reader.stage lacking where
+  by : (s : Stage) → (can_be_read reader.at_hand.lines ≡ true → (s ≡ Contests) × LacksContests reader.asked (numbered_records reader.at_hand.lines)) →
+      HoldsLittle reader s
+  by Contests lacking = λ readable. (lacking readable).1
+  by (Ballots begun) lacking = elim (cases_Bool (can_be_read reader.at_hand.lines)) [
+    | inl readable ↦ let same = (lacking readable).0 in absurd cc
+    | inr h ↦ h
+  ]
+  by (Refused fault) lacking = tt

@@ -1,0 +1,58 @@
+-- How far a ballot file is read that comes in pieces.
+use Rattle.std.specs.Prelude.{◌≡◌, ℕ, false, List, [], ◌++◌, IsTrue, Option, Err, ⊤}
+use Rattle.csv_rows.specs.Fields.{numbered_records}
+use Rattle.csv_rows.specs.Pieces.{AtHand, IsBehind, can_be_read}
+use Rattle.csv_rows.specs.Rows.{Fields}
+use Rattle.file_fault.specs.Refusals.{Refusal, Refuses}
+use Rattle.irv_base.specs.Names.{Id}
+use Rattle.ballot_reader.specs.Begun.{HasBegun}
+use Rattle.ballot_reader.specs.Grammar.{ballots_from, ballots_of}
+use Rattle.ballot_reader.specs.declared.fault.BRule.{BRule}
+use Rattle.ballot_reader.specs.declared.stage.Stage.{Stage}
+use Rattle.ballot_reader.specs.declared.stage.Stage.TheVariants.{Contests, Ballots, Refused}
+
+-- These records were read. Once one of them is refused, so is the file, whatever follows.
+abbrev pub HasReached : Option Id → List Fields → Stage → Type 0
+HasReached asked rows Contests = rows ≡ []
+HasReached asked rows (Ballots begun) = HasBegun asked rows begun
+HasReached asked rows (Refused fault) =
+    (more : List Fields) → Refuses (ballots_from asked (rows ++ more)) fault
+
+-- the contest that is asked for, what is at hand of the file, and how far the file is read
+pub record VotesSoFar : Type 0 where
+  pub asked : Option Id
+  pub at_hand : AtHand
+  pub stage : Stage
+
+-- of these bytes some records were read, and what is at hand stands behind these
+abbrev pub HasRead : VotesSoFar → List ℕ → Type 0
+HasRead reader bytes =
+    (rows : List Fields) × IsBehind bytes rows reader.at_hand
+    × HasReached reader.asked rows reader.stage
+
+abbrev IsAt : VotesSoFar → List ℕ → Stage → Type 0
+IsAt reader bytes Contests = HasRead reader bytes
+IsAt reader bytes (Ballots begun) = HasRead reader bytes
+IsAt reader bytes (Refused fault) =
+    (more : List ℕ) → Refuses (ballots_of (bytes ++ more) reader.asked) fault
+
+-- These bytes were taken. Where they are refused, no more is kept.
+abbrev pub HasTaken : VotesSoFar → List ℕ → Type 0
+HasTaken reader bytes = IsAt reader bytes reader.stage
+
+-- ---- what is held of the file
+
+-- its contests can't be read from these records: one of theirs is still to come, or is refused
+abbrev pub LacksContests : Option Id → List Fields → Type 0
+LacksContests asked rows = (refusal : Refusal BRule) × (ballots_from asked rows ≡ Err refusal)
+
+abbrev pub HoldsLittle : VotesSoFar → Stage → Type 0
+HoldsLittle reader Contests =
+    IsTrue (can_be_read reader.at_hand.lines) →
+    LacksContests reader.asked (numbered_records reader.at_hand.lines)
+HoldsLittle reader (Ballots begun) = can_be_read reader.at_hand.lines ≡ false
+HoldsLittle reader (Refused fault) = ⊤
+
+-- no whole lines are held that can be read
+abbrev pub HasPassed : VotesSoFar → Type 0
+HasPassed reader = HoldsLittle reader reader.stage

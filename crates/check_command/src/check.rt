@@ -26,7 +26,7 @@ use cli_base::{Answer, AnswerKind, Refusal};
 use command::{CheckTask, FileName};
 use cover_checker::{CheckFault, Checked, check as check_file};
 use desk::Desk;
-use input_files::{assertions_in, bytes_of, votes_in};
+use input_files::{assertions_in, bytes_of, votes_of_file};
 use irv_base::{Candidate, Order};
 use report::{spent_at, spent_sets};
 use set_tallies::Counted;
@@ -52,8 +52,7 @@ pub fn answer<R: AllocGlobal + Threads + Sync, D: Desk>(
     ensures served { IsAccountedFor 2 (D.served desk.old) (D.served desk.new) (due result).status }
 {
     let alloc = rt.alloc();
-    let bytes = bytes_of(alloc, desk, &task.ballots)?;
-    let votes = votes_in(alloc, &task.ballots, &bytes, task.contest.as_ref())?;
+    let votes = votes_of_file(alloc, desk, &task.ballots, task.contest.as_ref())?;
     after_votes(rt, desk, &votes, &task.assertions, task.budget)
 }
 

@@ -9,17 +9,22 @@ use Rattle.cli_base.specs.Accounts.{IsAccountedFor}
 use Rattle.cli_base.specs.Due.{due_refusal}
 use Rattle.cli_base.specs.declared.outcome.AnswerKind.{AnswerKind}
 use Rattle.cli_base.specs.declared.outcome.Refusal.{Refusal as Stop}
+use Rattle.cli_base.specs.declared.outcome.Refusal.TheVariants.{Words, Memory as NoMemory, Line}
+use Rattle.cli_base.specs.declared.outcome.RefusalKind.TheVariants.{Input, Missing as NoFile, TooLong as IsTooLong, ReadFault as NoRead}
 use Rattle.cli_base.specs.Begun.{HasCome}
 use Rattle.cli_base.specs.Script.{Bytes, Readings, Script, Read, Runs, ByDesk, Agree, AreOfKind, IsOfKind, Same}
-use Rattle.cli_base.proofs.Begun.{EndsNow, begun_on, come_now, memory_now}
+use Rattle.cli_base.proofs.Begun.{EndsNow, begun_on, come_now, memory_now, stopped_at}
 use Rattle.cli_base.proofs.Statuses.{status_in}
 use Rattle.cli_base.proofs.Steps.{accounted_as, gone_on}
+use Rattle.irv_base.specs.Names.{Id}
 use Rattle.ballot_reader.specs.Ballots.{BallotFile}
+use Rattle.ballot_reader.specs.Grammar.{ballots_of}
 use Rattle.manifest.specs.Cards.{Batches}
 use Rattle.manifest.specs.Manifest.{manifest_of}
 use Rattle.manifest.specs.Linked.{first_without_card}
 use Rattle.input_files.specs.Cards.{cards_for, without_card}
-use Rattle.input_files.specs.Refusals.{no_card, refused_manifest}
+use Rattle.input_files.specs.Refusals.{no_card, refused_ballots, refused_manifest}
+use Rattle.input_files.specs.Votes.{AreVotes, ballots_said}
 use Rattle.input_files.specs.Judged.{told, unless, then_judged, go_on, IsStopped}
 
 -- ---- what is judged
@@ -150,3 +155,31 @@ pub cards-only : (name : List ℕ) (ballots : BallotFile) (manifest bytes : List
 cards-only name ballots manifest bytes =
     then-only (told (refused_manifest manifest) (manifest_of bytes)) _ (told-only (refused_manifest manifest) (manifest_of bytes) (λ why. tt))
     (λ batches. unless-only (without_card name ballots batches) _ (placed-only name ballots batches) tt)
+
+-- ---- the votes in a ballot file
+
+-- the file isn't read, or is refused
+pub votes_stopped : {x y : Served} (held : Option (List File)) (a b : ℕ) (name : List ℕ) (asked : Option Id) (next : List ℕ → BallotFile → Script)
+    (refusal : Stop) → y.begins ≡ one_more x.begins → AreVotes (ByDesk held (Rose a b)) name asked (Err refusal) →
+    HasCome (ByDesk held (Rose a b)) x y (Runs (reading name (ballots_said name asked) next)) (due_refusal refusal)
+votes_stopped held a b name asked next refusal begun (inl stops) = stopped_at _ name _ refusal begun stops
+votes_stopped held a b name asked next refusal begun (inr (bytes, there, stopped)) =
+    read_stopped held a b name bytes (ballots_said name asked) next begun there refusal stopped
+
+pub said-only : (name : List ℕ) (asked : Option Id) (bytes : List ℕ) → OnlyRefuses (ballots_said name asked bytes)
+said-only name asked bytes = told-only (refused_ballots name) (ballots_of bytes asked) (λ why. tt)
+
+-- ---- a call that stops
+
+not_done : (refusal : Stop) → (due_refusal refusal).status ≡ 0 → ⊥
+not_done Words e = cc
+not_done NoMemory e = cc
+not_done (Line Input text) e = cc
+not_done (Line NoFile text) e = cc
+not_done (Line IsTooLong text) e = cc
+not_done (Line NoRead text) e = cc
+
+-- the rest of its files isn't begun
+pub stopped_early : (rest : ℕ) (a b : Served) (refusal : Stop) → IsAccountedFor 1 a b (due_refusal refusal).status →
+    IsAccountedFor (rest + 1) a b (due_refusal refusal).status
+stopped_early rest a b refusal so_far = raised rest 1 a b (due_refusal refusal).status (not_done refusal) so_far

@@ -1,3 +1,4 @@
 pub mod Judged
 pub mod Refusals
 pub mod Cards
+pub mod Votes

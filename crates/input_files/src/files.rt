@@ -3,7 +3,6 @@ ghost use Rattle.std.specs.Prelude.{◌≡◌, ◌≤◌, Ok, IfOk, IfErr, lengt
 ghost use Rattle.desk.specs.Count.{one_more, Rose};
 ghost use Rattle.irv_base.specs.declared.limits.TheConstants.{ROOM};
 ghost use Rattle.assertion_file.specs.Reading.{assertion_file_of};
-ghost use Rattle.ballot_reader.specs.Ballots.{BallotFile, votes_of};
 ghost use Rattle.ballot_reader.specs.Grammar.{ballots_of, contests_of};
 ghost use Rattle.manifest.specs.Manifest.{manifest_of};
 ghost use Rattle.seen_file.specs.Reading.{seen_of};
@@ -15,7 +14,7 @@ ghost use Rattle.input_files.specs.Refusals.{refused_assertions, refused_ballots
 
 use crate::judged::refuse_file;
 use assertion_file::{AssertionFile, read_file};
-use ballot_reader::{Ballots, Votes, read_ballots, read_contests, read_votes};
+use ballot_reader::{Ballots, read_ballots, read_contests};
 use cli_base::{Refusal, read_file as read_whole};
 use command::FileName;
 use desk::Desk;
@@ -49,25 +48,6 @@ pub fn ballots_in(
 {
     match read_ballots(alloc, bytes, contest) {
         Ok(ballots) => Ok(ballots),
-        Err(fault) => Err(refuse_file(alloc, file, fault)),
-    }
-}
-
-/// The votes of the contest with this id, or of the only one, in the bytes of the file with this name; or the rule that refuses them.
-pub fn votes_in(
-    alloc: Global,
-    file: &FileName,
-    bytes: &[u8],
-    contest: Option<&Name>,
-) -> Result<Votes, Refusal>
-    ensures read { IfOk result (λ votes. (ballots : BallotFile)
-        × (told (refused_ballots file.now) (ballots_of bytes.now (option_copied contest.entry))
-        ≡ Ok ballots) × (votes ≡ votes_of ballots)) }
-    ensures refused { IfErr result (IsStopped
-        (told (refused_ballots file.now) (ballots_of bytes.now (option_copied contest.entry)))) }
-{
-    match read_votes(alloc, bytes, contest) {
-        Ok(votes) => Ok(votes),
         Err(fault) => Err(refuse_file(alloc, file, fault)),
     }
 }

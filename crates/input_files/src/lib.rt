@@ -4,7 +4,9 @@
 mod cards;
 mod files;
 mod judged;
+mod votes;
 
 pub use cards::{Cards, cards_for};
-pub use files::{assertions_in, ballots_in, bytes_of, contests_in, manifest_in, seen_in, votes_in};
+pub use files::{assertions_in, ballots_in, bytes_of, contests_in, manifest_in, seen_in};
 pub use judged::{no_record_text, refuse_file, refuse_for};
+pub use votes::votes_of_file;

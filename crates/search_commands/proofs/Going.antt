@@ -7,11 +7,10 @@ use Rattle.cli_base.specs.Begun.{HasCome}
 use Rattle.cli_base.proofs.Begun.{EndsNow}
 use Rattle.irv_base.specs.Names.{Id}
 use Rattle.ballot_reader.specs.Ballots.{BallotFile}
-use Rattle.ballot_reader.specs.Grammar.{ballots_of}
 use Rattle.cli_base.specs.Outcome.{Outcome, Verdict, outcome}
 use Rattle.cli_base.specs.Script.{Script, Read, Runs, Bytes, Agree, ByDesk, SameButBudget}
-use Rattle.input_files.specs.Judged.{told, go_on}
-use Rattle.input_files.specs.Refusals.{refused_ballots}
+use Rattle.input_files.specs.Judged.{go_on}
+use Rattle.input_files.specs.Votes.{ballots_said}
 use Rattle.input_files.proofs.Going.{read_last}
 
 pub go_on-agrees : {A : Type 0} (judged : Result A Verdict) (next : A → Script) → ((value : A) → Agree SameButBudget (next value)) →
@@ -20,12 +19,10 @@ go_on-agrees (Ok value) next each = each value
 go_on-agrees (Err verdict) next each = λ v w p q. inl (ap outcome (p ∙ sym q))
 
 -- the ballots of the contest are read and nothing else, by another name for the same contest
-pub ballots_read : {x y : Served} (held : Option (List File)) (a b : ℕ) (file bytes read : List ℕ) (contest asked : Option Id) (ballots : BallotFile)
-    (next : BallotFile → Script) (due : Outcome) → contest ≡ asked → read ≡ bytes → y.begins ≡ one_more x.begins →
-    ByDesk held (Rose a b) file (Bytes bytes) → told (refused_ballots file) (ballots_of read contest) ≡ Ok ballots → EndsNow (next ballots) due →
-    HasCome (ByDesk held (Rose a b)) x y (Runs (Read file (λ bytes. go_on (told (refused_ballots file) (ballots_of bytes asked)) next))) due
-ballots_read {x} {y} held a b file bytes read contest asked ballots next due of copied begun there is ends =
-    let judged = λ (bytes : List ℕ). told (refused_ballots file) (ballots_of bytes contest) in
-    let whole = λ (asked : Option Id).
-    HasCome (ByDesk held (Rose a b)) x y (Runs (Read file (λ bytes. go_on (told (refused_ballots file) (ballots_of bytes asked)) next))) due in
-    subst whole of (read_last held a b file bytes judged (λ bytes. next) begun there ballots due (ap judged (sym copied) ∙ is) ends)
+pub ballots_read : {x y : Served} (held : Option (List File)) (a b : ℕ) (file bytes : List ℕ) (contest asked : Option Id) (ballots : BallotFile)
+    (next : BallotFile → Script) (due : Outcome) → contest ≡ asked → y.begins ≡ one_more x.begins →
+    ByDesk held (Rose a b) file (Bytes bytes) → ballots_said file contest bytes ≡ Ok ballots → EndsNow (next ballots) due →
+    HasCome (ByDesk held (Rose a b)) x y (Runs (Read file (λ bytes. go_on (ballots_said file asked bytes) next))) due
+ballots_read {x} {y} held a b file bytes contest asked ballots next due of begun there is ends =
+    let whole = λ (asked : Option Id). HasCome (ByDesk held (Rose a b)) x y (Runs (Read file (λ bytes. go_on (ballots_said file asked bytes) next))) due in
+    subst whole of (read_last held a b file bytes (ballots_said file contest) (λ bytes. next) begun there ballots due is ends)

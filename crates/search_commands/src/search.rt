@@ -18,7 +18,7 @@ use cli_base::{Answer, AnswerKind, Refusal, refuse_at};
 use command::{PlanTerms, SearchTask};
 use contest_search::{Found, find, planned};
 use desk::{Desk, Gate};
-use input_files::{bytes_of, votes_in};
+use input_files::votes_of_file;
 use irv_base::Memory;
 use std::alloc::Global;
 use std::thread::Threads;
@@ -40,8 +40,7 @@ pub fn answer<R: AllocGlobal + Threads + Sync, D: Desk, G: Gate + Sync>(
     ensures served { IsAccountedFor 1 (D.served desk.old) (D.served desk.new) (due result).status }
 {
     let alloc = rt.alloc();
-    let bytes = bytes_of(alloc, desk, &task.ballots)?;
-    let votes = votes_in(alloc, &task.ballots, &bytes, task.contest.as_ref())?;
+    let votes = votes_of_file(alloc, desk, &task.ballots, task.contest.as_ref())?;
     after_votes(rt, &votes, task, gate)
 }
 

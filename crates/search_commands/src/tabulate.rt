@@ -17,7 +17,7 @@ use bound_search::{RaceFault, race};
 use cli_base::{Answer, AnswerKind, Refusal};
 use command::TabulateTask;
 use desk::{Desk, Gate};
-use input_files::{bytes_of, votes_in};
+use input_files::votes_of_file;
 use irv_base::{Candidate, Order};
 use irv_tabulator::{FirstTie, TabFault, Tabulated, tabulate};
 use report::tabulation;
@@ -46,8 +46,7 @@ pub fn answer<R: AllocGlobal + Threads + Sync, D: Desk, G: Gate + Sync>(
     ensures served { IsAccountedFor 1 (D.served desk.old) (D.served desk.new) (due result).status }
 {
     let alloc = rt.alloc();
-    let bytes = bytes_of(alloc, desk, &task.ballots)?;
-    let votes = votes_in(alloc, &task.ballots, &bytes, task.contest.as_ref())?;
+    let votes = votes_of_file(alloc, desk, &task.ballots, task.contest.as_ref())?;
     tabulate_all(rt, &votes, task.nodes, gate)
 }
 

@@ -21,7 +21,7 @@ use check_command::check::{check, spent_answer, spent_sets_answer};
 use cli_base::{Answer, AnswerKind, Refusal};
 use command::{FileName, TrimTask};
 use desk::Desk;
-use input_files::{assertions_in, bytes_of, votes_in};
+use input_files::{assertions_in, bytes_of, votes_of_file};
 use std::alloc::Global;
 use std::thread::Threads;
 use trimmer::{TrimFault, trim};
@@ -42,8 +42,7 @@ pub fn answer<R: AllocGlobal + Threads + Sync, D: Desk>(
     ensures served { IsAccountedFor 2 (D.served desk.old) (D.served desk.new) (due result).status }
 {
     let alloc = rt.alloc();
-    let bytes = bytes_of(alloc, desk, &task.ballots)?;
-    let votes = votes_in(alloc, &task.ballots, &bytes, task.contest.as_ref())?;
+    let votes = votes_of_file(alloc, desk, &task.ballots, task.contest.as_ref())?;
     after_votes(rt, desk, &votes, &task.assertions, task.budget)
 }
 

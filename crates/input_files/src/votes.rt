@@ -1,0 +1,59 @@
+// The votes in a ballot file, which is read piece by piece.
+ghost use Rattle.std.specs.Prelude.{◌≡◌, ◌≤◌, option_copied};
+ghost use Rattle.desk.specs.Count.{one_more, Rose};
+ghost use Rattle.cli_base.specs.Accounts.{IsAccountedFor};
+ghost use Rattle.cli_base.specs.Due.{status_so_far};
+ghost use Rattle.cli_base.specs.Script.{ByDesk};
+ghost use Rattle.input_files.specs.Votes.{AreVotes};
+ghost use Rattle.ballot_reader.specs.Stages.{HasTaken};
+
+use crate::judged::refuse_file;
+use ballot_reader::{Votes, VotesReader};
+use cli_base::{Refusal, read_file_into};
+use command::FileName;
+use desk::{Desk, Taker};
+use irv_base::{Memory, Name};
+use std::alloc::Global;
+
+// What the votes are read by.
+#[derive(Drop)]
+struct VotesTaker {
+    reader: VotesReader,
+}
+
+impl Taker for VotesTaker {
+    ghost sought = { λ taker. taker.reader.asked };
+
+    ghost has_taken = { λ taker bytes. HasTaken taker.reader bytes };
+
+    fn take(&mut self, piece: &[u8]) -> Result<(), Memory> {
+        self.reader.take(piece)
+    }
+}
+
+/// The votes of the contest with this id, or of the only one, in the file with this name; or why the call stops there. Of the file no more
+/// is held than `VotesReader` keeps.
+pub fn votes_of_file<D: Desk>(
+    alloc: Global,
+    desk: &mut D,
+    file: &FileName,
+    contest: Option<&Name>,
+) -> Result<Votes, Refusal>
+    ensures held { D.held desk.new ≡ D.held desk.old }
+    ensures later { D.faults desk.old ≤ D.faults desk.new }
+    ensures votes { AreVotes
+        (ByDesk (D.held desk.old) (Rose (D.faults desk.old) (D.faults desk.new)))
+        file.now (option_copied contest.entry) result }
+    ensures begun { (D.served desk.new).begins ≡ one_more (D.served desk.old).begins }
+    ensures served { IsAccountedFor 1
+        (D.served desk.old) (D.served desk.new) (status_so_far result) }
+{
+    let mut taker = VotesTaker {
+        reader: VotesReader::new(alloc, contest.copied()),
+    };
+    read_file_into(alloc, desk, file.as_str(), &mut taker)?;
+    match taker.reader.into_votes() {
+        Ok(votes) => Ok(votes),
+        Err(fault) => Err(refuse_file(alloc, file, fault)),
+    }
+}

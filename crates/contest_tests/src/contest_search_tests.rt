@@ -1,6 +1,6 @@
 // What a search finds of contests that were worked by hand: a certificate, a tie, a budget that is spent.
 use crate::contests::{ONE, TWO, ZERO};
-use ballot_reader::read_votes;
+use ballot_reader::read_ballots;
 use budget::Budget;
 use contest_search::{Found, find};
 use desk::NoGate;
@@ -24,8 +24,9 @@ Contest,1,3,1,2,3
 
 #[test]
 fn three_candidates_are_certified(rt: HostRuntime) {
-    let votes = read_votes(rt.alloc(), THREE_CANDIDATES, None).expect(&rt, "votes");
-    match find(&rt, &votes, 2, Budget::Nodes(100_000), &NoGate) {
+    let ballots = read_ballots(rt.alloc(), THREE_CANDIDATES, None).expect(&rt, "ballots");
+    let votes = ballots.votes();
+    match find(&rt, votes, 2, Budget::Nodes(100_000), &NoGate) {
         Ok(Found::Certificate(file)) => {
             assert!(rt; file.winner() == ONE);
             assert!(rt; file.margin() == 1);
@@ -39,8 +40,9 @@ fn three_candidates_are_certified(rt: HostRuntime) {
 
 #[test]
 fn three_candidates_are_spent(rt: HostRuntime) {
-    let votes = read_votes(rt.alloc(), THREE_CANDIDATES, None).expect(&rt, "votes");
-    let found = find(&rt, &votes, 1, Budget::Nodes(0), &NoGate);
+    let ballots = read_ballots(rt.alloc(), THREE_CANDIDATES, None).expect(&rt, "ballots");
+    let votes = ballots.votes();
+    let found = find(&rt, votes, 1, Budget::Nodes(0), &NoGate);
     assert!(rt; matches!(&found, Ok(Found::Spent { .. })));
 }
 
@@ -48,8 +50,9 @@ fn three_candidates_are_spent(rt: HostRuntime) {
 // starts with, and its hardness.
 #[test]
 fn three_candidates_by_sets(rt: HostRuntime) {
-    let votes = read_votes(rt.alloc(), THREE_CANDIDATES, None).expect(&rt, "votes");
-    match find(&rt, &votes, 1, Budget::Sets(3), &NoGate) {
+    let ballots = read_ballots(rt.alloc(), THREE_CANDIDATES, None).expect(&rt, "ballots");
+    let votes = ballots.votes();
+    match find(&rt, votes, 1, Budget::Sets(3), &NoGate) {
         Ok(Found::Certificate(file)) => {
             assert!(rt; file.margin() == 1);
             assert!(rt; file.claims().len() == 3);
@@ -61,8 +64,9 @@ fn three_candidates_by_sets(rt: HostRuntime) {
 
 #[test]
 fn three_candidates_are_spent_by_sets(rt: HostRuntime) {
-    let votes = read_votes(rt.alloc(), THREE_CANDIDATES, None).expect(&rt, "votes");
-    let found = find(&rt, &votes, 1, Budget::Sets(2), &NoGate).expect(&rt, "found");
+    let ballots = read_ballots(rt.alloc(), THREE_CANDIDATES, None).expect(&rt, "ballots");
+    let votes = ballots.votes();
+    let found = find(&rt, votes, 1, Budget::Sets(2), &NoGate).expect(&rt, "found");
     match &found {
         Found::SpentSets {
             sets,
@@ -80,8 +84,9 @@ fn three_candidates_are_spent_by_sets(rt: HostRuntime) {
 #[test]
 fn one_against_one_is_a_tie(rt: HostRuntime) {
     let file = b"1\nContest,7,2,A,B\n7,b_1,A\n7,b_2,B\n".as_slice();
-    let votes = read_votes(rt.alloc(), file, None).expect(&rt, "votes");
-    let found = find(&rt, &votes, 1, Budget::Nodes(100_000), &NoGate);
+    let ballots = read_ballots(rt.alloc(), file, None).expect(&rt, "ballots");
+    let votes = ballots.votes();
+    let found = find(&rt, votes, 1, Budget::Nodes(100_000), &NoGate);
     let is_first = matches!(
         &found,
         Ok(Found::Tie {

@@ -4,7 +4,7 @@ ghost use Rattle.irv_tabulator.specs.Results.{IsTabulation};
 
 use crate::contests::{ONE, TWO, ZERO};
 use assertions::Assertion;
-use ballot_reader::{Votes, read_votes};
+use ballot_reader::{Votes, read_ballots};
 use irv_base::{CandSet, Name, Order};
 use irv_tabulator::{TabFault, Tabulated, tabulate};
 use km_risk::Counts;
@@ -29,10 +29,11 @@ fn tabulated<R: AllocGlobal + Threads + Sync>(rt: &R, votes: &Votes) -> Result<T
 #[test]
 fn two_candidates(rt: HostRuntime) {
     let file = b"1\nContest,7,2,A,B\n7,b_1,A\n7,b_2,B,A\n7,b_3,B\n7,b_4\n".as_slice();
-    let votes = read_votes(rt.alloc(), file, None).expect(&rt, "votes");
-    match tabulated(&rt, &votes) {
+    let ballots = read_ballots(rt.alloc(), file, None).expect(&rt, "ballots");
+    let votes = ballots.votes();
+    match tabulated(&rt, votes) {
         Ok(t) => {
-            let text = tabulation(rt.alloc(), &votes, &t).expect(&rt, "text");
+            let text = tabulation(rt.alloc(), votes, &t).expect(&rt, "text");
             assert!(rt;
                 text.as_str()
                     == "contest 7\nrecords 4\nround 1: A=1 B=2 exhausted=1\neliminated A\nwinner B\n"
@@ -46,10 +47,11 @@ fn two_candidates(rt: HostRuntime) {
 #[test]
 fn tie_for_the_last_place(rt: HostRuntime) {
     let file = b"1\nContest,1,3,1,2,3\n1,t_1,1\n1,t_2,1\n1,t_3,1\n".as_slice();
-    let votes = read_votes(rt.alloc(), file, None).expect(&rt, "votes");
-    match tabulated(&rt, &votes) {
+    let ballots = read_ballots(rt.alloc(), file, None).expect(&rt, "ballots");
+    let votes = ballots.votes();
+    match tabulated(&rt, votes) {
         Ok(t) => {
-            let text = tabulation(rt.alloc(), &votes, &t).expect(&rt, "text");
+            let text = tabulation(rt.alloc(), votes, &t).expect(&rt, "text");
             assert!(rt;
                 text.as_str()
                     == "contest 1\nrecords 3\nround 1: 1=3 2=0 3=0 exhausted=0\ntied 2,3\neliminated 2\nround 2: 1=3 3=0 exhausted=0\neliminated 3\nwinner 1\n"

@@ -1,5 +1,6 @@
 // Tests of `ballot_reader`: ballot files as an office may export them, and what is refused.
 mod contests;
+mod pieces;
 mod rankings;
 
 use ballot_reader::{BRule, BallotFault, read_ballots};

@@ -1,6 +1,6 @@
 // Tests of `desk`, of what no clause says: that calls succeed, and what the system's files and writers give.
 use desk::{
-    Desk, DeskFault, Failed, FileDesk, MemoryDesk, MemorySink, Named, StreamSink, read_all,
+    Desk, DeskFault, Failed, FileDesk, MemoryDesk, MemorySink, Named, StreamSink, read_into,
     write_all,
 };
 use irv_base::Name;
@@ -24,6 +24,18 @@ fn desk_of(alloc: Global, fails: &[u32]) -> Result<MemoryDesk, AllocError> {
     Ok(MemoryDesk::new(files, fails.to_vec(alloc)?))
 }
 
+// The bytes of a file.
+fn read_all<D: Desk>(
+    alloc: Global,
+    desk: &mut D,
+    name: &str,
+    limit: u32,
+) -> Result<Vec<u8>, DeskFault> {
+    let mut bytes = Vec::new(alloc);
+    read_into(desk, name, limit, &mut bytes)?;
+    Ok(bytes)
+}
+
 #[test]
 fn the_first_file_of_a_name_is_read_whole(rt: HostRuntime) -> Result<(), Fail> {
     let alloc = rt.alloc();
@@ -38,6 +50,16 @@ fn the_first_file_of_a_name_is_read_whole(rt: HostRuntime) -> Result<(), Fail> {
         read_all(alloc, &mut desk, "b", 5).err(),
         Some(DeskFault::Missing)
     );
+    Ok(())
+}
+
+#[test]
+fn a_file_is_taken_behind_what_was_taken_before(rt: HostRuntime) -> Result<(), Fail> {
+    let alloc = rt.alloc();
+    let mut desk = desk_of(alloc, &NO_FAILURE)?;
+    let mut bytes = b"the ".to_vec(alloc)?;
+    read_into(&mut desk, "a", 5, &mut bytes)?;
+    assert_eq!(rt; bytes.as_slice(), b"the first".as_slice());
     Ok(())
 }
 

@@ -4,7 +4,7 @@
 use crate::contests::{ONE, TWO, ZERO};
 use assertion_file::read_file;
 use assertions::Assertion;
-use ballot_reader::read_votes;
+use ballot_reader::read_ballots;
 use budget::Budget;
 use cover_checker::{CheckFault, Checked, check};
 use irv_base::{CandSet, Candidate};
@@ -27,13 +27,14 @@ fn checked<R: Abort + AllocGlobal + Threads + Sync>(
     budget: Budget,
 ) -> Result<Checked, CheckFault> {
     let alloc = rt.alloc();
-    let votes = read_votes(alloc, ballots.as_bytes(), None).expect(rt, "votes");
+    let ballots = read_ballots(alloc, ballots.as_bytes(), None).expect(rt, "ballots");
+    let votes = ballots.votes();
     let n = votes.candidates().len() as u32;
     let bag = Bag::of(rt, n, votes.rankings(), 1).expect(rt, "bag");
     let ahead = Ahead::fill(alloc, &bag).expect(rt, "ahead");
     let mut tallies = Tallies::new(alloc, &bag, &ahead, true).expect(rt, "tallies");
     let file = read_file(alloc, file.as_bytes()).expect(rt, "file");
-    check(alloc, &votes, &mut tallies, &file, budget)
+    check(alloc, votes, &mut tallies, &file, budget)
 }
 
 // The answer to the certificate with one text in place of another.

@@ -1,0 +1,76 @@
+// Tests of files whose votes are read in pieces: each file is cut at every place, and says what it says whole.
+use ballot_reader::{BallotFault, Ballots, Votes, VotesReader, read_ballots};
+use irv_base::Rankings;
+use std::alloc::Global;
+
+// Files that are read, and files that are refused: for a contest or a ballot, before a quote or behind one.
+const FILES: [&[u8]; 9] = [
+    b"\xEF\xBB\xBF1,more\r\n \t\r\nContest,7,3, 1,2,3 ,winner,2\r\n7,t_1,2,,2,3\n\n7,t_2\n",
+    b"1\rContest,7,2,A,B\r7,b_1,A\r \r7,b_2,B,A\r",
+    b"1\nContest,7,2,A,B\n7,b_1,A\n7,\"b_2\",\"B\"\n7,b_3,A\n\"7\",b_4,\"A\",B\n7,b_5",
+    b"1\nContest,7,2,A,B,\xEF\xBB\xBFmore\n7,b_1,A\n7,b_2,B\n7,b_3,A\n",
+    b"1\nContest,7,2,A,B\n7,b_1,A\n\xEF\xBB\xBF7,b_2,B\n7,b_3,A\n",
+    b"1\nContest,7,2,A,B\n7,b_1,A\n7,b_2,B\n7,b_1,A\n7,b_3\n",
+    b"1\nContest,7,2,A,B\n\n7,b_1,A\n7,b_2,\"B\n\"\n7,b_3,C\n7,b_4\n",
+    b"2\nContest,7,2,A,B\nContest,7,3,A,B,C\n7,b_1,A\n",
+    b"2\nContest,7,2,A,B\n",
+];
+
+fn read_in_two(alloc: Global, file: &[u8], cut: usize) -> Result<Votes, BallotFault> {
+    let (first, last) = file.split_at(cut);
+    let mut reader = VotesReader::new(alloc, None);
+    reader.take(first)?;
+    reader.take(last)?;
+    reader.into_votes()
+}
+
+fn read_by_byte(alloc: Global, file: &[u8]) -> Result<Votes, BallotFault> {
+    let mut reader = VotesReader::new(alloc, None);
+    for i in 0..file.len() {
+        reader.take(&file[i..i + 1])?;
+    }
+    reader.into_votes()
+}
+
+fn same_rankings(a: &Rankings, b: &Rankings) -> bool {
+    a.len() == b.len() && (0..a.len()).all(|i| a.at(i) == b.at(i))
+}
+
+fn is_same(whole: &Result<Ballots, BallotFault>, votes: &Result<Votes, BallotFault>) -> bool {
+    match (whole, votes) {
+        (Ok(ballots), Ok(votes)) => {
+            ballots.contest() == votes.contest()
+                && ballots.candidates() == votes.candidates()
+                && same_rankings(ballots.rankings(), votes.rankings())
+        }
+        (Err(fault), Err(other)) => fault == other,
+        _ => false,
+    }
+}
+
+#[test]
+fn a_file_in_two_pieces_says_what_it_says_whole(rt: HostRuntime) {
+    let alloc = rt.alloc();
+    for file in FILES {
+        let whole = read_ballots(alloc, file, None);
+        for cut in 0..=file.len() {
+            assert!(rt; is_same(&whole, &read_in_two(alloc, file, cut)));
+        }
+    }
+}
+
+#[test]
+fn a_file_in_bytes_says_what_it_says_whole(rt: HostRuntime) {
+    let alloc = rt.alloc();
+    for file in FILES {
+        let whole = read_ballots(alloc, file, None);
+        assert!(rt; is_same(&whole, &read_by_byte(alloc, file)));
+    }
+}
+
+#[test]
+fn files_are_read_and_refused(rt: HostRuntime) {
+    let alloc = rt.alloc();
+    let read = FILES.map(|file| read_ballots(alloc, file, None).is_ok());
+    assert!(rt; read == [true, true, true, true, false, false, false, false, false]);
+}

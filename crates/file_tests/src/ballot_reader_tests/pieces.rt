@@ -17,7 +17,7 @@ const FILES: [&[u8]; 9] = [
 ];
 
 fn read_in_two(alloc: Global, file: &[u8], cut: usize) -> Result<Votes, BallotFault> {
-    let (first, last) = file.split_at(cut);
+    let (first, last) = file.split_at(cut.min(file.len()));
     let mut reader = VotesReader::new(alloc, None);
     reader.take(first)?;
     reader.take(last)?;

@@ -56,37 +56,38 @@ pub fn most_sets_suffice_to_check()
     ensures { MostSetsSufficeToCheck }
 {}
 
-/// A session that an audit signs off is among those that the risk limit counts, if the cards that were seen were read as they are.
+/// A session that an audit signs off is among those that the risk limit counts, if each drawn card was read as it is, or is missing.
 pub fn signed_off_is_counted()
     ensures { SignedOffIsCounted }
 {}
 
-/// Where the actual rankings of the cards may elect another candidate than the assertion file says, audits of the same files, limit and
-/// gamma are signed off on at most `limit` millionths of all sequences of draws.
+/// Where the actual rankings of the cards may elect another candidate than the assertion file says, and each drawn card is read as it is
+/// or is missing, audits of the same files, limit and gamma are signed off on at most `limit` millionths of all sequences of draws.
 pub fn signed_off_are_few()
     ensures { SignedOffAreFew }
 {}
 
-/// A poll that confirms all claims is among those that the risk limit of polls counts, if the cards that were seen were read as they
-/// are.
+/// A poll that confirms all claims is among those that the risk limit of polls counts, if each drawn card was read as it is, or is
+/// missing.
 pub fn confirmed_is_counted()
     ensures { ConfirmedIsCounted }
 {}
 
-/// Where the actual rankings of the cards may elect another candidate than the assertion file says, polls of the same manifest,
-/// assertion file, limit and gamma confirm all claims on at most `limit` millionths of all sequences of draws.
+/// Where the actual rankings of the cards may elect another candidate than the assertion file says, and each drawn card is read as it is
+/// or is missing, polls of the same manifest, assertion file, limit and gamma confirm all claims on at most `limit` millionths of all
+/// sequences of draws.
 pub fn confirmed_are_few()
     ensures { ConfirmedAreFew }
 {}
 
-/// A session that an audit of a plurality contest signs off is among those that the risk limit counts, if the cards that were seen were
-/// read as they are.
+/// A session that an audit of a plurality contest signs off is among those that the risk limit counts, if each drawn card was read as it
+/// is, or is missing.
 pub fn plural_signed_off_is_counted()
     ensures { PluralSignedOffIsCounted }
 {}
 
-/// Where another candidate has as many first preferences on the cards, or more, audits of the same ballots, manifest, contest, limit and
-/// gamma are signed off on at most `limit` millionths of all sequences of draws.
+/// Where another candidate has as many first preferences on the cards, or more, and each drawn card is read as it is or is missing, audits
+/// of the same ballots, manifest, contest, limit and gamma are signed off on at most `limit` millionths of all sequences of draws.
 pub fn plural_signed_off_are_few()
     ensures { PluralSignedOffAreFew }
 {}
@@ -97,14 +98,15 @@ pub fn block_alone()
     ensures { BlockAlone }
 {}
 
-/// A contest that an audit of all contests signs off is among those that its own risk limit counts, up to any number of draws, if the
-/// cards that were seen were read as they are.
+/// A contest that an audit of all contests signs off is among those that its own risk limit counts, up to any number of draws, if each
+/// drawn card was read as it is, or is missing.
 pub fn contest_is_counted()
     ensures { ContestIsCounted }
 {}
 
-/// Where the actual rankings of the cards may elect another candidate in a contest than its assertions say, audits of all contests with
-/// the same ballots, manifest, limit and gamma sign it off on at most `limit` millionths of all sequences of draws.
+/// Where the actual rankings of the cards may elect another candidate in a contest than its assertions say, and each drawn card is read
+/// as it is or is missing, audits of all contests with the same ballots, manifest, limit and gamma sign it off on at most `limit`
+/// millionths of all sequences of draws.
 pub fn contest_signed_off_are_few()
     ensures { ContestSignedOffAreFew }
 {}
@@ -115,19 +117,20 @@ pub fn same_files_same_answer()
     ensures { SameFilesSameAnswer }
 {}
 
-/// A check of the same ballots with the same budget accepts what a search printed, where nothing failed and memory was found: two
-/// calls, one after the other.
+/// A check of the same ballots and contest with the same budget accepts what a search printed, where that isn't too long for a file,
+/// nothing failed and memory was found: two calls, one after the other.
 pub fn printed_is_accepted()
     ensures { PrintedIsAccepted }
 {}
 
-/// A session is opened with what a search printed, where the manifest has a card of each ballot, nothing failed and memory was
-/// found.
+/// A session is opened with what a search printed, where that isn't too long for a file, the contest is the same, the manifest has a
+/// card of each ballot, nothing failed and memory was found.
 pub fn printed_is_opened()
     ensures { PrintedIsOpened }
 {}
 
-/// A check of the same ballots with the same budget accepts what a trim printed, where nothing failed and memory was found.
+/// A check of the same ballots and contest with the same budget accepts what a trim printed, where that isn't too long for a file, nothing
+/// failed and memory was found.
 pub fn trimmed_is_accepted()
     ensures { TrimmedIsAccepted }
 {}

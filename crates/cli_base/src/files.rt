@@ -1,4 +1,4 @@
-// Files are read whole, or refused.
+// Files are read, whole or piece by piece, or refused.
 ghost use Rattle.std.specs.Prelude.{◌≡◌, ◌≤◌, ◌++◌, OnOk, IfOk, IfErr, string_bytes, codes};
 ghost use Rattle.desk.specs.Count.{one_more, Rose};
 ghost use Rattle.cli_base.specs.Script.{ByDesk};

@@ -1,4 +1,4 @@
-//! What the commands of the suite share: files that are read whole, what a command may come to, and how that is written.
+//! What the commands of the suite share: files that are read, whole or piece by piece, what a command may come to, and how that is written.
 #![tactic(auto)]
 
 mod confirmed;

@@ -1,4 +1,4 @@
-//! The bytes of a file that a command has read, judged: what they say, or a refusal that names the file, the rule and the place.
+//! The files of a command, read and judged: what they say, or a refusal that names the file, the rule and the place.
 #![tactic(auto)]
 
 mod cards;

@@ -1,4 +1,4 @@
-// The files of a session: each has the digest that the session has of it, before it is read.
+// The files of a session: each has the digest that the session has of it, before it is judged.
 ghost use Rattle.std.specs.Prelude.{◌≡◌, Ok, None, IfOk, IfErr};
 ghost use Rattle.manifest.specs.Linked.{first_without_card, linked_of};
 ghost use Rattle.input_files.specs.Judged.{IsJudged, IsStopped};

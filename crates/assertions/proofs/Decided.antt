@@ -1,19 +1,19 @@
 -- Decided contests: all possible orders elect one candidate exactly where each other order has something true against it.
-use Rattle.std.proofs.Common.{◌≡◌, ◌≢◌, ◌↔◌, ℕ, ◌-◌, ◌<◌, ◌≤◌, ◌&&◌, ◌||◌, ◌==◌, not, Bool, true, false, nat_le, nat_lt, inl, inr, List, [], ◌∷◌, ◌++◌, length, map, reverse, Contains, refl, sym, ap, subst, arith, append_assoc, eq-eqb, le-leb, leb-true, leb-false, lt-ltb, ltb-true, ◌∙◌}
-use Rattle.std.proofs.lemmas.Bool.{and_parts, and_from, and_cases, both_ways, cases_Bool, cases_eq, cases_lt, eqb-false, ne_eqb, not-true}
+use Rattle.std.proofs.Common.{◌≡◌, ◌≢◌, ◌↔◌, ℕ, ◌<◌, ◌≤◌, ◌||◌, ◌==◌, not, Bool, true, false, nat_le, inl, inr, List, [], ◌∷◌, ◌++◌, map, reverse, refl, sym, ap, subst, arith, append_assoc, eq-eqb, leb-false, lt-ltb, ltb-true, ◌∙◌}
+use Rattle.std.proofs.lemmas.Bool.{and_parts, and_from, and_cases, cases_eq, cases_lt, eqb-false, ne_eqb, not-true}
 use Rattle.std.proofs.lemmas.List.{reverse-append, reverse-reverse}
 use Rattle.std.specs.List.{list_all, list_any}
 use Rattle.irv_base.specs.Candidates.{candidates, is_in, set_of, all_but}
 use Rattle.irv_base.specs.Orders.{is_order, Elects}
 use Rattle.irv_base.specs.Records.{tally}
 use Rattle.irv_base.specs.Tabulation.{is_possible, may_lose}
-use Rattle.irv_base.proofs.Distinct.{Distinct, none, more, distinct-head, distinct-tail, distinct-rest}
-use Rattle.irv_base.proofs.Members.{Member, here, there, member_at, member_cases, member_nil, member-append_right, from_list_all, list_all-each, list_any-member, in-from_member, from_map, member-map, member-filter, from_filter, candidate-member, from_candidates}
+use Rattle.irv_base.proofs.Distinct.{Distinct, distinct-head, distinct-rest}
+use Rattle.irv_base.proofs.Members.{Member, here, there, member-append_right, list_all-each, list_any-member, in-from_member, from_map, member-map, member-filter, from_filter, candidate-member, from_candidates}
 use Rattle.irv_base.proofs.Orders.{Order, order_facts, last_split}
 use Rattle.assertions.specs.Assertions.{is_proper, is_true, votes_for, votes_against}
 use Rattle.assertions.specs.Certificate.{certificate_assertions}
 use Rattle.assertions.specs.Hardness.{low, best_margin, first_bound, start_order, with_first_two_exchanged}
-use Rattle.assertions.specs.Refutation.{refutes, covers, part_from}
+use Rattle.assertions.specs.Refutation.{refutes, part_from}
 use Rattle.assertions.specs.Suffixes.{alternative_orders}
 use Rattle.assertions.specs.declared.assertion.Assertion.{Assertion}
 use Rattle.assertions.specs.declared.assertion.Assertion.TheVariants.{Neb, Nen}
@@ -25,7 +25,7 @@ use Rattle.assertions.proofs.Listed.{suffix-nen}
 use Rattle.assertions.proofs.Parts.{part_from-append}
 use Rattle.assertions.proofs.Proper.{pair_test}
 use Rattle.assertions.proofs.Tallies.{possible-not_refuted}
-use Rattle.irv_base.specs.Tabulation.{loses, is_tabulated, HasNoTie, AllElect, IsDecided}
+use Rattle.irv_base.specs.Tabulation.{loses, is_tabulated, AllElect, IsDecided}
 use Rattle.assertions.specs.Laws.{IsProof}
 use Rattle.irv_base.proofs.Losing.{loser-goes}
 use Rattle.irv_base.proofs.Tabulated.{tabulated-possible}

@@ -3,6 +3,7 @@ pub mod Masks
 pub mod Greatest
 pub mod Tallies
 pub mod Nebs
+pub mod Numbers
 pub mod Proper
 pub mod Endings
 pub mod Listed

@@ -1,4 +1,4 @@
--- The fixed order is total, and the one that `derive(Ord)` gives.
+-- The fixed order is total, and the one that `Ord` gives.
 use Rattle.std.proofs.Common.{List, ap, arith, inl, inr, refl, subst, sym, true, ℕ, ◌↔◌, ◌∙◌, ◌≡◌}
 use Rattle.std.proofs.Math.Path.{fun_ext}
 use Rattle.std.proofs.lemmas.Bool.{cases_Bool}
@@ -18,17 +18,8 @@ use Rattle.assertions.specs.declared.assertion.Assertion.TheVariants.{Neb, Nen}
 use Rattle.assertions.proofs.Backwards.{stands_before-chain}
 use Rattle.assertions.proofs.FixedOrders.{before-either, before-not_both}
 
-then_equal : (o : Ordering) → ordering_then o Equal ≡ o
-then_equal Less = refl
-then_equal Equal = refl
-then_equal Greater = refl
-
--- `derive(Ord)` compares variants and fields as the keys are compared
 cmp-key : (a b : Assertion) → ghosts.cmp a b ≡ slice_cmp nat_cmp (key a) (key b)
-cmp-key (Neb w l) (Neb v k) = ap (ordering_then (nat_cmp w v)) (sym (then_equal (nat_cmp l k)))
-cmp-key (Neb w l) (Nen v k u) = refl
-cmp-key (Nen w l s) (Neb v k) = refl
-cmp-key (Nen w l s) (Nen v k u) = ap (λ o. ordering_then (nat_cmp w v) (ordering_then (nat_cmp l k) o)) (sym (then_equal (nat_cmp s u)))
+cmp-key a b = refl
 
 pub is_lt-keys : (x y : List ℕ) → is_lt (slice_cmp nat_cmp x y) ≡ stands_before x y
 is_lt-keys x y = same_from_slice_cmp nat_cmp is_lt stands_before refl (λ _ _. refl) (λ _ _. refl) (λ x y xs ys o h. grind (arith, nat_tests)) x y
@@ -61,15 +52,17 @@ pub cmp-Equal : (a b : Assertion) → ((ghosts.cmp a b ≡ Equal) ↔ (a ≡ b))
 cmp-Equal a b = (same a b, λ e. ap (ghosts.cmp a) (sym e) ∙ itself a) where
   same : (a b : Assertion) → ghosts.cmp a b ≡ Equal → a ≡ b
   same (Neb w l) (Neb v k) h =
-      let (p, q) = then-Equal (nat_cmp w v) (nat_cmp l k) h in
+      let (p, ql) = then-Equal (nat_cmp w v) (ordering_then (nat_cmp l k) Equal) h in
+      let (q, last) = then-Equal (nat_cmp l k) Equal ql in
       let p' : w ≡ v = nat_cmp-Equal w v p in
       let q' : l ≡ k = nat_cmp-Equal l k q in
       cc
   same (Neb w l) (Nen v k u) h = cc
   same (Nen w l s) (Neb v k) h = cc
   same (Nen w l s) (Nen v k u) h =
-      let (p, qr) = then-Equal (nat_cmp w v) (ordering_then (nat_cmp l k) (nat_cmp s u)) h in
-      let (q, r) = then-Equal (nat_cmp l k) (nat_cmp s u) qr in
+      let (p, qr) = then-Equal (nat_cmp w v) (ordering_then (nat_cmp l k) (ordering_then (nat_cmp s u) Equal)) h in
+      let (q, rl) = then-Equal (nat_cmp l k) (ordering_then (nat_cmp s u) Equal) qr in
+      let (r, last) = then-Equal (nat_cmp s u) Equal rl in
       let p' : w ≡ v = nat_cmp-Equal w v p in
       let q' : l ≡ k = nat_cmp-Equal l k q in
       let r' : s ≡ u = nat_cmp-Equal s u r in
@@ -79,8 +72,10 @@ cmp-Equal a b = (same a b, λ e. ap (ghosts.cmp a) (sym e) ∙ itself a) where
   one x = tied_itself nat_cmp_total x
 
   itself : (a : Assertion) → ghosts.cmp a a ≡ Equal
-  itself (Neb w l) = ap (λ o. ordering_then o (nat_cmp l l)) (one w) ∙ one l
-  itself (Nen w l s) = ap (λ o. ordering_then o (ordering_then (nat_cmp l l) (nat_cmp s s))) (one w) ∙ ap (λ o. ordering_then o (nat_cmp s s)) (one l) ∙ one s
+  itself (Neb w l) = ap (λ o. ordering_then o (ordering_then (nat_cmp l l) Equal)) (one w) ∙ ap (λ o. ordering_then o Equal) (one l)
+  itself (Nen w l s) =
+      ap (λ o. ordering_then o (ordering_then (nat_cmp l l) (ordering_then (nat_cmp s s) Equal))) (one w)
+      ∙ ap (λ o. ordering_then o (ordering_then (nat_cmp s s) Equal)) (one l) ∙ ap (λ o. ordering_then o Equal) (one s)
 
 -- ---- a strict total order
 pub fixed_order_is_total : IsStrictTotal (λ a b. is_before a b ≡ true)

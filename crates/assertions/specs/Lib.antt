@@ -5,6 +5,7 @@ pub mod Suffixes
 pub mod Refutation
 pub mod Hardness
 pub mod Certificate
+pub mod Compared
 pub mod Assorter
 pub mod Scores
 pub mod Contests

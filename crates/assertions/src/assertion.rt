@@ -1,14 +1,19 @@
 // Assertions, and the order in which they are listed.
 ghost use Rattle.std.specs.Prelude.{◌≡◌};
-ghost use Rattle.assertions.specs.FixedOrder.{is_before};
+ghost use Rattle.std.proofs.Common.{refl};
+ghost use Rattle.std.specs.Cmp.{partial_order_from_agreeing_total};
+ghost use Rattle.std.specs.Ordering.{as_partial_cmp};
+ghost use Rattle.assertions.specs.FixedOrder.{HasDigits, fixed_order, is_before, number_of};
+ghost use Rattle.assertions.specs.Compared.{fixed_total, matches_fixed};
 
 use irv_base::{CandSet, Candidate};
+use std::cmp::Ordering;
 
 /// One of RAIRE's two kinds of assertion, that a winner `w` beats a loser `l`.
 ///
 /// Its variants and fields stand in the fixed order: NEB before NEN, then the smaller winner, then the smaller
 /// loser, then the smaller number of the set.
-#[derive(Clone, Copy, Debug, PartialEq, Eq, PartialOrd, Ord)]
+#[derive(Clone, Copy, Debug, PartialEq, Eq)]
 pub enum Assertion {
     /// Not eliminated before: `w` always has more votes than `l`, so that `w` isn't eliminated before `l`.
     Neb {
@@ -21,6 +26,52 @@ pub enum Assertion {
         l: Candidate,
         rest: CandSet,
     },
+}
+
+// How many values a byte has, and how many four of them have.
+const BYTE: u64 = 1 << 8;
+
+const WORD: u64 = 1 << 32;
+
+impl Assertion {
+    // A number that is the smaller the earlier the assertion stands, so that two are compared at once.
+    #[inline(always)]
+    fn number(&self) -> u64
+        ensures number { result ≡ number_of self.now }
+        ensures digits { HasDigits self.now }
+    {
+        match self {
+            Assertion::Neb { w, l } => (u64::from(w.0) * BYTE + u64::from(l.0)) * WORD,
+            Assertion::Nen { w, l, rest } => {
+                ((BYTE + u64::from(w.0)) * BYTE + u64::from(l.0)) * WORD + u64::from(rest.number())
+            }
+        }
+    }
+}
+
+impl Ord for Assertion {
+    ghost cmp = { fixed_order };
+
+    ghost total = { fixed_total };
+
+    ghost matches_partial_cmp = { λ x y. refl };
+
+    ghost matches_eq = { matches_fixed };
+
+    fn cmp(&self, other: &Assertion) -> Ordering {
+        self.number().cmp(&other.number())
+    }
+}
+
+impl PartialOrd for Assertion {
+    ghost partial_cmp = { as_partial_cmp fixed_order };
+
+    ghost laws = { partial_order_from_agreeing_total fixed_order fixed_total
+        (λ x y. refl) matches_fixed };
+
+    fn partial_cmp(&self, other: &Assertion) -> Option<Ordering> {
+        Some(self.cmp(other))
+    }
 }
 
 /// An assertion and its margin, in votes.

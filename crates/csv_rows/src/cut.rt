@@ -1,5 +1,5 @@
 // The fields of a line, cut off one after the other without the blanks round them.
-ghost use Rattle.std.specs.Prelude.{◌≡◌, ◌∷◌, IfSome};
+ghost use Rattle.std.specs.Prelude.{◌≡◌, ◌+◌, ◌∷◌, IfSome, drop, take};
 ghost use Rattle.csv_rows.specs.Fields.{trimmed_fields};
 ghost use Rattle.csv_rows.specs.Lanes.{AreMarks, IsBareEnd};
 ghost use Rattle.csv_rows.specs.Lines.{fields_behind, fields_in};
@@ -8,9 +8,9 @@ use crate::lines::{COMMA, cut_field, ends_field};
 use crate::stops::marks_behind;
 use crate::trim::trimmed;
 
-// The place of the first comma or line end, where the marks tell it and no blank stands before it.
+/// The place of the first comma or line end, where the marks tell it and no blank stands before it.
 #[inline(always)]
-fn bare_end(text: &[u8], marks: u64) -> Option<usize>
+pub fn bare_end(text: &[u8], marks: u64) -> Option<usize>
     requires { AreMarks marks text.now }
     ensures { IfSome result (IsBareEnd text.now) }
 {
@@ -24,9 +24,24 @@ fn bare_end(text: &[u8], marks: u64) -> Option<usize>
     Some(end)
 }
 
-// As `cut_marked`, for a field that may have blanks, or lies behind the marks.
+/// The text behind the comma that ends the first field, if one does, where the field has no blanks and ends at this place.
+#[inline(always)]
+pub fn behind_bare(text: &[u8], end: usize) -> Option<&[u8]>
+    requires { IsBareEnd text.now end }
+    ensures fields { trimmed_fields (fields_in text.now)
+        ≡ take end text.now ∷ trimmed_fields (fields_behind result) }
+    ensures behind { IfSome result (λ left. left.now ≡ drop (end + 1) text.now) }
+{
+    if text[end] != COMMA {
+        return None;
+    }
+    Some(&text[end + 1..])
+}
+
+/// The first field of a line without the blanks round it, the text behind the comma that ends it, if one does, and the marks of that
+/// text. The field may have blanks, or lie behind the marks: few do, so that this isn't made part of what calls it.
 #[inline(never)]
-fn cut_any(text: &[u8], marks: u64) -> (&[u8], Option<&[u8]>, u64)
+pub fn cut_any(text: &[u8], marks: u64) -> (&[u8], Option<&[u8]>, u64)
     requires { AreMarks marks text.now }
     ensures fields { trimmed_fields (fields_in text.now)
         ≡ result.0.now ∷ trimmed_fields (fields_behind result.1) }
@@ -34,26 +49,4 @@ fn cut_any(text: &[u8], marks: u64) -> (&[u8], Option<&[u8]>, u64)
 {
     let (field, left) = cut_field(text);
     (trimmed(field), left, marks_behind(marks, field.len()))
-}
-
-/// The first field of a line without the blanks round it, the text behind the comma that ends it, if one does, and the marks of that
-/// text.
-#[inline(always)]
-pub fn cut_marked(text: &[u8], marks: u64) -> (&[u8], Option<&[u8]>, u64)
-    requires { AreMarks marks text.now }
-    ensures fields { trimmed_fields (fields_in text.now)
-        ≡ result.0.now ∷ trimmed_fields (fields_behind result.1) }
-    ensures marks { IfSome result.1 (λ left. AreMarks result.2 left.now) }
-{
-    let Some(end) = bare_end(text, marks) else {
-        return cut_any(text, marks);
-    };
-    if text[end] != COMMA {
-        return (&text[..end], None, 0);
-    }
-    (
-        &text[..end],
-        Some(&text[end + 1..]),
-        marks_behind(marks, end),
-    )
 }

@@ -4,9 +4,9 @@ ghost use Rattle.std.specs.Iterator.{YieldsFirstRef, item_count};
 ghost use Rattle.csv_rows.specs.Fields.{trimmed_fields};
 ghost use Rattle.csv_rows.specs.Lines.{fields_in};
 
-use crate::cut::cut_marked;
+use crate::cut::{bare_end, behind_bare, cut_any};
 use crate::lines::field_count;
-use crate::stops::marks_of;
+use crate::stops::{marks_behind, marks_of};
 use std::marker::Model;
 
 /// The fields of a line that are still to come, without the spaces and tabs round them.
@@ -67,9 +67,18 @@ impl<'t> Iterator for LineFields<'t> {
         if self.marks == 0 {
             self.marks = marks_of(text);
         }
-        let (field, left, marks) = cut_marked(text, self.marks);
-        self.left = left;
-        self.marks = marks;
-        Some(field)
+        match bare_end(text, self.marks) {
+            Some(end) => {
+                self.left = behind_bare(text, end);
+                self.marks = marks_behind(self.marks, end);
+                Some(&text[..end])
+            }
+            None => {
+                let (field, left, marks) = cut_any(text, self.marks);
+                self.left = left;
+                self.marks = marks;
+                Some(field)
+            }
+        }
     }
 }

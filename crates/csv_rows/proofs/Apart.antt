@@ -1,8 +1,9 @@
 -- Whole plain lines at the front of a text have their records, whatever stands behind them.
-use Rattle.std.proofs.Common.{le_refl, ◌≡◌, ◌∙◌, ◌≤◌, ◌∷◌, ◌++◌, ◌==◌, [], ℕ, zero, suc, Bool, true, false, List, length, refl, sym, ap, ap₂, arith, inl, inr}
+use Rattle.std.proofs.Common.{le_refl, ◌≡◌, ◌∙◌, ◌<◌, ◌≤◌, ◌∷◌, ◌++◌, ◌==◌, [], ℕ, zero, suc, Bool, true, false, List, length, refl, sym, ap, ap₂, arith, inl, inr}
 use Rattle.std.specs.Prelude.{if◌then◌else◌, not, nat_eq, ◌&&◌}
 use Rattle.std.specs.List.{starts_with}
 use Rattle.std.proofs.lemmas.Bool.{cases_Bool}
+use Rattle.std.proofs.lemmas.List.{append-nil}
 use Rattle.csv.specs.Reading.{default_config, records}
 use Rattle.csv_rows.specs.Rows.{Fields, records_of}
 use Rattle.csv_rows.specs.Fields.{byte_order_mark, is_blank_record, numbered, numbered_records, trimmed_fields, without_mark}
@@ -65,6 +66,14 @@ pub lines-apart : (lines rest : List ℕ) → is_plain lines ≡ true → are_wh
     numbered (records default_config (lines ++ rest)) ≡ numbered (records default_config lines) ++ numbered (records default_config rest)
 unfolding rows
 lines-apart lines rest plain whole = up-to (length lines) lines rest (le_refl (length lines)) plain whole
+
+-- the lines of a text, cut behind some of them or behind them all
+pub parted : (text front behind : List ℕ) → text ≡ front ++ behind → is_plain front ≡ true → (0 < length behind → are_whole_lines front ≡ true) →
+    numbered (records default_config text) ≡ numbered (records default_config front) ++ numbered (records default_config behind)
+unfolding rows
+parted text front [] parts plain whole =
+    ap rows (parts ∙ append-nil front) ∙ sym (append-nil (rows front)) ∙ ap (λ (l : List Fields). rows front ++ l) (sym (none-left [] refl))
+parted text front (b ∷ behind) parts plain whole = ap rows parts ∙ lines-apart front (b ∷ behind) plain (whole (omega arith))
 
 -- ---- behind a line end, and at the start of a file
 

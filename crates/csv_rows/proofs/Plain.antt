@@ -27,6 +27,15 @@ plain-parts b text h =
     let (quote, mark) = or-false (b == 34) (b == 239) first in
     (quote, mark, ap not rest)
 
+pub plain-parted : (front behind : List ℕ) → is_plain (front ++ behind) ≡ true → (is_plain front ≡ true) × (is_plain behind ≡ true)
+plain-parted [] behind h = (refl, h)
+plain-parted (b ∷ front) behind h = by (is_odd_byte b) h (plain-parted front behind) where
+  by : (odd : Bool) → not (odd || list_any is_odd_byte (front ++ behind)) ≡ true →
+      (is_plain (front ++ behind) ≡ true → (is_plain front ≡ true) × (is_plain behind ≡ true)) →
+      (not (odd || list_any is_odd_byte front) ≡ true) × (is_plain behind ≡ true)
+  by true h parts = absurd cc
+  by false h parts = parts h
+
 pub plain-behind : (text : List ℕ) → is_plain text ≡ true → is_plain (behind_line text) ≡ true
 plain-behind [] h = refl
 plain-behind (b ∷ text) h =

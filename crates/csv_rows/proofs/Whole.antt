@@ -1,7 +1,8 @@
 -- Where the last line of a text begins.
-use Rattle.std.proofs.Common.{◌≡◌, ◌<◌, ◌∷◌, [], ℕ, zero, suc, Bool, true, false, List, length, take, drop, refl, ap, arith}
+use Rattle.std.proofs.Common.{◌≡◌, ◌+◌, ◌<◌, ◌∙◌, ◌∷◌, [], ℕ, zero, suc, Bool, true, false, List, length, take, drop, refl, sym, ap, arith, add-one}
 use Rattle.std.specs.Prelude.{not}
 use Rattle.std.specs.List.{list_any}
+use Rattle.std.proofs.lemmas.List.{get_or-drop, length-drop}
 use Rattle.memchr.specs.Find.{Nowhere, Passes, is_byte2}
 use Rattle.csv_rows.specs.Lines.{are_whole_lines, is_line_end, is_unended}
 
@@ -14,6 +15,13 @@ whole-up-to [] end within here = absurd (omega (arith, within))
 whole-up-to (b ∷ text) zero within here = here
 whole-up-to (b ∷ []) (suc end) within here = absurd (omega (arith, within))
 whole-up-to (b ∷ next ∷ text) (suc end) within here = whole-up-to (next ∷ text) end (omega (arith, within)) here
+
+-- a line ends in what is cut off
+pub whole-from : (text : List ℕ) (from end : ℕ) → end < length (drop from text) → Passes (is_byte2 13 10) (drop from text) end →
+    are_whole_lines (take (from + end + 1) text) ≡ true
+whole-from text from end within here =
+    ap (λ n. are_whole_lines (take n text)) (add-one (from + end))
+    ∙ whole-up-to text (from + end) (omega (arith, within, length-drop from text)) (ap (is_byte2 13 10) (sym (get_or-drop from text end 0)) ∙ here)
 
 none-any : (text : List ℕ) (k : ℕ) → Nowhere (Passes (is_byte2 13 10) text) k (length text) → list_any is_line_end (drop k text) ≡ false
 none-any [] zero after = refl

@@ -1,5 +1,5 @@
 // The lines of a plain text. Nothing of them is copied.
-ghost use Rattle.std.specs.Prelude.{◌≡◌, ◌+◌, ◌≤◌, ◌∷◌, ◌++◌, IfSome, IsTrue, drop, length};
+ghost use Rattle.std.specs.Prelude.{◌≡◌, ◌+◌, ◌<◌, ◌≤◌, ◌∷◌, ◌++◌, IfSome, IsTrue, drop, length};
 ghost use Rattle.memchr.specs.Find.{IsFirstByte, Nowhere, Passes, is_byte2, is_byte3};
 ghost use Rattle.csv_rows.specs.Fields.{is_blank_record, trimmed_fields};
 ghost use Rattle.csv_rows.specs.Lines.{are_whole_lines, behind_line, fields_behind, fields_in, is_line_end, is_plain, is_unended};
@@ -102,6 +102,18 @@ pub fn whole_lines(text: &[u8]) -> (&[u8], &[u8])
     match memrchr2(CARRIAGE_RETURN, LINE_FEED, text) {
         Some(end) => text.split_at(end + 1),
         None => (&text[..0], text),
+    }
+}
+
+/// The lines of a text up to the end of the one in which byte `at` stands, and what stands behind that end.
+pub fn lines_up_to(text: &[u8], at: usize) -> (&[u8], &[u8])
+    ensures parts { text.now ≡ result.0.now ++ result.1.now }
+    ensures whole { 0 < length result.1.now → IsTrue (are_whole_lines result.0.now) }
+{
+    let from = at.min(text.len());
+    match first_line_end(&text[from..]) {
+        Some(end) => text.split_at(from + end + 1),
+        None => (text, &text[text.len()..]),
     }
 }
 

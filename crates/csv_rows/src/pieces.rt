@@ -6,14 +6,14 @@ ghost use Rattle.csv_rows.specs.Rows.{Fields};
 
 use crate::lines::{LINE_FEED, whole_lines};
 use crate::mark::{BYTE_ORDER_MARK, without_mark};
-use crate::records::Records;
+use crate::plain_lines::PlainLines;
 use irv_base::Memory;
 use std::alloc::Global;
 use std::marker::Model;
 
 /// How many bytes of whole lines are looked at, at most. Where more are at hand, they couldn't be passed, and each piece would have them
 /// looked at again.
-pub const MOST_AT_HAND: usize = 1 << 20;
+pub const MOST_AT_HAND: usize = 4 << 20;
 
 /// What is at hand of a text that comes in pieces: its whole lines, and the last line, of which more may come. Lines whose records are
 /// read are passed, so that the text is never held whole.
@@ -61,13 +61,12 @@ impl Pieces {
         Ok(())
     }
 
-    /// The numbered records of the whole lines, where what stands behind these can't change them: they have no double quote and no byte
-    /// EF but that of a byte order mark, which would be whole. Lines that are many aren't looked at.
-    pub fn records(&self) -> Option<Records<'_>>
+    /// The whole lines, where what stands behind these can't change their records: they have no double quote and no byte EF but that of a
+    /// byte order mark, which would be whole. Lines that are many aren't looked at.
+    pub fn lines(&self) -> Option<PlainLines<'_>>
         ensures told { is_some result ≡ can_be_read self.now.lines }
         ensures some { IfSome result (λ _. 0 < length self.now.lines) }
-        ensures records { IfSome result (λ records.
-            records.left ≡ numbered_records self.now.lines) }
+        ensures records { IfSome result (λ lines. lines ≡ numbered_records self.now.lines) }
         ensures apart { IfSome result (λ _. StandApart self.now.lines) }
     {
         if self.lines.len() < BYTE_ORDER_MARK.len() || self.lines.len() > MOST_AT_HAND {
@@ -77,7 +76,7 @@ impl Pieces {
         if lines.is_empty() {
             return None;
         }
-        Records::of_plain(lines)
+        PlainLines::of(lines)
     }
 
     /// The records of the whole lines are read: what stands behind them is at hand.

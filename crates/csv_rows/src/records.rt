@@ -1,5 +1,5 @@
 // The numbered records of a text, plain or not.
-ghost use Rattle.std.specs.Prelude.{◌≡◌, ◌∷◌, [], IfOk, IfSome, is_some, if◌then◌else◌};
+ghost use Rattle.std.specs.Prelude.{◌≡◌, ◌∷◌, [], IfOk, IsTrue, if◌then◌else◌};
 ghost use Rattle.csv_rows.specs.Fields.{numbered};
 ghost use Rattle.csv_rows.specs.Lines.{is_plain};
 ghost use Rattle.csv_rows.specs.Rows.{records_of};
@@ -44,25 +44,22 @@ impl<'t> Records<'t> {
     pub fn of(alloc: Global, text: &'t [u8]) -> Records<'t>
         ensures { result.left ≡ numbered (records_of text.now) }
     {
-        match Records::of_plain(text) {
-            Some(records) => records,
-            None => Records {
-                source: Source::Csv(ReadRows::of(alloc, text)),
-            },
+        if is_plain(text) {
+            return Records::of_plain(text);
+        }
+        Records {
+            source: Source::Csv(ReadRows::of(alloc, text)),
         }
     }
 
     /// All numbered records of a text that is plain: it has neither a double quote nor a byte EF.
-    pub(crate) fn of_plain(text: &'t [u8]) -> Option<Records<'t>>
-        ensures plain { is_some result ≡ is_plain text.now }
-        ensures records { IfSome result (λ records. records.left ≡ numbered (records_of text.now)) }
+    pub(crate) fn of_plain(text: &'t [u8]) -> Records<'t>
+        requires { IsTrue (is_plain text.now) }
+        ensures { result.left ≡ numbered (records_of text.now) }
     {
-        if !is_plain(text) {
-            return None;
-        }
-        Some(Records {
+        Records {
             source: Source::Plain(PlainRows::of(text)),
-        })
+        }
     }
 
     /// Reads the next record, if there is one.

@@ -6,14 +6,14 @@ use Rattle.std.proofs.lemmas.List.Elements.{All-get_or}
 use Rattle.std.proofs.lemmas.Option.{get_or_from_slice_get, slice_get_within}
 use Rattle.std.proofs.lemmas.List.{drop-append-le, length-drop, take-append-le, take_all}
 use Rattle.std.proofs.Math.Seq.{drop-append_seam}
-use Rattle.irv_base.specs.Lists.{AreBegins, end_before, lists_between}
+use Rattle.irv_base.specs.Lists.{AreBegins, ArePlaces, end_before, lists_between}
 
-end-within : (begins : List ℕ) (n : ℕ) → AreBegins begins n → end_before begins n ≤ n
+pub end-within : (begins : List ℕ) (n : ℕ) → AreBegins begins n → end_before begins n ≤ n
 end-within [] n h = omega arith
 end-within (b ∷ begins) n (low, h) = omega (arith, low, end-within begins n h)
 
 -- what is put behind the elements leaves a list before them as it is
-same-part : {X : Type 0} (elements more : List X) (begin end : ℕ) → begin ≤ end → end ≤ length elements →
+pub same-part : {X : Type 0} (elements more : List X) (begin end : ℕ) → begin ≤ end → end ≤ length elements →
     take (end - begin) (drop begin (elements ++ more)) ≡ take (end - begin) (drop begin elements)
 same-part elements more begin end rise within =
     ap (take (end - begin)) (drop-append-le begin elements more (omega (arith, rise, within)))
@@ -45,11 +45,14 @@ between-more (b ∷ begins) elements list (low, h) =
     ∙ ap (λ xs. take (end - b) (drop b elements) ∷ xs) (between-more begins elements list h)
 
 -- as the code comes to know it
-pub pushed-begins : {X : Type 0} (old begins : List ℕ) (elements more list : List X) (n : ℕ) → AreBegins old (length elements) →
-    begins ≡ old ++ n ∷ [] → more ≡ elements ++ list → n ≡ length elements → AreBegins begins (length more)
+pub pushed-begins : {X : Type 0} (old begins : List ℕ) (elements more list : List X) (n : ℕ) → ArePlaces old (length elements) →
+    begins ≡ old ++ n ∷ [] → more ≡ elements ++ list → n ≡ length elements → ArePlaces begins (length more)
 pushed-begins old begins elements more list n h e f size =
     let long : n ≤ length more = omega (arith, size, length-append elements list, ap length f) in
-    subst (λ bs. AreBegins bs (length more)) (sym e) (begins-more old n (length more) (subst (AreBegins old) (sym size) h) long)
+    subst (λ bs. ArePlaces bs (length more)) (sym e) (record {
+      rise = begins-more old n (length more) (subst (AreBegins old) (sym size) h.rise) long;
+      first = end-more old n (length more) ∙ ap (end_before old) size ∙ h.first;
+    })
 
 pub pushed-lists : {X : Type 0} (old begins : List ℕ) (elements more list : List X) (n : ℕ) → AreBegins old (length elements) →
     begins ≡ old ++ n ∷ [] → more ≡ elements ++ list → n ≡ length elements → lists_between begins more ≡ lists_between old elements ++ list ∷ []
@@ -59,10 +62,16 @@ pushed-lists old begins elements more list n h e f size =
 
 -- ---- an element more in the last list
 
-pub begins-longer : (begins : List ℕ) (n m : ℕ) → AreBegins begins n → n ≤ m → AreBegins begins m
-begins-longer [] n m h more = tt
-begins-longer (b ∷ []) n m (low, h) more = (omega (arith, low, more), tt)
-begins-longer (b ∷ c ∷ begins) n m (low, h) more = (low, begins-longer (c ∷ begins) n m h more)
+rise-longer : (begins : List ℕ) (n m : ℕ) → AreBegins begins n → n ≤ m → AreBegins begins m
+rise-longer [] n m h more = tt
+rise-longer (b ∷ []) n m (low, h) more = (omega (arith, low, more), tt)
+rise-longer (b ∷ c ∷ begins) n m (low, h) more = (low, rise-longer (c ∷ begins) n m h more)
+
+pub begins-longer : {X : Type 0} (begins : List ℕ) (elements more : List X) (lists : List (List X)) → ArePlaces begins (length elements) →
+    lists_between begins elements ≡ lists → 0 < length lists → length elements ≤ length more → ArePlaces begins (length more)
+begins-longer [] elements more lists h e some long = absurd (omega (arith, ap length e, some))
+begins-longer (b ∷ begins) elements more lists h e some long =
+    record { rise = rise-longer (b ∷ begins) (length elements) (length more) h.rise long; first = h.first }
 
 between-longer : {X : Type 0} (begins : List ℕ) (elements : List X) (x : X) (earlier : List (List X)) (last : List X) →
     AreBegins begins (length elements) → lists_between begins elements ≡ earlier ++ last ∷ [] →

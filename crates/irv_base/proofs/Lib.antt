@@ -7,6 +7,7 @@ pub mod Tabulated
 pub mod Ranges
 pub mod Padded
 pub mod Between
+pub mod Joined
 pub mod Lengthened
 pub mod NameBytes
 pub mod Least

@@ -1,5 +1,5 @@
 -- Lists that are kept one behind the other, in one list beside the places where they begin.
-use Rattle.std.specs.Prelude.{◌≤◌, ◌-◌, ℕ, List, [], ◌∷◌, take, drop, length}
+use Rattle.std.specs.Prelude.{◌≡◌, ◌≤◌, ◌-◌, ℕ, List, [], ◌∷◌, take, drop, length}
 
 -- where a list ends behind which these begin, the last of them at place n
 abbrev pub end_before : List ℕ → ℕ → ℕ
@@ -16,3 +16,8 @@ lists_between (begin ∷ begins) elements =
 abbrev pub AreBegins : List ℕ → ℕ → Type 0
 AreBegins [] n = Unit {0}
 AreBegins (begin ∷ begins) n = (begin ≤ end_before begins n) × AreBegins begins n
+
+-- the begins rise to n, and no element stands before the first list
+pub record ArePlaces (begins : List ℕ) (n : ℕ) : Type 0 where
+  pub rise : AreBegins begins n
+  pub first : end_before begins n ≡ 0

@@ -1,5 +1,5 @@
 // Lists, kept one behind the other.
-ghost use Rattle.std.specs.Prelude.{◌≡◌, ◌<◌, ◌≤◌, ◌+◌, ◌-◌, ◌++◌, ◌∷◌, [], List, Some, IfOk, OnOk, OnErr, length, take, drop, slice_get, slice_index_or};
+ghost use Rattle.std.specs.Prelude.{◌≡◌, ◌<◌, ◌≤◌, ◌+◌, ◌-◌, ◌^◌, ◌++◌, ◌∷◌, [], List, Some, IfOk, OnOk, OnErr, All, length, map, take, drop, slice_get, slice_index_or, vec_capacity, vec_len};
 ghost use Rattle.irv_base.specs.Lists.{AreBegins, lists_between};
 
 use crate::Memory;
@@ -18,13 +18,13 @@ pub struct Lists<T> {
 
 impl<T> Model for Lists<T> {
     ghost use Rattle.std.specs.Prelude.{List, length};
-    ghost use Rattle.irv_base.specs.Lists.{AreBegins, lists_between};
+    ghost use Rattle.irv_base.specs.Lists.{ArePlaces, lists_between};
 
     ghost Value = { List (List T) };
 
     ghost view = { λ l. lists_between l.begins.items l.elements.items };
 
-    ghost invariant = { λ l. AreBegins l.begins.items (length l.elements.items) };
+    ghost invariant = { λ l. ArePlaces l.begins.items (length l.elements.items) };
 }
 
 // Where the list with number i ends, the last of them at place n.
@@ -58,6 +58,18 @@ fn begin_behind(elements: usize) -> Result<u32, Memory>
         return Err(Memory);
     }
     Ok(elements as u32)
+}
+
+// Puts begins last, each as far behind as there are elements before them all.
+fn push_moved(begins: &mut Vec<u32>, others: &[u32], elements: u32)
+    requires room { vec_len begins.old + length others.now ≤ vec_capacity begins.old }
+    requires fit { All (λ begin. elements + begin < 2 ^ 32) others.now }
+    ensures { begins.new.items
+        ≡ begins.old.items ++ map (λ begin. elements + begin) others.now }
+{
+    for begin in others {
+        begins.push_reserved(elements + *begin);
+    }
 }
 
 impl<T: Copy> Lists<T> {
@@ -96,6 +108,21 @@ impl<T: Copy> Lists<T> {
         self.begins.reserve(1)?;
         self.elements.extend_from_slice(list)?;
         self.begins.push_reserved(begin);
+        Ok(())
+    }
+
+    /// Puts other lists last, in their order. More than `u32::MAX` elements in all are want of memory.
+    pub fn append(&mut self, others: &Lists<T>) -> Result<(), Memory>
+        ensures appended { OnOk result (self.new ≡ self.old ++ others.now) }
+        ensures same { OnErr result (self.new ≡ self.old) }
+    {
+        let ahead = begin_behind(self.elements.len())?;
+        if others.elements.len() > (u32::MAX - ahead) as usize {
+            return Err(Memory);
+        }
+        self.begins.reserve(others.begins.len())?;
+        self.elements.extend_from_slice(&others.elements)?;
+        push_moved(&mut self.begins, &others.begins, ahead);
         Ok(())
     }
 

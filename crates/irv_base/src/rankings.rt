@@ -81,6 +81,15 @@ impl Rankings {
         Ok(())
     }
 
+    /// Puts other rankings last, in their order. More than `u32::MAX` places in all are want of memory.
+    pub fn append(&mut self, others: &Rankings) -> Result<(), Memory>
+        ensures appended { OnOk result (self.new ≡ self.old ++ others.now) }
+        ensures same { OnErr result (self.new ≡ self.old) }
+    {
+        self.lists.append(&others.lists)?;
+        Ok(())
+    }
+
     /// Puts a ranking without candidates last.
     pub fn begin(&mut self) -> Result<(), Memory>
         ensures begun { OnOk result (self.new ≡ self.old ++ [] ∷ []) }

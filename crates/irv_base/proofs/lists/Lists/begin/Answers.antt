@@ -16,6 +16,6 @@ returns-clause-begun g c =
     let begin = c.in_ok-begin.begin in
     let elements = c.self.inside.elements.items in
     let size : begin ≡ length elements = omega (arith, c.in_ok-begin.ensures, c.len.ensures, c.self.inside.elements.ok) in
-    pushed-lists c.self.inside.begins.items c.push.new.self.items elements elements [] begin c.self.invariant
+    pushed-lists c.self.inside.begins.items c.push.new.self.items elements elements [] begin c.self.invariant.rise
     c.in_ok-push.ensures.items (sym (append-nil elements)) size
     ∙ ap (λ lists. lists ++ [] ∷ []) c.self.view_is

@@ -5,7 +5,7 @@ use Rattle.csv_rows.specs.Fields.{without_mark}
 use Rattle.csv_rows.specs.Lines.{is_plain}
 use Rattle.csv_rows.specs.Pieces.{AtHand, StandApart}
 use Rattle.csv_rows.proofs.Passing.{some-apart}
-use Rattle.csv_rows.proofs.pieces.Pieces.records.Goals as goal
+use Rattle.csv_rows.proofs.pieces.Pieces.lines.Goals as goal
 
 pub returns-clause-apart : goal.returns-clause-apart
 returns-clause-apart c =
@@ -14,5 +14,5 @@ returns-clause-apart c =
     let long : 3 ≤ length lines = omega (arith, c.if-len-lt3.false, c.len.ensures) in
     let some : length (without_mark lines) == 0 ≡ true → ⊥ = λ none.
     false≢true (sym c.if-is_empty.false ∙ c.is_empty.ensures ∙ ap (λ l. length l == 0) unmarked ∙ none) in
-    subst (λ (at_hand : AtHand). IfSome c.of_plain.result (λ _. StandApart at_hand.lines)) c.self.view_is
-    (some-apart c.of_plain.result lines long (c.of_plain.ensures.plain ∙ ap is_plain unmarked) some)
+    subst (λ (at_hand : AtHand). IfSome c.of.result (λ _. StandApart at_hand.lines)) c.self.view_is
+    (some-apart c.of.result lines long (c.of.ensures.plain ∙ ap is_plain unmarked) some)

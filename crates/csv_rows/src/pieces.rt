@@ -16,7 +16,7 @@ use std::marker::Model;
 pub const MOST_AT_HAND: usize = 4 << 20;
 
 /// What is at hand of a text that comes in pieces: its whole lines, and the last line, of which more may come. Lines whose records are
-/// read are passed, so that the text is never held whole.
+/// read are passed, so that a plain text need not be held whole.
 ///
 /// To a contract it is these two.
 #[derive(Drop)]
@@ -62,7 +62,7 @@ impl Pieces {
     }
 
     /// The whole lines, where what stands behind these can't change their records: they have no double quote and no byte EF but that of a
-    /// byte order mark, which would be whole. Lines that are many aren't looked at.
+    /// byte order mark at their front, which would be whole. Lines that are many aren't looked at.
     pub fn lines(&self) -> Option<PlainLines<'_>>
         ensures told { is_some result ≡ can_be_read self.now.lines }
         ensures some { IfSome result (λ _. 0 < length self.now.lines) }

@@ -16,6 +16,8 @@ pub mod SortedIds
 pub mod IdBytes
 pub mod Marks
 pub mod Noting
+pub mod OfBoth
+pub mod PagesLeft
 pub mod Halves
 pub mod Eight
 pub mod Beginning

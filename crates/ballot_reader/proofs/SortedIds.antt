@@ -1,5 +1,7 @@
 -- Ids in order, each once, in the keys of a set.
-use Rattle.std.proofs.Common.{◌≡◌, ◌∙◌, ◌∷◌, [], ◌||◌, Bool, true, false, List, map, refl, sym, ap}
+use Rattle.std.proofs.Common.{◌≡◌, ◌∙◌, ◌∷◌, [], ◌||◌, Bool, true, false, List, length, map, refl, sym, ap}
+use Rattle.std.specs.Prelude.{◌↔◌}
+use Rattle.std.proofs.lemmas.List.{length-map, nil_from_length}
 use Rattle.std.specs.Ordering.{is_eq, match_ordering, nat_cmp}
 use Rattle.std.specs.declared.cmp.Ordering.{Ordering}
 use Rattle.std.specs.declared.cmp.Ordering.TheVariants.{Less, Equal, Greater}
@@ -43,3 +45,10 @@ module _ {V : Type 0} (items : V → Id) where
   put-among (first ∷ keys) key id =
       one-put (slice_cmp nat_cmp (items key) (items first)) key first keys (insert_key (λ a b. slice_cmp nat_cmp (items a) (items b)) keys key) id refl
       (put-among keys key id)
+
+  -- there are none where the set has no keys
+  pub none-in : (keys : List V) (ids : List Id) → map items keys ≡ ids → (length keys ≡ 0) ↔ (ids ≡ [])
+  none-in keys ids e = (
+    λ none. nil_from_length ids (sym (ap length e) ∙ length-map keys items ∙ none),
+    λ none. sym (length-map keys items) ∙ ap length e ∙ ap length none,
+  )

@@ -2,6 +2,7 @@ pub mod Ballots
 pub mod Grammar
 pub mod Faults
 pub mod Ids
+pub mod Joined
 pub mod Kept
 pub mod Noted
 pub mod Laws

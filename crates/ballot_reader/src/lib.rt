@@ -9,6 +9,7 @@ pub mod examples;
 mod fault;
 mod guesses;
 mod ids;
+mod joining;
 mod kept;
 pub mod laws;
 mod limits;

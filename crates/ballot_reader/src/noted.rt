@@ -1,6 +1,7 @@
 // The ids that have been met, each once.
-ghost use Rattle.std.specs.Prelude.{◌≡◌, ◌++◌, ◌∷◌, [], List, IfOk, true, not};
+ghost use Rattle.std.specs.Prelude.{◌≡◌, ◌++◌, ◌∷◌, ◌↔◌, [], List, IfOk, OnOk, IsTrue, true, not};
 ghost use Rattle.irv_base.specs.Names.{Id, is_among};
+ghost use Rattle.ballot_reader.specs.Joined.{ArePagesApart};
 ghost use Rattle.ballot_reader.specs.Noted.{AreNoted};
 
 use crate::pages::{Mark, Pages};
@@ -46,5 +47,24 @@ impl Noted {
                 Ok(new)
             }
         }
+    }
+
+    /// Whether the pages alone tell that no id was met by both, so that they can be put together. It isn't told where an id stands
+    /// elsewhere than on a page, or where a page with the same number is for other ids.
+    pub fn are_apart(&self, other: &Noted) -> bool
+        ensures { IsTrue result ↔ ArePagesApart self.now other.now }
+    {
+        self.elsewhere.is_empty()
+            && other.elsewhere.is_empty()
+            && self.pages.are_apart(&other.pages)
+    }
+
+    /// Puts the ids that another has met among these.
+    pub fn join(&mut self, other: &Noted) -> Result<(), Memory>
+        requires { ArePagesApart self.old other.now }
+        ensures { OnOk result ((own its : List Id) → AreNoted own self.old → AreNoted its other.now
+            → AreNoted (own ++ its) self.new) }
+    {
+        self.pages.join(&other.pages)
     }
 }

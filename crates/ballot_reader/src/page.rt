@@ -1,7 +1,8 @@
 // A page: the bits of ids that are alike but for the bytes that are counted.
-ghost use Rattle.std.specs.Prelude.{◌≡◌, ◌<◌, ◌^◌, ◌||◌, ◌==◌, ℕ, IsTrue};
+ghost use Rattle.std.specs.Prelude.{◌≡◌, ◌<◌, ◌^◌, ◌||◌, ◌==◌, ℕ, IsTrue, bit_and, bit_or};
 ghost use Rattle.irv_base.specs.Names.{is_name};
 ghost use Rattle.ballot_reader.specs.Ids.{front, has_bit, is_of};
+ghost use Rattle.ballot_reader.specs.Joined.{are_pages_apart, page_of_both};
 ghost use Rattle.ballot_reader.specs.declared.page.TheConstants.{PAGE_BITS};
 
 use crate::same::is_same;
@@ -61,6 +62,20 @@ impl Bits {
     {
         Bits(self.0 | only(bit))
     }
+
+    /// Whether no bit is set among both.
+    pub fn are_apart(self, other: Bits) -> bool
+        ensures { result ≡ (bit_and self other == 0) }
+    {
+        self.0 & other.0 == 0
+    }
+
+    /// The bits that are set among these or those.
+    pub fn with_all(self, other: Bits) -> Bits
+        ensures { result ≡ bit_or self other }
+    {
+        Bits(self.0 | other.0)
+    }
 }
 
 /// What stands in front of the bytes of an id that are counted.
@@ -111,6 +126,35 @@ impl Page {
                 like.len() == id.len() && is_same(front(like), front(id))
             }
             None => false,
+        }
+    }
+
+    /// Whether no id can be on both pages, and they can be put together: one is for none, or both are for ids alike and no bit is set on both.
+    pub fn is_apart(&self, other: &Page) -> bool
+        ensures { result ≡ are_pages_apart self.now other.now }
+    {
+        if self.like.is_none() {
+            return true;
+        }
+        match &other.like {
+            Some(like) => self.is_of(like.bytes()) && self.bits.are_apart(other.bits),
+            None => true,
+        }
+    }
+
+    /// The page for the ids of both, if they can be put together.
+    pub fn with_all(&self, other: &Page) -> Page
+        ensures { result ≡ page_of_both self.now other.now }
+    {
+        if self.like.is_none() {
+            return *other;
+        }
+        if other.like.is_none() {
+            return *self;
+        }
+        Page {
+            like: self.like,
+            bits: self.bits.with_all(other.bits),
         }
     }
 }

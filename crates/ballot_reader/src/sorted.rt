@@ -1,5 +1,5 @@
 // Ids in order, each once.
-ghost use Rattle.std.specs.Prelude.{◌≡◌, ◌||◌, [], IfOk, OnOk, OnErr, not};
+ghost use Rattle.std.specs.Prelude.{◌≡◌, ◌||◌, ◌↔◌, [], IfOk, OnOk, OnErr, IsTrue, not};
 ghost use Rattle.irv_base.specs.Names.{Id, is_among, is_same};
 
 use irv_base::Memory;
@@ -32,6 +32,13 @@ impl Sorted {
         Sorted {
             ids: BTreeSet::new(alloc),
         }
+    }
+
+    /// Whether there are none.
+    pub fn is_empty(&self) -> bool
+        ensures { IsTrue result ↔ (self.now ≡ []) }
+    {
+        self.ids.is_empty()
     }
 
     /// Puts an id among them, and tells whether it wasn't there.

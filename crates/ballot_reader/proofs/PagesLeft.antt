@@ -1,9 +1,9 @@
 -- Another's closed pages, one after the other: those that are left tell as much as all of them.
-use Rattle.std.proofs.Common.{◌≡◌, ◌≢◌, ◌∙◌, ◌∷◌, [], ◌==◌, ℕ, Bool, true, false, List, Option, Some, None, refl, sym, ap, inl, inr, ne_eqb}
-use Rattle.std.specs.Prelude.{if◌then◌else◌, All}
+use Rattle.std.proofs.Common.{◌≡◌, ◌≢◌, ◌∙◌, ◌∷◌, ℕ, true, false, List, Option, Some, None, refl, sym, ap, inl, inr, ne_eqb}
+use Rattle.std.specs.Prelude.{if◌then◌else◌}
 use Rattle.std.specs.BTreeMap.{get, is_at}
 use Rattle.std.specs.Map.{keys_of, lookup}
-use Rattle.std.specs.Ordering.{eq_by_cmp, is_eq, nat_cmp}
+use Rattle.std.specs.Ordering.{is_eq, nat_cmp}
 use Rattle.std.specs.List.Sorted.{IsStrictlySortedBy}
 use Rattle.std.proofs.lemmas.Bool.{cases_eq, false≢true, false_from_ne_true}
 use Rattle.std.proofs.lemmas.Cmp.{eq_by_cmp_equiv, nat_cmp_total, tied_itself}

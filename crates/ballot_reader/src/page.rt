@@ -129,7 +129,7 @@ impl Page {
         }
     }
 
-    /// Whether no id can be on both pages, and they can be put together: one is for none, or both are for ids alike and no bit is set on both.
+    /// Whether the two can be put together and no id is on both: one is for no ids, or both are for ids alike and no bit is set on both.
     pub fn is_apart(&self, other: &Page) -> bool
         ensures { result ≡ are_pages_apart self.now other.now }
     {

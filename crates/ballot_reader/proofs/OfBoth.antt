@@ -45,7 +45,8 @@ other-bit a b bit apart set =
 same-like : (a b id : Id) → is_like (Some a) b ≡ true → is_like (Some b) id ≡ is_like (Some a) id
 same-like a b id h =
     let (long, fronts) = and_parts (length a == length b) (is_same (front a) (front b)) h in
-    ap₂ (λ n f. (n == length id) && is_same f (front id)) (sym (eqb-true (length a) (length b) long)) (sym ((bytes_decides (front a) (front b)).0 fronts))
+    ap₂ (λ n f. (n == length id) && is_same f (front id)) (sym (eqb-true (length a) (length b) long))
+    (sym ((bytes_decides (front a) (front b)).0 fronts))
 
 and-either : (like a b : Bool) → (like && (a || b)) ≡ ((like && a) || (like && b))
 and-either true a b = refl
@@ -93,7 +94,8 @@ paged-both own its all id apart of =
     ap (λ p. is_on p id) (of number) ∙ on-both (page_at own number) (page_at its number) id (apart number)
 
 -- where all ids stand on pages, those were met that are paged
-met-paged : (met : List Id) (noted : Noted) (id : Id) → AreNoted met noted → noted.elsewhere ≡ [] → AreBytes id → is_paged noted.pages id ≡ is_among met id
+met-paged : (met : List Id) (noted : Noted) (id : Id) → AreNoted met noted → noted.elsewhere ≡ [] → AreBytes id →
+    is_paged noted.pages id ≡ is_among met id
 met-paged met noted id are here bytes =
     sym (ap (λ ids. is_paged noted.pages id || is_among ids id) here ∙ or-false (is_paged noted.pages id)) ∙ are.exact id bytes
 

@@ -32,7 +32,8 @@ passed n number page rest away =
     (false_from_ne_true (is_eq (nat_cmp n number)) (λ t. away (tells_apart exact_unsigned n number t)))
 
 -- no number stands twice
-gone : (n number : ℕ) (page : Page) (rest : List (ℕ × Page)) → IsStrictlySortedBy nat_cmp (keys_of ((number, page) ∷ rest)) → n ≡ number → page_in rest n ≡ None
+gone : (n number : ℕ) (page : Page) (rest : List (ℕ × Page)) → IsStrictlySortedBy nat_cmp (keys_of ((number, page) ∷ rest)) → n ≡ number
+    → page_in rest n ≡ None
 gone n number page rest sorted e =
     lookup-none (is_at (nat_cmp n)) rest
     (none_past_head (eq_by_cmp_equiv nat_cmp_total) n (number, page) rest (IsDistinct-from_sorted nat_cmp (keys_of ((number, page) ∷ rest)) sorted)
@@ -46,7 +47,8 @@ closed pages n away = ap (λ b. if b then Some pages.page else get nat_cmp pages
 
 -- if those that are left are apart from a set's, all are
 abbrev pub LeftApart : Pages → Pages → List (ℕ × Page) → Type 0
-LeftApart own its left = (n : ℕ) → n ≢ its.open → are_apart (page_at own n) (page_in left n) ≡ true → are_apart (page_at own n) (page_at its n) ≡ true
+LeftApart own its left =
+    (n : ℕ) → n ≢ its.open → are_apart (page_at own n) (page_in left n) ≡ true → are_apart (page_at own n) (page_at its n) ≡ true
 
 pub all-left : (own its : Pages) → LeftApart own its its.closed.entries
 all-left own its n away h = ap (are_apart (page_at own n)) (closed its n away) ∙ h

@@ -79,6 +79,13 @@ impl Pieces {
         PlainLines::of(lines)
     }
 
+    /// How many bytes the whole lines have.
+    pub fn held(&self) -> usize
+        ensures { result ≡ length self.now.lines }
+    {
+        self.lines.len()
+    }
+
     /// The records of the whole lines are read: what stands behind them is at hand.
     pub fn pass(&mut self)
         requires some { 0 < length self.old.lines }

@@ -102,7 +102,7 @@ refused-append contests earlier at (row ∷ rows) more fault h =
       by (Err rule) g again = g
 
 -- there is a ballot for each
-ballots-length : (contests : List Contest) (earlier ballots : List Ballot) (at : ℕ) (rows : List Fields) →
+pub ballots-length : (contests : List Contest) (earlier ballots : List Ballot) (at : ℕ) (rows : List Fields) →
     ballots_after contests earlier at rows ≡ Ok ballots → length ballots ≡ length earlier + length rows
 ballots-length contests earlier ballots at [] h =
     let same : earlier ≡ ballots = cc in

@@ -22,3 +22,5 @@ pub mod Halves
 pub mod Eight
 pub mod Beginning
 pub mod Staged
+pub mod Moved
+pub mod PutBehind

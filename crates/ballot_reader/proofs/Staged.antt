@@ -1,6 +1,6 @@
 -- A ballot file comes in pieces, and is read as far as it goes.
-use Rattle.std.proofs.Common.{◌≡◌, ◌∙◌, ◌++◌, [], ℕ, List, Option, refl, sym, subst, append_assoc, length, true, false, inl, inr}
-use Rattle.std.proofs.lemmas.Bool.{cases_Bool, false≢true}
+use Rattle.std.proofs.Common.{◌≡◌, ◌∙◌, ◌++◌, [], ℕ, List, Option, refl, sym, subst, append_assoc, length, false}
+use Rattle.std.proofs.lemmas.Bool.{false≢true}
 use Rattle.std.proofs.lemmas.List.{append-nil}
 use Rattle.csv_rows.specs.Fields.{numbered_records}
 use Rattle.csv_rows.specs.Pieces.{AtHand, IsBehind, can_be_read, text_of}
@@ -9,7 +9,7 @@ use Rattle.file_fault.specs.Refusals.{Refuses}
 use Rattle.file_fault.specs.declared.fault.Fault.{Fault}
 use Rattle.irv_base.specs.Names.{Id}
 use Rattle.ballot_reader.specs.Grammar.{ballots_from, ballots_of}
-use Rattle.ballot_reader.specs.Stages.{HasPassed, HasReached, HasRead, HasTaken, HoldsLittle, LacksContests, VotesSoFar}
+use Rattle.ballot_reader.specs.Stages.{HasPassed, HasReached, HasRead, HasTaken, HoldsLittle, VotesSoFar}
 use Rattle.ballot_reader.specs.declared.fault.BRule.{BRule}
 use Rattle.ballot_reader.specs.declared.stage.Stage.{Stage}
 use Rattle.ballot_reader.specs.declared.stage.Stage.TheVariants.{Contests, Ballots, Refused}
@@ -26,27 +26,27 @@ still-refused asked bytes piece fault refused more =
     subst (λ (l : List ℕ). Refuses (ballots_of l asked) fault) (sym (append_assoc bytes piece more)) (refused (piece ++ more))
 
 -- a piece is at hand, and nothing of it is read
-pub at_hand-more : (asked : Option Id) (old new : AtHand) (bytes piece : List ℕ) (stage : Stage) →
+pub at_hand-more : (asked : Option Id) (holds : ℕ) (old new : AtHand) (bytes piece : List ℕ) (stage : Stage) →
     ((text : List ℕ) (given : List Fields) → IsBehind text given old → IsBehind (text ++ piece) given new) →
-    HasTaken (record { asked = asked; at_hand = old; stage = stage }) bytes → HasTaken (record { asked = asked; at_hand = new; stage = stage }) (bytes ++ piece)
-at_hand-more asked old new bytes piece Contests more (rows, behind, reached) = (rows, more bytes rows behind, reached)
-at_hand-more asked old new bytes piece (Ballots begun) more (rows, behind, reached) = (rows, more bytes rows behind, reached)
-at_hand-more asked old new bytes piece (Refused fault) more refused = still-refused asked bytes piece fault refused
+    HasTaken (record { asked = asked; holds = holds; at_hand = old; stage = stage }) bytes → HasTaken (record { asked = asked; holds = holds; at_hand = new; stage = stage }) (bytes ++ piece)
+at_hand-more asked holds old new bytes piece Contests more (rows, behind, reached) = (rows, more bytes rows behind, reached)
+at_hand-more asked holds old new bytes piece (Ballots begun) more (rows, behind, reached) = (rows, more bytes rows behind, reached)
+at_hand-more asked holds old new bytes piece (Refused fault) more refused = still-refused asked bytes piece fault refused
 
 -- records are read, and what is at hand stands behind them
-pub reached-here : (asked : Option Id) (at_hand : AtHand) (bytes : List ℕ) (rows : List Fields) (stage : Stage) → IsBehind bytes rows at_hand →
-    HasReached asked rows stage → HasTaken (record { asked = asked; at_hand = at_hand; stage = stage }) bytes
-reached-here asked at_hand bytes rows Contests behind reached = (rows, behind, reached)
-reached-here asked at_hand bytes rows (Ballots begun) behind reached = (rows, behind, reached)
-reached-here asked at_hand bytes rows (Refused fault) behind refused =
+pub reached-here : (asked : Option Id) (holds : ℕ) (at_hand : AtHand) (bytes : List ℕ) (rows : List Fields) (stage : Stage) → IsBehind bytes rows at_hand →
+    HasReached asked rows stage → HasTaken (record { asked = asked; holds = holds; at_hand = at_hand; stage = stage }) bytes
+reached-here asked holds at_hand bytes rows Contests behind reached = (rows, behind, reached)
+reached-here asked holds at_hand bytes rows (Ballots begun) behind reached = (rows, behind, reached)
+reached-here asked holds at_hand bytes rows (Refused fault) behind refused =
     λ more. subst (λ (l : List Fields). Refuses (ballots_from asked l) fault) (sym (behind.says more)) (refused (numbered_records (text_of at_hand ++ more)))
 
 -- what isn't refused is read so far
 pub has-read : (reader : VotesSoFar) (bytes : List ℕ) (stage : Stage) → reader.stage ≡ stage → ((fault : Fault BRule) → stage ≡ Refused fault → ⊥) →
     HasTaken reader bytes → HasRead reader bytes
 has-read reader bytes stage is going taken = by reader.stage (λ fault e. going fault (sym is ∙ e)) taken where
-  by : (s : Stage) → ((fault : Fault BRule) → s ≡ Refused fault → ⊥) → HasTaken (record { asked = reader.asked; at_hand = reader.at_hand; stage = s }) bytes →
-      HasRead (record { asked = reader.asked; at_hand = reader.at_hand; stage = s }) bytes
+  by : (s : Stage) → ((fault : Fault BRule) → s ≡ Refused fault → ⊥) → HasTaken (record { asked = reader.asked; holds = reader.holds; at_hand = reader.at_hand; stage = s }) bytes →
+      HasRead (record { asked = reader.asked; holds = reader.holds; at_hand = reader.at_hand; stage = s }) bytes
   by Contests going taken = taken
   by (Ballots begun) going taken = taken
   by (Refused fault) going taken = absurd (going fault refl)
@@ -54,8 +54,8 @@ has-read reader bytes stage is going taken = by reader.stage (λ fault e. going 
 pub refused-more : (reader : VotesSoFar) (bytes piece : List ℕ) (fault : Fault BRule) → reader.stage ≡ Refused fault → HasTaken reader bytes →
     HasTaken reader (bytes ++ piece)
 refused-more reader bytes piece fault is taken = by reader.stage is taken where
-  by : (s : Stage) → s ≡ Refused fault → HasTaken (record { asked = reader.asked; at_hand = reader.at_hand; stage = s }) bytes →
-      HasTaken (record { asked = reader.asked; at_hand = reader.at_hand; stage = s }) (bytes ++ piece)
+  by : (s : Stage) → s ≡ Refused fault → HasTaken (record { asked = reader.asked; holds = reader.holds; at_hand = reader.at_hand; stage = s }) bytes →
+      HasTaken (record { asked = reader.asked; holds = reader.holds; at_hand = reader.at_hand; stage = s }) (bytes ++ piece)
   by Contests e taken = absurd cc
   by (Ballots begun) e taken = absurd cc
   by (Refused other) e taken = still-refused reader.asked bytes piece other taken
@@ -64,7 +64,7 @@ refused-more reader bytes piece fault is taken = by reader.stage is taken where
 pub refused-whole : (reader : VotesSoFar) (bytes : List ℕ) (fault : Fault BRule) → reader.stage ≡ Refused fault → HasTaken reader bytes →
     Refuses (ballots_of bytes reader.asked) fault
 refused-whole reader bytes fault is taken = by reader.stage is taken where
-  by : (s : Stage) → s ≡ Refused fault → HasTaken (record { asked = reader.asked; at_hand = reader.at_hand; stage = s }) bytes →
+  by : (s : Stage) → s ≡ Refused fault → HasTaken (record { asked = reader.asked; holds = reader.holds; at_hand = reader.at_hand; stage = s }) bytes →
       Refuses (ballots_of bytes reader.asked) fault
   by Contests e taken = absurd cc
   by (Ballots begun) e taken = absurd cc
@@ -78,26 +78,12 @@ refused-whole reader bytes fault is taken = by reader.stage is taken where
 short : (lines : List ℕ) → length lines ≡ 1 → can_be_read lines ≡ false
 short lines h = rw h refl
 
+-- lines that can't be read
+pub held-none : (asked : Option Id) (holds : ℕ) (lines : List ℕ) → can_be_read lines ≡ false → (stage : Stage) → HoldsLittle asked holds lines stage
+held-none asked holds lines none Contests = λ readable. absurd (false≢true (sym none ∙ readable))
+held-none asked holds lines none (Ballots begun) = λ readable. absurd (false≢true (sym none ∙ readable))
+held-none asked holds lines none (Refused fault) = tt
+
 -- the lines were passed
 pub passed-all : (reader : VotesSoFar) → length reader.at_hand.lines ≡ 1 → HasPassed reader
-passed-all reader h = by reader.stage where
-  none : can_be_read reader.at_hand.lines ≡ false
-  none = short reader.at_hand.lines h
-
-  by : (s : Stage) → HoldsLittle reader s
-  by Contests = λ readable. absurd (false≢true (sym none ∙ readable))
-  by (Ballots begun) = none
-  by (Refused fault) = tt
-
--- they couldn't be read
-pub passed-none : (reader : VotesSoFar) →
-    (can_be_read reader.at_hand.lines ≡ true → (reader.stage ≡ Contests) × LacksContests reader.asked (numbered_records reader.at_hand.lines)) → HasPassed reader
-passed-none reader lacking = by reader.stage lacking where
-  by : (s : Stage) → (can_be_read reader.at_hand.lines ≡ true → (s ≡ Contests) × LacksContests reader.asked (numbered_records reader.at_hand.lines)) →
-      HoldsLittle reader s
-  by Contests lacking = λ readable. (lacking readable).1
-  by (Ballots begun) lacking = elim (cases_Bool (can_be_read reader.at_hand.lines)) [
-    | inl readable ↦ let same = (lacking readable).0 in absurd cc
-    | inr h ↦ h
-  ]
-  by (Refused fault) lacking = tt
+passed-all reader h = held-none reader.asked reader.holds reader.at_hand.lines (short reader.at_hand.lines h) reader.stage

@@ -7,4 +7,5 @@ pub mod Kept
 pub mod Noted
 pub mod Laws
 pub mod Begun
+pub mod Parts
 pub mod Stages

@@ -1,5 +1,5 @@
 -- How far a ballot file is read that comes in pieces.
-use Rattle.std.specs.Prelude.{◌≡◌, ℕ, false, List, [], ◌++◌, IsTrue, Option, Err, ⊤}
+use Rattle.std.specs.Prelude.{◌≡◌, ◌≤◌, ℕ, List, [], ◌++◌, length, IsTrue, Option, Err, ⊤}
 use Rattle.csv_rows.specs.Fields.{numbered_records}
 use Rattle.csv_rows.specs.Pieces.{AtHand, IsBehind, can_be_read}
 use Rattle.csv_rows.specs.Rows.{Fields}
@@ -18,9 +18,11 @@ HasReached asked rows (Ballots begun) = HasBegun asked rows begun
 HasReached asked rows (Refused fault) =
     (more : List Fields) → Refuses (ballots_from asked (rows ++ more)) fault
 
--- the contest that is asked for, what is at hand of the file, and how far the file is read
+-- the contest that is asked for, how many bytes of whole lines may wait for more, what is at hand of the file, and how far the file is
+-- read
 pub record VotesSoFar : Type 0 where
   pub asked : Option Id
+  pub holds : ℕ
   pub at_hand : AtHand
   pub stage : Stage
 
@@ -46,13 +48,15 @@ HasTaken reader bytes = IsAt reader bytes reader.stage
 abbrev pub LacksContests : Option Id → List Fields → Type 0
 LacksContests asked rows = (refusal : Refusal BRule) × (ballots_from asked rows ≡ Err refusal)
 
-abbrev pub HoldsLittle : VotesSoFar → Stage → Type 0
-HoldsLittle reader Contests =
-    IsTrue (can_be_read reader.at_hand.lines) →
-    LacksContests reader.asked (numbered_records reader.at_hand.lines)
-HoldsLittle reader (Ballots begun) = can_be_read reader.at_hand.lines ≡ false
-HoldsLittle reader (Refused fault) = ⊤
+-- of whole lines that can be read only these are held: those whose contests are missing or refused, or a few of ballots, that wait for
+-- more
+abbrev pub HoldsLittle : Option Id → ℕ → List ℕ → Stage → Type 0
+HoldsLittle asked holds lines Contests =
+    IsTrue (can_be_read lines) → LacksContests asked (numbered_records lines)
+HoldsLittle asked holds lines (Ballots begun) =
+    IsTrue (can_be_read lines) → length lines ≤ holds
+HoldsLittle asked holds lines (Refused fault) = ⊤
 
--- no whole lines are held that can be read
+-- little is held of the whole lines that can be read
 abbrev pub HasPassed : VotesSoFar → Type 0
-HasPassed reader = HoldsLittle reader reader.stage
+HasPassed reader = HoldsLittle reader.asked reader.holds reader.at_hand.lines reader.stage

@@ -13,12 +13,14 @@ use crate::kept::Kept;
 use crate::read::{
     add_ballots, audited_place, contests_left, first_ballot, first_count, votes_kept,
 };
+use crate::side_by_side::add_lines;
 use crate::votes::Votes;
 use crate::wanted::Wanted;
-use csv_rows::Records;
+use csv_rows::{PlainLines, Records};
 use irv_base::{Memory, Name};
 use std::alloc::Global;
 use std::marker::Model;
+use std::thread::Threads;
 
 // Room for ballots is made when they come.
 const NO_ROOM: usize = 0;
@@ -101,6 +103,35 @@ impl Begun {
             at,
         } = self;
         let at = add_ballots(&contests, &mut kept, at, records)?;
+        Ok(Begun {
+            contests,
+            audited,
+            kept,
+            at,
+        })
+    }
+
+    /// Reads the ballots in the lines that come next, by several workers where it is worth that.
+    pub fn add_lines<R: Threads + Sync>(
+        self,
+        rt: &R,
+        alloc: Global,
+        lines: &PlainLines<'_>,
+        workers: u32,
+    ) -> Result<Begun, BallotFault>
+        ensures added { IfOk result (λ begun. (asked : Option Id) → (rows : List FieldList)
+            → HasBegun asked rows self → HasBegun asked (rows ++ lines.now) begun) }
+        ensures refused { IfErr result (λ fault. (asked : Option Id) → (rows : List FieldList)
+            → HasBegun asked rows self → (more : List FieldList)
+            → Refuses (ballots_from asked ((rows ++ lines.now) ++ more)) fault) }
+    {
+        let Begun {
+            contests,
+            audited,
+            mut kept,
+            at,
+        } = self;
+        let at = add_lines(rt, alloc, &contests, audited, &mut kept, at, lines, workers)?;
         Ok(Begun {
             contests,
             audited,

@@ -2,6 +2,7 @@
 ghost use Rattle.std.specs.Prelude.{ℕ, ◌≡◌, ◌<◌, ◌++◌, ◌∷◌, [], List, Option, Some, None, IfOk, OnOk, IsTrue, is_some, length, option_map, slice_get, slice_set, if◌then◌else◌};
 ghost use Rattle.ballot_reader.specs.Grammar.{has_audited_size, ranking_of};
 ghost use Rattle.ballot_reader.specs.Kept.{KeptPart, empty_part, no_origins, with_ballot, with_origin};
+ghost use Rattle.ballot_reader.specs.Parts.{with_rankings};
 
 use crate::contest::Contest;
 use crate::guesses::Guesses;
@@ -137,6 +138,13 @@ impl Part {
             preferences,
             &mut self.rankings,
         )
+    }
+
+    /// Puts the rankings of another part behind its own, where it isn't kept whence the ballots come.
+    pub fn append(&mut self, other: &Part) -> Result<(), Memory>
+        ensures { OnOk result (self.new ≡ with_rankings self.old other.now.rankings) }
+    {
+        self.rankings.append(&other.rankings)
     }
 }
 

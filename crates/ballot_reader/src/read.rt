@@ -159,8 +159,8 @@ pub fn first_ballot(contests: &[Contest]) -> u32
     FIRST_CONTEST + contests.len() as u32
 }
 
-// What is kept of the ballots in the records that are left.
-fn ballots_left(
+/// What is kept of the ballots in the records that are left.
+pub fn ballots_left(
     alloc: Global,
     contests: &[Contest],
     wanted: Wanted,

@@ -8,16 +8,17 @@ ghost use Rattle.irv_base.specs.Names.{Id};
 ghost use Rattle.ballot_reader.specs.Ballots.{BallotFile, votes_of};
 ghost use Rattle.ballot_reader.specs.Begun.{HasBegun};
 ghost use Rattle.ballot_reader.specs.Grammar.{ballots_from};
-ghost use Rattle.ballot_reader.specs.Stages.{HasReached, LacksContests};
+ghost use Rattle.ballot_reader.specs.Stages.{HasReached, HoldsLittle, LacksContests};
 ghost use Rattle.ballot_reader.specs.declared.stage.Stage.TheVariants.{Contests};
 
 use crate::begun::{Begun, begin};
 use crate::fault::BallotFault;
 use crate::votes::Votes;
-use csv_rows::{Pieces, Records};
+use csv_rows::{Pieces, PlainLines, Records};
 use file_fault::Fault;
 use irv_base::{Memory, Name};
 use std::alloc::Global;
+use std::thread::Threads;
 
 /// How far a ballot file is read.
 #[derive(Drop)]
@@ -42,27 +43,64 @@ fn added(begun: Begun, records: &mut Records<'_>) -> Result<Stage, Memory>
     }
 }
 
-// Reads records that come next, and tells how far the file is read then. It is nothing where the contests aren't read yet and can't be: a
-// record of theirs is still to come, or one is refused.
-fn stage_behind(
+// The same of those in these lines, by so many workers.
+fn added_lines<R: Threads + Sync>(
+    rt: &R,
+    alloc: Global,
+    begun: Begun,
+    lines: &PlainLines<'_>,
+    workers: u32,
+) -> Result<Stage, Memory>
+    ensures { IfOk result (λ stage. (asked : Option Id) → (rows : List FieldList)
+        → HasBegun asked rows begun → HasReached asked (rows ++ lines.now) stage) }
+{
+    match begun.add_lines(rt, alloc, lines, workers) {
+        Ok(begun) => Ok(Stage::Ballots(begun)),
+        Err(Fault::Memory) => Err(Memory),
+        Err(fault) => Ok(Stage::Refused(fault)),
+    }
+}
+
+// Reads the contests at the front of a file's records, and the ballots behind them. It is nothing where they can't be read: a record of theirs
+// is still to come, or one is refused.
+fn first_stage(
+    alloc: Global,
+    asked: Option<&Name>,
+    records: &mut Records<'_>,
+) -> Result<Option<Stage>, Memory>
+    ensures read { IfOk result (λ next. IfSome next
+        (HasReached (option_copied asked.entry) records.old.left)) }
+    ensures none { IfOk result (λ next. IfNone next
+        (LacksContests (option_copied asked.entry) records.old.left)) }
+{
+    match begin(alloc, asked, records) {
+        Ok(begun) => Ok(Some(added(begun, records)?)),
+        Err(Fault::Memory) => Err(Memory),
+        Err(Fault::Refused { .. }) => Ok(None),
+    }
+}
+
+// Reads lines that come next, and tells how far the file is read then. It is nothing where the contests aren't read yet and can't be.
+fn stage_behind<R: Threads + Sync>(
+    rt: &R,
     alloc: Global,
     asked: Option<&Name>,
     stage: Stage,
-    records: &mut Records<'_>,
+    lines: &PlainLines<'_>,
+    workers: u32,
 ) -> Result<Option<Stage>, Memory>
     ensures read { IfOk result (λ next. IfSome next (λ next. (rows : List FieldList)
         → HasReached (option_copied asked.entry) rows stage
-        → HasReached (option_copied asked.entry) (rows ++ records.old.left) next)) }
+        → HasReached (option_copied asked.entry) (rows ++ lines.now) next)) }
     ensures none { IfOk result (λ next. IfNone next ((stage ≡ Contests)
-        × LacksContests (option_copied asked.entry) records.old.left)) }
+        × LacksContests (option_copied asked.entry) lines.now)) }
 {
     match stage {
-        Stage::Contests => match begin(alloc, asked, records) {
-            Ok(begun) => Ok(Some(added(begun, records)?)),
-            Err(Fault::Memory) => Err(Memory),
-            Err(Fault::Refused { .. }) => Ok(None),
-        },
-        Stage::Ballots(begun) => Ok(Some(added(begun, records)?)),
+        Stage::Contests => {
+            let mut records = lines.records();
+            first_stage(alloc, asked, &mut records)
+        }
+        Stage::Ballots(begun) => Ok(Some(added_lines(rt, alloc, begun, lines, workers)?)),
         Stage::Refused(fault) => Ok(Some(Stage::Refused(fault))),
     }
 }
@@ -77,8 +115,26 @@ pub struct Step {
 }
 
 impl Stage {
-    /// Reads the whole lines at hand, if that can be.
-    pub fn after(self, alloc: Global, asked: Option<&Name>, pieces: &Pieces) -> Result<Step, Memory>
+    // Whether ballots in the whole lines at hand wait for more of them: there are no more than so many bytes.
+    fn waits(&self, pieces: &Pieces, holds: usize) -> bool
+        ensures { IsTrue result → (asked : Option Id)
+            → HoldsLittle asked holds pieces.now.lines self.now }
+    {
+        match self {
+            Stage::Ballots(_) => pieces.held() <= holds,
+            Stage::Contests | Stage::Refused(_) => false,
+        }
+    }
+
+    /// Reads the whole lines at hand by so many workers, if that can be. Ballots wait until more than `holds` bytes are at hand.
+    pub fn after<R: AllocGlobal + Threads + Sync>(
+        self,
+        rt: &R,
+        asked: Option<&Name>,
+        pieces: &Pieces,
+        workers: u32,
+        holds: usize,
+    ) -> Result<Step, Memory>
         ensures some { IfOk result (λ step. step.read ≡ true → 0 < length pieces.now.lines) }
         ensures apart { IfOk result (λ step. step.read ≡ true → StandApart pieces.now.lines) }
         ensures read { IfOk result (λ step. step.read ≡ true → (rows : List FieldList)
@@ -86,17 +142,22 @@ impl Stage {
             → HasReached (option_copied asked.entry) (rows ++ numbered_records pieces.now.lines)
             step.stage) }
         ensures unread { IfOk result (λ step. step.read ≡ false → step.stage ≡ self) }
-        ensures lacking { IfOk result (λ step. step.read ≡ false
-            → IsTrue (can_be_read pieces.now.lines) → (self ≡ Contests)
-            × LacksContests (option_copied asked.entry) (numbered_records pieces.now.lines)) }
+        ensures held { IfOk result (λ step. step.read ≡ false
+            → HoldsLittle (option_copied asked.entry) holds pieces.now.lines self) }
     {
-        let Some(mut records) = pieces.records() else {
+        if self.waits(pieces, holds) {
+            return Ok(Step {
+                stage: self,
+                read: false,
+            });
+        }
+        let Some(lines) = pieces.lines() else {
             return Ok(Step {
                 stage: self,
                 read: false,
             });
         };
-        match stage_behind(alloc, asked, self, &mut records)? {
+        match stage_behind(rt, rt.alloc(), asked, self, &lines, workers)? {
             Some(stage) => Ok(Step { stage, read: true }),
             None => Ok(Step {
                 stage: Stage::Contests,

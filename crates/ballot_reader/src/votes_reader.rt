@@ -1,9 +1,10 @@
 // The votes of a ballot file that comes in pieces.
-ghost use Rattle.std.specs.Prelude.{◌≡◌, ◌++◌, [], ℕ, List, Ok, IfOk, IfErr, OnOk};
+ghost use Rattle.std.specs.Prelude.{◌≡◌, ◌≤◌, ◌++◌, [], ℕ, List, Ok, IfOk, IfErr, OnOk};
 ghost use Rattle.file_fault.specs.Refusals.{Refuses};
 ghost use Rattle.ballot_reader.specs.Ballots.{BallotFile, votes_of};
 ghost use Rattle.ballot_reader.specs.Grammar.{ballots_of};
 ghost use Rattle.ballot_reader.specs.Stages.{HasPassed, HasTaken};
+ghost use Rattle.ballot_reader.specs.declared.votes_reader.TheConstants.{SIDE_BY_SIDE};
 
 use crate::fault::BallotFault;
 use crate::stage::Stage;
@@ -11,24 +12,31 @@ use crate::votes::Votes;
 use csv_rows::{Pieces, Records, without_mark};
 use file_fault::Fault;
 use irv_base::{Memory, Name};
-use std::alloc::Global;
 use std::marker::Model;
 use std::mem;
+use std::thread::Threads;
 
-/// Reads the votes of a contest from a ballot file that comes in pieces. Of the file it keeps the lines that aren't read yet: most often the
-/// last alone. It keeps all that comes, and reads that at the end, from a double quote on, or a byte EF that is no byte order mark at the
-/// front; and where the contests are refused, or they or one line have more than `csv_rows` looks at.
+/// Several workers read ballots once more bytes of whole lines are at hand than these: with fewer they would wait for each other too often.
+pub const SIDE_BY_SIDE: usize = 1 << 20;
+
+/// Reads the votes of a contest from a ballot file that comes in pieces, by one worker or by several. Of the file it keeps the lines that
+/// aren't read yet: most often the last alone, and with several workers up to `SIDE_BY_SIDE` bytes of whole lines. It keeps all that comes,
+/// and reads that at the end, from a double quote on, or a byte EF that is no byte order mark at the front; and where the contests are
+/// refused, or they or one line have more than `csv_rows` looks at.
 ///
-/// To a contract it is the contest that is asked for, what is at hand of the file, and how far the file is read.
+/// To a contract it is the contest that is asked for, how many bytes of whole lines may wait for more, what is at hand of the file, and how
+/// far the file is read.
 #[derive(Drop)]
-pub struct VotesReader {
-    alloc: Global,
+pub struct VotesReader<'r, R: AllocGlobal + Threads + Sync> {
+    rt: &'r R,
+    workers: u32,
     asked: Option<Name>,
+    holds: usize,
     pieces: Pieces,
     stage: Stage,
 }
 
-impl Model for VotesReader {
+impl<'r, R: AllocGlobal + Threads + Sync> Model for VotesReader<'r, R> {
     ghost use Rattle.std.specs.Coded.{codes};
     ghost use Rattle.ballot_reader.specs.Stages.{VotesSoFar};
     ghost use Rattle.ballot_reader.specs.contracts.stage.Stage as e;
@@ -37,19 +45,36 @@ impl Model for VotesReader {
 
     ghost coded = { Prim.hlevel (codes, e.the_row.coded) };
 
-    ghost view = { λ r. record { asked = r.asked; at_hand = r.pieces; stage = r.stage } };
+    ghost view = { λ r. record {
+      asked = r.asked;
+      holds = r.holds;
+      at_hand = r.pieces;
+      stage = r.stage;
+    } };
 }
 
-impl VotesReader {
-    /// Of the contest with this id, or of the only one. Nothing of the file came yet.
-    pub fn new(alloc: Global, contest: Option<Name>) -> VotesReader
+// How many bytes of whole lines may wait for more before so many workers read them.
+fn held_by(workers: u32) -> usize
+    ensures alone { workers ≤ 1 → result ≡ 0 }
+    ensures most { result ≤ SIDE_BY_SIDE }
+{
+    if workers <= 1 { 0 } else { SIDE_BY_SIDE }
+}
+
+impl<'r, R: AllocGlobal + Threads + Sync> VotesReader<'r, R> {
+    /// Of the contest with this id, or of the only one, by so many workers. Nothing of the file came yet.
+    pub fn new(rt: &'r R, contest: Option<Name>, workers: u32) -> VotesReader<'r, R>
         ensures asked { result.asked ≡ contest }
+        ensures alone { workers ≤ 1 → result.holds ≡ 0 }
+        ensures holds { result.holds ≤ SIDE_BY_SIDE }
         ensures nothing { HasTaken result [] }
     {
         VotesReader {
-            alloc,
+            rt,
+            workers,
             asked: contest,
-            pieces: Pieces::new(alloc),
+            holds: held_by(workers),
+            pieces: Pieces::new(rt.alloc()),
             stage: Stage::Contests,
         }
     }
@@ -57,6 +82,7 @@ impl VotesReader {
     /// Takes the bytes that come next. Once memory was wanting, the file is refused for that.
     pub fn take(&mut self, piece: &[u8]) -> Result<(), Memory>
         ensures asked { self.new.asked ≡ self.old.asked }
+        ensures holds { self.new.holds ≡ self.old.holds }
         ensures taken { (bytes : List ℕ) → HasTaken self.old bytes
             → HasTaken self.new (bytes ++ piece.now) }
         ensures passed { OnOk result (HasPassed self.new) }
@@ -66,7 +92,8 @@ impl VotesReader {
         }
         let stage = mem::replace(&mut self.stage, Stage::Refused(Fault::Memory));
         self.pieces.take(piece)?;
-        let step = stage.after(self.alloc, self.asked.as_ref(), &self.pieces)?;
+        let asked = self.asked.as_ref();
+        let step = stage.after(self.rt, asked, &self.pieces, self.workers, self.holds)?;
         self.stage = step.stage;
         if step.read {
             self.pieces.pass();
@@ -76,18 +103,20 @@ impl VotesReader {
 
     /// The votes of the contest, when all of the file came; or why it isn't read, as `read_ballots` tells it.
     pub fn into_votes(self) -> Result<Votes, BallotFault>
-        ensures read { IfOk result (λ votes. (bytes : List ℕ) → HasTaken self bytes
-            → (file : BallotFile) × (ballots_of bytes self.asked ≡ Ok file)
+        ensures read { IfOk result (λ votes. (bytes : List ℕ) → HasTaken self.entry bytes
+            → (file : BallotFile) × (ballots_of bytes self.entry.asked ≡ Ok file)
             × (votes ≡ votes_of file)) }
-        ensures refused { IfErr result (λ fault. (bytes : List ℕ) → HasTaken self bytes
-            → Refuses (ballots_of bytes self.asked) fault) }
+        ensures refused { IfErr result (λ fault. (bytes : List ℕ) → HasTaken self.entry bytes
+            → Refuses (ballots_of bytes self.entry.asked) fault) }
     {
         let VotesReader {
-            alloc,
+            rt,
             asked,
             pieces,
             stage,
+            ..
         } = self;
+        let alloc = rt.alloc();
         if let Stage::Refused(fault) = &stage {
             return Err(*fault);
         }

@@ -10,11 +10,11 @@ use Rattle.ballot_reader.proofs.Staged.{has-read, refused-whole}
 use Rattle.ballot_reader.proofs.votes_reader.VotesReader.into_votes.Goals as goal
 
 pub returns-in-Refused-clause-refused : goal.returns-in-Refused-clause-refused
-returns-in-Refused-clause-refused c = λ bytes taken.
+returns-in-Refused-clause-refused g c = λ bytes taken.
     refused-whole c.args.self bytes c.in-Refused.fault (sym (ap (λ (r : VotesSoFar). r.stage) c.self.view_is) ∙ c.in-Refused.is) taken
 
 pub returns : goal.returns
-returns c =
+returns g c =
     let stage = c.self.inside.stage in
     let asked = option_copied c.as_ref.result in
     let left = c.of-records.result.left in
@@ -25,7 +25,7 @@ returns c =
     (rows : List Fields) × HasReached asked rows stage × (ballots_of bytes c.args.self.asked ≡ ballots_from asked (rows ++ left)) =
     λ bytes taken.
     let (rows, behind, reached) =
-    has-read (record { asked = c.self.inside.asked; at_hand = c.self.inside.pieces; stage = stage }) bytes stage refl c.in_default.not-Refused
+    has-read (record { asked = c.self.inside.asked; holds = c.self.inside.holds; at_hand = c.self.inside.pieces; stage = stage }) bytes stage refl c.in_default.not-Refused
     (subst (λ (r : VotesSoFar). HasTaken r bytes) (sym c.self.view_is) taken) in (
       rows,
       subst (λ a. HasReached a rows stage) (sym c.as_ref.ensures.value) reached,

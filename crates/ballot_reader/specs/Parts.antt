@@ -1,0 +1,80 @@
+-- Ballots that are read side by side: parts of a file, each read as if no ballots stood before it.
+use Rattle.std.specs.Prelude.{◌≡◌, ◌≤◌, ◌+◌, ◌++◌, [], ℕ, List, length, Option, None, Some, option_map, Ok}
+use Rattle.std.specs.List.{slice_get}
+use Rattle.csv_rows.specs.Rows.{Fields}
+use Rattle.irv_base.specs.Names.{Id}
+use Rattle.irv_base.specs.declared.limits.TheConstants.{MOST_RECORDS}
+use Rattle.ballot_reader.specs.Grammar.{Ballot, Contest, ballots_after}
+use Rattle.ballot_reader.specs.Kept.{IsKept, IsKeptUpTo, KeptBallots, KeptPart}
+use Rattle.ballot_reader.specs.Noted.{AreNoted}
+use Rattle.ballot_reader.specs.Joined.{ArePagesApart}
+use Rattle.ballot_reader.specs.declared.noted.Noted.{Noted}
+use Rattle.ballot_reader.specs.declared.wanted.Wanted.{Wanted}
+
+-- ---- what is read
+
+-- these records are ballots, with nothing before them, and this is kept of them
+abbrev pub IsReadAlone : List Contest → Wanted → List Fields → KeptBallots → Type 0
+IsReadAlone contests wanted rows kept =
+    (ballots : List Ballot)
+    × (ballots_after contests [] (2 + length contests) rows ≡ Ok ballots)
+    × IsKept contests wanted ballots kept
+
+-- behind these ballots the records from number at on are ballots, and this is kept of all up to record next
+abbrev pub IsReadBehind :
+    List Contest → Wanted → List Ballot → ℕ → List Fields → ℕ → KeptBallots → Type 0
+IsReadBehind contests wanted earlier at rows next kept =
+    (ballots : List Ballot)
+    × (ballots_after contests earlier at rows ≡ Ok ballots)
+    × IsKeptUpTo contests wanted ballots next kept
+
+-- ---- what can be put together
+
+-- of each contest it is seen that no id was met in both
+abbrev pub AreMetApart : List Noted → List Noted → Type 0
+AreMetApart own its =
+    (place : ℕ) (met more : Noted) → slice_get own place ≡ Some met →
+    slice_get its place ≡ Some more → ArePagesApart met more
+
+-- what is kept of some ballots can be put behind what is kept of others
+pub record CanJoin (kept part : KeptBallots) : Type 0 where
+  pub met_each : length part.met ≡ length kept.met
+  pub part_each : length part.parts ≡ length kept.parts
+  pub apart : AreMetApart kept.met part.met
+  pub few : kept.count + part.count ≤ MOST_RECORDS
+
+-- ---- what is put together
+
+-- each element is put together with that of another list at the same place
+pub record AreTogether
+    (X : Type 0) (Both : X → X → X → Type 0) (own its all : List X) : Type 0 where
+  pub same : length all ≡ length own
+  pub each : (place : ℕ) (before part both : X) → slice_get own place ≡ Some before →
+      slice_get its place ≡ Some part → slice_get all place ≡ Some both → Both before part both
+
+-- the ids of both were met
+abbrev pub IsJoined : Noted → Noted → Noted → Type 0
+IsJoined before part both =
+    (own its : List Id) → AreNoted own before → AreNoted its part → AreNoted (own ++ its) both
+
+-- of each contest the ids of both were met
+abbrev pub AreJoined : List Noted → List Noted → List Noted → Type 0
+AreJoined own its all = AreTogether Noted IsJoined own its all
+
+-- with these rankings behind its own
+abbrev pub with_rankings : KeptPart → List (List ℕ) → KeptPart
+with_rankings part rankings =
+    record { origins = part.origins; rankings = part.rankings ++ rankings }
+
+-- what is kept of more ballots of a contest, where it isn't kept whence they come, behind what is kept of others
+abbrev pub part_behind : Option KeptPart → Option KeptPart → Option KeptPart
+part_behind None before = before
+part_behind (Some part) before = option_map (λ own. with_rankings own part.rankings) before
+
+abbrev pub IsPutBehind : Option KeptPart → Option KeptPart → Option KeptPart → Type 0
+IsPutBehind before part both = both ≡ part_behind part before
+
+-- each contest's part behind another one of the same contest
+abbrev pub ArePutBehind :
+    List (Option KeptPart) → List (Option KeptPart) → List (Option KeptPart) → Type 0
+ArePutBehind own its all = AreTogether (Option KeptPart) IsPutBehind own its all

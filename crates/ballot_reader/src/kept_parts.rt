@@ -1,0 +1,122 @@
+// What is kept of ballots that are read side by side, put together.
+ghost use Rattle.std.specs.Prelude.{ℕ, ◌≡◌, ◌<◌, ◌+◌, ◌↔◌, List, Option, Some, OnOk, IsTrue, length, option_map, slice_get, slice_set};
+ghost use Rattle.csv_rows.specs.Rows.{Fields as FieldList};
+ghost use Rattle.ballot_reader.specs.Grammar.{Ballot, Contest as ContestRecord};
+ghost use Rattle.ballot_reader.specs.Joined.{ArePagesApart};
+ghost use Rattle.ballot_reader.specs.Kept.{IsKeptUpTo, KeptPart};
+ghost use Rattle.ballot_reader.specs.Parts.{AreJoined, AreMetApart, ArePutBehind, CanJoin, IsJoined, IsReadAlone, IsReadBehind, part_behind, with_rankings};
+ghost use Rattle.ballot_reader.specs.declared.noted.Noted.{Noted as NotedIds};
+ghost use Rattle.ballot_reader.specs.declared.wanted.Wanted.TheVariants.{VotesOf};
+
+use crate::kept::Kept;
+use crate::noted::Noted;
+use crate::part::Part;
+use irv_base::{MOST_RECORDS, Memory};
+
+// Whether it is seen of each contest that no id was met in both.
+fn are_apart(sets: &[Noted], others: &[Noted]) -> bool
+    requires { length others.now ≡ length sets.now }
+    ensures { IsTrue result ↔ AreMetApart sets.now others.now }
+{
+    for place in 0..sets.len() {
+        if !sets[place].are_apart(&others[place]) {
+            return false;
+        }
+    }
+    true
+}
+
+// Puts the ids that were met elsewhere among those in the set at a place.
+fn join_at(sets: &mut Vec<Noted>, place: usize, other: &Noted) -> Result<(), Memory>
+    requires within { place < length sets.now.items }
+    requires apart { (own : NotedIds) → slice_get sets.now.items place ≡ Some own
+        → ArePagesApart own other.now }
+    ensures { OnOk result ((own : NotedIds) → slice_get sets.old.items place ≡ Some own
+        → (both : NotedIds) × (sets.new.items ≡ slice_set sets.old.items place both)
+        × IsJoined own other.now both) }
+{
+    sets[place].join(other)?;
+    Ok(())
+}
+
+// Puts the ids that others have met of each contest among those that were met of it.
+fn join_all(sets: &mut Vec<Noted>, others: &[Noted]) -> Result<(), Memory>
+    requires each { length others.now ≡ length sets.now.items }
+    requires apart { AreMetApart sets.now.items others.now }
+    ensures { OnOk result (AreJoined sets.old.items others.now sets.new.items) }
+{
+    for place in 0..others.len() {
+        join_at(sets, place, &others[place])?;
+    }
+    Ok(())
+}
+
+// Puts the rankings of another part of a contest behind those of the part at its place, if there is one.
+fn append_at(parts: &mut Vec<Option<Part>>, place: usize, other: &Part) -> Result<(), Memory>
+    requires { place < length parts.now.items }
+    ensures { OnOk result ((before : Option KeptPart)
+        → slice_get parts.old.items place ≡ Some before
+        → parts.new.items ≡ slice_set parts.old.items place
+        (option_map (λ own. with_rankings own other.now.rankings) before)) }
+{
+    match &mut parts[place] {
+        Some(part) => part.append(other),
+        None => Ok(()),
+    }
+}
+
+// The same, if there is another part.
+fn put_at(parts: &mut Vec<Option<Part>>, place: usize, other: &Option<Part>) -> Result<(), Memory>
+    requires { place < length parts.now.items }
+    ensures { OnOk result ((before : Option KeptPart)
+        → slice_get parts.old.items place ≡ Some before
+        → parts.new.items ≡ slice_set parts.old.items place (part_behind other.now before)) }
+{
+    match other {
+        Some(other) => append_at(parts, place, other),
+        None => Ok(()),
+    }
+}
+
+// Puts each contest's part behind another one of the same contest.
+fn put_all(parts: &mut Vec<Option<Part>>, others: &[Option<Part>]) -> Result<(), Memory>
+    requires { length others.now ≡ length parts.now.items }
+    ensures { OnOk result (ArePutBehind parts.old.items others.now parts.new.items) }
+{
+    for place in 0..others.len() {
+        put_at(parts, place, &others[place])?;
+    }
+    Ok(())
+}
+
+impl Kept {
+    /// Whether what is kept of other ballots can be put behind this: of each contest it is seen that no id was met in both, and there aren't too
+    /// many ballots.
+    pub fn can_join(&self, part: &Kept) -> bool
+        ensures { IsTrue result ↔ CanJoin self.now part.now }
+    {
+        if part.met.len() != self.met.len() || part.parts.len() != self.parts.len() {
+            return false;
+        }
+        if u64::from(self.count) + u64::from(part.count) > u64::from(MOST_RECORDS) {
+            return false;
+        }
+        are_apart(&self.met, &part.met)
+    }
+
+    /// Puts what is kept of ballots that were read alone behind what is kept of others.
+    pub fn join(&mut self, part: &Kept) -> Result<(), Memory>
+        requires { CanJoin self.now part.now }
+        ensures { OnOk result ((contests : List ContestRecord) → (audited : ℕ)
+            → (earlier : List Ballot) → (at : ℕ) → (rows : List FieldList)
+            → IsKeptUpTo contests (VotesOf audited) earlier at self.old
+            → IsReadAlone contests (VotesOf audited) rows part.now
+            → IsReadBehind contests (VotesOf audited) earlier at rows (at + part.now.count)
+            self.new) }
+    {
+        join_all(&mut self.met, &part.met)?;
+        put_all(&mut self.parts, &part.parts)?;
+        self.count += part.count;
+        Ok(())
+    }
+}

@@ -33,7 +33,7 @@ use set_tallies::Counted;
 use std::alloc::Global;
 use std::thread::Threads;
 
-// The votes are counted by this many.
+// The votes are read and counted by this many.
 const WORKERS: u32 = 1;
 
 /// Whether the assertion file holds of the ballots of the contest.
@@ -51,8 +51,7 @@ pub fn answer<R: AllocGlobal + Threads + Sync, D: Desk>(
         (Runs (script task.now)) (due result) }
     ensures served { IsAccountedFor 2 (D.served desk.old) (D.served desk.new) (due result).status }
 {
-    let alloc = rt.alloc();
-    let votes = votes_of_file(alloc, desk, &task.ballots, task.contest.as_ref())?;
+    let votes = votes_of_file(rt, desk, &task.ballots, task.contest.as_ref(), WORKERS)?;
     after_votes(rt, desk, &votes, &task.assertions, task.budget)
 }
 

@@ -13,15 +13,15 @@ use cli_base::{Refusal, read_file_into};
 use command::FileName;
 use desk::{Desk, Taker};
 use irv_base::{Memory, Name};
-use std::alloc::Global;
+use std::thread::Threads;
 
 // What the votes are read by.
 #[derive(Drop)]
-struct VotesTaker {
-    reader: VotesReader,
+struct VotesTaker<'r, R: AllocGlobal + Threads + Sync> {
+    reader: VotesReader<'r, R>,
 }
 
-impl Taker for VotesTaker {
+impl<'r, R: AllocGlobal + Threads + Sync> Taker for VotesTaker<'r, R> {
     ghost sought = { λ taker. taker.reader.asked };
 
     ghost has_taken = { λ taker bytes. HasTaken taker.reader bytes };
@@ -31,13 +31,14 @@ impl Taker for VotesTaker {
     }
 }
 
-/// The votes of the contest with this id, or of the only one, in the file with this name; or why the call stops there. Of the file no more
-/// is held than `VotesReader` keeps.
-pub fn votes_of_file<D: Desk>(
-    alloc: Global,
+/// The votes of the contest with this id, or of the only one, in the file with this name, read by so many workers; or why the call stops
+/// there. Of the file no more is held than `VotesReader` keeps.
+pub fn votes_of_file<R: AllocGlobal + Threads + Sync, D: Desk>(
+    rt: &R,
     desk: &mut D,
     file: &FileName,
     contest: Option<&Name>,
+    workers: u32,
 ) -> Result<Votes, Refusal>
     ensures held { D.held desk.new ≡ D.held desk.old }
     ensures later { D.faults desk.old ≤ D.faults desk.new }
@@ -48,8 +49,9 @@ pub fn votes_of_file<D: Desk>(
     ensures served { IsAccountedFor 1
         (D.served desk.old) (D.served desk.new) (status_so_far result) }
 {
+    let alloc = rt.alloc();
     let mut taker = VotesTaker {
-        reader: VotesReader::new(alloc, contest.copied()),
+        reader: VotesReader::new(rt, contest.copied(), workers),
     };
     read_file_into(alloc, desk, file.as_str(), &mut taker)?;
     match taker.reader.into_votes() {

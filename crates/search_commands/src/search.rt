@@ -39,8 +39,7 @@ pub fn answer<R: AllocGlobal + Threads + Sync, D: Desk, G: Gate + Sync>(
         (Runs (script task.now)) (due result) }
     ensures served { IsAccountedFor 1 (D.served desk.old) (D.served desk.new) (due result).status }
 {
-    let alloc = rt.alloc();
-    let votes = votes_of_file(alloc, desk, &task.ballots, task.contest.as_ref())?;
+    let votes = votes_of_file(rt, desk, &task.ballots, task.contest.as_ref(), task.workers)?;
     after_votes(rt, &votes, task, gate)
 }
 

@@ -25,7 +25,7 @@ use set_tallies::Counted;
 use std::alloc::Global;
 use std::thread::Threads;
 
-// Ballots are counted, and a tie is raced for, by this many.
+// Ballots are read and counted, and a tie is raced for, by this many.
 const WORKERS: u32 = 1;
 
 /// The rounds of the contest, or its first tie where the contest isn't decided. With a tie a race by one worker tells which; the task
@@ -45,8 +45,7 @@ pub fn answer<R: AllocGlobal + Threads + Sync, D: Desk, G: Gate + Sync>(
         (Runs (script task.now)) (due result) }
     ensures served { IsAccountedFor 1 (D.served desk.old) (D.served desk.new) (due result).status }
 {
-    let alloc = rt.alloc();
-    let votes = votes_of_file(alloc, desk, &task.ballots, task.contest.as_ref())?;
+    let votes = votes_of_file(rt, desk, &task.ballots, task.contest.as_ref(), WORKERS)?;
     tabulate_all(rt, &votes, task.nodes, gate)
 }
 

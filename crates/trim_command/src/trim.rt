@@ -26,6 +26,9 @@ use std::alloc::Global;
 use std::thread::Threads;
 use trimmer::{TrimFault, trim};
 
+// The votes are read by this many.
+const WORKERS: u32 = 1;
+
 /// The assertion file without the claims that can go, where a check accepts it; else what the check says.
 pub fn answer<R: AllocGlobal + Threads + Sync, D: Desk>(
     rt: &R,
@@ -41,8 +44,7 @@ pub fn answer<R: AllocGlobal + Threads + Sync, D: Desk>(
         (Runs (script task.now)) (due result) }
     ensures served { IsAccountedFor 2 (D.served desk.old) (D.served desk.new) (due result).status }
 {
-    let alloc = rt.alloc();
-    let votes = votes_of_file(alloc, desk, &task.ballots, task.contest.as_ref())?;
+    let votes = votes_of_file(rt, desk, &task.ballots, task.contest.as_ref(), WORKERS)?;
     after_votes(rt, desk, &votes, &task.assertions, task.budget)
 }
 

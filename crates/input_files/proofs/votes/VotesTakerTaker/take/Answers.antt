@@ -6,4 +6,4 @@ on_ok (Ok x) p = p
 on_ok (Err e) p = tt
 
 pub returns : goal.returns
-returns c = on_ok c.take.result (record { same = c.take.ensures.asked; taken = c.take.ensures.taken })
+returns g c = on_ok c.take.result (record { same = c.take.ensures.asked; taken = c.take.ensures.taken })

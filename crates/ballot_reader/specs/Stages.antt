@@ -4,6 +4,7 @@ use Rattle.csv_rows.specs.Fields.{numbered_records}
 use Rattle.csv_rows.specs.Pieces.{AtHand, IsBehind, can_be_read}
 use Rattle.csv_rows.specs.Rows.{Fields}
 use Rattle.file_fault.specs.Refusals.{Refusal, Refuses}
+use Rattle.file_fault.specs.declared.fault.Fault.TheVariants.{Memory}
 use Rattle.irv_base.specs.Names.{Id}
 use Rattle.ballot_reader.specs.Begun.{HasBegun}
 use Rattle.ballot_reader.specs.Grammar.{ballots_from, ballots_of}
@@ -17,6 +18,10 @@ HasReached asked rows Contests = rows ≡ []
 HasReached asked rows (Ballots begun) = HasBegun asked rows begun
 HasReached asked rows (Refused fault) =
     (more : List Fields) → Refuses (ballots_from asked (rows ++ more)) fault
+
+-- memory was wanting
+abbrev pub IsShort : Stage → Type 0
+IsShort stage = stage ≡ Refused Memory
 
 -- the contest that is asked for, how many bytes of whole lines may wait for more, what is at hand of the file, and how far the file is
 -- read

@@ -8,7 +8,7 @@ ghost use Rattle.irv_base.specs.Names.{Id};
 ghost use Rattle.ballot_reader.specs.Ballots.{BallotFile, votes_of};
 ghost use Rattle.ballot_reader.specs.Begun.{HasBegun};
 ghost use Rattle.ballot_reader.specs.Grammar.{ballots_from};
-ghost use Rattle.ballot_reader.specs.Stages.{HasReached, HoldsLittle, LacksContests};
+ghost use Rattle.ballot_reader.specs.Stages.{HasReached, HoldsLittle, IsShort, LacksContests};
 ghost use Rattle.ballot_reader.specs.declared.stage.Stage.TheVariants.{Contests};
 
 use crate::begun::{Begun, begin};
@@ -33,8 +33,9 @@ pub enum Stage {
 
 // Reads the ballots in these records. Where one is refused, so is the file.
 fn added(begun: Begun, records: &mut Records<'_>) -> Result<Stage, Memory>
-    ensures { IfOk result (λ stage. (asked : Option Id) → (rows : List FieldList)
+    ensures reached { IfOk result (λ stage. (asked : Option Id) → (rows : List FieldList)
         → HasBegun asked rows begun → HasReached asked (rows ++ records.old.left) stage) }
+    ensures going { IfOk result (λ stage. IsShort stage → ⊥) }
 {
     match begun.add(records) {
         Ok(begun) => Ok(Stage::Ballots(begun)),
@@ -51,8 +52,9 @@ fn added_lines<R: Threads + Sync>(
     lines: &PlainLines<'_>,
     workers: u32,
 ) -> Result<Stage, Memory>
-    ensures { IfOk result (λ stage. (asked : Option Id) → (rows : List FieldList)
+    ensures reached { IfOk result (λ stage. (asked : Option Id) → (rows : List FieldList)
         → HasBegun asked rows begun → HasReached asked (rows ++ lines.now) stage) }
+    ensures going { IfOk result (λ stage. IsShort stage → ⊥) }
 {
     match begun.add_lines(rt, alloc, lines, workers) {
         Ok(begun) => Ok(Stage::Ballots(begun)),
@@ -72,6 +74,7 @@ fn first_stage(
         (HasReached (option_copied asked.entry) records.old.left)) }
     ensures none { IfOk result (λ next. IfNone next
         (LacksContests (option_copied asked.entry) records.old.left)) }
+    ensures going { IfOk result (λ next. IfSome next (λ next. IsShort next → ⊥)) }
 {
     match begin(alloc, asked, records) {
         Ok(begun) => Ok(Some(added(begun, records)?)),
@@ -94,6 +97,7 @@ fn stage_behind<R: Threads + Sync>(
         → HasReached (option_copied asked.entry) (rows ++ lines.now) next)) }
     ensures none { IfOk result (λ next. IfNone next ((stage ≡ Contests)
         × LacksContests (option_copied asked.entry) lines.now)) }
+    ensures going { IfOk result (λ next. IfSome next (λ next. IsShort next → IsShort stage)) }
 {
     match stage {
         Stage::Contests => {
@@ -144,6 +148,7 @@ impl Stage {
         ensures unread { IfOk result (λ step. step.read ≡ false → step.stage ≡ self) }
         ensures held { IfOk result (λ step. step.read ≡ false
             → HoldsLittle (option_copied asked.entry) holds pieces.now.lines self) }
+        ensures going { IfOk result (λ step. IsShort step.stage → IsShort self) }
     {
         if self.waits(pieces, holds) {
             return Ok(Step {

@@ -3,7 +3,7 @@ ghost use Rattle.std.specs.Prelude.{◌≡◌, ◌≤◌, ◌++◌, [], ℕ, Lis
 ghost use Rattle.file_fault.specs.Refusals.{Refuses};
 ghost use Rattle.ballot_reader.specs.Ballots.{BallotFile, votes_of};
 ghost use Rattle.ballot_reader.specs.Grammar.{ballots_of};
-ghost use Rattle.ballot_reader.specs.Stages.{HasPassed, HasTaken};
+ghost use Rattle.ballot_reader.specs.Stages.{HasPassed, HasTaken, IsShort};
 ghost use Rattle.ballot_reader.specs.declared.votes_reader.TheConstants.{SIDE_BY_SIDE};
 
 use crate::fault::BallotFault;
@@ -86,6 +86,7 @@ impl<'r, R: AllocGlobal + Threads + Sync> VotesReader<'r, R> {
         ensures taken { (bytes : List ℕ) → HasTaken self.old bytes
             → HasTaken self.new (bytes ++ piece.now) }
         ensures passed { OnOk result (HasPassed self.new) }
+        ensures going { OnOk result (IsShort self.new.stage → IsShort self.old.stage) }
     {
         if let Stage::Refused(_) = &self.stage {
             return Ok(());

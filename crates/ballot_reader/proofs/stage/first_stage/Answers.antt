@@ -8,7 +8,7 @@ pub returns-in_ok-added-in-Ok-clause-read : goal.returns-in_ok-added-in-Ok-claus
 returns-in_ok-added-in-Ok-clause-read c =
     let asked = option_copied c.args.asked in
     let (first, split, begun) = c.in-Ok.ensures.begun in
-    subst (λ (l : List Fields). HasReached asked l c.in_ok-added-in-Ok.field-0) (sym split) (c.in_ok-added-in-Ok.ensures asked first begun)
+    subst (λ (l : List Fields). HasReached asked l c.in_ok-added-in-Ok.field-0) (sym split) (c.in_ok-added-in-Ok.ensures.reached asked first begun)
 
 pub returns-in-Err-Refused-clause-none : goal.returns-in-Err-Refused-clause-none
 returns-in-Err-Refused-clause-none c =

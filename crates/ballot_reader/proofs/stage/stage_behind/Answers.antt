@@ -18,7 +18,7 @@ returns-in-Contests-clause-read g c =
 pub returns-in_ok-added_lines-in-Ballots-clause-read : goal.returns-in_ok-added_lines-in-Ballots-clause-read
 returns-in_ok-added_lines-in-Ballots-clause-read g c = λ rows reached.
     let asked = option_copied c.args.asked in
-    c.in_ok-added_lines-in-Ballots.ensures asked rows (subst (HasReached asked rows) c.in-Ballots.is reached)
+    c.in_ok-added_lines-in-Ballots.ensures.reached asked rows (subst (HasReached asked rows) c.in-Ballots.is reached)
 
 pub returns-in-Refused-clause-read : goal.returns-in-Refused-clause-read
 returns-in-Refused-clause-read g c = λ rows reached.

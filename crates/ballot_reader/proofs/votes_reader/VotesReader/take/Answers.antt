@@ -32,6 +32,7 @@ returns-then-step g c = record {
       (c.pass.ensures.passed (bytes ++ piece) rows behind) there;
   passed = passed-all (record { asked = c.self.inside.asked; holds = c.self.inside.holds; at_hand = c.pass.new.self; stage = c.in_ok-step.step.stage })
       c.pass.ensures.short;
+  going = λ short. sym (ap (λ (r : VotesSoFar). r.stage) c.self.view_is) ∙ sym c.replace-stage.ensures.value ∙ c.in_ok-step.ensures.going short;
 }
 
 pub returns-else-step : goal.returns-else-step
@@ -51,4 +52,5 @@ returns-else-step g c = record {
       subst (λ asked. HoldsLittle asked holds lines c.in_ok-step.step.stage) c.as_ref-asked.ensures.value
       (subst (HoldsLittle (option_copied c.as_ref-asked.result) holds lines) (sym (c.in_ok-step.ensures.unread c.if-step.false))
       (c.in_ok-step.ensures.held c.if-step.false));
+  going = λ short. sym (ap (λ (r : VotesSoFar). r.stage) c.self.view_is) ∙ sym c.replace-stage.ensures.value ∙ c.in_ok-step.ensures.going short;
 }

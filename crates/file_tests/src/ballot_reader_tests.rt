@@ -2,6 +2,7 @@
 mod contests;
 mod pieces;
 mod rankings;
+mod side_by_side;
 
 use ballot_reader::{BRule, BallotFault, read_ballots};
 use file_fault::Rule;

@@ -1,7 +1,9 @@
 // Tests of files whose votes are read in pieces: each file is cut at every place, and says what it says whole.
+ghost use Rattle.std.specs.Prelude.{◌≤◌};
+
 use ballot_reader::{BallotFault, Ballots, Votes, VotesReader, read_ballots};
 use irv_base::Rankings;
-use std::alloc::Global;
+use std::thread::Threads;
 
 // Files that are read, and files that are refused: for a contest or a ballot, before a quote or behind one.
 const FILES: [&[u8]; 9] = [
@@ -16,16 +18,26 @@ const FILES: [&[u8]; 9] = [
     b"2\nContest,7,2,A,B\n",
 ];
 
-fn read_in_two(alloc: Global, file: &[u8], cut: usize) -> Result<Votes, BallotFault> {
+fn read_in_two<R: AllocGlobal + Threads + Sync>(
+    rt: &R,
+    file: &[u8],
+    cut: usize,
+    workers: u32,
+) -> Result<Votes, BallotFault>
+    requires { 1 ≤ workers }
+{
     let (first, last) = file.split_at(cut.min(file.len()));
-    let mut reader = VotesReader::new(alloc, None);
+    let mut reader = VotesReader::new(rt, None, workers);
     reader.take(first)?;
     reader.take(last)?;
     reader.into_votes()
 }
 
-fn read_by_byte(alloc: Global, file: &[u8]) -> Result<Votes, BallotFault> {
-    let mut reader = VotesReader::new(alloc, None);
+fn read_by_byte<R: AllocGlobal + Threads + Sync>(
+    rt: &R,
+    file: &[u8],
+) -> Result<Votes, BallotFault> {
+    let mut reader = VotesReader::new(rt, None, 1);
     for i in 0..file.len() {
         reader.take(&file[i..i + 1])?;
     }
@@ -36,7 +48,8 @@ fn same_rankings(a: &Rankings, b: &Rankings) -> bool {
     a.len() == b.len() && (0..a.len()).all(|i| a.at(i) == b.at(i))
 }
 
-fn is_same(whole: &Result<Ballots, BallotFault>, votes: &Result<Votes, BallotFault>) -> bool {
+/// Whether votes are those of ballots that were read whole, or are refused for the same.
+pub fn is_same(whole: &Result<Ballots, BallotFault>, votes: &Result<Votes, BallotFault>) -> bool {
     match (whole, votes) {
         (Ok(ballots), Ok(votes)) => {
             ballots.contest() == votes.contest()
@@ -50,21 +63,20 @@ fn is_same(whole: &Result<Ballots, BallotFault>, votes: &Result<Votes, BallotFau
 
 #[test]
 fn a_file_in_two_pieces_says_what_it_says_whole(rt: HostRuntime) {
-    let alloc = rt.alloc();
     for file in FILES {
-        let whole = read_ballots(alloc, file, None);
+        let whole = read_ballots(rt.alloc(), file, None);
         for cut in 0..=file.len() {
-            assert!(rt; is_same(&whole, &read_in_two(alloc, file, cut)));
+            assert!(rt; is_same(&whole, &read_in_two(&rt, file, cut, 1)));
+            assert!(rt; is_same(&whole, &read_in_two(&rt, file, cut, 3)));
         }
     }
 }
 
 #[test]
 fn a_file_in_bytes_says_what_it_says_whole(rt: HostRuntime) {
-    let alloc = rt.alloc();
     for file in FILES {
-        let whole = read_ballots(alloc, file, None);
-        assert!(rt; is_same(&whole, &read_by_byte(alloc, file)));
+        let whole = read_ballots(rt.alloc(), file, None);
+        assert!(rt; is_same(&whole, &read_by_byte(&rt, file)));
     }
 }
 

@@ -1,6 +1,4 @@
 // Tests of files whose votes are read in pieces: each file is cut at every place, and says what it says whole.
-ghost use Rattle.std.specs.Prelude.{◌≤◌};
-
 use ballot_reader::{BallotFault, Ballots, Votes, VotesReader, read_ballots};
 use irv_base::Rankings;
 use std::thread::Threads;
@@ -23,9 +21,7 @@ fn read_in_two<R: AllocGlobal + Threads + Sync>(
     file: &[u8],
     cut: usize,
     workers: u32,
-) -> Result<Votes, BallotFault>
-    requires { 1 ≤ workers }
-{
+) -> Result<Votes, BallotFault> {
     let (first, last) = file.split_at(cut.min(file.len()));
     let mut reader = VotesReader::new(rt, None, workers);
     reader.take(first)?;

@@ -131,9 +131,10 @@ impl Stage {
     }
 
     /// Reads the whole lines at hand by so many workers, if that can be. Ballots wait until more than `holds` bytes are at hand.
-    pub fn after<R: AllocGlobal + Threads + Sync>(
+    pub fn after<R: Threads + Sync>(
         self,
         rt: &R,
+        alloc: Global,
         asked: Option<&Name>,
         pieces: &Pieces,
         workers: u32,
@@ -162,7 +163,7 @@ impl Stage {
                 read: false,
             });
         };
-        match stage_behind(rt, rt.alloc(), asked, self, &lines, workers)? {
+        match stage_behind(rt, alloc, asked, self, &lines, workers)? {
             Some(stage) => Ok(Step { stage, read: true }),
             None => Ok(Step {
                 stage: Stage::Contests,

@@ -12,6 +12,7 @@ use crate::votes::Votes;
 use csv_rows::{Pieces, Records, without_mark};
 use file_fault::Fault;
 use irv_base::{Memory, Name};
+use std::alloc::Global;
 use std::marker::Model;
 use std::mem;
 use std::thread::Threads;
@@ -27,8 +28,9 @@ pub const SIDE_BY_SIDE: usize = 1 << 20;
 /// To a contract it is the contest that is asked for, how many bytes of whole lines may wait for more, what is at hand of the file, and how
 /// far the file is read.
 #[derive(Drop)]
-pub struct VotesReader<'r, R: AllocGlobal + Threads + Sync> {
+pub struct VotesReader<'r, R: Threads + Sync> {
     rt: &'r R,
+    alloc: Global,
     workers: u32,
     asked: Option<Name>,
     holds: usize,
@@ -36,7 +38,7 @@ pub struct VotesReader<'r, R: AllocGlobal + Threads + Sync> {
     stage: Stage,
 }
 
-impl<'r, R: AllocGlobal + Threads + Sync> Model for VotesReader<'r, R> {
+impl<'r, R: Threads + Sync> Model for VotesReader<'r, R> {
     ghost use Rattle.std.specs.Coded.{codes};
     ghost use Rattle.ballot_reader.specs.Stages.{VotesSoFar};
     ghost use Rattle.ballot_reader.specs.contracts.stage.Stage as e;
@@ -61,9 +63,9 @@ fn held_by(workers: u32) -> usize
     if workers <= 1 { 0 } else { SIDE_BY_SIDE }
 }
 
-impl<'r, R: AllocGlobal + Threads + Sync> VotesReader<'r, R> {
+impl<'r, R: Threads + Sync> VotesReader<'r, R> {
     /// Of the contest with this id, or of the only one, by so many workers. Nothing of the file came yet.
-    pub fn new(rt: &'r R, contest: Option<Name>, workers: u32) -> VotesReader<'r, R>
+    pub fn new(rt: &'r R, alloc: Global, contest: Option<Name>, workers: u32) -> VotesReader<'r, R>
         ensures asked { result.asked ≡ contest }
         ensures alone { workers ≤ 1 → result.holds ≡ 0 }
         ensures holds { result.holds ≤ SIDE_BY_SIDE }
@@ -71,10 +73,11 @@ impl<'r, R: AllocGlobal + Threads + Sync> VotesReader<'r, R> {
     {
         VotesReader {
             rt,
+            alloc,
             workers,
             asked: contest,
             holds: held_by(workers),
-            pieces: Pieces::new(rt.alloc()),
+            pieces: Pieces::new(alloc),
             stage: Stage::Contests,
         }
     }
@@ -94,7 +97,14 @@ impl<'r, R: AllocGlobal + Threads + Sync> VotesReader<'r, R> {
         let stage = mem::replace(&mut self.stage, Stage::Refused(Fault::Memory));
         self.pieces.take(piece)?;
         let asked = self.asked.as_ref();
-        let step = stage.after(self.rt, asked, &self.pieces, self.workers, self.holds)?;
+        let step = stage.after(
+            self.rt,
+            self.alloc,
+            asked,
+            &self.pieces,
+            self.workers,
+            self.holds,
+        )?;
         self.stage = step.stage;
         if step.read {
             self.pieces.pass();
@@ -111,13 +121,12 @@ impl<'r, R: AllocGlobal + Threads + Sync> VotesReader<'r, R> {
             → Refuses (ballots_of bytes self.entry.asked) fault) }
     {
         let VotesReader {
-            rt,
+            alloc,
             asked,
             pieces,
             stage,
             ..
         } = self;
-        let alloc = rt.alloc();
         if let Stage::Refused(fault) = &stage {
             return Err(*fault);
         }

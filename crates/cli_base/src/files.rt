@@ -34,6 +34,7 @@ pub fn read_file_into<D: Desk, T: Taker>(
     file: &str,
     into: &mut T,
 ) -> Result<(), Refusal>
+    requires { T.ready into.old }
     ensures held { D.held desk.new ≡ D.held desk.old }
     ensures later { D.faults desk.old ≤ D.faults desk.new }
     ensures read { OnOk result (IsTaken T.sought T.has_taken into.old into.new

@@ -64,6 +64,7 @@ pub fn read_into<D: Desk, T: Taker>(
     limit: u32,
     into: &mut T,
 ) -> Result<(), DeskFault>
+    requires { T.ready into.old }
     // All that came was taken. Where the desk tells its files, that is what it holds, or why it isn't given.
     ensures taken { OnOk result (TookAll T.sought T.has_taken into.old into.new
         (AreHeld (D.held desk.old) name.now) limit (D.served desk.new).bytes) }
@@ -102,6 +103,7 @@ pub fn read_into<D: Desk, T: Taker>(
 fn read_begun<D: Desk, T: Taker>(desk: &mut D, limit: u32, into: &mut T) -> Result<(), DeskFault>
     requires begun { D.begun desk.old ≡ true }
     requires start { (D.served desk.old).bytes ≡ 0 }
+    requires ready { T.ready into.old }
     ensures taken { OnOk result (TookAll T.sought T.has_taken into.old into.new
         (λ bytes. IfSome (D.left desk.old) (λ left. left ≡ bytes))
         limit (D.served desk.new).bytes) }

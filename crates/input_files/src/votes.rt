@@ -1,5 +1,6 @@
 // The votes in a ballot file, which is read piece by piece.
 ghost use Rattle.std.specs.Prelude.{◌≡◌, ◌≤◌, option_copied};
+ghost use Rattle.std.specs.Thread.{IsSync};
 ghost use Rattle.desk.specs.Count.{one_more, Rose};
 ghost use Rattle.cli_base.specs.Accounts.{IsAccountedFor};
 ghost use Rattle.cli_base.specs.Due.{status_so_far};
@@ -17,14 +18,16 @@ use std::thread::Threads;
 
 // What the votes are read by.
 #[derive(Drop)]
-struct VotesTaker<'r, R: AllocGlobal + Threads + Sync> {
+struct VotesTaker<'r, R: Threads + Sync> {
     reader: VotesReader<'r, R>,
 }
 
-impl<'r, R: AllocGlobal + Threads + Sync> Taker for VotesTaker<'r, R> {
+impl<'r, R: Threads + Sync> Taker for VotesTaker<'r, R> {
     ghost sought = { λ taker. taker.reader.asked };
 
     ghost has_taken = { λ taker bytes. HasTaken taker.reader bytes };
+
+    ghost ready = { λ taker. IsSync R.row };
 
     fn take(&mut self, piece: &[u8]) -> Result<(), Memory> {
         self.reader.take(piece)
@@ -51,7 +54,7 @@ pub fn votes_of_file<R: AllocGlobal + Threads + Sync, D: Desk>(
 {
     let alloc = rt.alloc();
     let mut taker = VotesTaker {
-        reader: VotesReader::new(rt, contest.copied(), workers),
+        reader: VotesReader::new(rt, alloc, contest.copied(), workers),
     };
     read_file_into(alloc, desk, file.as_str(), &mut taker)?;
     match taker.reader.into_votes() {

@@ -23,7 +23,7 @@ fn read_in_two<R: AllocGlobal + Threads + Sync>(
     workers: u32,
 ) -> Result<Votes, BallotFault> {
     let (first, last) = file.split_at(cut.min(file.len()));
-    let mut reader = VotesReader::new(rt, None, workers);
+    let mut reader = VotesReader::new(rt, rt.alloc(), None, workers);
     reader.take(first)?;
     reader.take(last)?;
     reader.into_votes()
@@ -33,7 +33,7 @@ fn read_by_byte<R: AllocGlobal + Threads + Sync>(
     rt: &R,
     file: &[u8],
 ) -> Result<Votes, BallotFault> {
-    let mut reader = VotesReader::new(rt, None, 1);
+    let mut reader = VotesReader::new(rt, rt.alloc(), None, 1);
     for i in 0..file.len() {
         reader.take(&file[i..i + 1])?;
     }

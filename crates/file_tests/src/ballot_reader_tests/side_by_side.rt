@@ -39,7 +39,7 @@ fn read_by_four<R: AllocGlobal + Threads + Sync>(
     file: &[u8],
     piece: usize,
 ) -> Result<Votes, BallotFault> {
-    let mut reader = VotesReader::new(rt, None, 4);
+    let mut reader = VotesReader::new(rt, rt.alloc(), None, 4);
     let (contest, ballots) = file.split_at(CONTEST.len().min(file.len()));
     reader.take(contest)?;
     for piece in ballots.chunks(piece.max(1)) {

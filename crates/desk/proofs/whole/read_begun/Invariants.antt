@@ -11,6 +11,7 @@ invariant-loop-count g l = record {
   held : g.D.Desk.held l.desk ≡ g.D.Desk.held l.initial.desk;
   unfailed : g.D.Desk.faults l.desk ≡ g.D.Desk.faults l.initial.desk;
   taken : TookAll g.T.Taker.sought g.T.Taker.has_taken l.initial.into l.into (Consumes (g.D.Desk.left l.initial.desk) (g.D.Desk.left l.desk)) l.limit l.came;
+  ready : g.T.Taker.ready l.into;
   begins : (g.D.Desk.served l.desk).begins ≡ (g.D.Desk.served l.initial.desk).begins;
   misses : (g.D.Desk.served l.desk).misses ≡ (g.D.Desk.served l.initial.desk).misses;
   all : (g.D.Desk.served l.desk).bytes ≡ l.came;

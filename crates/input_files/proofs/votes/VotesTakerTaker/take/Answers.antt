@@ -5,5 +5,5 @@ on_ok : {T E P : Type 0} (r : Result T E) → P → OnOk r P
 on_ok (Ok x) p = p
 on_ok (Err e) p = tt
 
-pub returns : goal.returns
-returns g c = on_ok c.take.result (record { same = c.take.ensures.asked; taken = c.take.ensures.taken })
+pub returns-clause-taken : goal.returns-clause-taken
+returns-clause-taken g c = on_ok c.take.result (record { same = c.take.ensures.asked; taken = c.take.ensures.taken })

@@ -23,6 +23,9 @@ use irv_base::Memory;
 use std::alloc::Global;
 use std::thread::Threads;
 
+// The votes are read by this many: parts of a MiB that several read side by side take longer to hand out than to read.
+const READERS: u32 = 1;
+
 /// The assertions that confirm the winner of the contest, or why there are none.
 pub fn answer<R: AllocGlobal + Threads + Sync, D: Desk, G: Gate + Sync>(
     rt: &R,
@@ -39,7 +42,7 @@ pub fn answer<R: AllocGlobal + Threads + Sync, D: Desk, G: Gate + Sync>(
         (Runs (script task.now)) (due result) }
     ensures served { IsAccountedFor 1 (D.served desk.old) (D.served desk.new) (due result).status }
 {
-    let votes = votes_of_file(rt, desk, &task.ballots, task.contest.as_ref(), task.workers)?;
+    let votes = votes_of_file(rt, desk, &task.ballots, task.contest.as_ref(), READERS)?;
     after_votes(rt, &votes, task, gate)
 }
 

@@ -1,5 +1,5 @@
 #!/usr/bin/env python3
-"""Ballot files of some MiB, which several workers read side by side, against a plain reading of each record.
+"""Ballot files of some MiB, which come to a search in many pieces, against a plain reading of each record.
 
 acceptance/parts.py PROGRAM [FILES] makes so many files, 80 if no number is given: with ids that are counted up, shuffled, of several
 forms or without a common front, with line ends of three kinds, blank lines and a second contest. In most of them one record is broken, or

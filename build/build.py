@@ -103,7 +103,7 @@ def copied(named, crates, to):
     with open(os.path.join(to, "crates.txt"), "w") as file:
         file.writelines(f"{it}: {' '.join(named[it])}\n" for it in named if it in crates)
     shutil.copy(os.path.join(TOP, "HANDLES"), to)
-    apart = shutil.ignore_patterns("out", "must-fail")
+    apart = shutil.ignore_patterns("out", "must-fail", "more-must-fail")
     for it in crates:
         shutil.copytree(os.path.join(TOP, "crates", it), os.path.join(to, "crates", it), ignore=apart)
 

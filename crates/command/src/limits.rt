@@ -9,7 +9,7 @@ pub const DEFAULT_CANDIDATES: u32 = 6;
 /// The ballots of a trial where a line doesn't say.
 pub const DEFAULT_BALLOTS: u32 = 10_000;
 
-/// The workers of a search or a trial where a line doesn't say.
+/// The workers of a search, a trial or an audit of all contests where a line doesn't say.
 pub const DEFAULT_WORKERS: u32 = 4;
 
 /// The greatest floor of a search's margin, in votes.

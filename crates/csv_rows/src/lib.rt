@@ -6,6 +6,7 @@ mod cut;
 pub mod examples;
 mod fields;
 mod lanes;
+pub mod laws;
 mod line_fields;
 mod lines;
 mod mark;

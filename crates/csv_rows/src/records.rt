@@ -22,7 +22,7 @@ pub enum Source<'t> {
 }
 
 /// The numbered records of a text, one after the other. Where the text has neither a double quote nor a byte
-/// EF, none of its bytes is copied.
+/// EF, they are read from its lines, and none of its bytes is copied; that no clause says.
 ///
 /// To a contract it is the record that was read last, and those that are still to be read.
 #[derive(Drop)]

@@ -1,6 +1,6 @@
 //! The outside of the suite: desks that files are read from, sinks that texts are written to, and a gate for
 //! tests. Each end is a trait, with one implementation in memory, which tells everything, and one over the
-//! system, whose content no contract can know.
+//! system, whose content no contract can know. What takes a file's bytes piece by piece is a trait too.
 #![tactic(auto)]
 
 mod calls;

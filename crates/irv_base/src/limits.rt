@@ -30,7 +30,7 @@ pub const MOST_FILE_BYTES: u64 = 67_108_864;
 /// The most bytes of a name.
 pub const MOST_NAME_BYTES: usize = 64;
 
-/// The most workers of a search or a trial, who count its ballots too.
+/// The most workers of a search or a trial, who count its ballots too, and of an audit of all contests.
 pub const MOST_WORKERS: u32 = 8;
 
 /// The most digits of a number in a file or among the words of a call.

@@ -72,7 +72,7 @@ impl Rankings {
         Ranking::of(self.at(i))
     }
 
-    /// Puts a ranking last. More than `u32::MAX` places in all are want of memory.
+    /// Puts a ranking last. More than `u32::MAX` places before it are want of memory.
     pub fn push(&mut self, ranking: &Ranking) -> Result<(), Memory>
         ensures pushed { OnOk result (self.new ≡ self.old ++ ranking.now ∷ []) }
         ensures same { OnErr result (self.new ≡ self.old) }
@@ -99,7 +99,7 @@ impl Rankings {
         Ok(())
     }
 
-    /// Puts a candidate who isn't in the last ranking at its end. More than `u32::MAX` places in all are want of memory.
+    /// Puts a candidate who isn't in the last ranking at its end.
     pub fn lengthen(&mut self, c: Candidate) -> Result<(), Memory>
         requires { (earlier : List (List ℕ)) × (last : List ℕ)
             × (self.now ≡ earlier ++ last ∷ []) × (is_in last c ≡ false) }

@@ -1,5 +1,5 @@
--- The rows of tallies that are kept, so that those of a set are counted once. The row of a set stands at the place of the set's number
--- modulo the number of places, over what stood there.
+-- The rows of tallies that are kept. The code keeps the row of a set at the place of the set's number modulo the number of places, over what
+-- stood there. Here it says only that each row that is kept is that of its own set.
 use Rattle.std.specs.Prelude.{◌≡◌, ℕ, ◌<◌, ◌≤◌, Option, IfSome, List, length, map, if◌then◌else◌, All}
 use Rattle.irv_base.specs.Candidates.{candidates, has}
 use Rattle.set_tallies.specs.Bags.{Kept, Counts, AreFilledFrom, votes_at}

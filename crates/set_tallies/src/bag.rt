@@ -18,7 +18,7 @@ use std::thread::Threads;
 /// So many candidates have the sums over all sets from the start: they are made as soon as entries would be.
 pub const ALWAYS_SUMMED: u32 = 14;
 
-/// So have more candidates where no more rows than this are counted from entries in the time in which the sums are made.
+/// So have more candidates where no more rows than this would be counted from entries before the sums are made (`rows_in_time`).
 pub const FEWEST_ROWS: u64 = 32;
 
 /// What is kept of the records: the sums over all sets, or of each candidate the different sets of those who stand before it on

@@ -53,8 +53,8 @@ impl Counted {
         Ok(Counted { alloc, bag, ahead })
     }
 
-    /// The tallies of sets of candidates over the records. Where counting rows takes as long as making the sums over all sets, these are
-    /// made, for these tallies alone.
+    /// The tallies of sets of candidates over the records. Once as many rows were counted as are worth it before the sums over all sets are
+    /// made, these are made, for these tallies alone.
     pub fn tallies(&self) -> Result<Tallies<'_>, Memory>
         ensures bag { IfOk result (λ tallies. tallies.bag ≡ self.now.bag) }
         ensures counts { IfOk result (λ tallies. tallies.counts ≡ self.now.counts) }
@@ -62,7 +62,7 @@ impl Counted {
         Tallies::new(self.alloc, &self.bag, &self.ahead, true)
     }
 
-    /// The tallies for one of several workers. Where counting rows takes as long as making the sums over all sets, it ends as for
+    /// The tallies for one of several workers. Once as many rows were counted as are worth it before the sums over all sets are made, it ends as for
     /// want of memory: then whoever has sent the workers has them begin anew with what is `summed`, and the sums are made once for all.
     pub fn tallies_for_worker(&self) -> Result<Tallies<'_>, Memory>
         ensures bag { IfOk result (λ tallies. tallies.bag ≡ self.now.bag) }

@@ -91,7 +91,7 @@ impl Rows {
         }
     }
 
-    /// Keeps a row. Once as many were kept as there are places, there are more of them.
+    /// Keeps a row. Once as many were put as there are places, there are more of these, up to `MOST_ROWS`.
     pub fn keep(&mut self, alloc: Global, row: Row) -> Result<(), Memory>
         requires { ArePlaces self.old.places.items }
         ensures places { ArePlaces self.new.places.items }

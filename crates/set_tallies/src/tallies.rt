@@ -18,8 +18,8 @@ use std::marker::Model;
 /// The tallies of the sets of candidates, over the records of a bag.
 ///
 /// Where the bag has the sums over all sets, rows are read from them. Else a row that was counted is kept until another set's takes its
-/// place; once so many were counted that the sums would have been made in that time, they are made, or the tallies give up. To a
-/// contract the tallies are what they are made from, the bag and the two numbers of NEB's margin.
+/// place; once so many were counted as are in a part of the time that the sums take (`rows_in_time`), these are made, or the tallies
+/// give up. To a contract the tallies are what they are made from, the bag and the two numbers of NEB's margin.
 #[derive(Drop)]
 pub struct Tallies<'b> {
     alloc: Global,
@@ -67,7 +67,7 @@ fn sums_in(bag: &Bag) -> Option<&Sums>
     }
 }
 
-// How many rows are counted in the time in which the sums over all sets are made. Where they are made, or can't be, there is no limit.
+// How many rows are counted before the sums over all sets are made. Where they are made, or can't be, there is no limit.
 fn rows_before_sums(bag: &Bag) -> u64 {
     match bag.kept() {
         Votes::Listed(lists) if bag.candidates() <= MOST_SUMMED => rows_in_time(
@@ -108,8 +108,8 @@ fn tallied(alloc: Global, n: u32, row: &[u32], s: CandSet) -> Result<Vec<u32>, M
 }
 
 impl<'b> Tallies<'b> {
-    /// The tallies over the records of the bag, which `ahead` was filled from. Where counting rows takes as long as making the sums over all
-    /// sets, tallies that are alone make them, and others give up as for want of memory.
+    /// The tallies over the records of the bag, which `ahead` was filled from. Once as many rows were counted as are worth it before the sums over
+    /// all sets are made (`rows_in_time`), tallies that are alone make these, and others give up as for want of memory.
     pub fn new(
         alloc: Global,
         bag: &'b Bag,

@@ -37,6 +37,9 @@ pub fn contest_place(contests: &[Contest], id: &[u8]) -> Option<usize>
         .position(|contest| is_same(contest.id.bytes(), id))
 }
 
+/// Room for ballots is made when they come.
+pub const NO_ROOM: usize = 0;
+
 // The head of a ballot's record, or the first of the rules B6, B4 and B7 that it breaks.
 fn head_of<'r>(contests: &[Contest], mut fields: Fields<'r>) -> Result<Head<'r>, BRule>
     ensures within { IfOk result (λ head. head.contest < length contests.now) }

@@ -97,7 +97,8 @@ pub struct Page {
 impl Page {
     /// A page for no ids.
     pub fn none() -> Page
-        ensures { result.bits ≡ 0 }
+        ensures none { result.bits ≡ 0 }
+        ensures nobody { result.like ≡ None }
     {
         Page {
             like: None,

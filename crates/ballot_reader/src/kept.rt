@@ -28,6 +28,7 @@ struct Head<'r> {
 }
 
 /// The place of the contest with that id, from 0.
+#[inline(always)]
 pub fn contest_place(contests: &[Contest], id: &[u8]) -> Option<usize>
     ensures place { result ≡ position (has_id id.now) contests.now }
     ensures within { IfSome result (λ k. k < length contests.now) }

@@ -21,7 +21,7 @@ use std::mem;
 use std::thread::Threads;
 
 /// Several workers read ballots once more bytes of whole lines are at hand than these: with fewer they would wait for each other too often.
-pub const SIDE_BY_SIDE: usize = 3 << 20;
+pub const SIDE_BY_SIDE: usize = 1 << 20;
 
 /// Reads the votes of a contest from a ballot file that comes in pieces, by one worker or by several. Of the file it keeps the lines that
 /// aren't read yet: most often the last alone, and with several workers up to `SIDE_BY_SIDE` bytes of whole lines. From lines on that come with a

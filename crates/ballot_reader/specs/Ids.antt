@@ -15,7 +15,7 @@ has_bit page bit = (page / 2 ^ bit) % 2 == 1
 
 -- Of what the last bytes of an id count, four bits of the last and two of the one before it are its bit on a page, and the rest is added
 -- to the digest of the other bytes to be the number of the page. So ids that were counted up in decimal digits, as those of ballots are,
--- stand forty on a page, and the next page is found beside the last. Ids with other numbers of pages or bits differ;
+-- stand up to forty on a page, and the next page is found beside the last. Ids with other numbers of pages or bits differ;
 -- two that differ may share both, and then they differ in length or front, by which a page tells those that it is for.
 
 abbrev pub digest : Id → ℕ

@@ -1,17 +1,28 @@
 -- Ballots that are read side by side: parts of a file, each read as if no ballots stood before it.
-use Rattle.std.specs.Prelude.{◌≡◌, ◌≤◌, ◌+◌, ◌++◌, [], ℕ, List, length, Option, None, Some, option_map, Ok}
+use Rattle.std.specs.Prelude.{◌≡◌, ◌≤◌, ◌+◌, ◌++◌, [], ℕ, List, length, IsTrue, Option, None, Some, option_map, Ok}
 use Rattle.std.specs.List.{slice_get}
 use Rattle.csv_rows.specs.Rows.{Fields}
-use Rattle.irv_base.specs.Names.{Id}
+use Rattle.file_fault.specs.Refusals.{Refuses}
+use Rattle.file_fault.specs.declared.fault.Fault.{Fault}
+use Rattle.irv_base.specs.Names.{Id, all_differ}
 use Rattle.irv_base.specs.declared.limits.TheConstants.{MOST_RECORDS}
 use Rattle.ballot_reader.specs.Grammar.{Ballot, Contest, ballots_after}
-use Rattle.ballot_reader.specs.Kept.{IsKept, IsKeptUpTo, KeptBallots, KeptPart}
+use Rattle.ballot_reader.specs.Kept.{IsKept, IsKeptUpTo, KeptBallots, KeptPart, WantsAudited, contest_ids}
 use Rattle.ballot_reader.specs.Noted.{AreNoted}
 use Rattle.ballot_reader.specs.Joined.{ArePagesApart}
+use Rattle.ballot_reader.specs.declared.fault.BRule.{BRule}
+use Rattle.ballot_reader.specs.declared.limits.TheConstants.{MOST_CONTESTS}
 use Rattle.ballot_reader.specs.declared.noted.Noted.{Noted}
 use Rattle.ballot_reader.specs.declared.wanted.Wanted.{Wanted}
+use Rattle.ballot_reader.specs.declared.wanted.Wanted.TheVariants.{VotesOf}
 
 -- ---- what is read
+
+-- these contests are a file's, and votes of the one at a place can be kept
+pub record CanBeRead (contests : List Contest) (audited : ℕ) : Type 0 where
+  pub few : length contests ≤ MOST_CONTESTS
+  pub differ : IsTrue (all_differ (contest_ids contests))
+  pub sized : WantsAudited contests (VotesOf audited)
 
 -- these records are ballots, with nothing before them, and this is kept of them
 abbrev pub IsReadAlone : List Contest → Wanted → List Fields → KeptBallots → Type 0
@@ -27,6 +38,20 @@ IsReadBehind contests wanted earlier at rows next kept =
     (ballots : List Ballot)
     × (ballots_after contests earlier at rows ≡ Ok ballots)
     × IsKeptUpTo contests wanted ballots next kept
+
+-- whatever ballots were kept up to record number first, the ballots in these records come behind them
+abbrev pub ComeBehind :
+    List Contest → Wanted → ℕ → List Fields → KeptBallots → ℕ → KeptBallots → Type 0
+ComeBehind contests wanted first rows before next after =
+    (earlier : List Ballot) → IsKeptUpTo contests wanted earlier first before →
+    IsReadBehind contests wanted earlier first rows next after
+
+-- behind them a record is refused
+abbrev pub IsRefusedBehind :
+    List Contest → Wanted → ℕ → List Fields → KeptBallots → Fault BRule → Type 0
+IsRefusedBehind contests wanted first rows before fault =
+    (earlier : List Ballot) → IsKeptUpTo contests wanted earlier first before →
+    Refuses (ballots_after contests earlier first rows) fault
 
 -- ---- what can be put together
 

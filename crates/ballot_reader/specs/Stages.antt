@@ -43,18 +43,18 @@ IsAt reader bytes (Ballots begun) = HasRead reader bytes
 IsAt reader bytes (Refused fault) =
     (more : List ℕ) → Refuses (ballots_of (bytes ++ more) reader.asked) fault
 
--- These bytes were taken. Where they are refused, no more is kept.
+-- these bytes were taken; where they are refused, what is at hand isn't told
 abbrev pub HasTaken : VotesSoFar → List ℕ → Type 0
 HasTaken reader bytes = IsAt reader bytes reader.stage
 
 -- ---- what is held of the file
 
--- its contests can't be read from these records: one of theirs is still to come, or is refused
+-- a file of these records alone would be refused: a record of a contest is still to come, or a record is refused
 abbrev pub LacksContests : Option Id → List Fields → Type 0
 LacksContests asked rows = (refusal : Refusal BRule) × (ballots_from asked rows ≡ Err refusal)
 
--- of whole lines that can be read only these are held: those whose contests are missing or refused, or a few of ballots, that wait for
--- more
+-- of whole lines that can be read only these are held: while no contests are read, those that would be refused as a file; behind contests a few, which
+-- wait for more. Where the file is refused, nothing is said
 abbrev pub HoldsLittle : Option Id → ℕ → List ℕ → Stage → Type 0
 HoldsLittle asked holds lines Contests =
     IsTrue (can_be_read lines) → LacksContests asked (numbered_records lines)

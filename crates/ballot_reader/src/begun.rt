@@ -9,7 +9,7 @@ ghost use Rattle.ballot_reader.specs.Grammar.{ballots_from};
 
 use crate::contest::Contest;
 use crate::fault::BallotFault;
-use crate::kept::Kept;
+use crate::kept::{Kept, NO_ROOM};
 use crate::read::{
     add_ballots, audited_place, contests_left, first_ballot, first_count, votes_kept,
 };
@@ -21,9 +21,6 @@ use irv_base::{Memory, Name};
 use std::alloc::Global;
 use std::marker::Model;
 use std::thread::Threads;
-
-// Room for ballots is made when they come.
-const NO_ROOM: usize = 0;
 
 /// The contests of a file, and the votes in those of its ballots that are read.
 #[derive(Drop)]

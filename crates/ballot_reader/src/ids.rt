@@ -50,7 +50,7 @@ impl Ids {
         self.ids.at(i)
     }
 
-    // Puts the id last. More than `u32::MAX` bytes in all are want of memory.
+    // Puts the id last. More than `u32::MAX` bytes before it are want of memory.
     pub(crate) fn push(&mut self, id: &[u8]) -> Result<(), Memory>
         ensures pushed { OnOk result (self.new ≡ self.old ++ id.now ∷ []) }
         ensures same { OnErr result (self.new ≡ self.old) }

@@ -28,6 +28,7 @@ struct Head<'r> {
 }
 
 /// The place of the contest with that id, from 0.
+#[inline(always)]
 pub fn contest_place(contests: &[Contest], id: &[u8]) -> Option<usize>
     ensures place { result ≡ position (has_id id.now) contests.now }
     ensures within { IfSome result (λ k. k < length contests.now) }
@@ -36,6 +37,9 @@ pub fn contest_place(contests: &[Contest], id: &[u8]) -> Option<usize>
         .iter()
         .position(|contest| is_same(contest.id.bytes(), id))
 }
+
+/// Room for ballots is made when they come.
+pub const NO_ROOM: usize = 0;
 
 // The head of a ballot's record, or the first of the rules B6, B4 and B7 that it breaks.
 fn head_of<'r>(contests: &[Contest], mut fields: Fields<'r>) -> Result<Head<'r>, BRule>

@@ -104,7 +104,7 @@ impl Kept {
         are_apart(&self.met, &part.met)
     }
 
-    /// Puts what is kept of ballots that were read alone behind what is kept of others.
+    /// Puts what is kept of ballots that were read alone behind what is kept of others. Of ids and places, where they are kept, nothing is told.
     pub fn join(&mut self, part: &Kept) -> Result<(), Memory>
         requires { CanJoin self.now part.now }
         ensures { OnOk result ((contests : List ContestRecord) → (audited : ℕ)

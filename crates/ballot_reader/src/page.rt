@@ -97,7 +97,8 @@ pub struct Page {
 impl Page {
     /// A page for no ids.
     pub fn none() -> Page
-        ensures { result.bits ≡ 0 }
+        ensures none { result.bits ≡ 0 }
+        ensures nobody { result.like ≡ None }
     {
         Page {
             like: None,
@@ -117,6 +118,7 @@ impl Page {
     }
 
     /// Whether the page is for ids like this one: with as many bytes, and the same in front of those that are counted.
+    #[inline(always)]
     pub fn is_of(&self, id: &[u8]) -> bool
         ensures { result ≡ is_of self.now id.now }
     {

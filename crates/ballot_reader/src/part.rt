@@ -140,7 +140,7 @@ impl Part {
         )
     }
 
-    /// Puts the rankings of another part behind its own, where it isn't kept whence the ballots come.
+    /// Puts the rankings of another part behind its own. Where ballots come from is left as it is.
     pub fn append(&mut self, other: &Part) -> Result<(), Memory>
         ensures { OnOk result (self.new ≡ with_rankings self.old other.now.rankings) }
     {

@@ -8,6 +8,7 @@ ghost use Rattle.ballot_reader.specs.declared.wanted.Wanted.TheVariants.{One, Vo
 ghost use Rattle.ballot_reader.specs.Ballots.{AreBallots, AreCandidates, BallotFile, votes_of, votes_with};
 ghost use Rattle.ballot_reader.specs.Grammar.{Ballot, Contest as ContestRecord, all_audited, asked_for, audited_contest, ballots_after, ballots_behind, ballots_from, ballots_of, contest_count, contests_behind, contests_from, contests_in, contests_of, file_of, has_audited_size};
 ghost use Rattle.file_fault.specs.Refusals.{Refuses};
+ghost use Rattle.ballot_reader.specs.Parts.{ComeBehind, IsRefusedBehind};
 ghost use Rattle.ballot_reader.specs.Kept.{IsKept, IsKeptUpTo, WantsAudited, contest_ids, file_with, is_wanted, keeps_origins, part_of};
 
 use crate::ballots::Ballots;
@@ -134,14 +135,10 @@ pub fn add_ballots(
     requires differ { IsTrue (all_differ (contest_ids contests.now)) }
     requires kept { (wanted : WantedContests) × (earlier : List Ballot)
         × IsKeptUpTo contests.now wanted earlier first kept.old }
-    ensures read { IfOk result (λ next. (wanted : WantedContests) → (earlier : List Ballot)
-        → IsKeptUpTo contests.now wanted earlier first kept.old
-        → (ballots : List Ballot)
-        × (ballots_after contests.now earlier first records.old.left ≡ Ok ballots)
-        × IsKeptUpTo contests.now wanted ballots next kept.new) }
-    ensures refused { IfErr result (λ fault. (wanted : WantedContests) → (earlier : List Ballot)
-        → IsKeptUpTo contests.now wanted earlier first kept.old
-        → Refuses (ballots_after contests.now earlier first records.old.left) fault) }
+    ensures read { IfOk result (λ next. (wanted : WantedContests)
+        → ComeBehind contests.now wanted first records.old.left kept.old next kept.new) }
+    ensures refused { IfErr result (λ fault. (wanted : WantedContests)
+        → IsRefusedBehind contests.now wanted first records.old.left kept.old fault) }
 {
     let mut at = first;
     'records: while records.read()? {

@@ -2,17 +2,16 @@
 ghost use Rattle.std.specs.Prelude.{ℕ, ◌≡◌, ◌≤◌, ◌++◌, List, Ok, IfOk, IfErr, IfSome, IfNone, IsTrue, length};
 ghost use Rattle.std.specs.Thread.{IsSync};
 ghost use Rattle.csv_rows.specs.Rows.{Fields as FieldList};
-ghost use Rattle.file_fault.specs.Refusals.{Refuses};
 ghost use Rattle.irv_base.specs.Names.{all_differ};
-ghost use Rattle.ballot_reader.specs.Grammar.{Ballot, Contest as ContestRecord, ballots_after};
+ghost use Rattle.ballot_reader.specs.Grammar.{Ballot, Contest as ContestRecord};
 ghost use Rattle.ballot_reader.specs.Kept.{IsKeptUpTo, WantsAudited, contest_ids};
-ghost use Rattle.ballot_reader.specs.Parts.{IsReadAlone, IsReadBehind};
+ghost use Rattle.ballot_reader.specs.Parts.{CanBeRead, ComeBehind, IsReadAlone, IsRefusedBehind};
 ghost use Rattle.ballot_reader.specs.declared.limits.TheConstants.{MOST_CONTESTS};
 ghost use Rattle.ballot_reader.specs.declared.wanted.Wanted.TheVariants.{VotesOf};
 
 use crate::contest::Contest;
 use crate::fault::BallotFault;
-use crate::kept::Kept;
+use crate::kept::{Kept, NO_ROOM};
 use crate::read::{add_ballots, ballots_left};
 use crate::wanted::Wanted;
 use csv_rows::PlainLines;
@@ -25,9 +24,6 @@ use std::thread::Threads;
 // Fewer bytes of lines are read sooner than a thread is started for them.
 const FEWEST_BYTES: usize = 128 << 10;
 
-// Room for ballots is made when they come.
-const NO_ROOM: usize = 0;
-
 // What is kept of the ballots in these lines, as if none stood before them. It is nothing where a record is refused.
 fn read_alone(
     alloc: Global,
@@ -35,9 +31,7 @@ fn read_alone(
     audited: usize,
     lines: &PlainLines<'_>,
 ) -> Result<Option<Kept>, Memory>
-    requires few { length contests.now ≤ MOST_CONTESTS }
-    requires differ { IsTrue (all_differ (contest_ids contests.now)) }
-    requires sized { WantsAudited contests.now (VotesOf audited) }
+    requires { CanBeRead contests.now audited }
     ensures { IfOk result (λ part.
         IfSome part (IsReadAlone contests.now (VotesOf audited) lines.now)) }
 {
@@ -83,9 +77,7 @@ fn part_of<R: Threads + Sync>(
     lines: &PlainLines<'_>,
     workers: usize,
 ) -> Result<Option<Kept>, Memory>
-    requires few { length contests.now ≤ MOST_CONTESTS }
-    requires differ { IsTrue (all_differ (contest_ids contests.now)) }
-    requires sized { WantsAudited contests.now (VotesOf audited) }
+    requires { CanBeRead contests.now audited }
     ensures { IfOk result (λ part.
         IfSome part (IsReadAlone contests.now (VotesOf audited) lines.now)) }
 {
@@ -96,16 +88,12 @@ fn part_of<R: Threads + Sync>(
     let many = workers - few;
     let (front, behind) = lines.cut((lines.len() / workers).saturating_mul(few));
     let read_front = || -> Result<Option<Kept>, Memory>
-        requires { IsSync R.row × (length contests.now ≤ MOST_CONTESTS)
-            × IsTrue (all_differ (contest_ids contests.now))
-            × WantsAudited contests.now (VotesOf audited) }
+        requires { IsSync R.row × CanBeRead contests.now audited }
         ensures { IfOk result (λ part.
             IfSome part (IsReadAlone contests.entry.now (VotesOf audited) front.entry)) }
     { part_of(rt, alloc, contests, audited, &front, few) };
     let read_behind = || -> Result<Option<Kept>, Memory>
-        requires { IsSync R.row × (length contests.now ≤ MOST_CONTESTS)
-            × IsTrue (all_differ (contest_ids contests.now))
-            × WantsAudited contests.now (VotesOf audited) }
+        requires { IsSync R.row × CanBeRead contests.now audited }
         ensures { IfOk result (λ part.
             IfSome part (IsReadAlone contests.entry.now (VotesOf audited) behind.entry)) }
     { part_of(rt, alloc, contests, audited, &behind, many) };
@@ -114,7 +102,8 @@ fn part_of<R: Threads + Sync>(
 }
 
 // Puts the ballots in these lines, read by several workers, behind those that are kept, and tells the number of the record that comes next.
-// It tells nothing and changes nothing where that isn't worth it, or a record is refused, or it isn't seen that ids differ.
+// It tells nothing and changes nothing where that isn't worth it, or a record is refused, or there would be too many ballots, or it isn't seen
+// that ids differ.
 fn add_parts<R: Threads + Sync>(
     rt: &R,
     alloc: Global,
@@ -129,9 +118,8 @@ fn add_parts<R: Threads + Sync>(
     requires differ { IsTrue (all_differ (contest_ids contests.now)) }
     requires kept { (earlier : List Ballot)
         × IsKeptUpTo contests.now (VotesOf audited) earlier first kept.old }
-    ensures read { IfOk result (λ next. IfSome next (λ next. (earlier : List Ballot)
-        → IsKeptUpTo contests.now (VotesOf audited) earlier first kept.old
-        → IsReadBehind contests.now (VotesOf audited) earlier first lines.now next kept.new)) }
+    ensures read { IfOk result (λ next. IfSome next (λ next.
+        ComeBehind contests.now (VotesOf audited) first lines.now kept.old next kept.new)) }
     ensures same { IfOk result (λ next. IfNone next (kept.new ≡ kept.old)) }
 {
     let workers = (workers as usize).min(lines.len() / FEWEST_BYTES);
@@ -165,12 +153,10 @@ pub fn add_lines<R: Threads + Sync>(
     requires differ { IsTrue (all_differ (contest_ids contests.now)) }
     requires kept { (earlier : List Ballot)
         × IsKeptUpTo contests.now (VotesOf audited) earlier first kept.old }
-    ensures read { IfOk result (λ next. (earlier : List Ballot)
-        → IsKeptUpTo contests.now (VotesOf audited) earlier first kept.old
-        → IsReadBehind contests.now (VotesOf audited) earlier first lines.now next kept.new) }
-    ensures refused { IfErr result (λ fault. (earlier : List Ballot)
-        → IsKeptUpTo contests.now (VotesOf audited) earlier first kept.old
-        → Refuses (ballots_after contests.now earlier first lines.now) fault) }
+    ensures read { IfOk result (λ next.
+        ComeBehind contests.now (VotesOf audited) first lines.now kept.old next kept.new) }
+    ensures refused { IfErr result (λ fault.
+        IsRefusedBehind contests.now (VotesOf audited) first lines.now kept.old fault) }
 {
     match add_parts(rt, alloc, contests, audited, kept, first, lines, workers)? {
         Some(next) => Ok(next),

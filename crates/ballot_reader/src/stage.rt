@@ -1,7 +1,7 @@
 // How far a ballot file is read that comes in pieces.
 ghost use Rattle.std.specs.Prelude.{◌≡◌, ◌<◌, ◌++◌, List, Option, Ok, true, false, length, IfOk, IfErr, IfSome, IfNone, option_copied, IsTrue};
 ghost use Rattle.csv_rows.specs.Fields.{numbered_records};
-ghost use Rattle.csv_rows.specs.Pieces.{StandApart, can_be_read};
+ghost use Rattle.csv_rows.specs.Pieces.{StandApart};
 ghost use Rattle.csv_rows.specs.Rows.{Fields as FieldList};
 ghost use Rattle.file_fault.specs.Refusals.{Refuses};
 ghost use Rattle.irv_base.specs.Names.{Id};
@@ -63,8 +63,8 @@ fn added_lines<R: Threads + Sync>(
     }
 }
 
-// Reads the contests at the front of a file's records, and the ballots behind them. It is nothing where they can't be read: a record of theirs
-// is still to come, or one is refused.
+// Reads the contests at the front of a file's records, and the ballots behind them. It is nothing where the contests can't be read: a record of
+// theirs is still to come, or one is refused. (The clause says no more than that a file of these records is refused.)
 fn first_stage(
     alloc: Global,
     asked: Option<&Name>,
@@ -119,7 +119,7 @@ pub struct Step {
 }
 
 impl Stage {
-    // Whether ballots in the whole lines at hand wait for more of them: there are no more than so many bytes.
+    // Whether ballots in the whole lines at hand wait for more of them: there are no more than so many bytes. That any wait is no promise.
     fn waits(&self, pieces: &Pieces, holds: usize) -> bool
         ensures { IsTrue result → (asked : Option Id)
             → HoldsLittle asked holds pieces.now.lines self.now }
@@ -130,7 +130,7 @@ impl Stage {
         }
     }
 
-    /// Reads the whole lines at hand by so many workers, if that can be. Ballots wait until more than `holds` bytes are at hand.
+    /// Reads the whole lines at hand by so many workers, if that can be. Ballots may wait until more than `holds` bytes are at hand.
     pub fn after<R: Threads + Sync>(
         self,
         rt: &R,

@@ -1,9 +1,12 @@
 // The votes of a ballot file that comes in pieces.
-ghost use Rattle.std.specs.Prelude.{◌≡◌, ◌≤◌, ◌++◌, [], ℕ, List, Ok, IfOk, IfErr, OnOk};
+ghost use Rattle.std.specs.Prelude.{◌≡◌, ◌≤◌, ◌++◌, [], ℕ, List, Ok, IfOk, IfErr, OnOk, OnErr};
 ghost use Rattle.file_fault.specs.Refusals.{Refuses};
+ghost use Rattle.file_fault.specs.declared.fault.Fault.{Fault as FaultOf};
 ghost use Rattle.ballot_reader.specs.Ballots.{BallotFile, votes_of};
 ghost use Rattle.ballot_reader.specs.Grammar.{ballots_of};
 ghost use Rattle.ballot_reader.specs.Stages.{HasPassed, HasTaken, IsShort};
+ghost use Rattle.ballot_reader.specs.declared.fault.BRule.{BRule as BallotRule};
+ghost use Rattle.ballot_reader.specs.declared.stage.Stage.TheVariants.{Refused};
 ghost use Rattle.ballot_reader.specs.declared.votes_reader.TheConstants.{SIDE_BY_SIDE};
 
 use crate::fault::BallotFault;
@@ -21,9 +24,9 @@ use std::thread::Threads;
 pub const SIDE_BY_SIDE: usize = 1 << 20;
 
 /// Reads the votes of a contest from a ballot file that comes in pieces, by one worker or by several. Of the file it keeps the lines that
-/// aren't read yet: most often the last alone, and with several workers up to `SIDE_BY_SIDE` bytes of whole lines. It keeps all that comes,
-/// and reads that at the end, from a double quote on, or a byte EF that is no byte order mark at the front; and where the contests are
-/// refused, or they or one line have more than `csv_rows` looks at.
+/// aren't read yet: most often the last alone, and with several workers up to `SIDE_BY_SIDE` bytes of whole lines. From lines on that come with a
+/// double quote, or a byte EF that is no byte order mark at the front, it keeps all that comes, and reads that at the end; so it does where
+/// the contests are refused, or they, one line or the lines in one piece have more than `csv_rows` looks at. Once a ballot is refused, nothing more is kept.
 ///
 /// To a contract it is the contest that is asked for, how many bytes of whole lines may wait for more, what is at hand of the file, and how
 /// far the file is read.
@@ -70,6 +73,7 @@ impl<'r, R: Threads + Sync> VotesReader<'r, R> {
         ensures alone { workers ≤ 1 → result.holds ≡ 0 }
         ensures holds { result.holds ≤ SIDE_BY_SIDE }
         ensures nothing { HasTaken result [] }
+        ensures going { IsShort result.stage → ⊥ }
     {
         VotesReader {
             rt,
@@ -82,7 +86,7 @@ impl<'r, R: Threads + Sync> VotesReader<'r, R> {
         }
     }
 
-    /// Takes the bytes that come next. Once memory was wanting, the file is refused for that.
+    /// Takes the bytes that come next. Once memory was wanting, the file is refused for that. Once it is refused, nothing changes.
     pub fn take(&mut self, piece: &[u8]) -> Result<(), Memory>
         ensures asked { self.new.asked ≡ self.old.asked }
         ensures holds { self.new.holds ≡ self.old.holds }
@@ -90,6 +94,8 @@ impl<'r, R: Threads + Sync> VotesReader<'r, R> {
             → HasTaken self.new (bytes ++ piece.now) }
         ensures passed { OnOk result (HasPassed self.new) }
         ensures going { OnOk result (IsShort self.new.stage → IsShort self.old.stage) }
+        ensures failed { OnErr result (IsShort self.new.stage) }
+        ensures refused { (fault : FaultOf BallotRule) → self.old.stage ≡ Refused fault → self.new ≡ self.old }
     {
         if let Stage::Refused(_) = &self.stage {
             return Ok(());

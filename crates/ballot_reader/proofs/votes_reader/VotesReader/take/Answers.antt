@@ -33,6 +33,8 @@ returns-then-step g c = record {
   passed = passed-all (record { asked = c.self.inside.asked; holds = c.self.inside.holds; at_hand = c.pass.new.self; stage = c.in_ok-step.step.stage })
       c.pass.ensures.short;
   going = λ short. sym (ap (λ (r : VotesSoFar). r.stage) c.self.view_is) ∙ sym c.replace-stage.ensures.value ∙ c.in_ok-step.ensures.going short;
+  failed = tt;
+  refused = λ fault is. absurd (c.in_default.not-Refused fault (ap (λ (r : VotesSoFar). r.stage) c.self.view_is ∙ is));
 }
 
 pub returns-else-step : goal.returns-else-step
@@ -53,4 +55,6 @@ returns-else-step g c = record {
       (subst (HoldsLittle (option_copied c.as_ref-asked.result) holds lines) (sym (c.in_ok-step.ensures.unread c.if-step.false))
       (c.in_ok-step.ensures.held c.if-step.false));
   going = λ short. sym (ap (λ (r : VotesSoFar). r.stage) c.self.view_is) ∙ sym c.replace-stage.ensures.value ∙ c.in_ok-step.ensures.going short;
+  failed = tt;
+  refused = λ fault is. absurd (c.in_default.not-Refused fault (ap (λ (r : VotesSoFar). r.stage) c.self.view_is ∙ is));
 }

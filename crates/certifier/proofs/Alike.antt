@@ -1,5 +1,5 @@
 -- What a walk sees below two suffixes of one set that are both below the limit: the same.
-use Rattle.std.proofs.Common.{◌≡◌, ℕ, zero, suc, ◌+◌, ◌-◌, ◌^◌, ◌<◌, ◌≤◌, max, Bool, true, false, inl, inr, List, [], ◌∷◌, ◌++◌, length, map, flat_map, if◌then◌else◌, Option, Some, None, refl, sym, ap, subst, arith, le-ltb, lt-ltb, ltb-true, ltb-false, ◌∙◌}
+use Rattle.std.proofs.Common.{◌≡◌, ℕ, zero, suc, ◌+◌, ◌-◌, ◌^◌, ◌<◌, ◌≤◌, max, Bool, true, false, inl, inr, List, [], ◌∷◌, ◌++◌, length, map, flat_map, if◌then◌else◌, Option, None, refl, sym, ap, subst, arith, le-ltb, lt-ltb, ltb-true, ltb-false, ◌∙◌}
 use Rattle.std.proofs.lemmas.Bool.{cases_Bool, cases_lt}
 use Rattle.std.proofs.lemmas.List.{map-append}
 use Rattle.irv_base.specs.Candidates.{candidates, is_in, has, set_of}

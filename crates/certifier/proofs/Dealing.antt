@@ -40,7 +40,7 @@ module _ (n : ℕ) (records : List (List ℕ)) (task : Task) (workers number : �
   own_from : (c d : ℕ) → d < n → d ≢ task.winner → is_dealt workers number d ≡ true → d < c → Own c d
   own_from c d l ne a b = record { below = l; alternative = ne; meant = and (is_dealt workers number d) (nat_lt d c) a (lt-ltb d c b) }
 
-  pub deal-none : (p : Part) → p.claims.entries ≡ [] → p.over ≡ None → p.end ≡ None → IsPart n records task (dealt_before workers number 0) p
+  pub deal-none : (p : Part) → p.claims ≡ [] → p.over ≡ None → p.end ≡ None → IsPart n records task (dealt_before workers number 0) p
   deal-none p empty over end = part-none n records task (dealt_before workers number 0) p (λ d o. let l = (own_parts 0 d o).1 in
       absurd (omega arith)) empty over end
 

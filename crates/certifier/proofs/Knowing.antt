@@ -1,7 +1,7 @@
 -- What is known of sets, as walks go on.
-use Rattle.std.proofs.Common.{◌≡◌, ℕ, ◌+◌, ◌<◌, ◌==◌, Bool, true, false, inl, inr, List, [], ◌∷◌, length, map, count_by, if◌then◌else◌, Option, Some, None, Contains, refl, sym, ap, subst, arith, eq-eqb, ne_eqb, ◌∙◌}
+use Rattle.std.proofs.Common.{◌≡◌, ℕ, ◌+◌, ◌<◌, ◌==◌, Bool, true, false, inl, inr, List, [], ◌∷◌, map, count_by, if◌then◌else◌, Some, None, Contains, refl, sym, ap, subst, eq-eqb, ne_eqb, ◌∙◌}
 use Rattle.std.proofs.lemmas.Bool.{cases_eq}
-use Rattle.irv_base.proofs.Members.{Member, member-map, from_map, member-filter, from_filter, contains-from_member, member-from_contains, member_nil}
+use Rattle.irv_base.proofs.Members.{Member, member-map, from_map, member-filter, from_filter, contains-from_member, member-from_contains}
 use Rattle.assertions.specs.declared.assertion.Assertion.{Assertion}
 use Rattle.assertions.specs.Hardness.{low, refuter}
 use Rattle.assertions.specs.Certificate.{is_end}
@@ -13,7 +13,7 @@ use Rattle.suffix_walk.specs.Kept.{all_ending}
 use Rattle.suffix_walk.proofs.Counts.{count-cons}
 use Rattle.certifier.specs.Counts.{count_of}
 use Rattle.certifier.specs.Gathered.{gathered}
-use Rattle.certifier.specs.Walks.{is_under, ends_in, kept_ends}
+use Rattle.certifier.specs.Walks.{is_under, ends_in}
 use Rattle.certifier.specs.Known.{IsOfSet, IsThrough, IsKnown, HasKnown}
 use Rattle.certifier.specs.declared.gather.Known.{Known}
 use Rattle.certifier.specs.declared.gather.Task.{Task}
@@ -136,7 +136,7 @@ module _ (n : ℕ) (records : List (List ℕ)) (limit : ℕ) where
     }
 
 -- a worker begins
-pub known-starts : (bag : Kept) (task : Task) (part : Part) (known : Known) → part.claims.entries ≡ [] → ((set : ℕ) → count_of known.covers set ≡ None) →
+pub known-starts : (bag : Kept) (task : Task) (part : Part) (known : Known) → part.claims ≡ [] → ((set : ℕ) → count_of known.covers set ≡ None) →
     ((set : ℕ) → count_of known.orders set ≡ None) → HasKnown bag task part known
 known-starts bag task part known empty covers orders = record {
   covers = λ on records h. subst (IsKnown bag.n records task.best true known.covers) (sym empty) (known-none bag.n records task.best true known.covers covers);

@@ -2,6 +2,7 @@ pub mod Walking
 pub mod Ends
 pub mod Alike
 pub mod Agreement
+pub mod Sorting
 pub mod Knowing
 pub mod Budgets
 pub mod Claiming

@@ -71,14 +71,14 @@ module _ (n : ℕ) (records : List (List ℕ)) (task : Task) where
   end-more own its there (Some e) h = record { candidate = there e.last h.candidate; walk = h.walk }
 
   -- ---- no candidate yet
-  pub part-none : (own : ℕ → Bool) (p : Part) → ((c : ℕ) → IsOwn n records task own c → ⊥) → p.claims.entries ≡ [] → p.over ≡ None → p.end ≡ None →
+  pub part-none : (own : ℕ → Bool) (p : Part) → ((c : ℕ) → IsOwn n records task own c → ⊥) → p.claims ≡ [] → p.over ≡ None → p.end ≡ None →
       IsPart n records task own p
   part-none own p nobody empty over end = record {
     covers = λ c o b. absurd (nobody c o);
     over = subst (λ o. MatchOption o (Unit {0}) (IsOver n records task own)) (sym over) tt;
     orders = λ c o b b'. absurd (nobody c o);
     end = subst (λ o. MatchOption o (Unit {0}) (IsEndOf n records task own)) (sym end) tt;
-    claims = λ e. claims-none n records task own p.claims.entries nobody empty;
+    claims = λ e. claims-none n records task own p.claims nobody empty;
   }
 
   -- ---- the same candidates, as far as it was looked
@@ -90,7 +90,7 @@ module _ (n : ℕ) (records : List (List ℕ)) (task : Task) where
     over = over-more own its there p.over h.over;
     orders = λ c o b b'. h.orders c (back c o b) b b';
     end = end-more own its there p.end h.end;
-    claims = λ e. claims-same n records task own its p.claims.entries there (λ c o. back c o (subst (IsBefore c) (sym e) tt)) (h.claims e);
+    claims = λ e. claims-same n records task own its p.claims there (λ c o. back c o (subst (IsBefore c) (sym e) tt)) (h.claims e);
   }
 
   -- ---- two parts
@@ -108,7 +108,7 @@ module _ (n : ℕ) (records : List (List ℕ)) (task : Task) where
     ]
 
     pub part-join : (a b j : Part) → j.over ≡ lesser a.over b.over → j.end ≡ first_end a.end b.end →
-        j.claims.entries ≡ with_all order a.claims.entries b.claims.entries →
+        j.claims ≡ with_all order a.claims b.claims →
         IsPart n records task own a → IsPart n records task its b → IsPart n records task (in_either own its) j
     part-join a b j over end claims h k = record {
       covers = λ c o before.
@@ -126,7 +126,7 @@ module _ (n : ℕ) (records : List (List ℕ)) (task : Task) where
           (end-more its (in_either own its) right b.end k.end));
       claims = λ none.
           let (x, y) = lesser-none a.over b.over (sym over ∙ none) in
-          claims-join n records task own its a.claims.entries b.claims.entries j.claims.entries (h.claims x) (k.claims y) claims;
+          claims-join n records task own its a.claims b.claims j.claims (h.claims x) (k.claims y) claims;
     }
 
   -- ---- one candidate more, behind these
@@ -165,9 +165,9 @@ module _ (n : ℕ) (records : List (List ℕ)) (task : Task) where
     next_covers (Found order) e c o = absurd (cover-finds_none n records task is two last order mine.below mine.alternative e)
 
     next_claims : (w : WalkEnd) → IsWalk last (Ok w) (cover_walk n records task last) →
-        OnCounted w (q.claims.entries ≡ gathered order (score_of n records) p.claims.entries (ends_in n records task.best (all_ending n (last ∷ [])))) →
-        AreClaims n records task its q.claims.entries
-    next_claims (Counted count) e put = claims-more n records task own its last p.claims.entries q.claims.entries mine there back (h.claims none) put
+        OnCounted w (q.claims ≡ gathered order (score_of n records) p.claims (ends_in n records task.best (all_ending n (last ∷ [])))) →
+        AreClaims n records task its q.claims
+    next_claims (Counted count) e put = claims-more n records task own its last p.claims q.claims mine there back (h.claims none) put
     next_claims (Found order) e put = absurd (cover-finds_none n records task is two last order mine.below mine.alternative e)
 
     next_within : q.over ≡ None → IsNextWithin n records task last p q → IsPart n records task its q

@@ -1,5 +1,5 @@
 -- What walks within a limit know of the sets that they have gone through.
-use Rattle.std.specs.Prelude.{◌≡◌, ◌<◌, ◌+◌, ℕ, Bool, true, false, List, [], map, length, count_by, Option, Some, None, AllPairs, Contains, IsTrue}
+use Rattle.std.specs.Prelude.{◌≡◌, ◌<◌, ◌+◌, ℕ, Bool, true, false, List, [], map, length, count_by, Some, None, AllPairs, Contains, IsTrue}
 use Rattle.irv_base.specs.Candidates.{set_of}
 use Rattle.irv_base.specs.Suffixes.{is_suffix}
 use Rattle.assertions.specs.declared.assertion.Assertion.{Assertion}
@@ -52,5 +52,5 @@ AreKnown bag limit keeps counts entries =
 -- what a worker knows, as long as it walks on for the assertions, and for the order
 pub record HasKnown (bag : Kept) (task : Task) (part : Part) (known : Known) : Type 0 where
   pub covers : part.over ≡ None →
-      AreKnown bag task.best true known.covers part.claims.entries
+      AreKnown bag task.best true known.covers part.claims
   pub orders : part.end ≡ None → AreKnown bag (task.best + 1) false known.orders []

@@ -57,13 +57,13 @@ IsNextEnd last None (Some end) walk = (end.last ≡ last) × (walk ≡ Err (stop
 -- what is found of this candidate is put to the part
 pub record IsNextWithin (n : ℕ) (records : List (List ℕ)) (task : Task) (last : ℕ)
     (part next : Part) : Type 0 where
-  pub covered : IsCovered n records task last part.claims.entries next.claims.entries false
+  pub covered : IsCovered n records task last part.claims next.claims false
   pub end : IsNextEnd last part.end next.end (order_walk n records task last)
 
 pub record IsNextOver (n : ℕ) (records : List (List ℕ)) (task : Task) (last : ℕ) (part next : Part)
     (over : ℕ) : Type 0 where
   pub candidate : over ≡ last
-  pub covered : IsCovered n records task last part.claims.entries next.claims.entries true
+  pub covered : IsCovered n records task last part.claims next.claims true
   pub end : next.end ≡ part.end
 
 abbrev pub IsNext : ℕ → List (List ℕ) → Task → ℕ → Part → Part → Type 0

@@ -97,7 +97,7 @@ module _ (n : ℕ) (records : List (List ℕ)) (task : Task) where
     pub orders : (c : ℕ) → IsOwn own c → IsBefore c part.over → IsBefore c (candidate_of part.end) →
         IsGone (order_walk n records task c)
     pub end : MatchOption part.end ⊤ (IsEndOf own)
-    pub claims : part.over ≡ None → AreClaims own part.claims.entries
+    pub claims : part.over ≡ None → AreClaims own part.claims
 
   -- the same of a part that there is, and nobody's of none
   abbrev pub IsPartSoFar : (ℕ → Bool) → Option Part → Type 0

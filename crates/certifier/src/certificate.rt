@@ -85,7 +85,7 @@ pub fn certify<R: AllocGlobal + Threads + Sync>(
     if let Some(last) = found.spent() {
         return Err(CertFault::Spent { last });
     }
-    let claims = listed(rt.alloc(), &found.claims)?;
+    let claims = found.claims.listed(rt.alloc())?;
     // Some alternative order has the best margin, so one was found.
     let order = found.order().unwrap_or(tab.order);
     Ok(Certificate {

@@ -4,14 +4,14 @@ ghost use Rattle.certifier.specs.Counts.{count_of};
 
 use irv_base::{CandSet, Memory};
 use std::alloc::Global;
-use std::collections::BTreeMap;
+use std::collections::HashMap;
 
 /// The sets that walks within one limit have gone through, each with its count: how many suffixes from one of this set on, itself among
 /// them, are below the limit. What can be put in front of a suffix below the limit depends on its set alone, so the next walk that comes
 /// to the set adds the count, and need not go in.
 #[derive(Drop)]
 pub struct Counts {
-    by_set: BTreeMap<CandSet, u32>,
+    by_set: HashMap<CandSet, u32>,
 }
 
 impl Counts {
@@ -20,7 +20,7 @@ impl Counts {
         ensures { (set : ℕ) → count_of result set ≡ None }
     {
         Counts {
-            by_set: BTreeMap::new(alloc),
+            by_set: HashMap::new(alloc),
         }
     }
 

@@ -6,15 +6,14 @@ ghost use Rattle.certifier.specs.OneCandidate.{IsTask, IsCovered, IsNextEnd, ord
 ghost use Rattle.certifier.specs.Parts.{IsPartOfSeveral, is_dealt};
 ghost use Rattle.certifier.specs.Known.{AreKnown, HasKnown};
 
+use crate::claims::Claims;
 use crate::counts::Counts;
 use crate::fault::CertFault;
 use crate::part::{OrderEnd, Part};
 use crate::walk::{Reach, WalkEnd, walk};
-use assertions::Assertion;
 use irv_base::{Candidate, Memory};
 use set_tallies::Tallies;
 use std::alloc::Global;
-use std::collections::BTreeMap;
 use suffix_tree::{Scored, Tail, score};
 
 /// What a certificate is looked for with: the winner of the contest, and how far the walks go.
@@ -54,17 +53,17 @@ fn cover(
     last: Candidate,
     task: &Task,
     counts: &mut Counts,
-    claims: &mut BTreeMap<Assertion, u32>,
+    claims: &mut Claims,
     tallies: &mut Tallies,
 ) -> Result<bool, Memory>
     requires ready { CanWalk tallies.old.bag task.now.best alone.now }
     requires alone { alone.now.tail.list ≡ last ∷ [] }
-    requires known { AreKnown tallies.old.bag task.now.best true counts.old claims.old.entries }
+    requires known { AreKnown tallies.old.bag task.now.best true counts.old claims.old }
     ensures covered { (records : List (List ℕ)) → IsOf tallies.old.bag records
         → IfOk result (IsCovered tallies.old.bag.n records task.now last
-        claims.old.entries claims.new.entries) }
+        claims.old claims.new) }
     ensures known { IfOk result (λ over. over ≡ false
-        → AreKnown tallies.old.bag task.now.best true counts.new claims.new.entries) }
+        → AreKnown tallies.old.bag task.now.best true counts.new claims.new) }
     ensures same { tallies.new ≡ tallies.old }
 {
     let reach = Reach {
@@ -114,7 +113,7 @@ fn next_end(
         keeps: false,
     };
     // The refuters of its ends are none of the certificate's, so none is put in.
-    let mut none = BTreeMap::new(alloc);
+    let mut none = Claims::new(alloc);
     match walk(alone, &reach, 0, counts, &mut none, tallies) {
         Ok(end) => match end {
             WalkEnd::Counted(_count) => Ok(None),
@@ -205,6 +204,10 @@ pub fn gather(
         if dealt.has(c) && last != task.winner {
             part = gather_candidate(alloc, last, task, part, &mut known, tallies)?;
         }
+    }
+    // Each worker sorts its own, which are then merged.
+    if dealt.workers > 1 {
+        part.claims.shorten()?;
     }
     Ok(part)
 }

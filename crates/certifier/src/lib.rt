@@ -3,6 +3,7 @@
 #![tactic(auto)]
 
 mod certificate;
+mod claims;
 mod counts;
 mod fault;
 mod gather;

@@ -1,13 +1,11 @@
 // What was found among the suffixes that end in some of the candidates, and two such parts put together.
-ghost use Rattle.std.specs.Prelude.{◌≡◌, ℕ, Bool, None, [], List, IfOk, OnOk};
-ghost use Rattle.certifier.specs.Gathered.{with_all};
+ghost use Rattle.std.specs.Prelude.{◌≡◌, ℕ, Bool, None, [], List, IfOk};
 ghost use Rattle.certifier.specs.Parts.{IsPart, in_either, lesser, first_end, order_of, spent_at};
 ghost use Rattle.certifier.specs.declared.gather.Task.{Task};
 
-use assertions::Assertion;
+use crate::claims::Claims;
 use irv_base::{Candidate, Memory, Order};
 use std::alloc::Global;
-use std::collections::BTreeMap;
 
 /// Where a walk for the order comes to an end.
 #[derive(Clone, Copy)]
@@ -22,7 +20,7 @@ pub struct OrderEnd {
 #[derive(Drop)]
 pub struct Part {
     /// The assertions with their margins.
-    pub claims: BTreeMap<Assertion, u32>,
+    pub claims: Claims,
     /// The least of the candidates whose walk for the assertions is over the budget.
     pub over: Option<Candidate>,
     /// The end of a walk for the order, of the least candidate whose walk has one.
@@ -61,29 +59,15 @@ fn first_end(a: Option<OrderEnd>, b: Option<OrderEnd>) -> Option<OrderEnd>
     }
 }
 
-// Puts more claims among these.
-fn put_all(
-    claims: &mut BTreeMap<Assertion, u32>,
-    more: &BTreeMap<Assertion, u32>,
-) -> Result<(), Memory>
-    ensures { OnOk result (claims.new.entries
-        ≡ with_all ⟦<Assertion as Ord>⟧.cmp claims.old.entries more.now.entries) }
-{
-    for (assertion, margin) in more {
-        claims.insert(*assertion, *margin)?;
-    }
-    Ok(())
-}
-
 impl Part {
     /// What is found among no suffixes.
     pub fn new(alloc: Global) -> Part
-        ensures claims { result.claims.entries ≡ [] }
+        ensures claims { result.claims ≡ [] }
         ensures over { result.over ≡ None }
         ensures end { result.end ≡ None }
     {
         Part {
-            claims: BTreeMap::new(alloc),
+            claims: Claims::new(alloc),
             over: None,
             end: None,
         }
@@ -101,7 +85,7 @@ impl Part {
             over,
             end,
         } = self;
-        put_all(&mut claims, &other.claims)?;
+        claims.join(&other.claims)?;
         Ok(Part {
             claims,
             over: lesser(over, other.over),

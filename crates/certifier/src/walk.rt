@@ -5,12 +5,12 @@ ghost use Rattle.certifier.specs.Walks.{CanWalk, IsWalk, walk_of, walked_on, OnC
 ghost use Rattle.certifier.specs.Gathered.{with_score};
 ghost use Rattle.certifier.specs.Known.{AreKnown};
 
+use crate::claims::Claims;
 use crate::counts::Counts;
 use crate::fault::CertFault;
 use assertions::Assertion;
 use irv_base::{Candidate, Memory, Order};
 use set_tallies::Tallies;
-use std::collections::BTreeMap;
 use suffix_tree::{Scored, child};
 
 /// Which suffixes a walk goes through, and how far.
@@ -36,18 +36,18 @@ pub enum WalkEnd {
 }
 
 // Puts the refuter of the suffix, with its margin, among the claims, where the walk keeps them.
-fn put(claims: &mut BTreeMap<Assertion, u32>, reach: &Reach, s: &Scored) -> Result<(), Memory>
-    ensures { OnOk result (claims.new.entries
+fn put(claims: &mut Claims, reach: &Reach, s: &Scored) -> Result<(), Memory>
+    ensures { OnOk result (claims.new
         ≡ (if reach.now.keeps
-        then with_score ⟦<Assertion as Ord>⟧.cmp claims.old.entries
+        then with_score ⟦<Assertion as Ord>⟧.cmp claims.old
         (record { low = s.now.low; by = s.now.by })
-        else claims.old.entries)) }
+        else claims.old)) }
 {
     if !reach.keeps {
         return Ok(());
     }
     if let Some(by) = s.by {
-        claims.insert(by, s.low)?;
+        claims.put(by, s.low)?;
     }
     Ok(())
 }
@@ -74,18 +74,18 @@ pub fn walk(
     reach: &Reach,
     count: u32,
     counts: &mut Counts,
-    claims: &mut BTreeMap<Assertion, u32>,
+    claims: &mut Claims,
     tallies: &mut Tallies,
 ) -> Result<WalkEnd, CertFault>
     requires ready { CanWalk tallies.old.bag reach.now.limit s.now }
     requires known { AreKnown tallies.old.bag reach.now.limit reach.now.keeps counts.old
-        claims.old.entries }
+        claims.old }
     ensures walk { (records : List (List ℕ)) → IsOf tallies.old.bag records
         → IsWalk reach.now.last result (walk_of reach.now s.now records count) }
     ensures claims { IfOk result (λ walk. OnCounted walk
-        (HasGathered tallies.old.bag reach.now s.now claims.old.entries claims.new.entries)) }
+        (HasGathered tallies.old.bag reach.now s.now claims.old claims.new)) }
     ensures known { OnOk result (AreKnown tallies.old.bag reach.now.limit reach.now.keeps
-        counts.new claims.new.entries) }
+        counts.new claims.new) }
     ensures counted { IfOk result (IsFrom count) }
     ensures same { tallies.new ≡ tallies.old }
 {

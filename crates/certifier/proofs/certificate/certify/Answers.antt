@@ -31,7 +31,7 @@ returns-clause-certificate g c = λ records h.
     let order : ordered.order ≡ c.unwrap_or-order.result = sym (c.unwrap_or-order.ensures
     ∙ ap (λ o. unwrap_or o c.args.tab.now.order) (c.order.ensures ∙ ordered.found_is)) in
     record {
-      claims = c.in_ok-claims.ensures ∙ claims_are n records task c.in_ok-found.found.claims.entries is.best (part.claims over);
+      claims = c.in_ok-claims.ensures ∙ claims_are n records task c.in_ok-found.found.claims is.best (part.claims over);
       margin = refl;
       order = ordered.order_is ∙ ap Some order;
       within = λ d l ne. subst (λ o. IsWithin n (low n records) c.args.best o c.args.nodes d) order (ordered.within d l ne);

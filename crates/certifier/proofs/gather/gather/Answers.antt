@@ -1,13 +1,13 @@
-use Rattle.std.proofs.Common.{◌<◌, ◌+◌, inl, inr, refl, sym, subst, subst₂, arith, ◌∙◌}
+use Rattle.std.proofs.Common.{◌≡◌, ◌<◌, ◌+◌, inl, inr, refl, sym, ap, subst, subst₂, arith, ◌∙◌}
 use Rattle.set_tallies.specs.Bags.{IsOf}
 use Rattle.suffix_walk.proofs.Scans.{differs, agrees}
 use Rattle.certifier.specs.OneCandidate.{IsNext}
-use Rattle.certifier.specs.Parts.{IsPart}
+use Rattle.certifier.specs.Parts.{IsPart, is_dealt}
 use Rattle.certifier.specs.Known.{HasKnown}
 use Rattle.certifier.proofs.Knowing.{known-starts}
 use Rattle.certifier.proofs.Dealing.{dealt_before, deal-none, deal-next, deal-passes, deal-ends, deal-stops}
 use Rattle.certifier.proofs.gather.gather.Goals as goal
-use Rattle.certifier.proofs.gather.gather.Goals.{then-has+then-ne+in_ok-part, else-has, else-has-via-then-has+else-ne, else-has-via-else-has}
+use Rattle.certifier.proofs.gather.gather.Goals.{then-has+then-ne+in_ok-part, else-has, else-has-via-then-has+else-ne, else-has-via-else-has, then-dealt-gt1+in_ok-shorten, else-dealt-gt1}
 
 pub loop-c-init : goal.loop-c-init
 loop-c-init c = record {
@@ -52,11 +52,17 @@ loop-c-preserved c =
     ]
 
 pub returns-clause-part : goal.returns-clause-part
-returns-clause-part c = λ records h is. (
-  omega (arith, c.candidates-c-end.ensures.fewest, c.candidates-c-end.ensures.same),
-  deal-ends c.args.tallies.now.bag.n records c.args.task.now c.args.dealt.now.workers c.args.dealt.now.number c.loop-c.c c.loop-c.part
-      (omega (arith, c.loop-c-test.false, c.candidates-c-end.ensures.same)) (c.loop-c.invariant.part records h is),
-)
+returns-clause-part c = λ records h is.
+    let same : c.if-dealt-gt1.part ≡ c.loop-c.part =
+    elim c.if-dealt-gt1.branch [
+      | then-dealt-gt1+in_ok-shorten w ↦ w.part-is ∙ ap (λ es. record { claims = es; over = c.loop-c.part.over; end = c.loop-c.part.end }) w.in_ok-shorten.ensures
+      | else-dealt-gt1 w ↦ w.part-is
+    ] in (
+      omega (arith, c.candidates-c-end.ensures.fewest, c.candidates-c-end.ensures.same),
+      subst (IsPart c.args.tallies.now.bag.n records c.args.task.now (is_dealt c.args.dealt.now.workers c.args.dealt.now.number)) (sym same)
+          (deal-ends c.args.tallies.now.bag.n records c.args.task.now c.args.dealt.now.workers c.args.dealt.now.number c.loop-c.c c.loop-c.part
+          (omega (arith, c.loop-c-test.false, c.candidates-c-end.ensures.same)) (c.loop-c.invariant.part records h is)),
+    )
 
 pub returns-then-is_some-clause-part : goal.returns-then-is_some-clause-part
 returns-then-is_some-clause-part c = λ records h is. (

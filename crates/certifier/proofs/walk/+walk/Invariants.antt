@@ -10,6 +10,6 @@ abbrev pub invariant-loop-c : goal.invariant-loop-c
 invariant-loop-c l = record {
   same : l.tallies ≡ l.fn.tallies;
   more : l.count < l.seen;
-  known : AreKnown l.fn.tallies.bag l.reach.limit l.reach.keeps l.counts l.claims.entries;
-  going : IsGoing l.fn.tallies.bag l.reach l.s l.count l.fn.claims.entries l.c l.seen l.claims.entries;
+  known : AreKnown l.fn.tallies.bag l.reach.limit l.reach.keeps l.counts l.claims;
+  going : IsGoing l.fn.tallies.bag l.reach l.s l.count l.fn.claims l.c l.seen l.claims;
 }

@@ -1,0 +1,98 @@
+// Assertions with their margins, gathered in any order.
+ghost use Rattle.std.specs.Prelude.{◌≡◌, [], map, IfOk, OnOk};
+ghost use Rattle.std.specs.BTreeMap.{insert_entry, IsFromIterResult};
+ghost use Rattle.certifier.specs.Gathered.{with_all, claim_at};
+
+use crate::certificate::listed;
+use assertions::{Assertion, Claim};
+use irv_base::Memory;
+use std::alloc::Global;
+use std::collections::BTreeMap;
+use std::marker::Model;
+
+// How long a list grows before it is sorted: the walks of a contest of 15 candidates put fewer.
+const FIRST_SORT: usize = 1 << 18;
+
+/// Assertions with their margins, each once.
+///
+/// To a contract they are the entries in the fixed order.
+#[derive(Drop)]
+pub struct Claims {
+    // As they were put: of several with one assertion the last counts. To put them at their places at once would take longer.
+    list: Vec<(Assertion, u32)>,
+    // How long the list may grow before each assertion is left once.
+    most: usize,
+}
+
+impl Model for Claims {
+    ghost use Rattle.std.specs.Prelude.{List, ℕ, []};
+    ghost use Rattle.assertions.specs.declared.assertion.Assertion.{Assertion};
+    ghost use Rattle.assertions.specs.contracts.assertion.AssertionOrd.TheImpl.{ghosts};
+
+    ghost Value = { List (Assertion × ℕ) };
+
+    ghost use Rattle.certifier.specs.Gathered.{with_all};
+
+    ghost view = { λ claims. with_all ghosts.cmp [] claims.list.items };
+}
+
+// The entries of the list, put in turn.
+fn sorted(alloc: Global, list: &[(Assertion, u32)]) -> Result<BTreeMap<Assertion, u32>, Memory>
+    ensures { IfOk result (IsFromIterResult ⟦<Assertion as Ord>⟧.cmp list.now) }
+{
+    Ok(list.iter().copied().collect(alloc)?)
+}
+
+impl Claims {
+    /// No assertion yet.
+    pub fn new(alloc: Global) -> Claims
+        ensures { result ≡ [] }
+    {
+        Claims {
+            list: Vec::new(alloc),
+            most: FIRST_SORT,
+        }
+    }
+
+    /// Puts the assertion among them, with this margin.
+    pub fn put(&mut self, assertion: Assertion, margin: u32) -> Result<(), Memory>
+        ensures { OnOk result (self.new
+            ≡ insert_entry ⟦<Assertion as Ord>⟧.cmp self.old assertion margin) }
+    {
+        self.list.push((assertion, margin))?;
+        if self.list.len() < self.most {
+            return Ok(());
+        }
+        self.shorten()
+    }
+
+    /// Puts all of the others among them.
+    pub fn join(&mut self, other: &Claims) -> Result<(), Memory>
+        ensures { OnOk result (self.new
+            ≡ with_all ⟦<Assertion as Ord>⟧.cmp self.old other.now) }
+    {
+        self.list.extend_from_slice(other.list.as_slice())?;
+        Ok(())
+    }
+
+    /// The claims as a list, in the fixed order.
+    pub fn listed(&self, alloc: Global) -> Result<Vec<Claim>, Memory>
+        ensures { IfOk result (λ list. list.items ≡ map claim_at self.now) }
+    {
+        let entries = sorted(alloc, self.list.as_slice())?;
+        listed(alloc, &entries)
+    }
+
+    /// Sorts them, so that they take less room, and less time when they are listed.
+    pub fn shorten(&mut self) -> Result<(), Memory>
+        ensures { OnOk result (self.new ≡ self.old) }
+    {
+        let entries = sorted(*self.list.allocator(), self.list.as_slice())?;
+        self.list.clear();
+        for (assertion, margin) in &entries {
+            self.list.push((*assertion, *margin))?;
+        }
+        self.most = FIRST_SORT.max(self.list.len().saturating_mul(2));
+        Ok(())
+    }
+}

@@ -19,6 +19,6 @@ pub fn limits()
     ensures summed { MOST_SUMMED ≡ 20 }
     ensures always_summed { ALWAYS_SUMMED ≡ 14 }
     ensures fewest_rows { FEWEST_ROWS ≡ 32 }
-    ensures entries_a_number { ENTRIES_A_NUMBER ≡ 2 }
+    ensures entries_a_number { ENTRIES_A_NUMBER ≡ 4 }
     ensures fewest_in_a_share { FEWEST_IN_A_SHARE ≡ 4096 }
 {}

@@ -93,11 +93,12 @@ def of_session(parts, session, counted):
         return told("open", "OPEN: no card was drawn yet.", f"{above} to be confirmed, at a risk of at most {limit} each.")
     draws, rounds = session["rounds"][-1]["draws"], plural(len(session["rounds"]), "round")
     missing = f"{above} still above the limit of {limit}."
+    by_whom = "" if parts["is_replayed"] else f" So the session says. {WANTED if parts['is_replayed'] is None else OTHERWISE}"
     if counted:
-        return told("unsigned", f"NOT SIGNED OFF after {plural(draws, 'draw')} in {rounds}:", missing)
+        return told("unsigned", f"NOT SIGNED OFF after {plural(draws, 'draw')} in {rounds}:", f"{missing}{by_whom}")
     if draws >= MOST_DRAWS or len(audit.draws_by_card(session, draws)) == session["cards"]:
-        return told("unsigned", "NOT SIGNED OFF, and no cards left:", f"{missing} Count in full.")
-    return told("open", f"OPEN: not signed off after {plural(draws, 'draw')} in {rounds}:", f"{missing} Draw further cards, or count in full.")
+        return told("unsigned", "NOT SIGNED OFF, and no cards left:", f"{missing} Count in full.{by_whom}")
+    return told("open", f"OPEN: not signed off after {plural(draws, 'draw')} in {rounds}:", f"{missing} Draw further cards, or count in full.{by_whom}")
 
 
 WANTED = "Give all its files, and what was read from the cards, to have the program run the audit again."

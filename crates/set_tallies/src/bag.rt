@@ -19,7 +19,14 @@ use std::thread::Threads;
 pub const ALWAYS_SUMMED: u32 = 14;
 
 /// So have more candidates where no more rows than this would be counted from entries before the sums are made (`rows_in_time`).
-pub const FEWEST_ROWS: u64 = 32;
+pub const FEWEST_ROWS: u64 = 128;
+
+/// So many candidates have sums later, once as many rows were counted. Those of more candidates take so much memory, 40 megabytes and
+/// more, that they are made from the start or not at all.
+pub const MOST_SUMMED_LATER: u32 = 18;
+
+/// Of more candidates sums are made from the start where no more rows than this would be counted in that time.
+pub const FEWEST_ROWS_OF_MANY: u64 = 192;
 
 /// What is kept of the records: the sums over all sets, or of each candidate the different sets of those who stand before it on
 /// a ballot, each with the number of such ballots.
@@ -61,6 +68,11 @@ impl Model for Bag {
     }) × AreHeld b.n b.records b.votes };
 }
 
+// How few rows are worth no entries.
+fn fewest_rows(n: u32) -> u64 {
+    if n <= MOST_SUMMED_LATER { FEWEST_ROWS } else { FEWEST_ROWS_OF_MANY }
+}
+
 // The entries of each candidate, if rows of tallies are to be counted from them, and not to be read from sums.
 fn few_entries(
     alloc: Global,
@@ -79,7 +91,7 @@ fn few_entries(
         return Ok(None);
     }
     let noted = noted(alloc, n, rankings)?;
-    if n <= MOST_SUMMED && rows_in_time(n, &noted) <= FEWEST_ROWS {
+    if n <= MOST_SUMMED && rows_in_time(n, &noted) <= fewest_rows(n) {
         return Ok(None);
     }
     let lists = all_joined(alloc, noted)?;
@@ -132,7 +144,7 @@ impl Bag {
         Ok(Bag { n, records, votes })
     }
 
-    /// The same bag with sums over all sets, where it has none and has no more candidates than can have them.
+    /// The same bag with sums over all sets, where it has none and has no more candidates than have them later.
     pub(crate) fn summed(&self, alloc: Global) -> Result<Option<Bag>, Memory>
         ensures { IfOk result (λ summed. IfSome summed (λ bag. bag ≡ self.now)) }
     {
@@ -140,7 +152,7 @@ impl Bag {
             Votes::Listed(lists) => lists,
             Votes::Summed(_sums) => return Ok(None),
         };
-        if self.n > MOST_SUMMED {
+        if self.n > MOST_SUMMED_LATER {
             return Ok(None);
         }
         let sums = Sums::of_entries(alloc, self.n, lists)?;

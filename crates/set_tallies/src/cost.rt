@@ -4,9 +4,9 @@ ghost use Rattle.set_tallies.specs.declared.sums.TheConstants.{MOST_SUMMED};
 
 use crate::entry::Entry;
 
-/// So many entries are gone through for each number of the sums over all sets before these are made. A number takes as long as eight
-/// entries and more, so that rows cost half of the sums that come after all, or less.
-pub const ENTRIES_A_NUMBER: u64 = 4;
+/// So many entries are gone through for each number of the sums over all sets before these are made. A number takes as long as thirty
+/// entries, so that rows cost half of the sums that come after all, or about that.
+pub const ENTRIES_A_NUMBER: u64 = 16;
 
 // How many entries there are of all candidates.
 fn count_of(lists: &[Vec<Entry>]) -> u64 {

@@ -70,7 +70,11 @@ impl Model for Bag {
 
 // How few rows are worth no entries.
 fn fewest_rows(n: u32) -> u64 {
-    if n <= MOST_SUMMED_LATER { FEWEST_ROWS } else { FEWEST_ROWS_OF_MANY }
+    if n <= MOST_SUMMED_LATER {
+        FEWEST_ROWS
+    } else {
+        FEWEST_ROWS_OF_MANY
+    }
 }
 
 // The entries of each candidate, if rows of tallies are to be counted from them, and not to be read from sums.

@@ -143,8 +143,11 @@ ranked contests ballots at row k id preferences contest m h o e =
 
 -- ---- what is kept of it
 
+pub same_some : {X : Type 0} (o : Option X) (x y : X) → o ≡ Some x → o ≡ Some y → x ≡ y
+same_some o x y g h = let e = sym g ∙ h in cc
+
 pub same_at : {X : Type 0} (xs : List X) (k : ℕ) (x y : X) → slice_get xs k ≡ Some x → slice_get xs k ≡ Some y → x ≡ y
-same_at xs k x y g h = let e = sym g ∙ h in cc
+same_at xs k x y g h = same_some (slice_get xs k) x y g h
 
 abbrev origins_with : List Ballot → KeptOrigins
 origins_with own = record { ids = map (λ (x : Ballot). x.id) own; places = map (λ (x : Ballot). x.at) own }

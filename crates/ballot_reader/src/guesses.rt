@@ -3,8 +3,7 @@ ghost use Rattle.std.specs.Prelude.{◌≤◌, length};
 ghost use Rattle.irv_base.specs.declared.limits.TheConstants.{ROOM};
 
 use crate::same::number_of_4;
-use irv_base::{Memory, Name};
-use std::alloc::Global;
+use irv_base::Name;
 
 // How many guesses there are. With so many, a factor by which no two names share one is soon found.
 const GUESSES: usize = 256;
@@ -21,7 +20,7 @@ const NOWHERE: u8 = u8::MAX;
 #[derive(Drop)]
 pub struct Guesses {
     factor: u64,
-    places: Vec<u8>,
+    places: [u8; GUESSES],
 }
 
 // What an id looks like: its first bytes and its last, and where these are few, how many there are.
@@ -46,11 +45,11 @@ fn guess_of(factor: u64, id: &[u8]) -> usize {
 
 impl Guesses {
     // No guesses, by a factor.
-    fn nothing(alloc: Global, factor: u64) -> Result<Guesses, Memory> {
-        Ok(Guesses {
+    fn nothing(factor: u64) -> Guesses {
+        Guesses {
             factor,
-            places: vec![in alloc; NOWHERE; GUESSES]?,
-        })
+            places: [NOWHERE; GUESSES],
+        }
     }
 
     // Puts the places of these names in, and tells whether no two share a guess.
@@ -68,20 +67,20 @@ impl Guesses {
     }
 
     /// The places of these names.
-    pub fn of(alloc: Global, names: &[Name]) -> Result<Guesses, Memory>
+    pub fn of(names: &[Name]) -> Guesses
         requires { length names.now ≤ ROOM }
     {
         let mut factor = FIRST_FACTOR;
         for _ in 0..TRIES {
-            let mut guesses = Guesses::nothing(alloc, factor)?;
+            let mut guesses = Guesses::nothing(factor);
             if guesses.put(names) {
-                return Ok(guesses);
+                return guesses;
             }
             factor = factor.wrapping_mul(FIRST_FACTOR);
         }
-        let mut guesses = Guesses::nothing(alloc, factor)?;
+        let mut guesses = Guesses::nothing(factor);
         guesses.put(names);
-        Ok(guesses)
+        guesses
     }
 
     /// Where the id may stand.

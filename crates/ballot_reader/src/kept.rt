@@ -19,20 +19,24 @@ use irv_base::{MOST_RECORDS, Memory};
 use std::alloc::Global;
 use std::marker::Model;
 
-// The contest of a ballot by its place among the contests, the ballot's id and its preferences.
+// The contest of a ballot by its place among the contests, and the ballot's id.
 #[derive(Drop)]
 struct Head<'r> {
     contest: usize,
     id: &'r [u8],
-    preferences: Fields<'r>,
 }
 
-/// The place of the contest with that id, from 0.
+/// The place of the contest with that id, from 0. Most often it is the first, since few files have more.
 #[inline(always)]
 pub fn contest_place(contests: &[Contest], id: &[u8]) -> Option<usize>
     ensures place { result ≡ position (has_id id.now) contests.now }
     ensures within { IfSome result (λ k. k < length contests.now) }
 {
+    if let Some(first) = contests.first() {
+        if is_same(first.id.bytes(), id) {
+            return Some(0);
+        }
+    }
     contests
         .iter()
         .position(|contest| is_same(contest.id.bytes(), id))
@@ -41,15 +45,15 @@ pub fn contest_place(contests: &[Contest], id: &[u8]) -> Option<usize>
 /// Room for ballots is made when they come.
 pub const NO_ROOM: usize = 0;
 
-// The head of a ballot's record, or the first of the rules B6, B4 and B7 that it breaks.
-fn head_of<'r>(contests: &[Contest], mut fields: Fields<'r>) -> Result<Head<'r>, BRule>
+// The head of a ballot's record, or the first of the rules B6, B4 and B7 that it breaks. The fields that are left are the preferences.
+fn head_of<'r>(contests: &[Contest], fields: &mut Fields<'r>) -> Result<Head<'r>, BRule>
     ensures within { IfOk result (λ head. head.contest < length contests.now) }
     ensures follows { IfOk result (λ head. (earlier : List Ballot) → (at : ℕ)
-        → ballot_in contests.now earlier at fields.entry
-        ≡ ballot_for earlier at head.id.now head.preferences
+        → ballot_in contests.now earlier at fields.old
+        ≡ ballot_for earlier at head.id.now fields.new
         (slice_get contests.now head.contest)) }
     ensures broken { IfErr result (λ rule. (earlier : List Ballot) → (at : ℕ)
-        → ballot_in contests.now earlier at fields.entry ≡ Err rule) }
+        → ballot_in contests.now earlier at fields.old ≡ Err rule) }
 {
     let (Some(of), Some(id)) = (fields.next(), fields.next()) else {
         return Err(BRule::B6);
@@ -60,11 +64,7 @@ fn head_of<'r>(contests: &[Contest], mut fields: Fields<'r>) -> Result<Head<'r>,
     let Some(contest) = contest_place(contests, of) else {
         return Err(BRule::B7);
     };
-    Ok(Head {
-        contest,
-        id,
-        preferences: fields,
-    })
+    Ok(Head { contest, id })
 }
 
 /// What is kept of ballots: which ids of each contest's were met, how many there are, and a part for each contest that is wanted.
@@ -184,7 +184,7 @@ impl Kept {
         &mut self,
         contests: &[Contest],
         at: u32,
-        fields: Fields<'_>,
+        mut fields: Fields<'_>,
     ) -> Result<(), BallotFault>
         requires differ { IsTrue (all_differ (contest_ids contests.now)) }
         requires noted { length self.now.met ≡ length contests.now }
@@ -202,7 +202,7 @@ impl Kept {
         if self.count >= MOST_RECORDS {
             return Err(BallotFault::at_record(BRule::B10, at));
         }
-        let head = match head_of(contests, fields) {
+        let head = match head_of(contests, &mut fields) {
             Ok(head) => head,
             Err(rule) => return Err(BallotFault::at_record(rule, at)),
         };
@@ -211,14 +211,7 @@ impl Kept {
         }
         self.count += 1;
         let contest = &contests[head.contest];
-        if !keep(
-            &mut self.parts,
-            head.contest,
-            contest,
-            head.id,
-            at,
-            head.preferences,
-        )? {
+        if !keep(&mut self.parts, head.contest, contest, head.id, at, fields)? {
             return Err(BallotFault::at_record(BRule::B8, at));
         }
         Ok(())

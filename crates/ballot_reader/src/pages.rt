@@ -108,7 +108,7 @@ impl Pages {
         }
     }
 
-    // Opens the page with a number, or a new one for ids like this one where there is none.
+    // Opens the page with a number, or a new one for ids like this one where there is none. Most ids stand on the page that lies open.
     fn turn_to(&mut self, number: u64, id: &[u8]) -> Result<(), Memory>
         ensures open { OnOk result (self.new.open ≡ number) }
         ensures others { (n : ℕ) → n ≢ number → page_at self.new n ≡ page_at self.old n }
@@ -122,6 +122,22 @@ impl Pages {
         if number == self.open {
             return Ok(());
         }
+        self.close_for(number, id)
+    }
+
+    // The same where another page lies open. Few ids turn a page, so that this isn't made part of what calls it.
+    #[inline(never)]
+    fn close_for(&mut self, number: u64, id: &[u8]) -> Result<(), Memory>
+        requires away { number ≢ self.old.open }
+        ensures open { OnOk result (self.new.open ≡ number) }
+        ensures others { (n : ℕ) → n ≢ number → page_at self.new n ≡ page_at self.old n }
+        ensures found { (page : PageOfIds) → page_at self.old number ≡ Some page
+            → page_at self.new number ≡ Some page }
+        ensures made { page_at self.old number ≡ None → OnOk result (self.new.page.bits ≡ 0) }
+        ensures own { page_at self.old number ≡ None → IsTrue (is_name id.now)
+            → OnOk result (IsTrue (is_of self.new.page id.now)) }
+        ensures same { OnErr result (page_at self.new number ≡ page_at self.old number) }
+    {
         self.closed.insert(self.open, self.page)?;
         self.page = match self.closed.get(&number) {
             Some(page) => *page,

@@ -111,7 +111,7 @@ impl Part {
         Ok(Part {
             origins: no_origins(alloc, keeps, room)?,
             rankings: Rankings::nothing(alloc, room, room.saturating_mul(PLACES_A_BALLOT))?,
-            guesses: Guesses::of(alloc, contest.candidates.as_slice())?,
+            guesses: Guesses::of(contest.candidates.as_slice()),
         })
     }
 

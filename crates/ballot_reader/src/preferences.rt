@@ -24,7 +24,9 @@ fn candidate_of(candidates: &[Name], guesses: &Guesses, id: &[u8]) -> Option<Can
 }
 
 /// Puts the ranking of these preferences last, as `ranking_of` gives it, and tells whether there is one. Where there is none, what
-/// is put last isn't told. Guesses save time, and need candidates that are all different.
+/// is put last isn't told. Guesses save time, and need candidates that are all different. It isn't made part of what calls it, since the
+/// processor has too few registers for both.
+#[inline(never)]
 pub(crate) fn rank(
     candidates: &[Name],
     guesses: &Guesses,

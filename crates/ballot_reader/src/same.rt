@@ -71,14 +71,14 @@ pub fn is_same(a: &[u8], b: &[u8]) -> bool
     if n != b.len() {
         return false;
     }
-    if (1..=3).contains(&n) {
-        return is_same_by_1(a, b);
-    }
     if (4..=8).contains(&n) {
         return is_same_by_4(a, b);
     }
     if (8..=16).contains(&n) {
         return is_same_by_8(a, b);
+    }
+    if (1..=3).contains(&n) {
+        return is_same_by_1(a, b);
     }
     a == b
 }

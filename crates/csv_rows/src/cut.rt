@@ -38,15 +38,17 @@ pub fn behind_bare(text: &[u8], end: usize) -> Option<&[u8]>
     Some(&text[end + 1..])
 }
 
-/// The first field of a line without the blanks round it, the text behind the comma that ends it, if one does, and the marks of that
-/// text. The field may have blanks, or lie behind the marks: few do, so that this isn't made part of what calls it.
+/// Cuts the first field off a line, without the blanks round it, and leaves the text behind the comma that ends it, if one does, with the
+/// marks of that text. The field may have blanks, or lie behind the marks: few do, so that this isn't made part of what calls it.
 #[inline(never)]
-pub fn cut_any(text: &[u8], marks: u64) -> (&[u8], Option<&[u8]>, u64)
-    requires { AreMarks marks text.now }
+pub fn cut_any<'t>(text: &'t [u8], left: &mut Option<&'t [u8]>, marks: &mut u64) -> &'t [u8]
+    requires { AreMarks marks.old text.now }
     ensures fields { trimmed_fields (fields_in text.now)
-        ≡ result.0.now ∷ trimmed_fields (fields_behind result.1) }
-    ensures marks { IfSome result.1 (λ left. AreMarks result.2 left.now) }
+        ≡ result.now ∷ trimmed_fields (fields_behind left.new) }
+    ensures marks { IfSome left.new (λ left. AreMarks marks.new left.now) }
 {
-    let (field, left) = cut_field(text);
-    (trimmed(field), left, marks_behind(marks, field.len()))
+    let (field, behind) = cut_field(text);
+    *left = behind;
+    *marks = marks_behind(*marks, field.len());
+    trimmed(field)
 }

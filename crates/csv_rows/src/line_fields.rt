@@ -74,7 +74,9 @@ impl<'t> Iterator for LineFields<'t> {
                 Some(&text[..end])
             }
             None => {
-                let (field, left, marks) = cut_any(text, self.marks);
+                // They are lent as copies, so that the processor may hold what it has of the others.
+                let (mut left, mut marks) = (self.left, self.marks);
+                let field = cut_any(text, &mut left, &mut marks);
                 self.left = left;
                 self.marks = marks;
                 Some(field)

@@ -6,13 +6,13 @@ pub returns-in_default-contest_place-clause-broken : goal.returns-in_default-con
 returns-in_default-contest_place-clause-broken c =
     let of = c.in-Some-Some.of.now in
     let e = c.in-Some-Some.ensures.steps ∙ ap (λ rest. of ∷ rest) c.in-Some-Some.ensures'.steps in
-    head-elsewhere c.args.contests.now c.args.fields of c.in-Some-Some.id.now c.next-2.new.self e (sym c.is_name.ensures
+    head-elsewhere c.args.contests.now c.args.fields.now of c.in-Some-Some.id.now c.next-2.new.self e (sym c.is_name.ensures
     ∙ c.if-not-is_name.false) (sym c.in_default-contest_place.ensures.place)
 
 pub returns-clause-follows : goal.returns-clause-follows
 returns-clause-follows c =
     let of = c.in-Some-Some.of.now in
     let e = c.in-Some-Some.ensures.steps ∙ ap (λ rest. of ∷ rest) c.in-Some-Some.ensures'.steps in
-    head-follows c.args.contests.now c.args.fields of c.in-Some-Some.id.now c.in-Some-Some.id.now c.next-2.new.self
+    head-follows c.args.contests.now c.args.fields.now of c.in-Some-Some.id.now c.in-Some-Some.id.now c.next-2.new.self
     c.in-Some.contest e refl (sym c.is_name.ensures ∙ c.if-not-is_name.false)
     (sym c.in-Some.ensures.place)

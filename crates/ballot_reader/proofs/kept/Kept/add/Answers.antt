@@ -24,9 +24,9 @@ returns-clause-kept c = λ wanted ballots before.
     let absent = not-true _ (sym (c.in_ok-note.ensures.new ids noted at met) ∙ c.if-not-branch.false) in
     let (more, put, are_noted) = c.in_ok-note.ensures.noted ids noted at met c.if-not-branch.false in
     let known = sym c.in_ok-keep.ensures.known ∙ c.if-not-branch-2.false in
-    let (ranking, e) = some_of (ranking_of contest.candidates head.preferences) known in
-    let valid = is_ranking contest.candidates head.preferences ranking e in
-    let meets : Meets contests ballots c.args.at row head.contest head.id.now head.preferences contest =
+    let (ranking, e) = some_of (ranking_of contest.candidates c.head_of.new.fields) known in
+    let valid = is_ranking contest.candidates c.head_of.new.fields ranking e in
+    let meets : Meets contests ballots c.args.at row head.contest head.id.now c.head_of.new.fields contest =
     record { room = room; follows = c.in-Ok.ensures.follows ballots c.args.at; there = there }
     in
     let ballot : Ballot = record { at = c.args.at; contest = contest.id; id = head.id.now; ranking = ranking } in
@@ -38,7 +38,7 @@ returns-clause-kept c = λ wanted ballots before.
       ap (λ (k : KeptBallots). length k.parts) c.self.view_is,
     )) in (
       ballot,
-      ranked contests ballots c.args.at row head.contest head.id.now head.preferences contest meets absent (Some ranking) e,
+      ranked contests ballots c.args.at row head.contest head.id.now c.head_of.new.fields contest meets absent (Some ranking) e,
       kept-more contests wanted ballots _ _ head.contest contest ballot part more c.requires.differ kept c.if-self-ge-MOST_RECORDS.false new has
           put are_noted (c.in_ok-keep.ensures.kept ranking e part has) refl,
     )
@@ -59,7 +59,7 @@ returns-then-not-branch-clause-refused c = rw c.at_record-then-not-branch.ensure
     let (contest, there) = got contests head.contest c.in-Ok.ensures.within in
     let (noted, at, met) = met-at ballots contests _ head.contest contest kept.noted there in
     let old = c.in_ok-note.ensures.new (ballot_ids contest.id ballots) noted at met in
-    let meets : Meets contests ballots c.args.at c.args.fields head.contest head.id.now head.preferences contest =
+    let meets : Meets contests ballots c.args.at c.args.fields head.contest head.id.now c.head_of.new.fields contest =
     record {
       room = omega (arith, kept.counted, c.if-self-ge-MOST_RECORDS.false);
       follows = c.in-Ok.ensures.follows ballots c.args.at;
@@ -67,7 +67,7 @@ returns-then-not-branch-clause-refused c = rw c.at_record-then-not-branch.ensure
     }
     in
     let among = not-false _ (sym old ∙ c.if-not-branch.true) in
-    (again contests ballots c.args.at c.args.fields head.contest head.id.now head.preferences contest meets among, refl))
+    (again contests ballots c.args.at c.args.fields head.contest head.id.now c.head_of.new.fields contest meets among, refl))
 
 pub returns-then-not-branch-2-clause-refused : goal.returns-then-not-branch-2-clause-refused
 returns-then-not-branch-2-clause-refused c = rw c.at_record-then-not-branch-2.ensures (λ wanted ballots before.
@@ -78,7 +78,7 @@ returns-then-not-branch-2-clause-refused c = rw c.at_record-then-not-branch-2.en
     let there = slice_get_read contests (length contests) head.contest contest refl c.in-Ok.ensures.within c.index-contests-head.is in
     let (noted, at, met) = met-at ballots contests _ head.contest contest kept.noted there in
     let old = c.in_ok-note.ensures.new (ballot_ids contest.id ballots) noted at met in
-    let meets : Meets contests ballots c.args.at c.args.fields head.contest head.id.now head.preferences contest =
+    let meets : Meets contests ballots c.args.at c.args.fields head.contest head.id.now c.head_of.new.fields contest =
     record {
       room = omega (arith, kept.counted, c.if-self-ge-MOST_RECORDS.false);
       follows = c.in-Ok.ensures.follows ballots c.args.at;
@@ -86,5 +86,5 @@ returns-then-not-branch-2-clause-refused c = rw c.at_record-then-not-branch-2.en
     }
     in
     let absent = not-true _ (sym old ∙ c.if-not-branch.false) in
-    let none = none_of (ranking_of contest.candidates head.preferences) (sym c.in_ok-keep.ensures.known ∙ c.if-not-branch-2.true) in
-    (ranked contests ballots c.args.at c.args.fields head.contest head.id.now head.preferences contest meets absent None none, refl))
+    let none = none_of (ranking_of contest.candidates c.head_of.new.fields) (sym c.in_ok-keep.ensures.known ∙ c.if-not-branch-2.true) in
+    (ranked contests ballots c.args.at c.args.fields head.contest head.id.now c.head_of.new.fields contest meets absent None none, refl))

@@ -6,7 +6,7 @@ ghost use Rattle.set_tallies.specs.Befores.{AllCounted, has_missed};
 ghost use Rattle.set_tallies.specs.Sums.{AreHeld, votes_in};
 ghost use Rattle.set_tallies.specs.declared.sums.TheConstants.{MOST_SUMMED};
 
-use crate::cost::rows_in_time;
+use crate::cost::{MOST_SUMMED_SOON, rows_in_time};
 use crate::count::{all_joined, missing, noted};
 use crate::entry::Entry;
 use crate::sums::{MOST_SUMMED, Sums};
@@ -21,12 +21,8 @@ pub const ALWAYS_SUMMED: u32 = 14;
 /// So have more candidates where no more rows than this would be counted from entries before the sums are made (`rows_in_time`).
 pub const FEWEST_ROWS: u64 = 128;
 
-/// So many candidates have sums later, once as many rows were counted. Those of more candidates take so much memory, 40 megabytes and
-/// more, that they are made from the start or not at all.
-pub const MOST_SUMMED_LATER: u32 = 18;
-
-/// Of more candidates sums are made from the start where no more rows than this would be counted in that time.
-pub const FEWEST_ROWS_OF_MANY: u64 = 192;
+/// So have those of more than `MOST_SUMMED_SOON` candidates where no more rows than this would be.
+pub const FEWEST_ROWS_OF_MANY: u64 = 12_288;
 
 /// What is kept of the records: the sums over all sets, or of each candidate the different sets of those who stand before it on
 /// a ballot, each with the number of such ballots.
@@ -70,7 +66,7 @@ impl Model for Bag {
 
 // How few rows are worth no entries.
 fn fewest_rows(n: u32) -> u64 {
-    if n <= MOST_SUMMED_LATER {
+    if n <= MOST_SUMMED_SOON {
         FEWEST_ROWS
     } else {
         FEWEST_ROWS_OF_MANY
@@ -148,7 +144,7 @@ impl Bag {
         Ok(Bag { n, records, votes })
     }
 
-    /// The same bag with sums over all sets, where it has none and has no more candidates than have them later.
+    /// The same bag with sums over all sets, where it has none and has no more candidates than can have them.
     pub(crate) fn summed(&self, alloc: Global) -> Result<Option<Bag>, Memory>
         ensures { IfOk result (λ summed. IfSome summed (λ bag. bag ≡ self.now)) }
     {
@@ -156,7 +152,7 @@ impl Bag {
             Votes::Listed(lists) => lists,
             Votes::Summed(_sums) => return Ok(None),
         };
-        if self.n > MOST_SUMMED_LATER {
+        if self.n > MOST_SUMMED {
             return Ok(None);
         }
         let sums = Sums::of_entries(alloc, self.n, lists)?;

@@ -7,10 +7,10 @@ ghost use Rattle.set_tallies.specs.Rows.{votes_of};
 ghost use Rattle.set_tallies.specs.Sums.{AreSums};
 
 use crate::ahead::Ahead;
-use crate::bag::{Bag, MOST_SUMMED_LATER, Votes};
+use crate::bag::{Bag, Votes};
 use crate::cost::rows_in_time;
 use crate::rows::{Row, Rows};
-use crate::sums::Sums;
+use crate::sums::{MOST_SUMMED, Sums};
 use irv_base::{CandSet, Candidate, Memory};
 use std::alloc::Global;
 use std::marker::Model;
@@ -19,7 +19,7 @@ use std::marker::Model;
 ///
 /// Where the bag has the sums over all sets, rows are read from them. Else a row that was counted is kept until another set's takes its
 /// place; once so many were counted as are in a part of the time that the sums take (`rows_in_time`), these are made, or the tallies
-/// give up, unless there are more than `MOST_SUMMED_LATER` candidates. To a contract the tallies are what they are made from, the bag and the two numbers of NEB's margin.
+/// give up. To a contract the tallies are what they are made from, the bag and the two numbers of NEB's margin.
 #[derive(Drop)]
 pub struct Tallies<'b> {
     alloc: Global,
@@ -70,7 +70,7 @@ fn sums_in(bag: &Bag) -> Option<&Sums>
 // How many rows are counted before the sums over all sets are made. Where they are made, or can't be, there is no limit.
 fn rows_before_sums(bag: &Bag) -> u64 {
     match bag.kept() {
-        Votes::Listed(lists) if bag.candidates() <= MOST_SUMMED_LATER => rows_in_time(
+        Votes::Listed(lists) if bag.candidates() <= MOST_SUMMED => rows_in_time(
             bag.candidates(),
             lists,
         ),

@@ -2,9 +2,9 @@
 use Rattle.std.proofs.Common.{◌≡◌, ◌∙◌, ◌||◌, ◌==◌, ◌∷◌, [], ℕ, zero, suc, Bool, true, false, List, take, refl, sym, ap, arith, inl, inr}
 use Rattle.std.specs.Prelude.{nat_lt, slice_index}
 use Rattle.std.proofs.lemmas.Bool.{cases_Bool, false≢true, ne_eqb}
-use Rattle.memchr.specs.Find.{Nowhere, Passes, is_byte3}
+use Rattle.memchr.specs.Find.{Nowhere, Passes, is_byte2, is_byte3}
 use Rattle.csv_rows.specs.Fields.{is_blank, trimmed, trimmed_end, trimmed_start}
-use Rattle.csv_rows.specs.Lanes.{is_stop}
+use Rattle.csv_rows.specs.Lanes.{is_low, is_stop}
 
 or-false : (x y : Bool) → (x || y) ≡ false → (x ≡ false) × (y ≡ false)
 or-false false y h = (refl, h)
@@ -30,6 +30,18 @@ is-stop b ends = elim (cases_Bool (is_stop b)) [
   | inl stop ↦ stop
   | inr h ↦ absurd (false≢true (sym (no-end b h) ∙ ends))
 ]
+
+no-line-end : (b : ℕ) → is_low b ≡ false → is_byte2 13 10 b ≡ false
+no-line-end b high = rw (other b 13 refl high, other b 10 refl high) refl
+
+is-low : (b : ℕ) → is_byte2 13 10 b ≡ true → is_low b ≡ true
+is-low b ends = elim (cases_Bool (is_low b)) [
+  | inl low ↦ low
+  | inr h ↦ absurd (false≢true (sym (no-line-end b h) ∙ ends))
+]
+
+pub low-lines : (text : List ℕ) (k : ℕ) → Nowhere (Passes is_low text) 0 k → Nowhere (Passes (is_byte2 13 10) text) 0 k
+low-lines text k before = λ j low high passes. before j low high (is-low (slice_index text j) passes)
 
 pub none-ends : (text : List ℕ) (k : ℕ) → Nowhere (Passes is_stop text) 0 k → Nowhere (Passes (is_byte3 44 13 10) text) 0 k
 none-ends text k before = λ j low high passes. before j low high (is-stop (slice_index text j) passes)

@@ -6,7 +6,7 @@ use Rattle.std.proofs.lemmas.Nat.{div-mul-add, shr-shr}
 use Rattle.std.proofs.lemmas.Simd.{mask_l-mod, zip2_splat, first_set_mask_l, trailing_mask_l, run_in_chunk_fails, run_in_chunk_le, run_in_chunk_stops}
 use Rattle.std.proofs.lemmas.List.{drop-map, drop-take, drop_all, length-drop, length-map, length-take-le}
 use Rattle.memchr.specs.Find.{NoneBefore, Nowhere, Passes, is_byte2, is_byte3}
-use Rattle.csv_rows.specs.Lanes.{AreMarks, before_first, first_set, is_stop}
+use Rattle.csv_rows.specs.Lanes.{AreMarks, before_first, first_set, is_low, is_stop}
 use native.Mathlib.Nat.{div-one, zero-div}
 use lib.Bits.{bit_or}
 use lib.Lanes.{zip2, mask_l, top}
@@ -65,6 +65,16 @@ first-three a b c n v long few =
 -- what a lane holds where it is compared with a byte above it
 abbrev low : ℕ → ℕ → ℕ
 low x b = cond (ltb x b) 255 0
+
+one : (a : Bool) → top 7 (cond a 255 0) ≡ a
+one true = refl
+one false = refl
+
+pub first-low : (v : List ℕ) → length v ≡ 64 →
+    first_set (mask_l (map (top 7) (zip2 low v (replicate 64 33))) % 2 ^ 64) 64 ≡ before_first is_low v
+first-low v long =
+    ap (λ m. first_set m 64) (marks (λ x. low x 33) is_low (λ x. one (ltb x 33)) v _ (omega (arith, long)) (zip2_splat low v 64 33 long))
+    ∙ first_set_mask_l is_low v 64 long (omega arith)
 
 pub stops-in : (v : List ℕ) → length v ≡ 64 →
     mask_l (map (top 7) (zip2 bit_or (zip2 hit v (replicate 64 44)) (zip2 low v (replicate 64 33)))) % 2 ^ 64 ≡ mask_l (map is_stop v)

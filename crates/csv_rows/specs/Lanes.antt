@@ -15,9 +15,13 @@ first_set marks lanes = if marks == 0 then lanes else trailing_zeros w64 marks
 
 -- ---- the marks by which the fields of a line are cut
 
--- a comma, or a byte that is not above a space: all that end a field are among these, and the blanks
+-- a byte that is not above a space: the line ends are among these, and the blanks
+abbrev pub is_low : ℕ → Bool
+is_low b = nat_lt b 0x21
+
+-- a comma, or such a byte: all that end a field are among these
 abbrev pub is_stop : ℕ → Bool
-is_stop b = (b == 0x2C) || nat_lt b 0x21
+is_stop b = (b == 0x2C) || is_low b
 
 -- a bit for each of the first bytes of a text, set where it is a stop; how many were looked at isn't told
 pub record AreMarks (marks : ℕ) (text : List ℕ) : Type 0 where

@@ -3,6 +3,7 @@ ghost use Rattle.std.specs.Prelude.{◌≡◌, length};
 ghost use Rattle.std.specs.Iterator.{YieldsFirstRef, item_count};
 ghost use Rattle.csv.specs.Records.{fields_of};
 ghost use Rattle.csv_rows.specs.Fields.{trimmed_fields};
+ghost use Rattle.csv_rows.specs.Lanes.{AreMarks};
 ghost use Rattle.csv_rows.specs.Lines.{fields_in};
 
 use crate::line_fields::LineFields;
@@ -44,12 +45,13 @@ impl<'r> Fields<'r> {
         }
     }
 
-    /// All fields of the first line of a plain text.
-    pub(crate) fn of_line(text: &'r [u8]) -> Fields<'r>
+    /// All fields of the first line of a plain text with these marks.
+    pub(crate) fn of_line(text: &'r [u8], marks: u64) -> Fields<'r>
+        requires { AreMarks marks text.now }
         ensures { result ≡ trimmed_fields (fields_in text.now) }
     {
         Fields {
-            place: Place::Line(LineFields::of(text)),
+            place: Place::Line(LineFields::of(text, marks)),
         }
     }
 

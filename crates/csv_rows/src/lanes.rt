@@ -12,9 +12,9 @@ pub const FIELD_LANES: usize = 16;
 /// So many where the end of a line is: most lines end within one look.
 pub const LINE_LANES: usize = 64;
 
-// The place of the lowest bit that is set, or `lanes` where none is.
+/// The place of the lowest bit that is set, or `lanes` where none is.
 #[inline(always)]
-fn first_set(marks: u64, lanes: usize) -> usize
+pub fn first_set(marks: u64, lanes: usize) -> usize
     ensures { result ≡ first_set marks lanes }
 {
     if marks == 0 {

@@ -2,6 +2,7 @@
 ghost use Rattle.std.specs.Prelude.{◌≡◌, length};
 ghost use Rattle.std.specs.Iterator.{YieldsFirstRef, item_count};
 ghost use Rattle.csv_rows.specs.Fields.{trimmed_fields};
+ghost use Rattle.csv_rows.specs.Lanes.{AreMarks};
 ghost use Rattle.csv_rows.specs.Lines.{fields_in};
 
 use crate::cut::{bare_end, behind_bare, cut_any};
@@ -33,13 +34,14 @@ impl<'t> Model for LineFields<'t> {
 }
 
 impl<'t> LineFields<'t> {
-    /// All fields of the first line of a text.
-    pub fn of(text: &'t [u8]) -> LineFields<'t>
+    /// All fields of the first line of a text with these marks.
+    pub fn of(text: &'t [u8], marks: u64) -> LineFields<'t>
+        requires { AreMarks marks text.now }
         ensures { result ≡ trimmed_fields (fields_in text.now) }
     {
         LineFields {
             left: Some(text),
-            marks: marks_of(text),
+            marks,
         }
     }
 

@@ -141,7 +141,8 @@ pub fn cut_field(text: &[u8]) -> (&[u8], Option<&[u8]>)
     (&text[..end], Some(&text[end + 1..]))
 }
 
-fn is_line_end(b: u8) -> bool
+/// Whether a byte ends a line: a carriage return, or a line feed.
+pub fn is_line_end(b: u8) -> bool
     ensures { result ≡ is_line_end b }
 {
     b == CARRIAGE_RETURN || b == LINE_FEED

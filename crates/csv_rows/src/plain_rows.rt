@@ -2,11 +2,13 @@
 ghost use Rattle.std.specs.Prelude.{◌≡◌, ◌∷◌, [], IfSome, IfNone, IsTrue, if◌then◌else◌};
 ghost use Rattle.csv.specs.Reading.{default_config, records};
 ghost use Rattle.csv_rows.specs.Fields.{numbered, trimmed_fields};
+ghost use Rattle.csv_rows.specs.Lanes.{AreMarks};
 ghost use Rattle.csv_rows.specs.Lines.{fields_in, is_plain};
 ghost use Rattle.csv_rows.specs.Rows.{records_of};
 
 use crate::fields::Fields;
-use crate::lines::{behind_line, is_blank_line};
+use crate::lines::is_blank_line;
+use crate::stops::cut_line;
 use std::marker::Model;
 
 /// The numbered records of a plain text, each a line of it.
@@ -14,8 +16,9 @@ use std::marker::Model;
 /// To a contract it is the record that was read last, and those that are still to be read.
 #[derive(Drop)]
 pub struct PlainRows<'t> {
-    // The text from the line on that was read last.
+    // The text from the line on that was read last, and its marks.
     row: &'t [u8],
+    marks: u64,
     // The text that is still to be read.
     left: &'t [u8],
 }
@@ -24,6 +27,7 @@ impl<'t> Model for PlainRows<'t> {
     ghost use Rattle.std.specs.Prelude.{IsTrue};
     ghost use Rattle.csv.specs.Reading.{default_config, records};
     ghost use Rattle.csv_rows.specs.Fields.{numbered, trimmed_fields};
+    ghost use Rattle.csv_rows.specs.Lanes.{AreMarks};
     ghost use Rattle.csv_rows.specs.Lines.{fields_in, is_plain};
     ghost use Rattle.csv_rows.specs.Rows.{Reading};
 
@@ -34,23 +38,25 @@ impl<'t> Model for PlainRows<'t> {
       left = numbered (records default_config rows.left.now);
     } };
 
-    ghost invariant = { λ rows. IsTrue (is_plain rows.left.now) };
+    ghost invariant = { λ rows. IsTrue (is_plain rows.left.now) × AreMarks rows.marks rows.row.now };
 }
 
-// The text from the first line on that is no blank record, and what stands behind the end of that line.
-fn next_line(text: &[u8]) -> Option<(&[u8], &[u8])>
+// The text from the first line on that is no blank record, its marks, and what stands behind the end of that line.
+fn next_line(text: &[u8]) -> Option<(&[u8], u64, &[u8])>
     requires { IsTrue (is_plain text.now) }
     ensures first { IfSome result (λ next. numbered (records default_config text.now)
-        ≡ trimmed_fields (fields_in next.0.now) ∷ numbered (records default_config next.1.now)) }
-    ensures plain { IfSome result (λ next. IsTrue (is_plain next.1.now)) }
+        ≡ trimmed_fields (fields_in next.0.now) ∷ numbered (records default_config next.2.now)) }
+    ensures marks { IfSome result (λ next. AreMarks next.1 next.0.now) }
+    ensures plain { IfSome result (λ next. IsTrue (is_plain next.2.now)) }
     ensures end { IfNone result (numbered (records default_config text.now) ≡ []) }
 {
     let mut left = text;
     while !left.is_empty() {
         let line = left;
-        left = behind_line(line);
+        let (marks, behind) = cut_line(line);
+        left = behind;
         if !is_blank_line(line) {
-            return Some((line, left));
+            return Some((line, marks, left));
         }
     }
     None
@@ -64,6 +70,7 @@ impl<'t> PlainRows<'t> {
     {
         PlainRows {
             row: text,
+            marks: 0,
             left: text,
         }
     }
@@ -73,8 +80,9 @@ impl<'t> PlainRows<'t> {
         ensures { self.old.left ≡ (if result then self.new.row ∷ self.new.left else []) }
     {
         match next_line(self.left) {
-            Some((row, left)) => {
+            Some((row, marks, left)) => {
                 self.row = row;
+                self.marks = marks;
                 self.left = left;
                 true
             }
@@ -86,6 +94,6 @@ impl<'t> PlainRows<'t> {
     pub fn fields(&self) -> Fields<'_>
         ensures { result ≡ self.now.row }
     {
-        Fields::of_line(self.row)
+        Fields::of_line(self.row, self.marks)
     }
 }

@@ -108,7 +108,8 @@ impl Pages {
         }
     }
 
-    // Opens the page with a number, or a new one for ids like this one where there is none. Most ids stand on the page that lies open.
+    // Opens the page with a number, or a new one for ids like this one where there is none. Ids that were counted up mostly stand on the
+    // page that lies open.
     fn turn_to(&mut self, number: u64, id: &[u8]) -> Result<(), Memory>
         ensures open { OnOk result (self.new.open ≡ number) }
         ensures others { (n : ℕ) → n ≢ number → page_at self.new n ≡ page_at self.old n }
@@ -125,7 +126,7 @@ impl Pages {
         self.close_for(number, id)
     }
 
-    // The same where another page lies open. Few ids turn a page, so that this isn't made part of what calls it.
+    // The same where another page lies open. Few of those ids turn a page, so that this isn't made part of what calls it.
     #[inline(never)]
     fn close_for(&mut self, number: u64, id: &[u8]) -> Result<(), Memory>
         requires away { number ≢ self.old.open }

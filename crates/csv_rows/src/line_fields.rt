@@ -76,7 +76,7 @@ impl<'t> Iterator for LineFields<'t> {
                 Some(&text[..end])
             }
             None => {
-                // They are lent as copies, so that the processor may hold what it has of the others.
+                // Copies are lent, so that `left` and `marks` themselves may stay in registers.
                 let (mut left, mut marks) = (self.left, self.marks);
                 let field = cut_any(text, &mut left, &mut marks);
                 self.left = left;

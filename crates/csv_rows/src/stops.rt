@@ -1,4 +1,4 @@
-// The marks of a text: which of its first bytes end a field, or may be a blank.
+// The marks of a text: which of its first bytes end a field, or may be a blank; and what stands behind its first line.
 ghost use Rattle.std.specs.Prelude.{ℕ, ◌≡◌, ◌+◌, ◌≤◌, List, length, map, take, drop};
 ghost use Rattle.std.specs.Simd.Lanes.{mask_l};
 ghost use Rattle.csv_rows.specs.Lanes.{AreMarks, before_first, is_low, is_stop};
@@ -14,8 +14,8 @@ const MARK_LANES: usize = 64;
 // The byte above a space
 const ABOVE_SPACE: u8 = b' ' + 1;
 
-// The marks of the first `MARK_LANES` bytes, and how many of these stand before the first that is a blank, a line end or another byte
-// below.
+// The marks of the first `MARK_LANES` bytes, and how many of these stand before the first that isn't above a space: a blank, a line end
+// or another.
 #[inline(always)]
 fn marks_and_low(text: &[u8]) -> (u64, usize)
     requires { MARK_LANES ≤ length text.now }
@@ -28,17 +28,6 @@ fn marks_and_low(text: &[u8]) -> (u64, usize)
     (stops.to_bitmask(), first_set(low.to_bitmask(), MARK_LANES))
 }
 
-// The marks of the first `MARK_LANES` bytes.
-#[inline(always)]
-fn marks_in(text: &[u8]) -> u64
-    requires { MARK_LANES ≤ length text.now }
-    ensures { result ≡ mask_l (map is_stop (take MARK_LANES text.now)) }
-{
-    let bytes = u8x64::from_slice(text);
-    let stops = bytes.simd_eq(u8x64::splat(COMMA)) | bytes.simd_lt(u8x64::splat(ABOVE_SPACE));
-    stops.to_bitmask()
-}
-
 /// The marks of a text; none near its end.
 #[inline(always)]
 pub fn marks_of(text: &[u8]) -> u64
@@ -47,7 +36,7 @@ pub fn marks_of(text: &[u8]) -> u64
     if text.len() < MARK_LANES {
         return 0;
     }
-    marks_in(text)
+    marks_and_low(text).0
 }
 
 /// The marks of a text, and what stands behind the end of its first line. Most lines end within the first look, and have no blank.

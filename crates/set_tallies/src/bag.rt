@@ -6,7 +6,7 @@ ghost use Rattle.set_tallies.specs.Befores.{AllCounted, has_missed};
 ghost use Rattle.set_tallies.specs.Sums.{AreHeld, votes_in};
 ghost use Rattle.set_tallies.specs.declared.sums.TheConstants.{MOST_SUMMED};
 
-use crate::cost::{MOST_SUMMED_SOON, rows_in_time};
+use crate::cost::{fewest_rows, rows_in_time};
 use crate::count::{all_joined, missing, noted};
 use crate::entry::Entry;
 use crate::sums::{MOST_SUMMED, Sums};
@@ -17,12 +17,6 @@ use std::thread::Threads;
 
 /// So many candidates have the sums over all sets from the start: they are made as soon as entries would be.
 pub const ALWAYS_SUMMED: u32 = 14;
-
-/// So have more candidates where no more rows than this would be counted from entries before the sums are made (`rows_in_time`).
-pub const FEWEST_ROWS: u64 = 128;
-
-/// So have those of more than `MOST_SUMMED_SOON` candidates where no more rows than this would be.
-pub const FEWEST_ROWS_OF_MANY: u64 = 12_288;
 
 /// What is kept of the records: the sums over all sets, or of each candidate the different sets of those who stand before it on
 /// a ballot, each with the number of such ballots.
@@ -62,15 +56,6 @@ impl Model for Bag {
       records = b.records;
       votes = all_votes b.n (votes_in b.votes);
     }) × AreHeld b.n b.records b.votes };
-}
-
-// How few rows are worth no entries.
-fn fewest_rows(n: u32) -> u64 {
-    if n <= MOST_SUMMED_SOON {
-        FEWEST_ROWS
-    } else {
-        FEWEST_ROWS_OF_MANY
-    }
 }
 
 // The entries of each candidate, if rows of tallies are to be counted from them, and not to be read from sums.

@@ -19,6 +19,8 @@ pub struct Counted {
     alloc: Global,
     bag: Bag,
     ahead: Ahead,
+    // for how many workers they were counted
+    workers: u32,
 }
 
 impl Model for Counted {
@@ -50,7 +52,12 @@ impl Counted {
         let alloc = rt.alloc();
         let bag = Bag::of(rt, n, rankings, workers)?;
         let ahead = Ahead::fill(alloc, &bag)?;
-        Ok(Counted { alloc, bag, ahead })
+        Ok(Counted {
+            alloc,
+            bag,
+            ahead,
+            workers,
+        })
     }
 
     /// The tallies of sets of candidates over the records. Once as many rows were counted as are worth it before the sums over all sets are
@@ -59,16 +66,16 @@ impl Counted {
         ensures bag { IfOk result (λ tallies. tallies.bag ≡ self.now.bag) }
         ensures counts { IfOk result (λ tallies. tallies.counts ≡ self.now.counts) }
     {
-        Tallies::new(self.alloc, &self.bag, &self.ahead, true)
+        Tallies::new(self.alloc, &self.bag, &self.ahead, true, 1)
     }
 
-    /// The tallies for one of several workers. Once as many rows were counted as are worth it before the sums over all sets are made, it ends as for
+    /// The tallies for one of the workers. Once its share of the rows was counted that are worth it before the sums over all sets are made, it ends as for
     /// want of memory: then whoever has sent the workers has them begin anew with what is `summed`, and the sums are made once for all.
     pub fn tallies_for_worker(&self) -> Result<Tallies<'_>, Memory>
         ensures bag { IfOk result (λ tallies. tallies.bag ≡ self.now.bag) }
         ensures counts { IfOk result (λ tallies. tallies.counts ≡ self.now.counts) }
     {
-        Tallies::new(self.alloc, &self.bag, &self.ahead, false)
+        Tallies::new(self.alloc, &self.bag, &self.ahead, false, self.workers)
     }
 
     /// The same records with the sums over all sets, where they have none and there are few enough candidates for them.
@@ -83,6 +90,7 @@ impl Counted {
             alloc: self.alloc,
             bag,
             ahead,
+            workers: self.workers,
         }))
     }
 }

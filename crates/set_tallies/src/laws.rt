@@ -1,8 +1,8 @@
 //! The law of a bag, and the limits as equations. They have no code.
 ghost use Rattle.std.specs.Prelude.{◌≡◌};
 ghost use Rattle.set_tallies.specs.Laws.{OrderIsFree};
-ghost use Rattle.set_tallies.specs.declared.bag.TheConstants.{ALWAYS_SUMMED, FEWEST_ROWS, FEWEST_ROWS_OF_MANY};
-ghost use Rattle.set_tallies.specs.declared.cost.TheConstants.{ENTRIES_A_NUMBER, ENTRIES_A_NUMBER_OF_MANY, MOST_SUMMED_SOON};
+ghost use Rattle.set_tallies.specs.declared.bag.TheConstants.{ALWAYS_SUMMED};
+ghost use Rattle.set_tallies.specs.declared.cost.TheConstants.{ENTRIES_A_NUMBER, ENTRIES_A_NUMBER_OF_MANY, FEWEST_ROWS, FEWEST_ROWS_OF_MANY, MOST_SUMMED_SOON};
 ghost use Rattle.set_tallies.specs.declared.rows.TheConstants.{FIRST_PLACES, MOST_ROWS};
 ghost use Rattle.set_tallies.specs.declared.shares.TheConstants.{FEWEST_IN_A_SHARE};
 ghost use Rattle.set_tallies.specs.declared.sums.TheConstants.{MOST_SUMMED};

@@ -6,7 +6,7 @@ ghost use Rattle.set_tallies.specs.Befores.{AllCounted, has_missed};
 ghost use Rattle.set_tallies.specs.Sums.{AreHeld, votes_in};
 ghost use Rattle.set_tallies.specs.declared.sums.TheConstants.{MOST_SUMMED};
 
-use crate::cost::{fewest_rows, rows_in_time};
+use crate::cost::rows_in_time;
 use crate::count::{all_joined, missing, noted};
 use crate::entry::Entry;
 use crate::sums::{MOST_SUMMED, Sums};
@@ -17,6 +17,9 @@ use std::thread::Threads;
 
 /// So many candidates have the sums over all sets from the start: they are made as soon as entries would be.
 pub const ALWAYS_SUMMED: u32 = 14;
+
+/// So have more candidates where no more rows than this would be counted from entries before the sums are made (`rows_in_time`).
+pub const FEWEST_ROWS: u64 = 32;
 
 /// What is kept of the records: the sums over all sets, or of each candidate the different sets of those who stand before it on
 /// a ballot, each with the number of such ballots.
@@ -76,7 +79,7 @@ fn few_entries(
         return Ok(None);
     }
     let noted = noted(alloc, n, rankings)?;
-    if n <= MOST_SUMMED && rows_in_time(n, &noted) <= fewest_rows(n) {
+    if n <= MOST_SUMMED && rows_in_time(n, &noted) <= FEWEST_ROWS {
         return Ok(None);
     }
     let lists = all_joined(alloc, noted)?;

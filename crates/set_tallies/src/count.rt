@@ -127,16 +127,16 @@ pub fn noted(alloc: Global, n: u32, rankings: &Rankings) -> Result<Vec<Vec<Entry
     Ok(noted)
 }
 
-/// On how many ballots the candidate with these entries has nobody of the set before it. The count is read of each entry, so that the
-/// processor takes several at once, and needn't foresee which have somebody.
+/// On how many ballots the candidate with these entries has nobody of the set before it.
 pub fn missing(entries: &[Entry], set: u32) -> u32
     requires { total entries.now ≤ MOST_RECORDS }
     ensures { result ≡ missing set entries.now }
 {
     let mut votes = 0;
     for entry in entries {
-        let Entry { before, count } = *entry;
-        votes += if before & set == 0 { count } else { 0 };
+        if entry.before & set == 0 {
+            votes += entry.count;
+        }
     }
     votes
 }

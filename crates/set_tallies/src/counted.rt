@@ -19,8 +19,6 @@ pub struct Counted {
     alloc: Global,
     bag: Bag,
     ahead: Ahead,
-    // for how many workers they were counted
-    workers: u32,
 }
 
 impl Model for Counted {
@@ -52,12 +50,7 @@ impl Counted {
         let alloc = rt.alloc();
         let bag = Bag::of(rt, n, rankings, workers)?;
         let ahead = Ahead::fill(alloc, &bag)?;
-        Ok(Counted {
-            alloc,
-            bag,
-            ahead,
-            workers,
-        })
+        Ok(Counted { alloc, bag, ahead })
     }
 
     /// The tallies of sets of candidates over the records. Once as many rows were counted as are worth it before the sums over all sets are
@@ -66,16 +59,16 @@ impl Counted {
         ensures bag { IfOk result (λ tallies. tallies.bag ≡ self.now.bag) }
         ensures counts { IfOk result (λ tallies. tallies.counts ≡ self.now.counts) }
     {
-        Tallies::new(self.alloc, &self.bag, &self.ahead, true, 1)
+        Tallies::new(self.alloc, &self.bag, &self.ahead, true)
     }
 
-    /// The tallies for one of the workers. Once its share of the rows was counted that are worth it before the sums over all sets are made, it ends as for
+    /// The tallies for one of several workers. Once as many rows were counted as are worth it before the sums over all sets are made, it ends as for
     /// want of memory: then whoever has sent the workers has them begin anew with what is `summed`, and the sums are made once for all.
     pub fn tallies_for_worker(&self) -> Result<Tallies<'_>, Memory>
         ensures bag { IfOk result (λ tallies. tallies.bag ≡ self.now.bag) }
         ensures counts { IfOk result (λ tallies. tallies.counts ≡ self.now.counts) }
     {
-        Tallies::new(self.alloc, &self.bag, &self.ahead, false, self.workers)
+        Tallies::new(self.alloc, &self.bag, &self.ahead, false)
     }
 
     /// The same records with the sums over all sets, where they have none and there are few enough candidates for them.
@@ -90,7 +83,6 @@ impl Counted {
             alloc: self.alloc,
             bag,
             ahead,
-            workers: self.workers,
         }))
     }
 }

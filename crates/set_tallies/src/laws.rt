@@ -1,8 +1,8 @@
 //! The law of a bag, and the limits as equations. They have no code.
 ghost use Rattle.std.specs.Prelude.{◌≡◌};
 ghost use Rattle.set_tallies.specs.Laws.{OrderIsFree};
-ghost use Rattle.set_tallies.specs.declared.bag.TheConstants.{ALWAYS_SUMMED};
-ghost use Rattle.set_tallies.specs.declared.cost.TheConstants.{ENTRIES_A_NUMBER, ENTRIES_A_NUMBER_OF_MANY, FEWEST_ROWS, FEWEST_ROWS_OF_MANY, MOST_SUMMED_SOON};
+ghost use Rattle.set_tallies.specs.declared.bag.TheConstants.{ALWAYS_SUMMED, FEWEST_ROWS};
+ghost use Rattle.set_tallies.specs.declared.cost.TheConstants.{ENTRIES_A_NUMBER};
 ghost use Rattle.set_tallies.specs.declared.rows.TheConstants.{FIRST_PLACES, MOST_ROWS};
 ghost use Rattle.set_tallies.specs.declared.shares.TheConstants.{FEWEST_IN_A_SHARE};
 ghost use Rattle.set_tallies.specs.declared.sums.TheConstants.{MOST_SUMMED};
@@ -18,10 +18,7 @@ pub fn limits()
     ensures first_places { FIRST_PLACES ≡ 1023 }
     ensures summed { MOST_SUMMED ≡ 20 }
     ensures always_summed { ALWAYS_SUMMED ≡ 14 }
-    ensures summed_soon { MOST_SUMMED_SOON ≡ 18 }
-    ensures fewest_rows { FEWEST_ROWS ≡ 128 }
-    ensures fewest_rows_of_many { FEWEST_ROWS_OF_MANY ≡ 12288 }
-    ensures entries_a_number { ENTRIES_A_NUMBER ≡ 16 }
-    ensures entries_a_number_of_many { ENTRIES_A_NUMBER_OF_MANY ≡ 1024 }
+    ensures fewest_rows { FEWEST_ROWS ≡ 32 }
+    ensures entries_a_number { ENTRIES_A_NUMBER ≡ 4 }
     ensures fewest_in_a_share { FEWEST_IN_A_SHARE ≡ 4096 }
 {}

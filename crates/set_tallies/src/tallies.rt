@@ -18,8 +18,8 @@ use std::marker::Model;
 /// The tallies of the sets of candidates, over the records of a bag.
 ///
 /// Where the bag has the sums over all sets, rows are read from them. Else a row that was counted is kept until another set's takes its
-/// place; once as many were counted as are worth it before the sums (`rows_in_time`), these are made, or the tallies give up. To a contract
-/// the tallies are what they are made from, the bag and the two numbers of NEB's margin.
+/// place; once so many were counted as are in a part of the time that the sums take (`rows_in_time`), these are made, or the tallies
+/// give up. To a contract the tallies are what they are made from, the bag and the two numbers of NEB's margin.
 #[derive(Drop)]
 pub struct Tallies<'b> {
     alloc: Global,
@@ -109,14 +109,12 @@ fn tallied(alloc: Global, n: u32, row: &[u32], s: CandSet) -> Result<Vec<u32>, M
 
 impl<'b> Tallies<'b> {
     /// The tallies over the records of the bag, which `ahead` was filled from. Once as many rows were counted as are worth it before the sums over
-    /// all sets are made (`rows_in_time`), tallies that are alone make these, and others give up as for want of memory: each of so many
-    /// workers has a share of these rows.
+    /// all sets are made (`rows_in_time`), tallies that are alone make these, and others give up as for want of memory.
     pub fn new(
         alloc: Global,
         bag: &'b Bag,
         ahead: &'b Ahead,
         alone: bool,
-        workers: u32,
     ) -> Result<Tallies<'b>, Memory>
         requires { AreFilledFrom bag.now ahead.now }
         ensures bag { IfOk result (λ t. t.bag ≡ bag.now) }
@@ -128,7 +126,7 @@ impl<'b> Tallies<'b> {
             bag,
             ahead,
             rows,
-            left: rows_before_sums(bag) / u64::from(workers.max(1)),
+            left: rows_before_sums(bag),
             alone,
             summed: None,
         })
@@ -186,7 +184,6 @@ impl<'b> Tallies<'b> {
         }
         self.left = u64::MAX;
         self.summed = self.bag.summed(self.alloc)?;
-        self.rows = Rows::new(self.alloc)?;
         Ok(())
     }
 

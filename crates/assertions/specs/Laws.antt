@@ -2,6 +2,7 @@
 use Rattle.std.specs.Prelude.{◌≡◌, ◌≢◌, ◌↔◌, ◌⊎◌, ℕ, ◌+◌, ◌-◌, ◌*◌, ◌<◌, ◌≤◌, nat_lt, nat_le, max, List, [], ◌∷◌, ◌++◌, length, sum_by, Contains, AllPairs, Some, None, IsTrue, IsFalse, pos, ◌-ℤ◌, ◌<ℤ◌}
 use Rattle.std.specs.List.{list_any, list_all}
 use Rattle.std.specs.List.Sorted.{IsPermutation}
+use Rattle.std.specs.Ordering.{nat_cmp}
 use Rattle.std.specs.declared.cmp.Ordering.TheVariants.{Less, Equal}
 use Rattle.irv_base.specs.Candidates.{candidates, is_in, is_distinct, set_of}
 use Rattle.irv_base.specs.Records.{tally}
@@ -10,7 +11,7 @@ use Rattle.irv_base.specs.Tabulation.{is_tabulated, is_possible, AllElect, IsDec
 use Rattle.assertions.specs.declared.assertion.Assertion.{Assertion}
 use Rattle.assertions.specs.declared.assertion.Assertion.TheVariants.{Neb, Nen}
 use Rattle.assertions.specs.contracts.assertion.AssertionOrd.TheImpl.{ghosts}
-use Rattle.assertions.specs.FixedOrder.{is_before}
+use Rattle.assertions.specs.FixedOrder.{is_before, number_of, HasDigits}
 use Rattle.assertions.specs.Assertions.{votes_for, votes_against, margin, is_true, true_margin, is_proper, assertions}
 use Rattle.assertions.specs.Suffixes.{is_suffix, IsAlternative, orders_ending, suffixes_ending, alternative_orders, parts_ending, comes_before, factorial}
 use Rattle.assertions.specs.Refutation.{refutes, covers}
@@ -70,6 +71,12 @@ abbrev pub FixedOrderIsOrd : Type 0
 FixedOrderIsOrd =
     (a b : Assertion) →
     ((ghosts.cmp a b ≡ Less) ↔ IsTrue (is_before a b)) × ((ghosts.cmp a b ≡ Equal) ↔ (a ≡ b))
+
+-- the numbers of two stand as the two do, and no two have the same
+abbrev pub NumbersRise : Type 0
+NumbersRise =
+    (a b : Assertion) → HasDigits a → HasDigits b →
+    (nat_cmp (number_of a) (number_of b) ≡ ghosts.cmp a b) × (number_of a ≡ number_of b → a ≡ b)
 
 -- ==== refutation
 

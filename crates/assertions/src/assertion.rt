@@ -34,9 +34,10 @@ const BYTE: u64 = 1 << 8;
 const WORD: u64 = 1 << 32;
 
 impl Assertion {
-    // A number that is the smaller the earlier the assertion stands, so that two are compared at once.
+    /// A number that is the smaller the earlier the assertion stands in the fixed order, so that two are compared at once, and many
+    /// are sorted by it. No two assertions have the same number.
     #[inline(always)]
-    fn number(&self) -> u64
+    pub fn number(&self) -> u64
         ensures number { result ≡ number_of self.now }
         ensures digits { HasDigits self.now }
     {

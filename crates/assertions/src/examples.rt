@@ -1,11 +1,12 @@
 //! Worked examples: the definitions at small contests, computed by the checker.
-ghost use Rattle.std.specs.Prelude.{◌≡◌, [], ◌∷◌, Some, IsTrue};
+ghost use Rattle.std.specs.Prelude.{◌≡◌, ◌+◌, ◌*◌, [], ◌∷◌, Some, IsTrue};
 ghost use Rattle.irv_base.specs.Tabulation.{is_tabulated, is_possible};
 ghost use Rattle.assertions.specs.Contests as contests;
 ghost use Rattle.assertions.specs.Refutation.{covers};
 ghost use Rattle.assertions.specs.Hardness.{low, best_margin, start_order};
 ghost use Rattle.assertions.specs.Certificate.{certificate_assertions, certificate_claims, certificate_order, cover_count, order_count};
 ghost use Rattle.assertions.specs.Assorter.{assorter_value};
+ghost use Rattle.assertions.specs.FixedOrder.{number_of};
 
 use crate::Assertion;
 
@@ -58,4 +59,10 @@ pub fn assorter_values()
     ensures top_of_rest { assorter_value (Assertion.Nen 1 2 6) (0 ∷ 1 ∷ 2 ∷ []) ≡ 2 }
     ensures loser_of_rest { assorter_value (Assertion.Nen 1 2 6) (2 ∷ []) ≡ 0 }
     ensures none_of_rest { assorter_value (Assertion.Nen 1 2 6) (0 ∷ []) ≡ 1 }
+{}
+
+/// The numbers of NEB(1,2), which come before those of all NENs, and of NEN(1,2,{1,2}).
+pub fn numbers()
+    ensures neb { number_of (Assertion.Neb 1 2) ≡ 258 * 4294967296 }
+    ensures nen { number_of (Assertion.Nen 1 2 6) ≡ 65794 * 4294967296 + 6 }
 {}

@@ -1,5 +1,5 @@
 //! The laws of the definitions: each holds of every value that it names, and has no code.
-ghost use Rattle.assertions.specs.Laws.{NebFor, NebAgainst, AssorterIs, AssorterSums, TrueMargin, AssertionsAreProper, AssertionsRise, FixedOrderIsTotal, FixedOrderIsOrd, RefutesWhere, RefutesLonger, CoverIsSound, OrdersEnding, AlternativeOrders, AlternativeOrdersRise, SuffixesEnding, PartsEnding, PartsRise, PartsAreFew, CountsAreFew, CoverCountIs, SuffixGrows, LowIsGreatest, LowGrows, LowOfMore, LowOfNone, RefuterIsFirst, RefuterOrNone, ScoreOfMore, ScoreOfNone, PossibleIffUnrefuted, NenAgainstImpossible, NothingAgainstPossible, BestIsLeast, DecidedIsPositive, DecidedExactly, FirstBoundIsZero, ProofIffDecided, FirstOverAll, StartIsAlternative, FrontierBounds, NoneBeatsBest, CertificateIsProper, CertificateIsTrue, CertificateCovers, CertificateReachesBest, CertificateHasBest, CertificateOrder, CertificateOrderIsFirst, CertificateRefutes, EndsAreShortest, EndsAreOne, CertificateIs, CertificateIsOne, RecordsInAnyOrder, TwoCandidates};
+ghost use Rattle.assertions.specs.Laws.{NebFor, NebAgainst, AssorterIs, AssorterSums, TrueMargin, AssertionsAreProper, AssertionsRise, FixedOrderIsTotal, FixedOrderIsOrd, NumbersRise, RefutesWhere, RefutesLonger, CoverIsSound, OrdersEnding, AlternativeOrders, AlternativeOrdersRise, SuffixesEnding, PartsEnding, PartsRise, PartsAreFew, CountsAreFew, CoverCountIs, SuffixGrows, LowIsGreatest, LowGrows, LowOfMore, LowOfNone, RefuterIsFirst, RefuterOrNone, ScoreOfMore, ScoreOfNone, PossibleIffUnrefuted, NenAgainstImpossible, NothingAgainstPossible, BestIsLeast, DecidedIsPositive, DecidedExactly, FirstBoundIsZero, ProofIffDecided, FirstOverAll, StartIsAlternative, FrontierBounds, NoneBeatsBest, CertificateIsProper, CertificateIsTrue, CertificateCovers, CertificateReachesBest, CertificateHasBest, CertificateOrder, CertificateOrderIsFirst, CertificateRefutes, EndsAreShortest, EndsAreOne, CertificateIs, CertificateIsOne, RecordsInAnyOrder, TwoCandidates};
 
 /// A NEB has for its winner the votes that it has with all candidates left.
 pub fn neb_for()
@@ -44,6 +44,11 @@ pub fn fixed_order_is_total()
 /// The fixed order is the order of `Assertion` as `Ord`.
 pub fn fixed_order_is_ord()
     ensures { FixedOrderIsOrd }
+{}
+
+/// The numbers of assertions whose parts have their digits stand as `Ord` has the assertions, and no two have the same.
+pub fn numbers_rise()
+    ensures { NumbersRise }
 {}
 
 /// NEB refutes where its loser stands and its winner isn't behind it, NEN where its winner and those behind it are

@@ -15,7 +15,7 @@ const FEW: u32 = 5;
 // So many candidates have no sums where there are ten ballots, so that rows are counted.
 const MANY: u32 = 17;
 
-// The rows are looked at of the sets of so many candidates, more of them than there are places for rows at first.
+// The rows are looked at of the sets of so many candidates.
 const LOOKED_AT: u32 = 13;
 
 // Ten ballots so often are one share for one worker, two even ones for two, and for more of them two full ones and part of a third.
@@ -45,9 +45,9 @@ fn votes_of_10(tallies: &mut Tallies, set: CandSet) -> Option<u32>
     row.get(10).copied()
 }
 
-// The rows of {0} and {10} fall on the same place.
+// A row that was kept is that of its own set after another was kept too.
 #[test]
-fn counts_again_after_another_row_at_its_place(rt: HostRuntime) {
+fn keeps_each_row_under_its_set(rt: HostRuntime) {
     let rankings = [only(ZERO), only(Candidate(10)), only(Candidate(10))];
     let counted = counted_of(&rt, 19, rankings.as_slice(), 1).expect(&rt, "counted");
     let mut tallies = counted.tallies().expect(&rt, "tallies");

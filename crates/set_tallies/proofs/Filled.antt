@@ -1,19 +1,17 @@
 -- What a bag says of the records.
-use Rattle.std.proofs.Common.{◌≡◌, ℕ, suc, zero, ◌+◌, ◌<◌, ◌≤◌, ◌^◌, Bool, true, false, cond, if◌then◌else◌, Option, Some, None, IfSome, List, [], ◌∷◌, All, length, map, get_or, replicate, set, count_by, IsPermutation, pow_pos, refl, sym, ap, ap₂, subst, arith, ◌∙◌}
+use Rattle.std.proofs.Common.{◌≡◌, ℕ, suc, zero, ◌+◌, ◌<◌, ◌≤◌, ◌^◌, Bool, true, false, cond, if◌then◌else◌, Option, Some, None, IfSome, List, [], ◌∷◌, All, length, map, get_or, count_by, IsPermutation, pow_pos, refl, sym, ap, ap₂, subst, arith, ◌∙◌}
 use Rattle.std.specs.List.{range_with_len}
 use Rattle.std.proofs.Math.Pow.{pow-lt}
 use Rattle.std.proofs.lemmas.List.{get_or_default, get_or-map, length-map}
 use Rattle.std.proofs.lemmas.List.FromFn.{get_or-map-range_with_len, length-map-range_with_len}
-use Rattle.std.proofs.lemmas.List.Elements.{All-replicate}
 use Rattle.std.proofs.lemmas.List.Sums.{sum_by-cons}
 use Rattle.std.proofs.lemmas.List.Sorted.{sum_by-IsPermutation, length_permutation}
 use Rattle.irv_base.specs.Candidates.{candidates, has}
 use Rattle.irv_base.specs.Records.{top, is_some_of, tally, is_first, is_ahead}
-use Rattle.set_tallies.specs.Bags.{Kept, IsOf, AreEntries, votes_at, all_votes, Counts, AreFilledFrom, IsTable, missing, total, everyone, tallies, HasTallies}
-use Rattle.set_tallies.specs.Befores.{before, is_missed, has_missed, AllCounted}
-use Rattle.set_tallies.specs.Rows.{votes_of, IsRow, AreRows}
+use Rattle.set_tallies.specs.Bags.{Kept, IsOf, votes_at, all_votes, Counts, AreFilledFrom, IsTable, everyone, tallies, HasTallies}
+use Rattle.set_tallies.specs.Befores.{before, is_missed, has_missed}
+use Rattle.set_tallies.specs.Rows.{votes_of}
 use Rattle.set_tallies.specs.declared.entry.Entry.{Entry}
-use Rattle.set_tallies.specs.declared.rows.Row.{Row}
 use Rattle.set_tallies.proofs.Befores.{missed_top, missed_ahead, missed_first, misses-none, outside}
 
 -- ---- the same count by another test
@@ -128,9 +126,10 @@ pub if-some : {X : Type 0} (P Q : X → Type 0) (o : Option X) → ((x : X) → 
 if-some P Q None f h = tt
 if-some P Q (Some x) f h = f x h
 
--- ---- rows that are kept
-pub no-rows : (bag : Kept) (n : ℕ) (places : List (Option Row)) → places ≡ replicate n None → AreRows bag places
-no-rows bag n places none = subst (AreRows bag) (sym none) (All-replicate (λ place. IfSome place (IsRow bag)) n None tt)
+-- what is said of one more, and of what was there
+pub one-more : {X : Type 0} (P : X → Type 0) (b : Bool) (x : X) (o : Option X) → (b ≡ true → P x) → IfSome o P → IfSome (cond b (Some x) o) P
+one-more P true x o own others = own refl
+one-more P false x o own others = others
 
 -- ---- the two numbers of NEB's margin
 pub record Filled (bag : Kept) (counts : Counts) : Type 0 where

@@ -3,8 +3,10 @@ pub mod Runs
 pub mod Totals
 pub mod Apart
 pub mod Columns
+pub mod Countings
 pub mod Tables
 pub mod Filled
 pub mod Winners
 pub mod Noted
 pub mod Sharing
+pub mod Halving

@@ -1,6 +1,6 @@
 -- What is kept of the records of a contest, and what it has to say of them: how many ballots have a candidate with nobody of a set
 -- before.
-use Rattle.std.specs.Prelude.{◌≡◌, ℕ, ◌<◌, ◌≤◌, ◌-◌, ◌^◌, nat_lt, Bool, true, ◌==◌, if◌then◌else◌, List, [], length, map, filter, sum_by, count_by, get_or, All, bit_and}
+use Rattle.std.specs.Prelude.{◌≡◌, ℕ, ◌<◌, ◌≤◌, ◌-◌, ◌^◌, nat_lt, Bool, true, ◌==◌, if◌then◌else◌, List, [], length, map, filter, sum_by, count_by, get_or, All, bit_and, bit_or}
 use Rattle.irv_base.specs.Candidates.{candidates, has}
 use Rattle.irv_base.specs.Records.{tally, is_first, is_ahead}
 use Rattle.irv_base.specs.declared.limits.TheConstants.{FEWEST_CANDIDATES, ROOM, MOST_RECORDS}
@@ -67,6 +67,8 @@ total entries = sum_by (λ e. e.count) entries
 pub record AreEntries (n records : ℕ) (lists : List (List Entry)) : Type 0 where
   pub one_each : length lists ≡ n
   pub few : All (λ entries. total entries ≤ records) lists
+  -- nobody stands before itself
+  pub alone : (set c : ℕ) → c < n → missing (bit_or set (2 ^ c)) (get_or lists c []) ≡ missing set (get_or lists c [])
 
 -- ---- the two numbers of NEB's margin, for all candidates
 

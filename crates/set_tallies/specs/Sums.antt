@@ -5,10 +5,11 @@ use Rattle.std.specs.Prelude.{◌≡◌, ℕ, ◌+◌, ◌*◌, ◌<◌, ◌≤�
 use Rattle.irv_base.specs.Candidates.{candidates}
 use Rattle.set_tallies.specs.Bags.{Kept, AreEntries, votes_at, misses, missing}
 use Rattle.set_tallies.specs.Befores.{has_missed}
+use Rattle.set_tallies.specs.Halves.{IsHalved, half_at}
 use Rattle.set_tallies.specs.declared.sums.TheConstants.{MOST_SUMMED}
 use Rattle.set_tallies.specs.declared.sums.Sums.{Sums}
 use Rattle.set_tallies.specs.declared.bag.Votes.{Votes}
-use Rattle.set_tallies.specs.declared.bag.Votes.TheVariants.{Summed, Listed}
+use Rattle.set_tallies.specs.declared.bag.Votes.TheVariants.{Summed, Halved, Listed}
 
 -- the numbers of c of n, those of the sets of the first k candidates
 abbrev pub column : ℕ → ℕ → List ℕ → ℕ → List ℕ
@@ -43,12 +44,14 @@ pub record AreSums (bag : Kept) (sums : Sums) : Type 0 where
   pub table : IsSummed bag.n sums
   pub says : (set c : ℕ) → set < 2 ^ bag.n → c < bag.n → sum_at sums set c ≡ votes_at bag set c
 
--- ---- the two forms of a bag
+-- ---- the forms of a bag
 
 abbrev pub votes_in : Votes → ℕ → ℕ → ℕ
 votes_in (Summed sums) set c = sum_at sums set c
+votes_in (Halved halves) set c = half_at halves set c
 votes_in (Listed lists) set c = missing set (get_or (map (λ v. v.items) lists.items) c [])
 
 abbrev pub AreHeld : ℕ → ℕ → Votes → Type 0
 AreHeld n records (Summed sums) = IsSummed n sums
+AreHeld n records (Halved halves) = IsHalved n halves
 AreHeld n records (Listed lists) = AreEntries n records (map (λ v. v.items) lists.items)

@@ -1,14 +1,16 @@
 // The records of a contest.
-ghost use Rattle.std.specs.Prelude.{◌≡◌, ℕ, ◌<◌, ◌≤◌, ◌^◌, map, length, count_by, All, IfOk, IfSome, IfNone, List};
+ghost use Rattle.std.specs.Prelude.{◌≡◌, ℕ, ◌<◌, ◌≤◌, ◌^◌, [], map, get_or, length, count_by, All, IfOk, IfSome, IfNone, List};
 ghost use Rattle.irv_base.specs.declared.limits.TheConstants.{FEWEST_CANDIDATES, ROOM, MOST_RECORDS};
-ghost use Rattle.set_tallies.specs.Bags.{IsOf, votes_at};
+ghost use Rattle.set_tallies.specs.Bags.{AreEntries, IsOf, missing, votes_at};
 ghost use Rattle.set_tallies.specs.Befores.{AllCounted, has_missed};
 ghost use Rattle.set_tallies.specs.Sums.{AreHeld, votes_in};
 ghost use Rattle.set_tallies.specs.declared.sums.TheConstants.{MOST_SUMMED};
 
 use crate::cost::rows_in_time;
 use crate::count::{all_joined, missing, noted};
+use crate::counting::Counting;
 use crate::entry::Entry;
+use crate::halves::{Halves, can_be_halved};
 use crate::sums::{MOST_SUMMED, Sums};
 use irv_base::{Candidate, Memory, Rankings};
 use std::alloc::Global;
@@ -21,12 +23,14 @@ pub const ALWAYS_SUMMED: u32 = 14;
 /// So have more candidates where no more rows than this would be counted from entries before the sums are made (`rows_in_time`).
 pub const FEWEST_ROWS: u64 = 32;
 
-/// What is kept of the records: the sums over all sets, or of each candidate the different sets of those who stand before it on
+/// What is kept of the records: the sums over all sets, in one of two forms, or of each candidate the different sets of those who stand before it on
 /// a ballot, each with the number of such ballots.
 #[derive(Drop)]
 pub enum Votes {
     /// The sums over all sets.
     Summed(Sums),
+    /// The same in a quarter of the room.
+    Halved(Halves),
     /// The entries of each candidate.
     Listed(Vec<Vec<Entry>>),
 }
@@ -111,6 +115,23 @@ fn votes_of<R: AllocGlobal + Threads + Sync>(
     }
 }
 
+// The sums that the entries of each candidate give.
+fn sums_of(alloc: Global, n: u32, lists: &[Vec<Entry>]) -> Result<Votes, Memory>
+    requires some { 1 ≤ n }
+    requires few { n ≤ MOST_SUMMED }
+    requires entries { AreEntries n MOST_RECORDS (map (λ v. v.items) lists.now) }
+    ensures held { (records : ℕ) → IfOk result (AreHeld n records) }
+    ensures says { IfOk result (λ votes. (set c : ℕ) → set < 2 ^ n → c < n
+        → votes_in votes set c ≡ missing set (get_or (map (λ v. v.items) lists.now) c [])) }
+{
+    if n > ALWAYS_SUMMED && can_be_halved(lists) {
+        let halves = Halves::of_entries(alloc, n, lists)?;
+        return Ok(Votes::Halved(halves));
+    }
+    let sums = Sums::of_entries(alloc, n, lists)?;
+    Ok(Votes::Summed(sums))
+}
+
 impl Bag {
     /// The bag of these records, of a contest with `n` candidates, counted by at most so many workers.
     pub fn of<R: AllocGlobal + Threads + Sync>(
@@ -132,22 +153,36 @@ impl Bag {
         Ok(Bag { n, records, votes })
     }
 
+    /// The bag of the records that were counted as they came.
+    pub fn of_counting(alloc: Global, counting: &Counting) -> Result<Bag, Memory>
+        requires { FEWEST_CANDIDATES ≤ counting.now.n }
+        ensures candidates { IfOk result (λ bag. bag.n ≡ counting.now.n) }
+        ensures records { IfOk result (λ bag. IsOf bag counting.now.rankings) }
+    {
+        let sums = Sums::of_counting(alloc, counting)?;
+        Ok(Bag {
+            n: counting.candidates(),
+            records: counting.len() as u32,
+            votes: Votes::Summed(sums),
+        })
+    }
+
     /// The same bag with sums over all sets, where it has none and has no more candidates than can have them.
     pub(crate) fn summed(&self, alloc: Global) -> Result<Option<Bag>, Memory>
         ensures { IfOk result (λ summed. IfSome summed (λ bag. bag ≡ self.now)) }
     {
         let lists = match &self.votes {
             Votes::Listed(lists) => lists,
-            Votes::Summed(_sums) => return Ok(None),
+            _ => return Ok(None),
         };
         if self.n > MOST_SUMMED {
             return Ok(None);
         }
-        let sums = Sums::of_entries(alloc, self.n, lists)?;
+        let votes = sums_of(alloc, self.n, lists)?;
         Ok(Some(Bag {
             n: self.n,
             records: self.records,
-            votes: Votes::Summed(sums),
+            votes,
         }))
     }
 
@@ -186,6 +221,7 @@ impl Bag {
     {
         match &self.votes {
             Votes::Summed(sums) => sums.at(c, set),
+            Votes::Halved(halves) => halves.at(c, set),
             Votes::Listed(lists) => missing(&lists[c.index()], set),
         }
     }

@@ -4,8 +4,8 @@ ghost use Rattle.set_tallies.specs.declared.sums.TheConstants.{MOST_SUMMED};
 
 use crate::entry::Entry;
 
-/// So many entries are gone through for each number of the sums over all sets before these are made. A number takes as long as eight
-/// entries and more, so that rows cost half of the sums that come after all, or less.
+/// So many entries are gone through for each set and candidate before the sums over all sets are made. For each set and candidate the sums
+/// take as long as eight entries or more, so that rows take at most half of the time of sums that come after all.
 pub const ENTRIES_A_NUMBER: u64 = 4;
 
 // How many entries there are of all candidates.

@@ -5,6 +5,7 @@ ghost use Rattle.set_tallies.specs.Bags.{IsOf};
 
 use crate::ahead::Ahead;
 use crate::bag::Bag;
+use crate::counting::Counting;
 use crate::tallies::Tallies;
 use irv_base::{Memory, Rankings};
 use std::alloc::Global;
@@ -49,6 +50,17 @@ impl Counted {
     {
         let alloc = rt.alloc();
         let bag = Bag::of(rt, n, rankings, workers)?;
+        let ahead = Ahead::fill(alloc, &bag)?;
+        Ok(Counted { alloc, bag, ahead })
+    }
+
+    /// The records that were counted as they came.
+    pub fn of_counting(alloc: Global, counting: &Counting) -> Result<Counted, Memory>
+        requires { FEWEST_CANDIDATES ≤ counting.now.n }
+        ensures candidates { IfOk result (λ counted. counted.bag.n ≡ counting.now.n) }
+        ensures records { IfOk result (λ counted. IsOf counted.bag counting.now.rankings) }
+    {
+        let bag = Bag::of_counting(alloc, counting)?;
         let ahead = Ahead::fill(alloc, &bag)?;
         Ok(Counted { alloc, bag, ahead })
     }

@@ -3,7 +3,8 @@ ghost use Rattle.std.specs.Prelude.{◌≡◌};
 ghost use Rattle.set_tallies.specs.Laws.{OrderIsFree};
 ghost use Rattle.set_tallies.specs.declared.bag.TheConstants.{ALWAYS_SUMMED, FEWEST_ROWS};
 ghost use Rattle.set_tallies.specs.declared.cost.TheConstants.{ENTRIES_A_NUMBER};
-ghost use Rattle.set_tallies.specs.declared.rows.TheConstants.{FIRST_PLACES, MOST_ROWS};
+ghost use Rattle.set_tallies.specs.declared.halves.TheConstants.{MOST_HALVED, LOW_CANDIDATES};
+ghost use Rattle.set_tallies.specs.declared.rows.TheConstants.{MOST_ROWS};
 ghost use Rattle.set_tallies.specs.declared.shares.TheConstants.{FEWEST_IN_A_SHARE};
 ghost use Rattle.set_tallies.specs.declared.sums.TheConstants.{MOST_SUMMED};
 
@@ -15,8 +16,9 @@ pub fn order_is_free()
 /// The numbers of the limits.
 pub fn limits()
     ensures rows { MOST_ROWS ≡ 262143 }
-    ensures first_places { FIRST_PLACES ≡ 1023 }
     ensures summed { MOST_SUMMED ≡ 20 }
+    ensures halved { MOST_HALVED ≡ 65535 }
+    ensures low_candidates { LOW_CANDIDATES ≡ 4 }
     ensures always_summed { ALWAYS_SUMMED ≡ 14 }
     ensures fewest_rows { FEWEST_ROWS ≡ 32 }
     ensures entries_a_number { ENTRIES_A_NUMBER ≡ 4 }

@@ -6,6 +6,7 @@ ghost use Rattle.set_tallies.specs.Bags.{AreEntries, missing};
 ghost use Rattle.set_tallies.specs.Befores.{has_missed};
 ghost use Rattle.set_tallies.specs.Sums.{IsSummed, column, apart, sums_of, sum_at};
 
+use crate::counting::Counting;
 use crate::entry::Entry;
 use crate::shares::counted;
 use crate::table::{place, table_of};
@@ -43,9 +44,9 @@ fn add_halves(without: &mut [u32], having: &mut [u32])
     }
 }
 
-// Turns the numbers of the sets of the first `k` candidates into their sums over the sets that have nobody of a set, for each of
-// `n` candidates.
-fn sum_apart(table: &mut [u32], n: u32, k: u32)
+/// Turns the numbers of the sets of the first `k` candidates into their sums over the sets that have nobody of a set, for each of
+/// `n` candidates.
+pub fn sum_apart(table: &mut [u32], n: u32, k: u32)
     requires some { 1 ≤ n }
     requires long { length table.old ≡ n * 2 ^ k }
     requires few { (n ≤ MOST_SUMMED) × (k ≤ MOST_SUMMED) }
@@ -80,6 +81,20 @@ impl Sums {
             → sum_at sums set c ≡ count_by (has_missed set c) rankings.now) }
     {
         let mut table = counted(rt, n, rankings, workers)?;
+        sum_apart(&mut table, n, n);
+        Ok(Sums { n, table })
+    }
+
+    /// The sums over the ballots that were counted as they came.
+    pub fn of_counting(alloc: Global, counting: &Counting) -> Result<Sums, Memory>
+        requires { 1 ≤ counting.now.n }
+        ensures table { IfOk result (IsSummed counting.now.n) }
+        ensures says { IfOk result (λ sums. (set c : ℕ) → set < 2 ^ counting.now.n
+            → c < counting.now.n
+            → sum_at sums set c ≡ count_by (has_missed set c) counting.now.rankings) }
+    {
+        let n = counting.candidates();
+        let mut table = Vec::from_slice(alloc, counting.table())?;
         sum_apart(&mut table, n, n);
         Ok(Sums { n, table })
     }

@@ -3,13 +3,15 @@ ghost use Rattle.std.specs.Prelude.{◌≡◌, ℕ, ◌<◌, ◌≤◌, ◌^◌,
 ghost use Rattle.irv_base.specs.Candidates.{candidates, has};
 ghost use Rattle.irv_base.specs.declared.limits.TheConstants.{FEWEST_CANDIDATES, ROOM, MOST_RECORDS};
 ghost use Rattle.set_tallies.specs.Bags.{IsOf, AreFilledFrom, HasTallies, tallies};
+ghost use Rattle.set_tallies.specs.Halves.{AreHalves};
 ghost use Rattle.set_tallies.specs.Rows.{votes_of};
 ghost use Rattle.set_tallies.specs.Sums.{AreSums};
 
 use crate::ahead::Ahead;
 use crate::bag::{Bag, Votes};
 use crate::cost::rows_in_time;
-use crate::rows::{Row, Rows};
+use crate::halves::Halves;
+use crate::rows::Rows;
 use crate::sums::{MOST_SUMMED, Sums};
 use irv_base::{CandSet, Candidate, Memory};
 use std::alloc::Global;
@@ -17,9 +19,8 @@ use std::marker::Model;
 
 /// The tallies of the sets of candidates, over the records of a bag.
 ///
-/// Where the bag has the sums over all sets, rows are read from them. Else a row that was counted is kept until another set's takes its
-/// place; once so many were counted as are in a part of the time that the sums take (`rows_in_time`), these are made, or the tallies
-/// give up. To a contract the tallies are what they are made from, the bag and the two numbers of NEB's margin.
+/// Where the bag has the sums over all sets, rows are read from them. Else a row that was counted is kept (`Rows` drops all at `MOST_ROWS`);
+/// once so many were counted as are in a part of the time that the sums take (`rows_in_time`), these are made, or the tallies give up. To a contract the tallies are what they are made from, the bag and the two numbers of NEB's margin.
 #[derive(Drop)]
 pub struct Tallies<'b> {
     alloc: Global,
@@ -43,7 +44,7 @@ impl<'b> Model for Tallies<'b> {
     ghost view = { λ t. record { bag = t.bag.now; counts = t.ahead.now } };
 
     ghost invariant = { λ t.
-        AreTallies t.bag.now t.ahead.now t.summed t.rows.places.items };
+        AreTallies t.bag.now t.ahead.now t.summed t.rows };
 }
 
 // The bag, with sums if some were made.
@@ -63,7 +64,17 @@ fn sums_in(bag: &Bag) -> Option<&Sums>
 {
     match bag.kept() {
         Votes::Summed(sums) => Some(sums),
-        Votes::Listed(_lists) => None,
+        _ => None,
+    }
+}
+
+// The sums in halves, where the bag has these.
+fn halves_in(bag: &Bag) -> Option<&Halves>
+    ensures { IfSome result (λ halves. AreHalves bag.now halves.now) }
+{
+    match bag.kept() {
+        Votes::Halved(halves) => Some(halves),
+        _ => None,
     }
 }
 
@@ -120,12 +131,11 @@ impl<'b> Tallies<'b> {
         ensures bag { IfOk result (λ t. t.bag ≡ bag.now) }
         ensures counts { IfOk result (λ t. t.counts ≡ ahead.now) }
     {
-        let rows = Rows::new(alloc)?;
         Ok(Tallies {
             alloc,
             bag,
             ahead,
-            rows,
+            rows: Rows::new(alloc),
             left: rows_before_sums(bag),
             alone,
             summed: None,
@@ -172,7 +182,7 @@ impl<'b> Tallies<'b> {
         }
     }
 
-    // Where no more rows may be counted, tallies that are alone make the sums, and others give up.
+    // Where no more rows may be counted, tallies that are alone make the sums, in place of the rows, and others give up.
     fn go_on(&mut self) -> Result<(), Memory>
         ensures { self.new ≡ self.old }
     {
@@ -183,6 +193,7 @@ impl<'b> Tallies<'b> {
             return Err(Memory);
         }
         self.left = u64::MAX;
+        self.rows = Rows::new(self.alloc);
         self.summed = self.bag.summed(self.alloc)?;
         Ok(())
     }
@@ -200,11 +211,15 @@ impl<'b> Tallies<'b> {
             let copied = tallied(self.alloc, self.bag.candidates(), row, s)?;
             return Ok(copied);
         }
+        if let Some(halves) = halves_in(with_sums(self.bag, &self.summed)) {
+            let row = halves.row(self.alloc, s)?;
+            return Ok(row);
+        }
         self.left = self.left.saturating_sub(1);
         let set = s.number();
         let votes = row_of(self.alloc, self.bag, s, set)?;
         let answer = Vec::from_slice(self.alloc, &votes)?;
-        self.rows.keep(self.alloc, Row { set, votes })?;
+        self.rows.keep(set, votes)?;
         Ok(answer)
     }
 }

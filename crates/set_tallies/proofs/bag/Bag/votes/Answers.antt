@@ -56,3 +56,10 @@ returns-in-Listed c =
     c.missing.ensures ∙ ap (missing c.args.set) (sym own) ∙ ap (λ v. votes_in v c.args.set c.args.c) (sym c.in-Listed.is)
     ∙ sym (votes-read c.self.inside.n (votes_in c.self.inside.votes) c.args.set c.args.c (rw n c.requires.below) (rw n c.requires.candidate))
     ∙ ap (λ b. votes_at b c.args.set c.args.c) c.self.view_is
+
+pub returns-in-Halved : goal.returns-in-Halved
+returns-in-Halved c =
+    let n = ap (λ b. b.n) c.self.view_is in
+    c.at-in-Halved.ensures ∙ ap (λ v. votes_in v c.args.set c.args.c) (sym c.in-Halved.is)
+    ∙ sym (votes-read c.self.inside.n (votes_in c.self.inside.votes) c.args.set c.args.c (rw n c.requires.below) (rw n c.requires.candidate))
+    ∙ ap (λ b. votes_at b c.args.set c.args.c) c.self.view_is

@@ -1,7 +1,7 @@
 -- Suffixes that are scored as far as they are below a limit.
-use Rattle.std.proofs.Common.{◌≡◌, ◌==◌, ◌&&◌, ◌||◌, ℕ, suc, ◌+◌, ◌-◌, ◌^◌, ◌<◌, ◌≤◌, nat_lt, Bool, true, false, not, inl, inr, Option, Some, None, List, [], ◌∷◌, ◌++◌, map, filter, cond, length, get_or, drop, All, refl, sym, subst, ap, ap₂, arith, lt-ltb, ltb-true, eqb-true, append-nil, le_trans, ◌∙◌}
+use Rattle.std.proofs.Common.{◌≡◌, ◌==◌, ◌&&◌, ◌||◌, ℕ, suc, ◌+◌, ◌-◌, ◌^◌, ◌<◌, ◌≤◌, nat_lt, Bool, true, false, not, inl, inr, Option, Some, None, List, [], ◌∷◌, ◌++◌, map, filter, cond, get_or, All, refl, sym, subst, ap, ap₂, arith, ltb-true, eqb-true, append-nil, le_trans, ◌∙◌}
 use Rattle.std.proofs.lemmas.Bool.{and_parts, le-ltb, or_cases}
-use Rattle.std.proofs.lemmas.List.{drop_more, map-append}
+use Rattle.std.proofs.lemmas.List.{map-append}
 use Rattle.std.proofs.lemmas.List.Elements.{filter-append}
 use Rattle.irv_base.specs.Candidates.{candidates, has, is_in, set_of}
 use Rattle.irv_base.proofs.Members.{here}
@@ -36,9 +36,6 @@ nens-le row c set (l ∷ rest) score =
     (nens-le row c set rest (offered score (get_or row c 0 - get_or row l 0) (Nen c l set)))
 
 -- ---- the score, if it is below the limit
-pub below-some : (limit : ℕ) (score : Score) → score.low < limit → Some score ≡ below limit score
-below-some limit score l = ap (λ b. cond b (Some score) None) (sym (lt-ltb score.low limit l))
-
 pub below-none : (limit : ℕ) (score : Score) → limit ≤ score.low → None ≡ below limit score
 below-none limit score l = ap (λ b. cond b (Some score) None) (sym (le-ltb score.low limit l))
 
@@ -47,13 +44,6 @@ pub nens-reached : (row : List ℕ) (c set limit : ℕ) (behind : List ℕ) (sco
     None ≡ below limit whole
 nens-reached row c set limit behind score whole l is =
     below-none limit whole (subst (λ s. limit ≤ s.low) is (le_trans l (nens-le row c set behind score)))
-
-pub nens-next : (row : List ℕ) (c set i l : ℕ) (behind : List ℕ) (score next : Score) → i < length behind → get_or behind i 0 ≡ l →
-    next ≡ offered score (get_or row c 0 - get_or row l 0) (Nen c l set) →
-    with_nens row c set next (drop (i + 1) behind) ≡ with_nens row c set score (drop i behind)
-nens-next row c set i l behind score next within at is =
-    let split : drop i behind ≡ l ∷ drop (i + 1) behind = drop_more behind i 0 within ∙ ap (λ x. x ∷ drop (i + 1) behind) at in
-    ap (λ s. with_nens row c set s (drop (i + 1) behind)) is ∙ sym (ap (with_nens row c set score) split)
 
 -- by a row of tallies it is that of the records
 pub nens-of : (records : List (List ℕ)) (row : List ℕ) (n set c : ℕ) → HasTallies records n set row → c < n → has set c ≡ true →

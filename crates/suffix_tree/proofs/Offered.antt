@@ -1,13 +1,12 @@
 -- Assertions that are offered to a score one after the other, for all records that the numbers are of.
-use Rattle.std.proofs.Common.{◌≡◌, ◌==◌, ◌&&◌, ◌||◌, ℕ, ◌+◌, ◌-◌, ◌<◌, nat_lt, Bool, true, false, not, inl, inr, Some, List, [], ◌∷◌, map, filter, cond, length, get_or, drop, All, refl, sym, subst, ap, ap₂, arith, ltb-true, eqb-true, ◌∙◌}
+use Rattle.std.proofs.Common.{◌≡◌, ◌==◌, ◌&&◌, ◌||◌, ℕ, ◌+◌, ◌<◌, nat_lt, Bool, true, false, not, inl, inr, Some, List, [], ◌∷◌, map, filter, cond, length, get_or, drop, refl, sym, ap, arith, ltb-true, eqb-true, ◌∙◌}
 use Rattle.std.proofs.lemmas.Bool.{and_parts, both_ways, ltb-false, or_cases}
 use Rattle.std.proofs.lemmas.List.{drop_more}
 use Rattle.irv_base.specs.Candidates.{has}
 use Rattle.assertions.specs.declared.assertion.Assertion.{Assertion}
-use Rattle.assertions.specs.declared.assertion.Assertion.TheVariants.{Neb, Nen}
+use Rattle.assertions.specs.declared.assertion.Assertion.TheVariants.{Neb}
 use Rattle.assertions.specs.Assertions.{is_true, true_margin, votes_for, votes_against}
-use Rattle.assertions.specs.Scores.{Score, offered, all_offered, is_before_that, nens_for}
-use Rattle.set_tallies.specs.Bags.{HasTallies}
+use Rattle.assertions.specs.Scores.{Score, offered, all_offered, is_before_that}
 use Rattle.suffix_tree.specs.Offers.{IsSomeByMargin}
 
 -- the NEBs of those of a list that aren't in the set
@@ -96,16 +95,3 @@ untrue-left records set c (w ∷ rest) score some =
         ih score some
         ∙ ap (λ s. all_offered records s (nebs_of set c rest)) (sym (untrue score (true_margin records (Neb w c)) (Neb w c) some none))
         ∙ sym (taken rest out)
-
-pub nen-taken : (records : List (List ℕ)) (row behind : List ℕ) (n set c i l : ℕ) (score next : Score) → HasTallies records n set row → c < n →
-    has set c ≡ true → All (λ l. l < n) behind → All (λ l. has set l ≡ true) behind → i < length behind →
-    get_or behind i 0 ≡ l → next ≡ offered score (get_or row c 0 - get_or row l 0) (Nen c l set) →
-    all_offered records next (nens_for c set (drop (i + 1) behind)) ≡ all_offered records score (nens_for c set (drop i behind))
-nen-taken records row behind n set c i l score next tallied below inside all members within at is =
-    let loser : l < n = subst (λ x. x < n) at (all i 0 within) in
-    let member : has set l ≡ true = subst (λ x. has set x ≡ true) at (members i 0 within) in
-    let margin : get_or row c 0 - get_or row l 0 ≡ true_margin records (Nen c l set) =
-    ap₂ (λ x y. x - y) (tallied c below inside) (tallied l loser member) in
-    let split : drop i behind ≡ l ∷ drop (i + 1) behind = drop_more behind i 0 within ∙ ap (λ x. x ∷ drop (i + 1) behind) at in
-    ap (λ s. all_offered records s (nens_for c set (drop (i + 1) behind))) (is ∙ ap (λ m. offered score m (Nen c l set)) margin)
-    ∙ sym (ap (λ xs. all_offered records score (nens_for c set xs)) split)

@@ -1,5 +1,5 @@
 -- What a score comes to by the numbers of a row of tallies.
-use Rattle.std.specs.Prelude.{◌≡◌, ℕ, ◌-◌, nat_lt, if◌then◌else◌, List, fold, get_or, Option, Some, None}
+use Rattle.std.specs.Prelude.{◌≡◌, ℕ, ◌-◌, ◌/◌, ◌%◌, ◌^◌, nat_lt, if◌then◌else◌, List, fold, get_or, Option, Some, None}
 use Rattle.assertions.specs.declared.assertion.Assertion.TheVariants.{Nen}
 use Rattle.assertions.specs.Scores.{Score, offered}
 
@@ -11,6 +11,10 @@ IsSomeByMargin score = score.low ≡ 0 → score.by ≡ None
 abbrev pub with_nens : List ℕ → ℕ → ℕ → Score → List ℕ → Score
 with_nens row c set score behind =
     fold (λ s l. offered s (get_or row c 0 - get_or row l 0) (Nen c l set)) score behind
+
+-- the score after the NEN over one of them, by a number that has the loser as its last byte, and before it the loser's votes
+abbrev pub with_standing : ℕ → ℕ → ℕ → Score → ℕ → Score
+with_standing for_winner c set score standing = offered score (for_winner - standing / 2 ^ 8) (Nen c (standing % 2 ^ 8) set)
 
 -- the score, if its low is below the limit
 abbrev pub below : ℕ → Score → Option Score

@@ -11,8 +11,8 @@ use set_tallies::Tallies;
 use std::alloc::Global;
 use std::sync::ledger::Ledger;
 
-/// The suffix with one more candidate in front, with the score that `child` gives it, if its low is below the limit. One that isn't is
-/// scored no further than that shows. The one error is want of memory.
+/// The suffix with one more candidate in front, with the score that `child` gives it, if its low is below the limit. Where its NEBs show
+/// that it isn't, its NENs aren't looked at. The one error is want of memory.
 pub fn child_below(
     parent: &Scored,
     c: Candidate,

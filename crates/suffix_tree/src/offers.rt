@@ -1,11 +1,12 @@
 // What a suffix has against it, and more assertions that are offered to it.
-ghost use Rattle.std.specs.Prelude.{◌≡◌, ℕ, ◌<◌, true, not, List, map, filter, get_or, All};
+ghost use Rattle.std.specs.Prelude.{◌≡◌, ℕ, ◌<◌, ◌≤◌, ◌/◌, ◌%◌, ◌^◌, min, not, List, ◌∷◌, map, filter, get_or};
 ghost use Rattle.irv_base.specs.Candidates.{candidates, has};
+ghost use Rattle.irv_base.specs.declared.limits.TheConstants.{ROOM};
 ghost use Rattle.assertions.specs.declared.assertion.Assertion.TheVariants.{Neb};
 ghost use Rattle.assertions.specs.Assertions.{true_margin};
-ghost use Rattle.assertions.specs.Scores.{offered, all_offered, nens_for};
-ghost use Rattle.set_tallies.specs.Bags.{AreOf, HasTallies};
-ghost use Rattle.suffix_tree.specs.Offers.{IsSomeByMargin, with_nens, below};
+ghost use Rattle.assertions.specs.Scores.{offered, all_offered};
+ghost use Rattle.set_tallies.specs.Bags.{AreOf};
+ghost use Rattle.suffix_tree.specs.Offers.{IsSomeByMargin, with_nens, with_standing, below};
 
 use assertions::{Assertion, before};
 use irv_base::{CandSet, Candidate};
@@ -90,7 +91,35 @@ fn votes(row: &[u32], c: Candidate) -> u32
     }
 }
 
-/// The score after the NENs of `c` over those behind it, from the tallies of the set.
+// How many values a byte has.
+const BYTE: u64 = 1 << 8;
+
+// The votes of a loser, as far as they count against the winner's, and behind them the loser: the smaller the number, the better is the
+// NEN over this loser. Votes beyond the winner's count no more, so that of NENs without a margin the first in the fixed order is the best.
+fn standing(row: &[u32], for_winner: u32, l: Candidate) -> u64
+    ensures votes { result / 2 ^ 8 ≡ min (get_or row.now l 0) for_winner }
+    ensures loser { result % 2 ^ 8 ≡ l }
+    ensures candidate { result % 2 ^ 8 < ROOM }
+{
+    u64::from(votes(row, l).min(for_winner)) * BYTE + u64::from(l.0)
+}
+
+// The least standing of some losers: of all NENs over them the one over its loser is the best, so that it alone counts.
+fn least_standing(row: &[u32], for_winner: u32, first: Candidate, others: &[Candidate]) -> u64
+    ensures votes { result / 2 ^ 8 ≤ for_winner }
+    ensures loser { result % 2 ^ 8 < ROOM }
+    ensures best { (c set : ℕ) (start : Score) → for_winner ≡ get_or row.now c 0
+        → with_standing for_winner c set start result
+        ≡ with_nens row.now c set start (first ∷ others.now) }
+{
+    let mut least = standing(row, for_winner, first);
+    for l in others {
+        least = least.min(standing(row, for_winner, *l));
+    }
+    least
+}
+
+/// The score after the NENs of `c` over those behind it, by a row of the set.
 pub fn offer_nens(
     start: Score,
     c: Candidate,
@@ -98,25 +127,22 @@ pub fn offer_nens(
     set: CandSet,
     row: &[u32],
 ) -> Score
-    ensures { (n : ℕ) (records : List (List ℕ)) → HasTallies records n set row.now
-        → c < n → has set c ≡ true → All (λ l. l < n) behind.now
-        → All (λ l. has set l ≡ true) behind.now
-        → result ≡ all_offered records start (nens_for c set behind.now) }
+    ensures { result ≡ with_nens row.now c set start behind.now }
 {
+    let Some((first, others)) = behind.split_first() else {
+        return start;
+    };
     let for_winner = votes(row, c);
-    let mut score = start;
-    for l in behind {
-        let claim = Assertion::Nen {
-            w: c,
-            l: *l,
-            rest: set,
-        };
-        score = offer(score, for_winner.saturating_sub(votes(row, *l)), claim);
-    }
-    score
+    let least = least_standing(row, for_winner, *first, others);
+    let claim = Assertion::Nen {
+        w: c,
+        l: Candidate((least % BYTE) as u8),
+        rest: set,
+    };
+    offer(start, for_winner - (least / BYTE) as u32, claim)
 }
 
-/// The score after the NENs of `c` over those behind it, if it is below the limit. No more of them are looked at once it isn't.
+/// The score after the NENs of `c` over those behind it, if it is below the limit. Where it isn't before them, none is looked at.
 pub fn offer_nens_below(
     start: Score,
     c: Candidate,
@@ -127,18 +153,9 @@ pub fn offer_nens_below(
 ) -> Option<Score>
     ensures { result ≡ below limit (with_nens row.now c set start behind.now) }
 {
-    let for_winner = votes(row, c);
-    let mut score = start;
-    for l in behind {
-        if score.low >= limit {
-            return None;
-        }
-        let claim = Assertion::Nen {
-            w: c,
-            l: *l,
-            rest: set,
-        };
-        score = offer(score, for_winner.saturating_sub(votes(row, *l)), claim);
+    if start.low >= limit {
+        return None;
     }
+    let score = offer_nens(start, c, behind, set, row);
     if score.low < limit { Some(score) } else { None }
 }

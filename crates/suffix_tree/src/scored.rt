@@ -87,6 +87,32 @@ impl PartialOrd for Scored {
     }
 }
 
+// The score of the suffix with one more candidate in front.
+fn child_score(parent: &Scored, c: Candidate, tallies: &mut Tallies) -> Result<Score, Memory>
+    requires below { c < parent.now.tail.n }
+    requires other { IsFalse (is_in parent.now.tail.list c) }
+    requires contest { parent.now.tail.n ≡ tallies.old.bag.n }
+    requires scored { IsScoredOver tallies.old.bag parent.now }
+    ensures scored { IfOk result (λ score. IsScoredOver tallies.old.bag
+        (record { tail = with_front parent.now.tail c; low = score.low; by = score.by })) }
+    ensures same { tallies.new ≡ tallies.old }
+{
+    let behind = parent.tail.list();
+    let set = parent.tail.set().with(c);
+    let from_parent = Score {
+        low: parent.low,
+        by: parent.by,
+    };
+    let with_nebs = offer_nebs(from_parent, c, set, tallies.ahead());
+    match tallies.row(set) {
+        Some(row) => Ok(offer_nens(with_nebs, c, behind, set, row)),
+        None => {
+            let row = tallies.tally(set)?;
+            Ok(offer_nens(with_nebs, c, behind, set, &row))
+        }
+    }
+}
+
 /// The suffix with one more candidate in front, scored from the one without: what the candidate adds is the NEBs over it of those
 /// outside, and its NENs over those behind it, from one row of tallies. The one error is want of memory.
 pub fn child(parent: &Scored, c: Candidate, tallies: &mut Tallies) -> Result<Scored, Memory>
@@ -98,23 +124,9 @@ pub fn child(parent: &Scored, c: Candidate, tallies: &mut Tallies) -> Result<Sco
     ensures scored { IfOk result (IsScoredOver tallies.old.bag) }
     ensures same { tallies.new ≡ tallies.old }
 {
-    let behind = parent.tail.list();
-    let tail = parent.tail.front(c);
-    let from_parent = Score {
-        low: parent.low,
-        by: parent.by,
-    };
-    let set = tail.set();
-    let with_nebs = offer_nebs(from_parent, c, set, tallies.ahead());
-    let score = match tallies.row(set) {
-        Some(row) => offer_nens(with_nebs, c, behind, set, row),
-        None => {
-            let row = tallies.tally(set)?;
-            offer_nens(with_nebs, c, behind, set, &row)
-        }
-    };
+    let score = child_score(parent, c, tallies)?;
     Ok(Scored {
-        tail,
+        tail: parent.tail.front(c),
         low: score.low,
         by: score.by,
     })

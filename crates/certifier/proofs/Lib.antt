@@ -3,6 +3,7 @@ pub mod Ends
 pub mod Alike
 pub mod Agreement
 pub mod Sorting
+pub mod InOrder
 pub mod Knowing
 pub mod Budgets
 pub mod Claiming

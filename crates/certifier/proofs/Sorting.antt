@@ -1,5 +1,5 @@
 -- Entries put in turn: all sorted at once, or some of them put together first, they give the same.
-use Rattle.std.proofs.Common.{◌≡◌, ℕ, ◌++◌, Bool, true, false, cond, if◌then◌else◌, unwrap_or, List, [], ◌∷◌, fold, Option, Some, None, inl, inr, refl, sym, ap, ap₂, ◌∙◌}
+use Rattle.std.proofs.Common.{◌≡◌, ℕ, ◌++◌, Bool, true, false, cond, if◌then◌else◌, unwrap_or, List, [], ◌∷◌, fold, Option, Some, None, inl, inr, refl, sym, ap, ap₂, subst, ◌∙◌}
 use Rattle.std.proofs.Math.Path.{fun_ext}
 use Rattle.std.proofs.lemmas.Bool.{cases_Bool}
 use Rattle.std.proofs.lemmas.Cmp.{tied_itself}
@@ -8,9 +8,10 @@ use Rattle.std.proofs.lemmas.Map.Entries.{lookup_head, lookup_tail, none_below_h
 use Rattle.std.proofs.lemmas.Map.Keys.{IsDistinct-from_sorted, sorted_tail}
 use Rattle.std.proofs.lemmas.Map.Lookups.{CmpEqualImpliesEq}
 use Rattle.std.proofs.lemmas.Map.Made.{update_all_distinct, update_all_none}
-use Rattle.std.specs.BTreeMap.{BTreeMap, insert_entry, is_at, IsFromIterResult}
+use Rattle.std.specs.Prelude.{⊤}
+use Rattle.std.specs.BTreeMap.{insert_entry, is_at}
 use Rattle.std.specs.Cmp.{IsTotalOrder, eq_by_cmp_equiv}
-use Rattle.std.specs.List.{AllByRecursion}
+use Rattle.std.specs.List.{AllByRecursion, filter}
 use Rattle.std.specs.List.Sorted.{IsStrictlySortedBy}
 use Rattle.std.specs.Map.{keys_of, lookup, update, update_all}
 use Rattle.std.specs.Option.{option_or}
@@ -43,6 +44,24 @@ either_order true true v w l never = absurd (never refl refl)
 either_order true false v w l never = refl
 either_order false true v w l never = refl
 either_order false false v w l never = refl
+
+-- at most one of the two is there
+one_of_both : {X : Type 0} (b : Bool) (v : X) (l : Option X) → l ≡ (if b then None else cond b (Some v) l) → cond b (Some v) l ≡ option_or l (cond b (Some v) None)
+one_of_both true v l h = ap (λ m. option_or m (Some v)) (sym h)
+one_of_both false v None h = refl
+one_of_both false v (Some w) h = refl
+
+-- of several with one key that stand together the last
+abbrev pub lasts : {K X : Type 0} → (K → K → Ordering) → List (K × X) → List (K × X)
+lasts R [] = []
+lasts R (e ∷ []) = e ∷ []
+lasts R (e ∷ f ∷ es) = if is_eq (R e.0 f.0) then lasts R (f ∷ es) else e ∷ lasts R (f ∷ es)
+
+-- no key comes after the next one
+abbrev pub Rises : {K X : Type 0} → (K → K → Ordering) → List (K × X) → Type 0
+Rises R [] = ⊤
+Rises R (e ∷ []) = ⊤
+Rises R (e ∷ f ∷ es) = (R e.0 f.0 ≡ Greater → ⊥) × Rises R (f ∷ es)
 
 module _ {K X : Type 0} {R : K → K → Ordering} (o : IsTotalOrder R) where
   -- what stands with a key
@@ -145,10 +164,6 @@ module _ {K X : Type 0} {R : K → K → Ordering} (o : IsTotalOrder R) where
           ap₂ (λ e es. e ∷ es) first
           (ih (λ q. found-rest x xs s q ∙ ap₂ (λ k l. if is_eq (R q k) then None else l) key (h q) ∙ sym (found-rest y ys t q)))
 
-    -- all sorted at once
-    pub sorted-is : (list : List (K × X)) (m : BTreeMap K X) → IsFromIterResult R list m → m.entries ≡ all [] list
-    sorted-is list m made = same m.entries (all [] list) made.1 (all-sorted [] list (none-sorted R)) (λ q. made.0 q ∙ sym (all-found [] list q))
-
     -- what is sorted stays as it is
     pub sorted-stays : (es : List (K × X)) → IsSorted es → all [] es ≡ es
     sorted-stays es s =
@@ -168,6 +183,84 @@ module _ {K X : Type 0} {R : K → K → Ordering} (o : IsTotalOrder R) where
           go true = refl
           go false = e
 
+    -- ---- put in turn, each where it belongs, or sorted and the last of each key kept
+    at_key : (f g : K → Option X) (es : List (K × X)) (q : K) → f q ≡ g q → update_all (eq_by_cmp R) f es q ≡ update_all (eq_by_cmp R) g es q
+    at_key f g [] q e = e
+    at_key f g (p ∷ es) q e =
+        at_key (update (eq_by_cmp R) f p.0 (Some p.1)) (update (eq_by_cmp R) g p.0 (Some p.1)) es q
+        (ap (λ l. cond (eq_by_cmp R p.0 q) (Some p.1) l) e)
+
+    lasts-below : (k : K) (f : K × X) (es : List (K × X)) → Rises R (f ∷ es) → R k f.0 ≡ Less →
+        AllByRecursion (λ y. R k y ≡ Less) (keys_of (lasts R (f ∷ es)))
+    lasts-below k f [] r l = (l, tt)
+    lasts-below k f (g ∷ es) r l = go (R f.0 g.0) refl (lasts-below k g es r.1) where
+      go : (c : Ordering) → R f.0 g.0 ≡ c → (R k g.0 ≡ Less → AllByRecursion (λ y. R k y ≡ Less) (keys_of (lasts R (g ∷ es)))) →
+          AllByRecursion (λ y. R k y ≡ Less) (keys_of (if is_eq c then lasts R (g ∷ es) else f ∷ lasts R (g ∷ es)))
+      go Less h ih = (l, ih (o.trans k f.0 g.0 l h))
+      go Equal h ih = ih (subst (λ y. R k y ≡ Less) (exact f.0 g.0 h) l)
+      go Greater h ih = absurd (r.0 h)
+
+    lasts-sorted : (es : List (K × X)) → Rises R es → IsSorted (lasts R es)
+    unfolding IsStrictlySortedBy
+    lasts-sorted [] r = tt
+    lasts-sorted (e ∷ []) r = (tt, tt)
+    lasts-sorted (e ∷ f ∷ es) r = go (R e.0 f.0) refl (lasts-sorted (f ∷ es) r.1) where
+      go : (c : Ordering) → R e.0 f.0 ≡ c → IsSorted (lasts R (f ∷ es)) → IsSorted (if is_eq c then lasts R (f ∷ es) else e ∷ lasts R (f ∷ es))
+      go Less h ih = (lasts-below e.0 f es r.1 h, ih)
+      go Equal h ih = ih
+      go Greater h ih = absurd (r.0 h)
+
+    before-sorted : (e f : K × X) (es : List (K × X)) → Rises R (f ∷ es) → R e.0 f.0 ≡ Less → IsSorted (e ∷ lasts R (f ∷ es))
+    unfolding IsStrictlySortedBy
+    before-sorted e f es r h = (lasts-below e.0 f es r h, lasts-sorted (f ∷ es) r)
+
+    lasts-found : (es : List (K × X)) (q : K) → Rises R es → found (lasts R es) q ≡ update_all (eq_by_cmp R) (λ _. None) es q
+    lasts-found [] q r = refl
+    lasts-found (e ∷ []) q r = ap (λ b. cond b (Some e.1) None) (both_ways e.0 e.1 q)
+    lasts-found (e ∷ f ∷ es) q r = go (R e.0 f.0) refl (lasts-found (f ∷ es) q r.1) where
+      after : K → Option X
+      after = update (eq_by_cmp R) (λ _. None) e.0 (Some e.1)
+
+      go : (c : Ordering) → R e.0 f.0 ≡ c → found (lasts R (f ∷ es)) q ≡ update_all (eq_by_cmp R) (λ _. None) (f ∷ es) q →
+          found (if is_eq c then lasts R (f ∷ es) else e ∷ lasts R (f ∷ es)) q ≡ update_all (eq_by_cmp R) after (f ∷ es) q
+      go Less h ih =
+          one_of_both (is_eq (R q e.0)) e.1 (found (lasts R (f ∷ es)) q) (found-rest e (lasts R (f ∷ es)) (before-sorted e f es r.1 h) q)
+          ∙ ap₂ (λ l b. option_or l (cond b (Some e.1) None)) ih (both_ways e.0 e.1 q)
+          ∙ sym (at_least after (λ _. None) after (f ∷ es) q refl)
+      go Equal h ih =
+          ih
+          ∙ at_key (update (eq_by_cmp R) (λ _. None) f.0 (Some f.1)) (update (eq_by_cmp R) after f.0 (Some f.1)) es q
+          (asked_twice (eq_by_cmp R f.0 q) f.1 e.1 None
+          ∙ ap (λ k. cond (eq_by_cmp R f.0 q) (Some f.1) (cond (eq_by_cmp R k q) (Some e.1) None)) (sym (exact e.0 f.0 h)))
+      go Greater h ih = absurd (r.0 h)
+
+    pub lasts-all : (es : List (K × X)) → Rises R es → lasts R es ≡ all [] es
+    lasts-all es r =
+        same (lasts R es) (all [] es) (lasts-sorted es r) (all-sorted [] es (none-sorted R)) (λ q. lasts-found es q r ∙ sym (all-found [] es q))
+
+    -- only the entries with a key tell what is found there
+    with_key : (g : K → Option X) (es : List (K × X)) (q : K) →
+        update_all (eq_by_cmp R) g es q ≡ update_all (eq_by_cmp R) g (filter (λ e. eq_by_cmp R e.0 q) es) q
+    with_key g [] q = refl
+    with_key g (p ∷ es) q = go (eq_by_cmp R p.0 q) refl (with_key next es q) where
+      next : K → Option X
+      next = update (eq_by_cmp R) g p.0 (Some p.1)
+
+      rest : List (K × X)
+      rest = filter (λ e. eq_by_cmp R e.0 q) es
+
+      go : (b : Bool) → eq_by_cmp R p.0 q ≡ b → update_all (eq_by_cmp R) next es q ≡ update_all (eq_by_cmp R) next rest q →
+          update_all (eq_by_cmp R) next es q ≡ update_all (eq_by_cmp R) g (cond b (p ∷ rest) rest) q
+      go true h ih = ih
+      go false h ih = ih ∙ at_key next g rest q (ap (λ b. cond b (Some p.1) (g q)) h)
+
+    pub all-alike : (es fs : List (K × X)) →
+        ((q : K) → filter (λ e. eq_by_cmp R e.0 q) es ≡ filter (λ e. eq_by_cmp R e.0 q) fs) → all [] es ≡ all [] fs
+    all-alike es fs h =
+        same (all [] es) (all [] fs) (all-sorted [] es (none-sorted R)) (all-sorted [] fs (none-sorted R))
+        (λ q. all-found [] es q ∙ with_key (found []) es q ∙ ap (λ l. update_all (eq_by_cmp R) (found []) l q) (h q)
+        ∙ sym (with_key (found []) fs q) ∙ sym (all-found [] fs q))
+
     pub all-together : (es more : List (K × X)) → IsSorted es → all es (all [] more) ≡ all es more
     all-together es more s =
         let own = all-sorted [] more (none-sorted R) in
@@ -179,10 +272,10 @@ module _ {K X : Type 0} {R : K → K → Ordering} (o : IsTotalOrder R) where
         ∙ sym (all-found es more q))
 
 -- ---- assertions with their margins
-abbrev order : Assertion → Assertion → Ordering
+abbrev pub order : Assertion → Assertion → Ordering
 order = ghosts.cmp
 
-exact_order : CmpEqualImpliesEq order
+pub exact_order : CmpEqualImpliesEq order
 exact_order a b e = (cmp-Equal a b).0 e
 
 abbrev pub entries : List (Assertion × ℕ) → List (Assertion × ℕ)
@@ -199,8 +292,12 @@ entries-joined own its =
     fold-append (λ (so_far : List (Assertion × ℕ)) (entry : Assertion × ℕ). insert_entry order so_far entry.0 entry.1) [] own its
     ∙ sym (all-together cmp_total exact_order (entries own) its (entries-sorted own))
 
-pub entries-at_once : (list : List (Assertion × ℕ)) (m : BTreeMap Assertion ℕ) → IsFromIterResult order list m → m.entries ≡ entries list
-entries-at_once list m made = sorted-is cmp_total exact_order list m made
+pub entries-alike : (es fs : List (Assertion × ℕ)) → ((a : Assertion) → filter (λ e. is_eq (order e.0 a)) es ≡ filter (λ e. is_eq (order e.0 a)) fs) →
+    entries es ≡ entries fs
+entries-alike es fs h = all-alike cmp_total exact_order es fs h
+
+pub entries-lasts : (es : List (Assertion × ℕ)) → Rises order es → lasts order es ≡ entries es
+entries-lasts es r = lasts-all cmp_total exact_order es r
 
 pub entries-twice : (list : List (Assertion × ℕ)) → entries (entries list) ≡ entries list
 entries-twice list = all-twice cmp_total exact_order list

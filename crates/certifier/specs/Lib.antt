@@ -1,4 +1,5 @@
 pub mod Gathered
+pub mod InOrder
 pub mod Counts
 pub mod Walks
 pub mod Known

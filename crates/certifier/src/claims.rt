@@ -1,13 +1,12 @@
 // Assertions with their margins, gathered in any order.
 ghost use Rattle.std.specs.Prelude.{◌≡◌, [], map, IfOk, OnOk};
-ghost use Rattle.std.specs.BTreeMap.{insert_entry, IsFromIterResult};
+ghost use Rattle.std.specs.BTreeMap.{insert_entry};
 ghost use Rattle.certifier.specs.Gathered.{with_all, claim_at};
 
-use crate::certificate::listed;
+use crate::in_order::in_order;
 use assertions::{Assertion, Claim};
 use irv_base::Memory;
 use std::alloc::Global;
-use std::collections::BTreeMap;
 use std::marker::Model;
 
 // How long a list grows before it is sorted: the walks of a contest of 15 candidates put fewer.
@@ -18,7 +17,7 @@ const FIRST_SORT: usize = 1 << 18;
 /// To a contract they are the entries in the fixed order.
 #[derive(Drop)]
 pub struct Claims {
-    // As they were put: of several with one assertion the last counts. To put them at their places at once would take longer.
+    // As they were put: of several with one assertion the last counts. To put each at its place at once would take longer.
     list: Vec<(Assertion, u32)>,
     // How long the list may grow before each assertion is left once.
     most: usize,
@@ -34,13 +33,6 @@ impl Model for Claims {
     ghost use Rattle.certifier.specs.Gathered.{with_all};
 
     ghost view = { λ claims. with_all ghosts.cmp [] claims.list.items };
-}
-
-// The entries of the list, put in turn.
-fn sorted(alloc: Global, list: &[(Assertion, u32)]) -> Result<BTreeMap<Assertion, u32>, Memory>
-    ensures { IfOk result (IsFromIterResult ⟦<Assertion as Ord>⟧.cmp list.now) }
-{
-    Ok(list.iter().copied().collect(alloc)?)
 }
 
 impl Claims {
@@ -79,18 +71,17 @@ impl Claims {
     pub fn listed(&self, alloc: Global) -> Result<Vec<Claim>, Memory>
         ensures { IfOk result (λ list. list.items ≡ map claim_at self.now) }
     {
-        let entries = sorted(alloc, self.list.as_slice())?;
-        listed(alloc, &entries)
+        in_order(alloc, self.list.as_slice())
     }
 
     /// Sorts them, so that they take less room, and less time when they are listed.
     pub fn shorten(&mut self) -> Result<(), Memory>
         ensures { OnOk result (self.new ≡ self.old) }
     {
-        let entries = sorted(*self.list.allocator(), self.list.as_slice())?;
+        let claims = in_order(*self.list.allocator(), self.list.as_slice())?;
         self.list.clear();
-        for (assertion, margin) in &entries {
-            self.list.push((*assertion, *margin))?;
+        for claim in &claims {
+            self.list.push((claim.assertion, claim.margin))?;
         }
         self.most = FIRST_SORT.max(self.list.len().saturating_mul(2));
         Ok(())

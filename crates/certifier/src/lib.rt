@@ -7,6 +7,7 @@ mod claims;
 mod counts;
 mod fault;
 mod gather;
+mod in_order;
 pub mod laws;
 mod part;
 mod team;

@@ -5,7 +5,7 @@
     build/more_must_fail.py --look      sees that each wrong body, also of must-fail/, can be applied: what it changes stands once in its file
 
 They are tried by `rt ci` over a copy of the crates, in which they take the place of those in must-fail/. What an earlier run proved on this
-machine isn't proved again.
+machine isn't proved again, if the kit can keep it.
 """
 import glob
 import os

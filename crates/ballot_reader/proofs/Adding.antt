@@ -1,6 +1,6 @@
 -- One ballot more.
 use Rattle.std.proofs.Common.{◌≡◌, ◌<◌, ◌+◌, ◌∙◌, ◌++◌, ◌∷◌, [], ℕ, zero, suc, true, false, not, List, Option, Some, None, Err, length, map, set, refl, sym, ap, subst, arith, inl, inr, length-append, eqb-true}
-use Rattle.std.specs.Prelude.{All, Bool, IsTrue, is_some, nat_eq, nat_lt, option_map, if◌then◌else◌}
+use Rattle.std.specs.Prelude.{All, Bool, IfSome, IsTrue, is_some, nat_eq, nat_lt, option_map, if◌then◌else◌}
 use Rattle.std.specs.List.{slice_get}
 use Rattle.std.specs.Cmp.Lexicographic.{bytes_decides}
 use Rattle.std.proofs.lemmas.Bool.{and_parts, cases_Bool, eqb-false, false≢true, not-true}
@@ -11,8 +11,9 @@ use Rattle.csv_rows.specs.Rows.{Fields}
 use Rattle.irv_base.specs.Candidates.{is_distinct}
 use Rattle.irv_base.specs.Names.{Id, is_among, is_same, all_differ}
 use Rattle.irv_base.specs.declared.limits.TheConstants.{MOST_RECORDS}
+use Rattle.set_tallies.specs.declared.bag.TheConstants.{ALWAYS_SUMMED}
 use Rattle.ballot_reader.specs.Grammar.{Ballot, Contest, ballot_for, ballot_ids, ballot_in, ballot_of, ballot_with, ballots_in, ranking_of}
-use Rattle.ballot_reader.specs.Kept.{AllNoted, AreApart, IsKept, KeepsAudited, KeptBallots, KeptOrigins, KeptPart, WantsAudited, contest_ids, is_wanted, keeps_origins, part_of, parts_from, rankings_in, with_ballot, with_origin}
+use Rattle.ballot_reader.specs.Kept.{AllNoted, AreApart, CountsOwn, EachCountsOwn, IsKept, KeepsAudited, KeptBallots, KeptOrigins, KeptPart, WantsAudited, contest_ids, counted_for, is_wanted, keeps_origins, part_of, parts_from, rankings_in, with_ballot, with_origin}
 use Rattle.ballot_reader.specs.Noted.{AreNoted}
 use Rattle.ballot_reader.specs.declared.noted.Noted.{Noted}
 use Rattle.ballot_reader.specs.declared.fault.BRule.TheVariants.{B9, B10}
@@ -152,27 +153,29 @@ same_at xs k x y g h = same_some (slice_get xs k) x y g h
 abbrev origins_with : List Ballot → KeptOrigins
 origins_with own = record { ids = map (λ (x : Ballot). x.id) own; places = map (λ (x : Ballot). x.at) own }
 
-abbrev part_with : Bool → List Ballot → KeptPart
-part_with keeps own = record { origins = if keeps then Some (origins_with own) else None; rankings = map (λ (x : Ballot). x.ranking) own }
+abbrev part_with : Bool → Option ℕ → List Ballot → KeptPart
+part_with keeps counted own = record { origins = if keeps then Some (origins_with own) else None; counted = counted; rankings = map (λ (x : Ballot). x.ranking) own }
 
 origins-push : (own : List Ballot) (b : Ballot) → origins_with (own ++ b ∷ []) ≡ with_origin (origins_with own) b.id b.at
 origins-push own b =
     ap (λ ids. record { ids = ids; places = map (λ (x : Ballot). x.at) (own ++ b ∷ []) }) (map-append (λ (x : Ballot). x.id) own (b ∷ []))
     ∙ ap (λ ats. record { ids = map (λ (x : Ballot). x.id) own ++ b.id ∷ []; places = ats }) (map-append (λ (x : Ballot). x.at) own (b ∷ []))
 
-part-push : (keeps : Bool) (own : List Ballot) (b : Ballot) → part_with keeps (own ++ b ∷ []) ≡ with_ballot (part_with keeps own) b.id b.at b.ranking
-part-push true own b =
-    ap (λ origins. record { origins = Some origins; rankings = map (λ (x : Ballot). x.ranking) (own ++ b ∷ []) }) (origins-push own b)
-    ∙ ap (λ rs. record { origins = Some (with_origin (origins_with own) b.id b.at); rankings = rs }) (map-append (λ (x : Ballot). x.ranking) own (b ∷ []))
-part-push false own b = ap (λ rs. record { origins = None; rankings = rs }) (map-append (λ (x : Ballot). x.ranking) own (b ∷ []))
+part-push : (keeps : Bool) (counted : Option ℕ) (own : List Ballot) (b : Ballot) →
+    part_with keeps counted (own ++ b ∷ []) ≡ with_ballot (part_with keeps counted own) b.id b.at b.ranking
+part-push true counted own b =
+    ap (λ origins. record { origins = Some origins; counted = counted; rankings = map (λ (x : Ballot). x.ranking) (own ++ b ∷ []) }) (origins-push own b)
+    ∙ ap (λ rs. record { origins = Some (with_origin (origins_with own) b.id b.at); counted = counted; rankings = rs }) (map-append (λ (x : Ballot). x.ranking) own (b ∷ []))
+part-push false counted own b = ap (λ rs. record { origins = None; counted = counted; rankings = rs }) (map-append (λ (x : Ballot). x.ranking) own (b ∷ []))
 
 part-own : (keeps : Bool) (contest : Contest) (ballots : List Ballot) (b : Ballot) → is_same b.contest contest.id ≡ true →
     part_of keeps (ballots ++ b ∷ []) contest ≡ with_ballot (part_of keeps ballots contest) b.id b.at b.ranking
-part-own keeps contest ballots b h = ap (part_with keeps) (pushed-own contest.id ballots b h) ∙ part-push keeps (ballots_in contest.id ballots) b
+part-own keeps contest ballots b h = ap (part_with keeps (counted_for keeps contest)) (pushed-own contest.id ballots b h)
+    ∙ part-push keeps (counted_for keeps contest) (ballots_in contest.id ballots) b
 
 part-other : (keeps : Bool) (contest : Contest) (ballots : List Ballot) (b : Ballot) → is_same b.contest contest.id ≡ false →
     part_of keeps (ballots ++ b ∷ []) contest ≡ part_of keeps ballots contest
-part-other keeps contest ballots b h = ap (part_with keeps) (pushed-other contest.id ballots b h)
+part-other keeps contest ballots b h = ap (part_with keeps (counted_for keeps contest)) (pushed-other contest.id ballots b h)
 
 abbrev pub wanted_part : ℕ → Wanted → List Ballot → Contest → Option KeptPart
 wanted_part place wanted ballots contest = if is_wanted wanted place then Some (part_of (keeps_origins wanted) ballots contest) else None
@@ -331,4 +334,24 @@ keeps_audited contests wanted ballots parts sized e place contest part there h =
   where
     by : (b : Bool) → (if b then Some (part_of (keeps_origins wanted) ballots contest) else None) ≡ Some part → b ≡ true
     by true g = refl
+    by false g = absurd cc
+
+-- it counts ballots of its own contest
+pub own_counted : (keeps : Bool) (contest : Contest) → IfSome (counted_for keeps contest) (λ n. n ≡ length contest.candidates)
+own_counted true contest = tt
+own_counted false contest = by (nat_lt ALWAYS_SUMMED (length contest.candidates)) where
+  by : (b : Bool) → IfSome (if b then None else Some (length contest.candidates)) (λ n. n ≡ length contest.candidates)
+  by true = tt
+  by false = refl
+
+pub each_counts_own : (contests : List Contest) (wanted : Wanted) (ballots : List Ballot) (parts : List (Option KeptPart)) →
+    parts ≡ parts_from 0 wanted ballots contests → EachCountsOwn contests parts
+each_counts_own contests wanted ballots parts e place contest part there h =
+    by (is_wanted wanted place)
+    (let at : 0 + place ≡ place = omega arith in
+    sym (ap (λ k. wanted_part k wanted ballots contest) at) ∙ same_at parts place (wanted_part (0 + place) wanted ballots contest) (Some part)
+    (ap (λ xs. slice_get xs place) e ∙ part-at 0 wanted ballots contests place contest there) h)
+  where
+    by : (b : Bool) → (if b then Some (part_of (keeps_origins wanted) ballots contest) else None) ≡ Some part → CountsOwn contest part
+    by true g = let same : part_of (keeps_origins wanted) ballots contest ≡ part = cc in subst (CountsOwn contest) same (own_counted (keeps_origins wanted) contest)
     by false g = absurd cc

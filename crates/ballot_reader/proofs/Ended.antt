@@ -3,7 +3,8 @@ use Rattle.std.proofs.Common.{◌≡◌, ◌≤◌, ◌<◌, ◌+◌, ◌∙◌,
 use Rattle.std.specs.Prelude.{All, IsTrue, filter, find, if◌then◌else◌}
 use Rattle.std.specs.List.{slice_get}
 use Rattle.std.proofs.lemmas.Bool.{cases_Bool}
-use Rattle.std.proofs.lemmas.List.{length-map, length-take-le}
+use Rattle.std.proofs.lemmas.List.{get_or_default, length-map, length-take-le}
+use Rattle.std.proofs.lemmas.Option.{slice_get_read}
 use Rattle.std.proofs.lemmas.List.Elements.{All-nil}
 use Rattle.std.proofs.Math.Seq.{take-suc}
 use Rattle.irv_base.specs.Candidates.{is_distinct}
@@ -46,26 +47,30 @@ kept-none contests wanted kept l i p c = record {
 
 pub parts-push : (place : ℕ) (wanted : Wanted) (contests : List Contest) (contest : Contest) →
     parts_from place wanted [] (contests ++ contest ∷ [])
-    ≡ parts_from place wanted [] contests ++ (if is_wanted wanted (place + length contests) then Some (empty_part (keeps_origins wanted)) else None) ∷ []
+    ≡ parts_from place wanted [] contests ++ (if is_wanted wanted (place + length contests) then Some (empty_part (keeps_origins wanted) contest) else None) ∷ []
 parts-push place wanted [] contest =
     let e : place ≡ place + 0 = omega arith in
-    ap (λ k. (if is_wanted wanted k then Some (empty_part (keeps_origins wanted)) else None) ∷ []) e
+    ap (λ k. (if is_wanted wanted k then Some (empty_part (keeps_origins wanted) contest) else None) ∷ []) e
 parts-push place wanted (c ∷ contests) contest =
     let e : (place + 1) + length contests ≡ place + suc (length contests) = omega arith in
-    ap (λ more. (if is_wanted wanted place then Some (empty_part (keeps_origins wanted)) else None) ∷ more) (parts-push (place + 1) wanted contests contest
-    ∙ ap (λ k. parts_from (place + 1) wanted [] contests ++ (if is_wanted wanted k then Some (empty_part (keeps_origins wanted)) else None) ∷ []) e)
+    ap (λ more. (if is_wanted wanted place then Some (empty_part (keeps_origins wanted) c) else None) ∷ more) (parts-push (place + 1) wanted contests contest
+    ∙ ap (λ k. parts_from (place + 1) wanted [] contests ++ (if is_wanted wanted k then Some (empty_part (keeps_origins wanted) contest) else None) ∷ []) e)
 
 pub more-parts : (wanted : Wanted) (contests : List Contest) (k : ℕ) (parts : List (Option KeptPart)) (part : Option KeptPart) → k < length contests →
-    parts ≡ parts_from 0 wanted [] (take k contests) → part ≡ (if is_wanted wanted k then Some (empty_part (keeps_origins wanted)) else None) →
+    parts ≡ parts_from 0 wanted [] (take k contests) →
+    ((contest : Contest) → slice_get contests k ≡ Some contest →
+    part ≡ (if is_wanted wanted k then Some (empty_part (keeps_origins wanted) contest) else None)) →
     parts ++ part ∷ [] ≡ parts_from 0 wanted [] (take (k + 1) contests)
 more-parts wanted contests k parts part less before last =
     let none : Contest = record { at = 0; id = []; candidates = [] } in
+    let contest : Contest = get_or contests k none in
+    let there : slice_get contests k ≡ Some contest = slice_get_read contests (length contests) k contest refl less (get_or_default contests k none contest less) in
     let taken : 0 + length (take k contests) ≡ k = omega (arith, less, length-take-le k contests (omega (arith, less))) in
     let next : suc k ≡ k + 1 = omega arith in
     ap (λ ps. ps ++ part ∷ []) before
-    ∙ ap (λ p. parts_from 0 wanted [] (take k contests) ++ p ∷ []) (last
-    ∙ ap (λ i. if is_wanted wanted i then Some (empty_part (keeps_origins wanted)) else None) (sym taken))
-    ∙ sym (parts-push 0 wanted (take k contests) (get_or contests k none))
+    ∙ ap (λ p. parts_from 0 wanted [] (take k contests) ++ p ∷ []) (last contest there
+    ∙ ap (λ i. if is_wanted wanted i then Some (empty_part (keeps_origins wanted) contest) else None) (sym taken))
+    ∙ sym (parts-push 0 wanted (take k contests) contest)
     ∙ ap (parts_from 0 wanted []) (sym (take-suc contests k none less) ∙ ap (λ i. take i contests) next)
 
 filter-le : {X : Type 0} (p : X → Bool) (xs : List X) → length (filter p xs) ≤ length xs

@@ -14,6 +14,7 @@ pub mod Missed
 pub mod Rereads
 pub mod SortedIds
 pub mod IdBytes
+pub mod Words
 pub mod Marks
 pub mod Noting
 pub mod OfBoth

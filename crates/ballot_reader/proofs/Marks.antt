@@ -1,5 +1,5 @@
 -- Two ids of one page whose bits are the same are the same.
-use Rattle.std.proofs.Common.{◌≡◌, ◌≢◌, ◌≤◌, ◌<◌, ◌+◌, ◌-◌, ◌*◌, ◌/◌, ◌%◌, ◌^◌, ◌∙◌, ◌∷◌, ◌++◌, ◌==◌, ◌&&◌, ◌||◌, [], ℕ, zero, suc, Bool, true, false, List, Option, Some, None, get_or, length, drop, refl, sym, ap, ap₂, arith, rules, eqb-true, eq-eqb, Fits, w8, inl, inr}
+use Rattle.std.proofs.Common.{◌≡◌, ◌≢◌, ◌≤◌, ◌<◌, ◌+◌, ◌-◌, ◌*◌, ◌/◌, ◌%◌, ◌^◌, ◌∙◌, ◌∷◌, ◌++◌, ◌==◌, ◌&&◌, ◌||◌, [], ℕ, zero, suc, Bool, true, false, List, Option, Some, None, get_or, length, drop, refl, sym, ap, ap₂, arith, eqb-true, eq-eqb, Fits, w8, inl, inr}
 use Rattle.std.specs.Prelude.{nat_lt}
 use Rattle.std.specs.Prelude.{not, if◌then◌else◌}
 use Rattle.std.specs.BTreeMap.{get}
@@ -10,9 +10,10 @@ use Rattle.std.specs.Cmp.{both_ways}
 use Rattle.std.proofs.lemmas.Bool.{and_from, and_parts, cases_Bool, cases_eq, false≢true, ne_eqb}
 use Rattle.std.proofs.lemmas.List.{length-drop, take-append-drop}
 use Rattle.irv_base.specs.Names.{Id, is_same}
-use Rattle.ballot_reader.specs.Ids.{AreBytes, bit_of, counted, digest, front, has_bit, is_elsewhere, is_for_others, is_like, is_of, is_on, is_paged, number_behind, page_at, page_number}
+use Rattle.ballot_reader.specs.Ids.{AreBytes, HasTurned, bit_of, counted, digest, front, has_bit, is_elsewhere, is_for_others, is_like, is_of, is_on, is_paged, no_bits, number_behind, page_at, page_number}
 use Rattle.ballot_reader.specs.declared.pages.Pages.{Pages}
 use Rattle.ballot_reader.specs.declared.page.Page.{Page}
+use Rattle.ballot_reader.proofs.Words.{nothing-set}
 
 -- ---- numbers of bytes
 
@@ -76,7 +77,7 @@ same-behind : (d i j : ℕ) → i < 2 ^ 64 → j < 2 ^ 64 → (d + i) % 2 ^ 64 �
 same-behind d i j less few h = omega (arith, less, few, h)
 
 -- what is counted is told by the bit and by what is added to the digest
-same-count : (c e : ℕ) → c / 1024 * 16 + c / 16 % 16 ≡ e / 1024 * 16 + e / 16 % 16 → bit_of c ≡ bit_of e → c ≡ e
+same-count : (c e : ℕ) → c / 4096 * 16 + c / 16 % 16 ≡ e / 4096 * 16 + e / 16 % 16 → bit_of c ≡ bit_of e → c ≡ e
 same-count c e page bit = omega (arith, page, bit)
 
 -- ---- an id on its page
@@ -108,8 +109,8 @@ room-some (suc (suc (suc (suc (suc (suc k)))))) h = absurd (omega (arith, h))
 pub same-id : (a b : Id) → AreBytes a → AreBytes b → length a ≡ length b → front a ≡ front b → page_number a ≡ page_number b →
     bit_of (counted a) ≡ bit_of (counted b) → a ≡ b
 same-id a b a-bytes b-bytes long fronts numbers bits =
-    let i = counted a / 1024 * 16 + counted a / 16 % 16 in
-    let j = counted b / 1024 * 16 + counted b / 16 % 16 in
+    let i = counted a / 4096 * 16 + counted a / 16 % 16 in
+    let j = counted b / 4096 * 16 + counted b / 16 % 16 in
     let i-less : i < 2 ^ 64 = omega (arith, count-less a) in
     let j-less : j < 2 ^ 64 = omega (arith, count-less b) in
     let pages : (digest (front a) + i) % 2 ^ 64 ≡ (digest (front a) + j) % 2 ^ 64 = numbers ∙ ap (λ f. (digest f + j) % 2 ^ 64) (sym fronts) in
@@ -152,7 +153,7 @@ or-comm true false = refl
 or-comm false true = refl
 or-comm false false = refl
 
-pub one-more : (page : Page) (id other : Id) (bits : ℕ) → AreBytes id → AreBytes other → is_of page id ≡ true → page_number other ≡ page_number id →
+pub one-more : (page : Page) (id other : Id) (bits : List ℕ) → AreBytes id → AreBytes other → is_of page id ≡ true → page_number other ≡ page_number id →
     ((b : ℕ) → has_bit bits b ≡ (has_bit page.bits b || (b == bit_of (counted id)))) →
     is_on (Some (record { like = page.like; bits = bits })) other ≡ (is_same id other || is_on (Some page) other)
 one-more page id other bits id-bytes other-bytes own numbers h = elim (cases_Bool (is_of page other)) [
@@ -180,23 +181,20 @@ other-page id other h = elim (cases_Bool (is_same id other)) [
 
 -- ---- a page that is opened
 
-nothing-set : (bit : ℕ) → has_bit 0 bit ≡ false
-nothing-set bit = search rules
-
 pub and-none : (a b : Bool) → b ≡ false → (a && b) ≡ false
 and-none true b h = h
 and-none false b h = refl
 
-none-on : (page : Page) (id : Id) → page.bits ≡ 0 → is_on (Some page) id ≡ false
+none-on : (page : Page) (id : Id) → page.bits ≡ no_bits → is_on (Some page) id ≡ false
 none-on page id h =
     and-none (is_of page id) (has_bit page.bits (bit_of (counted id)))
     (ap (λ n. has_bit n (bit_of (counted id))) h ∙ nothing-set (bit_of (counted id)))
 
 -- it is the one that was there, or a new one, on which nothing is set
-pub opened : (page : Page) (before : Option Page) (id : Id) → ((p : Page) → before ≡ Some p → Some page ≡ Some p) →
-    (before ≡ None → page.bits ≡ 0) → is_on (Some page) id ≡ is_on before id
-opened page None id found made = none-on page id (made refl)
-opened page (Some p) id found made = ap (λ q. is_on q id) (found p refl)
+pub opened : (page : Page) (before : Option Page) (id : Id) → ((p : Page) → before ≡ Some p → page ≡ p) →
+    (before ≡ None → page.bits ≡ no_bits) → is_on (Some page) id ≡ is_on before id
+opened page None id found blank = none-on page id (blank refl)
+opened page (Some p) id found blank = ap (λ q. is_on (Some q) id) (found p refl)
 
 small : (b : ℕ) → Fits w8 b → nat_lt b 256 ≡ true
 small b h = grind (arith, h)
@@ -218,12 +216,18 @@ beside pages page n number h away =
     ap (λ b. if b then Some page else get nat_cmp pages.closed n) other
     ∙ sym (ap (λ b. if b then Some pages.page else get nat_cmp pages.closed n) other)
 
-pub kept-paged : (old new : Pages) (number : ℕ) (other : Id) → ((n : ℕ) → n ≢ number → page_at new n ≡ page_at old n) →
+kept-paged : (old new : Pages) (number : ℕ) (other : Id) → ((n : ℕ) → n ≢ number → page_at new n ≡ page_at old n) →
     is_on (page_at new number) other ≡ is_on (page_at old number) other → is_paged new other ≡ is_paged old other
 kept-paged old new number other others same = elim (cases_eq (page_number other) number) [
   | inl here ↦ ap (λ n. is_on (page_at new n) other) here ∙ same ∙ ap (λ n. is_on (page_at old n) other) (sym here)
   | inr away ↦ ap (λ p. is_on p other) (others (page_number other) away)
 ]
+
+-- that a page is opened marks no id
+pub turned-same : (old new : Pages) (number : ℕ) (id other : Id) → HasTurned old new number id → is_paged new other ≡ is_paged old other
+turned-same old new number id other told =
+    kept-paged old new number other told.others
+    (ap (λ page. is_on page other) (lies new number told.lies) ∙ opened new.page (page_at old number) other told.found told.blank)
 
 pub kept-elsewhere : (old new : Pages) (number : ℕ) (other : Id) → ((n : ℕ) → n ≢ number → page_at new n ≡ page_at old n) →
     (is_for_others (page_at old number) other ≡ true → is_for_others (page_at new number) other ≡ true) →
@@ -236,9 +240,8 @@ kept-elsewhere old new number other others same h = elim (cases_eq (page_number 
 ]
 
 -- whom a page is for stays as it was
-pub still : (page more : Page) (before : Option Page) (other : Id) → more.like ≡ page.like → ((p : Page) → before ≡ Some p → Some page ≡ Some p) →
+pub still : (page more : Page) (before : Option Page) (other : Id) → more.like ≡ page.like → ((p : Page) → before ≡ Some p → page ≡ p) →
     is_for_others before other ≡ true → is_for_others (Some more) other ≡ true
 still page more None other like found h = absurd (false≢true h)
 still page more (Some p) other like found h =
-    let same : page ≡ p = let e = found p refl in cc in
-    ap (λ l. not (is_like l other)) (like ∙ ap (λ (x : Page). x.like) same) ∙ h
+    ap (λ l. not (is_like l other)) (like ∙ ap (λ (x : Page). x.like) (found p refl)) ∙ h

@@ -1,43 +1,17 @@
 -- Two pages with one number, and the ids on both.
-use Rattle.std.proofs.Common.{◌≡◌, ◌<◌, ◌∙◌, ◌++◌, ◌==◌, ◌&&◌, ◌||◌, [], ℕ, Bool, true, false, List, Option, Some, None, max, length, bit_and, bit_or, refl, sym, ap, ap₂, arith, eqb-true, eq-eqb, ne_eqb, inl, inr}
-use Rattle.std.specs.Int.{bit_at}
+use Rattle.std.proofs.Common.{◌≡◌, ◌∙◌, ◌++◌, ◌==◌, ◌&&◌, ◌||◌, [], ℕ, Bool, true, false, List, Option, Some, None, length, refl, sym, ap, ap₂, eqb-true}
 use Rattle.std.specs.Cmp.Lexicographic.{bytes_decides}
 use Rattle.std.proofs.Math.Bool.{or-false}
-use Rattle.std.proofs.lemmas.Bool.{and_parts, and_right, cases_eq, false≢true, or_left}
+use Rattle.std.proofs.lemmas.Bool.{and_parts, and_right, false≢true}
 use Rattle.std.proofs.lemmas.List.Folds.{list_any-append}
-use Rattle.std.proofs.lemmas.Nat.Bits.{bit_at_and, bit_at_or, bit_at-lt, bit_at-zero}
 use Rattle.irv_base.specs.Names.{Id, is_among, is_same}
 use Rattle.ballot_reader.specs.Ids.{AreBytes, bit_of, counted, front, has_bit, is_like, is_on, is_paged, page_at, page_number}
-use Rattle.ballot_reader.specs.Joined.{are_apart, are_pages_apart, of_both, page_of_both, AreAllApart, AreOfBoth, ArePagesApart}
+use Rattle.ballot_reader.specs.Joined.{are_apart, are_pages_apart, of_both, page_of_both, share_none, AreAllApart, AreOfBoth, ArePagesApart}
 use Rattle.ballot_reader.specs.Noted.{AreNoted}
 use Rattle.ballot_reader.specs.declared.noted.Noted.{Noted}
 use Rattle.ballot_reader.specs.declared.page.Page.{Page}
 use Rattle.ballot_reader.specs.declared.pages.Pages.{Pages}
-
--- ---- bits
-
--- a bit of the greater of two
-either : (x y z : ℕ) → x < 2 → y < 2 → z ≡ max x y → (z == 1) ≡ ((x == 1) || (y == 1))
-either x y z less few e = elim (cases_eq x 1) [
-  | inl one ↦
-      let both : z ≡ 1 = omega (arith, e, one, few) in
-      eq-eqb z 1 both ∙ sym (or_left (x == 1) (y == 1) (eq-eqb x 1 one))
-  | inr none ↦
-      let same : z ≡ y = omega (arith, e, none, less) in
-      ap (λ n. n == 1) same ∙ sym (ap (λ b. b || (y == 1)) (ne_eqb x 1 none))
-]
-
-either-bit : (a b bit : ℕ) → has_bit (bit_or a b) bit ≡ (has_bit a bit || has_bit b bit)
-either-bit a b bit =
-    either (bit_at a bit) (bit_at b bit) (bit_at (bit_or a b) bit) (bit_at-lt a bit) (bit_at-lt b bit) (bit_at_or a b bit)
-
--- a bit that is set among the one isn't among the other
-other-bit : (a b bit : ℕ) → (bit_and a b == 0) ≡ true → has_bit a bit ≡ true → has_bit b bit ≡ false
-other-bit a b bit apart set =
-    let none : bit_at (bit_and a b) bit ≡ 0 = ap (λ n. bit_at n bit) (eqb-true (bit_and a b) 0 apart) ∙ bit_at-zero bit in
-    let one : bit_at a bit ≡ 1 = eqb-true (bit_at a bit) 1 set in
-    let least = bit_at_and a b bit in
-    ne_eqb (bit_at b bit) 1 (λ its. omega (arith, none, one, least, its))
+use Rattle.ballot_reader.proofs.Words.{bit-within, either-set, other-unset}
 
 -- ---- pages
 
@@ -52,29 +26,29 @@ and-either : (like a b : Bool) → (like && (a || b)) ≡ ((like && a) || (like 
 and-either true a b = refl
 and-either false a b = refl
 
-abbrev page : Option Id → ℕ → Page
+abbrev page : Option Id → List ℕ → Page
 page like bits = record { like = like; bits = bits }
 
-on-page : (a b : Option Id) (m n : ℕ) (id : Id) → are_pages_apart (page a m) (page b n) ≡ true →
+on-page : (a b : Option Id) (m n : List ℕ) (id : Id) → are_pages_apart (page a m) (page b n) ≡ true →
     is_on (Some (page_of_both (page a m) (page b n))) id ≡ (is_on (Some (page a m)) id || is_on (Some (page b n)) id)
 on-page None b m n id h = refl
 on-page (Some a) None m n id h = sym (or-false (is_on (Some (page (Some a) m)) id))
 on-page (Some a) (Some b) m n id h =
     let bit = bit_of (counted id) in
-    let (alike, apart) = and_parts (is_like (Some a) b) (bit_and m n == 0) h in
-    ap (λ v. is_like (Some a) id && v) (either-bit m n bit)
+    let (alike, apart) = and_parts (is_like (Some a) b) (share_none m n) h in
+    ap (λ v. is_like (Some a) id && v) (either-set m n bit (bit-within (counted id)))
     ∙ and-either (is_like (Some a) id) (has_bit m bit) (has_bit n bit)
     ∙ ap (λ l. (is_like (Some a) id && has_bit m bit) || (l && has_bit n bit)) (sym (same-like a b id alike))
 
-off-page : (a b : Option Id) (m n : ℕ) (id : Id) → are_pages_apart (page a m) (page b n) ≡ true →
+off-page : (a b : Option Id) (m n : List ℕ) (id : Id) → are_pages_apart (page a m) (page b n) ≡ true →
     is_on (Some (page a m)) id ≡ true → is_on (Some (page b n)) id ≡ false
 off-page None b m n id h on = absurd (false≢true on)
 off-page (Some a) None m n id h on = refl
 off-page (Some a) (Some b) m n id h on =
     let bit = bit_of (counted id) in
-    let (alike, apart) = and_parts (is_like (Some a) b) (bit_and m n == 0) h in
+    let (alike, apart) = and_parts (is_like (Some a) b) (share_none m n) h in
     let (own, set) = and_parts (is_like (Some a) id) (has_bit m bit) on in
-    and_right (is_like (Some b) id) (has_bit n bit) (other-bit m n bit apart set)
+    and_right (is_like (Some b) id) (has_bit n bit) (other-unset m n bit (bit-within (counted id)) apart set)
 
 on-both : (own its : Option Page) (id : Id) → are_apart own its ≡ true → is_on (of_both own its) id ≡ (is_on own id || is_on its id)
 on-both own None id h = sym (or-false (is_on own id))

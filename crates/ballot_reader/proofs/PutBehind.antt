@@ -11,7 +11,7 @@ use Rattle.irv_base.specs.Candidates.{is_distinct}
 use Rattle.irv_base.specs.Names.{Id, all_differ, is_among, is_same}
 use Rattle.irv_base.specs.declared.limits.TheConstants.{MOST_RECORDS}
 use Rattle.ballot_reader.specs.Grammar.{Ballot, Contest, ballot_ids}
-use Rattle.ballot_reader.specs.Kept.{AllNoted, AreApart, IsKeptUpTo, KeptBallots, KeptPart, WantsAudited, is_wanted, part_of, parts_from, rankings_in}
+use Rattle.ballot_reader.specs.Kept.{AllNoted, AreApart, IsKeptUpTo, KeptBallots, KeptPart, WantsAudited, counted_for, is_wanted, part_of, parts_from, rankings_in}
 use Rattle.ballot_reader.specs.Noted.{AreNoted}
 use Rattle.ballot_reader.specs.Parts.{AreJoined, AreMetApart, ArePutBehind, AreTogether, CanJoin, IsReadAlone, IsReadBehind, part_behind}
 use Rattle.ballot_reader.specs.declared.noted.Noted.{Noted}
@@ -95,8 +95,8 @@ parts-are place wanted ballots (c ∷ contests) (p ∷ parts) l h =
     h (suc k) contest there ∙ ap (λ at. Some (wanted_part at wanted ballots contest)) e))
 
 -- nothing is kept of a contest's ballots but their rankings
-abbrev votes_part : List (List ℕ) → KeptPart
-votes_part rankings = record { origins = None; rankings = rankings }
+abbrev votes_part : Option ℕ → List (List ℕ) → KeptPart
+votes_part counted rankings = record { origins = None; counted = counted; rankings = rankings }
 
 votes-behind : (place audited : ℕ) (contest : Contest) (xs ys : List Ballot) (from : ℕ) →
     part_behind (wanted_part place (VotesOf audited) ys contest) (wanted_part place (VotesOf audited) xs contest)
@@ -104,7 +104,7 @@ votes-behind : (place audited : ℕ) (contest : Contest) (xs ys : List Ballot) (
 votes-behind place audited contest xs ys from = by (is_wanted (VotesOf audited) place) where
   by : (t : Bool) → part_behind (if t then Some (part_of false ys contest) else None) (if t then Some (part_of false xs contest) else None)
       ≡ (if t then Some (part_of false (xs ++ moved from ys) contest) else None)
-  by true = ap (λ (rankings : List (List ℕ)). Some (votes_part rankings)) (sym (rankings-behind contest.id xs from ys))
+  by true = ap (λ (rankings : List (List ℕ)). Some (votes_part (counted_for false contest) rankings)) (sym (rankings-behind contest.id xs from ys))
   by false = refl
 
 parts-behind : (contests : List Contest) (audited : ℕ) (xs ys : List Ballot) (from : ℕ) (own its all : List (Option KeptPart)) →

@@ -33,6 +33,13 @@ at_hand-more asked holds old new bytes piece Contests more (rows, behind, reache
 at_hand-more asked holds old new bytes piece (Ballots begun) more (rows, behind, reached) = (rows, more bytes rows behind, reached)
 at_hand-more asked holds old new bytes piece (Refused fault) more refused = still-refused asked bytes piece fault refused
 
+-- how many bytes may wait for more tells nothing of what was taken
+pub whatever-waits : (asked : Option Id) (holds others : ℕ) (at_hand : AtHand) (bytes : List ℕ) (stage : Stage) →
+    HasTaken (record { asked = asked; holds = holds; at_hand = at_hand; stage = stage }) bytes → HasTaken (record { asked = asked; holds = others; at_hand = at_hand; stage = stage }) bytes
+whatever-waits asked holds others at_hand bytes Contests taken = taken
+whatever-waits asked holds others at_hand bytes (Ballots begun) taken = taken
+whatever-waits asked holds others at_hand bytes (Refused fault) taken = taken
+
 -- records are read, and what is at hand stands behind them
 pub reached-here : (asked : Option Id) (holds : ℕ) (at_hand : AtHand) (bytes : List ℕ) (rows : List Fields) (stage : Stage) → IsBehind bytes rows at_hand →
     HasReached asked rows stage → HasTaken (record { asked = asked; holds = holds; at_hand = at_hand; stage = stage }) bytes

@@ -1,21 +1,24 @@
 -- The pages on which ids that were met are marked.
-use Rattle.std.specs.Prelude.{◌-◌, ◌+◌, ◌*◌, ◌/◌, ◌%◌, ◌^◌, ◌&&◌, ℕ, Bool, false, not, nat_lt, List, [], ◌∷◌, length, take, drop, Option, None, Some, if◌then◌else◌, ◌==◌, IsTrue}
+use Rattle.std.specs.Prelude.{◌≡◌, ◌≢◌, ◌-◌, ◌+◌, ◌*◌, ◌/◌, ◌%◌, ◌^◌, ◌&&◌, ℕ, Bool, false, not, nat_lt, List, [], ◌∷◌, length, take, drop, slice_index, Option, None, Some, if◌then◌else◌, ◌==◌, IsTrue}
 use Rattle.std.specs.List.{list_all}
 use Rattle.std.specs.Hash.FoldHasher.{initial, write, finish}
 use Rattle.std.specs.BTreeMap.{get}
 use Rattle.std.specs.Ordering.{nat_cmp}
-use Rattle.irv_base.specs.Names.{Id, is_same}
+use Rattle.irv_base.specs.Names.{Id, is_name, is_same}
 use Rattle.ballot_reader.specs.declared.page.Page.{Page}
 use Rattle.ballot_reader.specs.declared.page.TheConstants.{COUNTED_BYTES}
 use Rattle.ballot_reader.specs.declared.pages.Pages.{Pages}
 
--- a page is the sum of 2 ^ bit over the bits that are set on it
-abbrev pub has_bit : ℕ → ℕ → Bool
-has_bit page bit = (page / 2 ^ bit) % 2 == 1
+-- a page is four words, each the sum of 2 ^ bit over those of its 64 bits that are set
+abbrev pub has_bit : List ℕ → ℕ → Bool
+has_bit words bit = (slice_index words (bit / 64) / 2 ^ (bit % 64)) % 2 == 1
 
--- Of what the last bytes of an id count, four bits of the last and two of the one before it are its bit on a page, and the rest is added
+abbrev pub no_bits : List ℕ
+no_bits = 0 ∷ 0 ∷ 0 ∷ 0 ∷ []
+
+-- Of what the last bytes of an id count, four bits of the last and four of the one before it are its bit on a page, and the rest is added
 -- to the digest of the other bytes to be the number of the page. So ids that were counted up in decimal digits, as those of ballots are,
--- stand up to forty on a page, and the next page is found beside the last. Ids with other numbers of pages or bits differ;
+-- stand up to a hundred on a page, and the next page is found beside the last. Ids with other numbers of pages or bits differ;
 -- two that differ may share both, and then they differ in length or front, by which a page tells those that it is for.
 
 abbrev pub digest : Id → ℕ
@@ -36,11 +39,11 @@ front id = take (length id - COUNTED_BYTES) id
 
 abbrev pub page_number : Id → ℕ
 page_number id =
-    (digest (front id) + (counted id / 1024 * 16 + counted id / 16 % 16)) % 2 ^ 64
+    (digest (front id) + (counted id / 4096 * 16 + counted id / 16 % 16)) % 2 ^ 64
 
 -- the bit where the last bytes count so much
 abbrev pub bit_of : ℕ → ℕ
-bit_of count = count % 16 + count / 256 % 4 * 16
+bit_of count = count % 16 + count / 256 % 16 * 16
 
 abbrev pub AreBytes : Id → Type 0
 AreBytes id = IsTrue (list_all (λ b. nat_lt b 256) id)
@@ -77,3 +80,11 @@ is_paged pages id = is_on (page_at pages (page_number id)) id
 -- its page is there, and is for other ids
 abbrev pub is_elsewhere : Pages → Id → Bool
 is_elsewhere pages id = is_for_others (page_at pages (page_number id)) id
+
+-- the page with a number lies open now, as it was, or where there was none a new one for ids like this one; the others are as they were
+pub record HasTurned (old new : Pages) (number : ℕ) (id : Id) : Type 0 where
+  pub lies : new.open ≡ number
+  pub others : (n : ℕ) → n ≢ number → page_at new n ≡ page_at old n
+  pub found : (page : Page) → page_at old number ≡ Some page → new.page ≡ page
+  pub blank : page_at old number ≡ None → new.page.bits ≡ no_bits
+  pub own : page_at old number ≡ None → IsTrue (is_name id) → IsTrue (is_of new.page id)

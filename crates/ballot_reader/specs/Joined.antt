@@ -1,10 +1,22 @@
 -- Ids that were met side by side, and are put together by their pages.
-use Rattle.std.specs.Prelude.{◌≡◌, ◌&&◌, ◌==◌, ℕ, Bool, true, false, [], Option, None, Some, is_some, IsTrue, bit_and, bit_or, if◌then◌else◌}
+use Rattle.std.specs.Prelude.{◌≡◌, ◌&&◌, ◌==◌, ℕ, Bool, true, false, List, [], ◌∷◌, map, slice_index, Option, None, Some, is_some, IsTrue, bit_and, bit_or, if◌then◌else◌}
+use Rattle.std.specs.List.{list_all}
 use Rattle.irv_base.specs.Names.{Id}
 use Rattle.ballot_reader.specs.Ids.{is_like, page_at}
 use Rattle.ballot_reader.specs.declared.noted.Noted.{Noted}
 use Rattle.ballot_reader.specs.declared.page.Page.{Page}
 use Rattle.ballot_reader.specs.declared.pages.Pages.{Pages}
+
+-- ---- bits on two pages
+
+-- word by word
+abbrev pub of_each : (ℕ → ℕ → ℕ) → List ℕ → List ℕ → List ℕ
+of_each of own its =
+    map (λ i. of (slice_index own i) (slice_index its i)) (0 ∷ 1 ∷ 2 ∷ 3 ∷ [])
+
+-- no bit is set on both
+abbrev pub share_none : List ℕ → List ℕ → Bool
+share_none own its = list_all (λ word. word == 0) (of_each bit_and own its)
 
 -- ---- two pages with one number
 
@@ -17,14 +29,14 @@ are_alike own (Some like) = is_like own like
 abbrev pub are_pages_apart : Page → Page → Bool
 are_pages_apart own its =
     if is_some own.like && is_some its.like
-    then are_alike own.like its.like && (bit_and own.bits its.bits == 0)
+    then are_alike own.like its.like && share_none own.bits its.bits
     else true
 
 -- the bits of both, where both are for ids alike
 abbrev pub page_of_both : Page → Page → Page
 page_of_both own its =
     if is_some own.like && is_some its.like
-    then record { like = own.like; bits = bit_or own.bits its.bits }
+    then record { like = own.like; bits = of_each bit_or own.bits its.bits }
     else (if is_some own.like then own else its)
 
 -- ---- two pages with one number, each of which may be missing

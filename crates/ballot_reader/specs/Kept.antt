@@ -1,9 +1,10 @@
 -- What is kept of ballots that are read one record after the other.
-use Rattle.std.specs.Prelude.{◌≡◌, ◌<◌, ◌≤◌, ◌+◌, ◌++◌, ◌∷◌, [], ◌==◌, ℕ, Bool, true, false, List, map, length, All, IsTrue, Option, Some, None, option_map, Result, Err, if◌then◌else◌}
+use Rattle.std.specs.Prelude.{◌≡◌, ◌<◌, ◌≤◌, ◌+◌, ◌++◌, ◌∷◌, [], ◌==◌, ℕ, Bool, true, false, List, map, length, nat_lt, All, IsTrue, IfSome, Option, Some, None, option_map, Result, Err, if◌then◌else◌}
 use Rattle.std.specs.List.{slice_get}
 use Rattle.irv_base.specs.Candidates.{is_distinct}
 use Rattle.irv_base.specs.Names.{Id, all_differ}
 use Rattle.irv_base.specs.declared.limits.TheConstants.{MOST_RECORDS}
+use Rattle.set_tallies.specs.declared.bag.TheConstants.{ALWAYS_SUMMED}
 use Rattle.ballot_reader.specs.Ballots.{BallotFile}
 use Rattle.ballot_reader.specs.Grammar.{Ballot, Contest, ballot_ids, ballots_in, has_audited_size}
 use Rattle.ballot_reader.specs.Noted.{AreNoted}
@@ -24,10 +25,22 @@ pub record KeptOrigins : Type 0 where
   pub ids : List Id
   pub places : List ℕ
 
--- where its ballots come from, if that is kept, and their rankings
+-- where its ballots come from, if that is kept; of how many candidates they are counted as they come, if they are; and their rankings
 pub record KeptPart : Type 0 where
   pub origins : Option KeptOrigins
+  pub counted : Option ℕ
   pub rankings : List (List ℕ)
+
+-- they are counted where it isn't kept whence they come, and there are few candidates
+abbrev pub counted_for : Bool → Contest → Option ℕ
+counted_for true contest = None
+counted_for false contest =
+    if nat_lt ALWAYS_SUMMED (length contest.candidates) then None
+    else Some (length contest.candidates)
+
+-- where they are counted, it is of as many candidates as the contest has
+abbrev pub CountsOwn : Contest → KeptPart → Type 0
+CountsOwn contest part = IfSome part.counted (λ n. n ≡ length contest.candidates)
 
 abbrev pub origins_in : Id → List Ballot → KeptOrigins
 origins_in contest ballots = record {
@@ -41,14 +54,19 @@ rankings_in contest ballots = map (λ ballot. ballot.ranking) (ballots_in contes
 abbrev pub part_of : Bool → List Ballot → Contest → KeptPart
 part_of keeps ballots contest = record {
   origins = if keeps then Some (origins_in contest.id ballots) else None;
+  counted = counted_for keeps contest;
   rankings = rankings_in contest.id ballots;
 }
 
 abbrev pub no_origins : KeptOrigins
 no_origins = record { ids = []; places = [] }
 
-abbrev pub empty_part : Bool → KeptPart
-empty_part keeps = record { origins = if keeps then Some no_origins else None; rankings = [] }
+abbrev pub empty_part : Bool → Contest → KeptPart
+empty_part keeps contest = record {
+  origins = if keeps then Some no_origins else None;
+  counted = counted_for keeps contest;
+  rankings = [];
+}
 
 -- with a ballot more, of this id, in the record number at
 abbrev pub with_origin : KeptOrigins → Id → ℕ → KeptOrigins
@@ -58,6 +76,7 @@ with_origin origins id at =
 abbrev pub with_ballot : KeptPart → Id → ℕ → List ℕ → KeptPart
 with_ballot part id at ranking = record {
   origins = option_map (λ origins. with_origin origins id at) part.origins;
+  counted = part.counted;
   rankings = part.rankings ++ ranking ∷ [];
 }
 
@@ -138,6 +157,12 @@ abbrev pub KeepsAudited : List Contest → List (Option KeptPart) → Type 0
 KeepsAudited contests parts =
     (place : ℕ) (contest : Contest) (part : KeptPart) → slice_get contests place ≡ Some contest →
     slice_get parts place ≡ Some (Some part) → IsTrue (has_audited_size contest.candidates)
+
+-- and each part counts ballots of its own contest
+abbrev pub EachCountsOwn : List Contest → List (Option KeptPart) → Type 0
+EachCountsOwn contests parts =
+    (place : ℕ) (contest : Contest) (part : KeptPart) → slice_get contests place ≡ Some contest →
+    slice_get parts place ≡ Some (Some part) → CountsOwn contest part
 
 -- it is what is kept of these ballots, behind which comes the record number at; the contests that are wanted can be audited
 pub record IsKeptUpTo

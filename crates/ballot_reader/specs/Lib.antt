@@ -7,5 +7,6 @@ pub mod Kept
 pub mod Noted
 pub mod Laws
 pub mod Begun
+pub mod Casts
 pub mod Parts
 pub mod Stages

@@ -61,11 +61,23 @@ AreMetApart own its =
     (place : ℕ) (met more : Noted) → slice_get own place ≡ Some met →
     slice_get its place ≡ Some more → ArePagesApart met more
 
+-- of how many candidates ballots are counted, if there is a part and they are
+abbrev pub form_of : Option KeptPart → Option ℕ
+form_of None = None
+form_of (Some part) = part.counted
+
+-- of each contest ballots are counted in both, of as many candidates, or in neither
+abbrev pub AreAlike : List (Option KeptPart) → List (Option KeptPart) → Type 0
+AreAlike own its =
+    (place : ℕ) (before part : Option KeptPart) → slice_get own place ≡ Some before →
+    slice_get its place ≡ Some part → form_of part ≡ form_of before
+
 -- what is kept of some ballots can be put behind what is kept of others
 pub record CanJoin (kept part : KeptBallots) : Type 0 where
   pub met_each : length part.met ≡ length kept.met
   pub part_each : length part.parts ≡ length kept.parts
   pub apart : AreMetApart kept.met part.met
+  pub alike : AreAlike kept.parts part.parts
   pub few : kept.count + part.count ≤ MOST_RECORDS
 
 -- ---- what is put together
@@ -89,7 +101,7 @@ AreJoined own its all = AreTogether Noted IsJoined own its all
 -- with these rankings behind its own
 abbrev pub with_rankings : KeptPart → List (List ℕ) → KeptPart
 with_rankings part rankings =
-    record { origins = part.origins; rankings = part.rankings ++ rankings }
+    record { origins = part.origins; counted = part.counted; rankings = part.rankings ++ rankings }
 
 -- what is kept of more ballots of a contest, where it isn't kept whence they come, behind what is kept of others
 abbrev pub part_behind : Option KeptPart → Option KeptPart → Option KeptPart

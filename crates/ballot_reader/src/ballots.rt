@@ -1,13 +1,14 @@
 // The ballots of a contest.
-ghost use Rattle.std.specs.Prelude.{◌≡◌, ◌<◌, ◌≤◌, length, All, IsTrue};
+ghost use Rattle.std.specs.Prelude.{◌≡◌, ◌<◌, ◌≤◌, length, All, IfOk, IsTrue};
 ghost use Rattle.irv_base.specs.Names.{all_differ};
-ghost use Rattle.ballot_reader.specs.Ballots.{AreBallots, AreCandidates, votes_of, with_ids};
+ghost use Rattle.ballot_reader.specs.Ballots.{AreBallots, AreCandidates, votes_of, votes_with, with_ids};
 ghost use Rattle.irv_base.specs.Candidates.{is_distinct};
 ghost use Rattle.irv_base.specs.declared.limits.TheConstants.{FEWEST_CANDIDATES, MOST_CANDIDATES, MOST_RECORDS};
 
 use crate::ids::Ids;
 use crate::votes::Votes;
-use irv_base::{Name, Rankings};
+use irv_base::{Memory, Name, Rankings};
+use std::alloc::Global;
 use std::marker::Model;
 
 /// A contest and its ballots, in the order of the file.
@@ -18,45 +19,60 @@ use std::marker::Model;
 /// To a contract it is the record of these lists.
 #[derive(Drop)]
 pub struct Ballots {
-    votes: Votes,
+    contest: Name,
+    candidates: Vec<Name>,
+    rankings: Rankings,
     ids: Ids,
     places: Vec<u32>,
 }
 
 impl Model for Ballots {
-    ghost use Rattle.std.specs.Prelude.{◌≡◌};
-    ghost use Rattle.ballot_reader.specs.Ballots.{BallotFile, IsSound, votes_of, with_ids};
+    ghost use Rattle.ballot_reader.specs.Ballots.{BallotFile, IsSound, votes_with, with_ids};
 
     ghost Value = { BallotFile };
 
-    ghost view = { λ b. with_ids b.votes b.ids b.places.items };
+    ghost view = { λ b.
+        with_ids (votes_with b.contest b.candidates.items b.rankings) b.ids b.places.items };
 
     ghost invariant = { λ b.
-        IsSound (with_ids b.votes b.ids b.places.items) × (b.votes ≡ votes_of b.votes) };
+        IsSound (with_ids (votes_with b.contest b.candidates.items b.rankings) b.ids b.places.items) };
 }
 
 impl Ballots {
-    pub(crate) fn new(votes: Votes, ids: Ids, places: Vec<u32>) -> Ballots
-        requires candidates { AreCandidates votes.candidates }
-        requires ballots { AreBallots (length votes.candidates) ids places.items votes.rankings }
-        requires alone { votes ≡ votes_of votes }
-        ensures { result ≡ with_ids votes ids places.items }
+    pub(crate) fn new(
+        contest: Name,
+        candidates: Vec<Name>,
+        rankings: Rankings,
+        ids: Ids,
+        places: Vec<u32>,
+    ) -> Ballots
+        requires candidates { AreCandidates candidates.items }
+        requires ballots { AreBallots (length candidates.items) ids places.items rankings }
+        ensures { result ≡ with_ids (votes_with contest candidates.items rankings) ids places.items }
     {
-        Ballots { votes, ids, places }
+        Ballots {
+            contest,
+            candidates,
+            rankings,
+            ids,
+            places,
+        }
     }
 
-    /// The contest and the rankings of its ballots alone.
-    pub fn votes(&self) -> &Votes
-        ensures { result.now ≡ votes_of self.now }
+    /// The contest and the rankings of its ballots alone, once more.
+    pub fn votes(&self, alloc: Global) -> Result<Votes, Memory>
+        ensures { IfOk result (λ votes. votes ≡ votes_of self.now) }
     {
-        &self.votes
+        let candidates = Vec::from_slice(alloc, &self.candidates)?;
+        let rankings = self.rankings.copied(alloc)?;
+        Ok(Votes::new(self.contest, candidates, rankings))
     }
 
     /// The id of the contest.
     pub fn contest(&self) -> &Name
         ensures { result.now ≡ self.now.contest }
     {
-        self.votes.contest()
+        &self.contest
     }
 
     /// The ids of the candidates, in the order of the contest's record.
@@ -66,7 +82,7 @@ impl Ballots {
         ensures most { length self.now.candidates ≤ MOST_CANDIDATES }
         ensures differ { IsTrue (all_differ self.now.candidates) }
     {
-        self.votes.candidates()
+        self.candidates.as_slice()
     }
 
     /// The ids of the ballots.
@@ -94,6 +110,6 @@ impl Ballots {
             self.now.rankings }
         ensures distinct { All (λ ranking. IsTrue (is_distinct ranking)) self.now.rankings }
     {
-        self.votes.rankings()
+        &self.rankings
     }
 }

@@ -1,8 +1,10 @@
-//! Worked examples, computed by the checker: what is on both sides of each limit of a ballot file.
-ghost use Rattle.std.specs.Prelude.{◌≡◌, ◌+◌, ◌-◌, [], ◌∷◌, Some, None, true, false, codes, replicate};
+//! Worked examples, computed by the checker: what is on both sides of each limit of a ballot file, and how ids are told.
+ghost use Rattle.std.specs.Prelude.{◌≡◌, ◌+◌, ◌-◌, ◌%◌, ◌^◌, [], ◌∷◌, Some, None, true, false, codes, replicate};
 ghost use Rattle.irv_base.specs.declared.limits.TheConstants.{FEWEST_CANDIDATES, MOST_CANDIDATES};
 ghost use Rattle.ballot_reader.specs.declared.limits.TheConstants.{MOST_LISTED};
 ghost use Rattle.ballot_reader.specs.Grammar.{contest_count, has_audited_size, number_up_to, ranking_of};
+ghost use Rattle.ballot_reader.specs.Ids.{bit_of, counted, has_bit, page_number};
+ghost use Rattle.ballot_reader.specs.Joined.{share_none};
 
 /// A file has 1 to 64 contests.
 pub fn contests()
@@ -33,4 +35,19 @@ pub fn rankings()
         (codes "B" ∷ [] ∷ codes "A" ∷ codes "B" ∷ []) ≡ Some (1 ∷ 0 ∷ []) }
     ensures empty { ranking_of (codes "A" ∷ codes "B" ∷ []) [] ≡ Some [] }
     ensures unknown { ranking_of (codes "A" ∷ codes "B" ∷ []) (codes "C" ∷ []) ≡ None }
+{}
+
+/// Of an id the last two digits are its bit, 4 * 16 + 2 here, and those before them its page: a hundred ids in order stand on one.
+pub fn pages()
+    ensures bit { bit_of (counted (codes "A-0042")) ≡ 66 }
+    ensures same { page_number (codes "A-0099") ≡ page_number (codes "A-0042") }
+    ensures next { page_number (codes "A-0142") ≡ (page_number (codes "A-0042") + 256) % 2 ^ 64 }
+{}
+
+/// Bit 66 is bit 2 of the second of a page's words.
+pub fn bits()
+    ensures set { has_bit (0 ∷ 4 ∷ 0 ∷ 0 ∷ []) 66 ≡ true }
+    ensures others { has_bit (0 ∷ 4 ∷ 0 ∷ 0 ∷ []) 2 ≡ false }
+    ensures apart { share_none (0 ∷ 4 ∷ 0 ∷ 0 ∷ []) (4 ∷ 2 ∷ 0 ∷ 0 ∷ []) ≡ true }
+    ensures shared { share_none (0 ∷ 4 ∷ 0 ∷ 0 ∷ []) (0 ∷ 6 ∷ 0 ∷ 0 ∷ []) ≡ false }
 {}

@@ -1,6 +1,7 @@
 // Where an id may stand among a few names.
-ghost use Rattle.std.specs.Prelude.{◌≤◌, length};
+ghost use Rattle.std.specs.Prelude.{◌<◌, ◌≤◌, length};
 ghost use Rattle.irv_base.specs.declared.limits.TheConstants.{ROOM};
+ghost use Rattle.ballot_reader.specs.declared.guesses.TheConstants.{GUESSES};
 
 use crate::same::number_of_4;
 use irv_base::Name;
@@ -39,7 +40,9 @@ fn look(id: &[u8]) -> u64 {
 
 // Which guess is made of an id: the highest bits of its look times the factor.
 #[inline(always)]
-fn guess_of(factor: u64, id: &[u8]) -> usize {
+fn guess_of(factor: u64, id: &[u8]) -> usize
+    ensures { result < GUESSES }
+{
     (look(id).wrapping_mul(factor) >> 56) as usize
 }
 
@@ -58,10 +61,9 @@ impl Guesses {
     {
         let mut apart = true;
         for i in 0..names.len() {
-            if let Some(place) = self.places.get_mut(guess_of(self.factor, names[i].bytes())) {
-                apart = apart && *place == NOWHERE;
-                *place = i as u8;
-            }
+            let guess = guess_of(self.factor, names[i].bytes());
+            apart = apart && self.places[guess] == NOWHERE;
+            self.places[guess] = i as u8;
         }
         apart
     }
@@ -86,9 +88,6 @@ impl Guesses {
     /// Where the id may stand.
     #[inline(always)]
     pub fn place(&self, id: &[u8]) -> usize {
-        match self.places.get(guess_of(self.factor, id)) {
-            Some(place) => usize::from(*place),
-            None => 0,
-        }
+        usize::from(self.places[guess_of(self.factor, id)])
     }
 }

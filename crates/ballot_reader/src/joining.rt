@@ -52,9 +52,8 @@ impl Pages {
             self.page = self.page.with_all(page);
             return Ok(());
         }
-        if let Some(own) = self.closed.insert(number, *page)? {
-            self.closed.insert(number, own.with_all(page))?;
-        }
+        let own = self.closed.entry(number)?.or_insert(Page::none());
+        *own = own.with_all(page);
         Ok(())
     }
 

@@ -1,8 +1,8 @@
 // What is kept of the ballots that are read.
 ghost use Rattle.std.specs.Prelude.{ℕ, ◌≡◌, ◌<◌, ◌++◌, ◌∷◌, [], All, List, Ok, Err, Some, None, IfOk, IfErr, IfSome, IsTrue, length, position, slice_get, slice_set, not, true, if◌then◌else◌};
 ghost use Rattle.irv_base.specs.Names.{Id, all_differ, is_among};
-ghost use Rattle.ballot_reader.specs.Grammar.{Ballot, ballot_for, ballot_in, ballot_of, has_id};
-ghost use Rattle.ballot_reader.specs.Kept.{IsKept, KeepsAudited, RefusesRecord, WantsAudited, contest_ids, empty_part, is_wanted, keeps_origins, parts_from};
+ghost use Rattle.ballot_reader.specs.Grammar.{Ballot, Contest as ContestRecord, ballot_for, ballot_in, ballot_of, has_id};
+ghost use Rattle.ballot_reader.specs.Kept.{EachCountsOwn, IsKept, KeepsAudited, RefusesRecord, WantsAudited, contest_ids, empty_part, is_wanted, keeps_origins, parts_from};
 ghost use Rattle.ballot_reader.specs.Noted.{AreNoted};
 ghost use Rattle.ballot_reader.specs.declared.noted.Noted.{Noted as NotedIds};
 ghost use Rattle.ballot_reader.specs.declared.wanted.Wanted.{Wanted as WantedContests};
@@ -118,8 +118,9 @@ fn part_for(
 ) -> Result<Option<Part>, Memory>
     requires within { place < length contests.now }
     requires sized { WantsAudited contests.now wanted }
-    ensures { IfOk result (λ part. part
-        ≡ (if is_wanted wanted place then Some (empty_part (keeps_origins wanted)) else None)) }
+    ensures { IfOk result (λ part. (contest : ContestRecord)
+        → slice_get contests.now place ≡ Some contest → part
+        ≡ (if is_wanted wanted place then Some (empty_part (keeps_origins wanted) contest) else None)) }
 {
     if !wanted.has(place) {
         return Ok(None);
@@ -190,6 +191,7 @@ impl Kept {
         requires noted { length self.now.met ≡ length contests.now }
         requires parted { length self.now.parts ≡ length contests.now }
         requires sized { KeepsAudited contests.now self.now.parts }
+        requires own { EachCountsOwn contests.now self.now.parts }
         ensures kept { IfOk result (λ _. (wanted : WantedContests) → (ballots : List Ballot)
             → IsKept contests.now wanted ballots self.old
             → (ballot : Ballot)

@@ -4,7 +4,7 @@ ghost use Rattle.csv_rows.specs.Rows.{Fields as FieldList};
 ghost use Rattle.ballot_reader.specs.Grammar.{Ballot, Contest as ContestRecord};
 ghost use Rattle.ballot_reader.specs.Joined.{ArePagesApart};
 ghost use Rattle.ballot_reader.specs.Kept.{IsKeptUpTo, KeptPart};
-ghost use Rattle.ballot_reader.specs.Parts.{AreJoined, AreMetApart, ArePutBehind, CanJoin, IsJoined, IsReadAlone, IsReadBehind, part_behind, with_rankings};
+ghost use Rattle.ballot_reader.specs.Parts.{AreAlike, AreJoined, AreMetApart, ArePutBehind, CanJoin, IsJoined, IsReadAlone, IsReadBehind, form_of, part_behind, with_rankings};
 ghost use Rattle.ballot_reader.specs.declared.noted.Noted.{Noted as NotedIds};
 ghost use Rattle.ballot_reader.specs.declared.wanted.Wanted.TheVariants.{VotesOf};
 
@@ -20,6 +20,29 @@ fn are_apart(sets: &[Noted], others: &[Noted]) -> bool
 {
     for place in 0..sets.len() {
         if !sets[place].are_apart(&others[place]) {
+            return false;
+        }
+    }
+    true
+}
+
+// Of how many candidates ballots are counted, if there is a part and they are.
+fn form_of(part: &Option<Part>) -> Option<u32>
+    ensures { result ≡ form_of part.now }
+{
+    match part {
+        Some(part) => part.counted(),
+        None => None,
+    }
+}
+
+// Whether of each contest ballots are counted in both, of as many candidates, or in neither.
+fn are_alike(parts: &[Option<Part>], others: &[Option<Part>]) -> bool
+    requires { length others.now ≡ length parts.now }
+    ensures { IsTrue result ↔ AreAlike parts.now others.now }
+{
+    for place in 0..parts.len() {
+        if form_of(&others[place]) != form_of(&parts[place]) {
             return false;
         }
     }
@@ -53,7 +76,9 @@ fn join_all(sets: &mut Vec<Noted>, others: &[Noted]) -> Result<(), Memory>
 
 // Puts the rankings of another part of a contest behind those of the part at its place, if there is one.
 fn append_at(parts: &mut Vec<Option<Part>>, place: usize, other: &Part) -> Result<(), Memory>
-    requires { place < length parts.now.items }
+    requires within { place < length parts.now.items }
+    requires alike { (before : KeptPart) → slice_get parts.now.items place ≡ Some (Some before)
+        → other.now.counted ≡ before.counted }
     ensures { OnOk result ((before : Option KeptPart)
         → slice_get parts.old.items place ≡ Some before
         → parts.new.items ≡ slice_set parts.old.items place
@@ -67,7 +92,9 @@ fn append_at(parts: &mut Vec<Option<Part>>, place: usize, other: &Part) -> Resul
 
 // The same, if there is another part.
 fn put_at(parts: &mut Vec<Option<Part>>, place: usize, other: &Option<Part>) -> Result<(), Memory>
-    requires { place < length parts.now.items }
+    requires within { place < length parts.now.items }
+    requires alike { (before : Option KeptPart) → slice_get parts.now.items place ≡ Some before
+        → form_of other.now ≡ form_of before }
     ensures { OnOk result ((before : Option KeptPart)
         → slice_get parts.old.items place ≡ Some before
         → parts.new.items ≡ slice_set parts.old.items place (part_behind other.now before)) }
@@ -80,7 +107,8 @@ fn put_at(parts: &mut Vec<Option<Part>>, place: usize, other: &Option<Part>) -> 
 
 // Puts each contest's part behind another one of the same contest.
 fn put_all(parts: &mut Vec<Option<Part>>, others: &[Option<Part>]) -> Result<(), Memory>
-    requires { length others.now ≡ length parts.now.items }
+    requires each { length others.now ≡ length parts.now.items }
+    requires alike { AreAlike parts.now.items others.now }
     ensures { OnOk result (ArePutBehind parts.old.items others.now parts.new.items) }
 {
     for place in 0..others.len() {
@@ -90,8 +118,8 @@ fn put_all(parts: &mut Vec<Option<Part>>, others: &[Option<Part>]) -> Result<(),
 }
 
 impl Kept {
-    /// Whether what is kept of other ballots can be put behind this: of each contest it is seen that no id was met in both, and there aren't too
-    /// many ballots.
+    /// Whether what is kept of other ballots can be put behind this: of each contest it is seen that no id was met in both, and
+    /// ballots are counted in both, of as many candidates, or in neither, and there aren't too many ballots.
     pub fn can_join(&self, part: &Kept) -> bool
         ensures { IsTrue result ↔ CanJoin self.now part.now }
     {
@@ -101,7 +129,7 @@ impl Kept {
         if u64::from(self.count) + u64::from(part.count) > u64::from(MOST_RECORDS) {
             return false;
         }
-        are_apart(&self.met, &part.met)
+        are_alike(&self.parts, &part.parts) && are_apart(&self.met, &part.met)
     }
 
     /// Puts what is kept of ballots that were read alone behind what is kept of others. Of ids and places, where they are kept, nothing is told.

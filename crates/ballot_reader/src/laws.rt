@@ -20,5 +20,5 @@ pub fn contests_are_each()
 pub fn limits()
     ensures most_contests { limit.MOST_CONTESTS ≡ 64 }
     ensures most_listed { limit.MOST_LISTED ≡ 1000 }
-    ensures side_by_side { reader.SIDE_BY_SIDE ≡ 1048576 }
+    ensures side_by_side { reader.SIDE_BY_SIDE ≡ 3145728 }
 {}

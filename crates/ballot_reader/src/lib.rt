@@ -3,6 +3,7 @@
 
 mod ballots;
 mod begun;
+mod cast;
 mod contest;
 mod count;
 pub mod examples;
@@ -25,6 +26,7 @@ mod same;
 mod side_by_side;
 mod sorted;
 mod stage;
+mod taker;
 mod votes;
 mod votes_reader;
 mod wanted;

@@ -1,39 +1,41 @@
 // A page: the bits of ids that are alike but for the bytes that are counted.
-ghost use Rattle.std.specs.Prelude.{◌≡◌, ◌<◌, ◌^◌, ◌||◌, ◌==◌, ℕ, IsTrue, bit_and, bit_or};
+ghost use Rattle.std.specs.Prelude.{◌≡◌, ◌<◌, ◌^◌, ◌||◌, ◌==◌, ℕ, IsTrue, bit_or};
 ghost use Rattle.irv_base.specs.Names.{is_name};
-ghost use Rattle.ballot_reader.specs.Ids.{front, has_bit, is_of};
-ghost use Rattle.ballot_reader.specs.Joined.{are_pages_apart, page_of_both};
-ghost use Rattle.ballot_reader.specs.declared.page.TheConstants.{PAGE_BITS};
+ghost use Rattle.ballot_reader.specs.Ids.{front, has_bit, is_of, no_bits};
+ghost use Rattle.ballot_reader.specs.Joined.{are_pages_apart, of_each, page_of_both, share_none};
+ghost use Rattle.ballot_reader.specs.declared.page.TheConstants.{WORD_BITS};
 
 use crate::same::is_same;
 use irv_base::Name;
 use std::marker::Model;
 
-/// How many bits a page has.
-pub const PAGE_BITS: u8 = 64;
+// How many bits a word has, and how many words a page: so it has a bit for each number of one byte.
+const WORD_BITS: u8 = 64;
+
+const WORDS: usize = 4;
 
 /// So many bytes at the end of an id are counted, and tell its bit. Those in front of them are its page's.
 pub const COUNTED_BYTES: usize = 5;
 
 /// The bits that are set on a page.
 ///
-/// To a contract it is the sum of `2 ^ bit` over these.
+/// To a contract it is the words that they stand in.
 #[derive(Clone, Copy)]
-pub struct Bits(u64);
+pub struct Bits([u64; WORDS]);
 
 impl Model for Bits {
-    ghost use Rattle.std.specs.Prelude.{ℕ};
+    ghost use Rattle.std.specs.Prelude.{ℕ, List};
 
-    ghost Value = { ℕ };
+    ghost Value = { List ℕ };
 
     ghost view = { λ p. p.0 };
 
-    ghost inverse = { λ n. record { 0 = n } };
+    ghost inverse = { λ words. record { 0 = words } };
 }
 
-// The bits of which this one alone is set, as a number.
+// The word of which this bit alone is set.
 fn only(bit: u8) -> u64
-    requires { bit < PAGE_BITS }
+    requires { bit < WORD_BITS }
     ensures { result ≡ 2 ^ bit }
 {
     1 << bit
@@ -42,39 +44,46 @@ fn only(bit: u8) -> u64
 impl Bits {
     /// Bits of which none is set.
     pub fn none() -> Bits
-        ensures { result ≡ 0 }
+        ensures { result ≡ no_bits }
     {
-        Bits(0)
+        Bits([0; WORDS])
     }
 
     /// Whether the bit is set.
-    pub fn has(self, bit: u8) -> bool
-        requires { bit < PAGE_BITS }
-        ensures { result ≡ has_bit self bit }
+    pub fn has(&self, bit: u8) -> bool
+        ensures { result ≡ has_bit self.now bit }
     {
-        (self.0 >> bit) & 1 == 1
+        (self.0[usize::from(bit / WORD_BITS)] >> (bit % WORD_BITS)) & 1 == 1
     }
 
-    /// The bits with that one set.
-    pub fn with(self, bit: u8) -> Bits
-        requires { bit < PAGE_BITS }
-        ensures { (other : ℕ) → has_bit result other ≡ (has_bit self other || (other == bit)) }
+    /// Sets the bit.
+    pub fn set(&mut self, bit: u8)
+        ensures { (other : ℕ)
+            → has_bit self.new other ≡ (has_bit self.old other || (other == bit)) }
     {
-        Bits(self.0 | only(bit))
+        self.0[usize::from(bit / WORD_BITS)] |= only(bit % WORD_BITS);
     }
 
     /// Whether no bit is set among both.
-    pub fn are_apart(self, other: Bits) -> bool
-        ensures { result ≡ (bit_and self other == 0) }
+    pub fn are_apart(&self, other: &Bits) -> bool
+        ensures { result ≡ share_none self.now other.now }
     {
-        self.0 & other.0 == 0
+        self.0[0] & other.0[0] == 0
+            && self.0[1] & other.0[1] == 0
+            && self.0[2] & other.0[2] == 0
+            && self.0[3] & other.0[3] == 0
     }
 
     /// The bits that are set among these or those.
-    pub fn with_all(self, other: Bits) -> Bits
-        ensures { result ≡ bit_or self other }
+    pub fn with_all(&self, other: &Bits) -> Bits
+        ensures { result ≡ of_each bit_or self.now other.now }
     {
-        Bits(self.0 | other.0)
+        Bits([
+            self.0[0] | other.0[0],
+            self.0[1] | other.0[1],
+            self.0[2] | other.0[2],
+            self.0[3] | other.0[3],
+        ])
     }
 }
 
@@ -97,7 +106,7 @@ pub struct Page {
 impl Page {
     /// A page for no ids.
     pub fn none() -> Page
-        ensures none { result.bits ≡ 0 }
+        ensures none { result.bits ≡ no_bits }
         ensures nobody { result.like ≡ None }
     {
         Page {
@@ -108,7 +117,7 @@ impl Page {
 
     /// A page for ids like this one, none of which was met.
     pub fn of(id: &[u8]) -> Page
-        ensures none { result.bits ≡ 0 }
+        ensures none { result.bits ≡ no_bits }
         ensures own { IsTrue (is_name id.now) → IsTrue (is_of result id.now) }
     {
         Page {
@@ -139,7 +148,7 @@ impl Page {
             return true;
         }
         match &other.like {
-            Some(like) => self.is_of(like.bytes()) && self.bits.are_apart(other.bits),
+            Some(like) => self.is_of(like.bytes()) && self.bits.are_apart(&other.bits),
             None => true,
         }
     }
@@ -156,7 +165,7 @@ impl Page {
         }
         Page {
             like: self.like,
-            bits: self.bits.with_all(other.bits),
+            bits: self.bits.with_all(&other.bits),
         }
     }
 }

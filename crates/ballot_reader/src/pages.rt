@@ -1,12 +1,11 @@
 // Ids on pages: each is told from all others there without a comparison.
-ghost use Rattle.std.specs.Prelude.{◌≡◌, ◌≢◌, ◌<◌, ◌≤◌, ◌||◌, ℕ, Some, None, IfOk, OnOk, OnErr, IsTrue, true, false, length};
-ghost use Rattle.irv_base.specs.Names.{Id, is_name, is_same};
-ghost use Rattle.ballot_reader.specs.Ids.{AreBytes, bit_of, counted, digest, is_elsewhere, is_of, is_paged, number_behind, page_at, page_number};
-ghost use Rattle.ballot_reader.specs.declared.page.Page.{Page as PageOfIds};
-ghost use Rattle.ballot_reader.specs.declared.page.TheConstants.{COUNTED_BYTES, PAGE_BITS};
+ghost use Rattle.std.specs.Prelude.{◌≡◌, ◌≢◌, ◌≤◌, ◌||◌, ℕ, IfOk, OnOk, OnErr, true, false, length};
+ghost use Rattle.irv_base.specs.Names.{Id, is_same};
+ghost use Rattle.ballot_reader.specs.Ids.{AreBytes, HasTurned, bit_of, counted, digest, is_elsewhere, is_paged, number_behind, page_at, page_number};
+ghost use Rattle.ballot_reader.specs.declared.page.TheConstants.{COUNTED_BYTES};
 ghost use Rattle.ballot_reader.specs.declared.pages.Mark.TheVariants.{Elsewhere, Fresh, Met};
 
-use crate::page::{COUNTED_BYTES, PAGE_BITS, Page, front};
+use crate::page::{COUNTED_BYTES, Page, front};
 use irv_base::Memory;
 use std::alloc::Global;
 use std::collections::BTreeMap;
@@ -85,15 +84,14 @@ fn page_number(id: &[u8], count: u64) -> u64
     requires { count ≡ counted id.now }
     ensures { result ≡ page_number id.now }
 {
-    digest(front(id)).wrapping_add(count / 1024 * 16 + count / 16 % 16)
+    digest(front(id)).wrapping_add(count / 4096 * 16 + count / 16 % 16)
 }
 
 // The bit of an id whose last bytes count so much.
 fn bit(count: u64) -> u8
-    ensures same { result ≡ bit_of count }
-    ensures below { result < PAGE_BITS }
+    ensures { result ≡ bit_of count }
 {
-    (count % 16 + count / 256 % 4 * 16) as u8
+    (count % 16 + count / 256 % 16 * 16) as u8
 }
 
 impl Pages {
@@ -111,14 +109,8 @@ impl Pages {
     // Opens the page with a number, or a new one for ids like this one where there is none. Ids that were counted up mostly stand on the
     // page that lies open.
     fn turn_to(&mut self, number: u64, id: &[u8]) -> Result<(), Memory>
-        ensures open { OnOk result (self.new.open ≡ number) }
-        ensures others { (n : ℕ) → n ≢ number → page_at self.new n ≡ page_at self.old n }
-        ensures found { (page : PageOfIds) → page_at self.old number ≡ Some page
-            → page_at self.new number ≡ Some page }
-        ensures made { page_at self.old number ≡ None → OnOk result (self.new.page.bits ≡ 0) }
-        ensures own { page_at self.old number ≡ None → IsTrue (is_name id.now)
-            → OnOk result (IsTrue (is_of self.new.page id.now)) }
-        ensures same { OnErr result (page_at self.new number ≡ page_at self.old number) }
+        ensures turned { OnOk result (HasTurned self.old self.new number id.now) }
+        ensures same { OnErr result ((n : ℕ) → page_at self.new n ≡ page_at self.old n) }
     {
         if number == self.open {
             return Ok(());
@@ -130,14 +122,8 @@ impl Pages {
     #[inline(never)]
     fn close_for(&mut self, number: u64, id: &[u8]) -> Result<(), Memory>
         requires away { number ≢ self.old.open }
-        ensures open { OnOk result (self.new.open ≡ number) }
-        ensures others { (n : ℕ) → n ≢ number → page_at self.new n ≡ page_at self.old n }
-        ensures found { (page : PageOfIds) → page_at self.old number ≡ Some page
-            → page_at self.new number ≡ Some page }
-        ensures made { page_at self.old number ≡ None → OnOk result (self.new.page.bits ≡ 0) }
-        ensures own { page_at self.old number ≡ None → IsTrue (is_name id.now)
-            → OnOk result (IsTrue (is_of self.new.page id.now)) }
-        ensures same { OnErr result (page_at self.new number ≡ page_at self.old number) }
+        ensures turned { OnOk result (HasTurned self.old self.new number id.now) }
+        ensures same { OnErr result ((n : ℕ) → page_at self.new n ≡ page_at self.old n) }
     {
         self.closed.insert(self.open, self.page)?;
         self.page = match self.closed.get(&number) {
@@ -174,7 +160,7 @@ impl Pages {
         if self.page.bits.has(bit) {
             return Ok(Mark::Met);
         }
-        self.page.bits = self.page.bits.with(bit);
+        self.page.bits.set(bit);
         Ok(Mark::Fresh)
     }
 }

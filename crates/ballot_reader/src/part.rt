@@ -1,20 +1,20 @@
 // What is kept of the ballots of one contest.
-ghost use Rattle.std.specs.Prelude.{ℕ, ◌≡◌, ◌<◌, ◌++◌, ◌∷◌, [], List, Option, Some, None, IfOk, OnOk, IsTrue, is_some, length, option_map, slice_get, slice_set, if◌then◌else◌};
+ghost use Rattle.std.specs.Prelude.{ℕ, ◌≡◌, ◌<◌, ◌≤◌, ◌++◌, ◌∷◌, [], List, Option, Some, None, IfOk, IfSome, OnOk, IsTrue, is_some, length, option_map, slice_get, slice_set, if◌then◌else◌};
+ghost use Rattle.set_tallies.specs.declared.bag.TheConstants.{ALWAYS_SUMMED};
 ghost use Rattle.ballot_reader.specs.Grammar.{has_audited_size, ranking_of};
-ghost use Rattle.ballot_reader.specs.Kept.{KeptPart, empty_part, no_origins, with_ballot, with_origin};
+ghost use Rattle.ballot_reader.specs.Kept.{CountsOwn, KeptPart, counted_for, empty_part, no_origins, with_ballot, with_origin};
 ghost use Rattle.ballot_reader.specs.Parts.{with_rankings};
 
+use crate::cast::Cast;
 use crate::contest::Contest;
 use crate::guesses::Guesses;
 use crate::ids::Ids;
-use crate::preferences::{are_candidates, rank};
+use crate::preferences::are_candidates;
 use csv_rows::Fields;
-use irv_base::{Memory, Rankings};
+use irv_base::Memory;
+use set_tallies::ALWAYS_SUMMED;
 use std::alloc::Global;
 use std::marker::Model;
-
-// For how many places a ballot room is made first, and for more when they come.
-const PLACES_A_BALLOT: usize = 8;
 
 /// Where the ballots of a contest come from.
 ///
@@ -58,23 +58,28 @@ impl Origins {
 
 /// What is kept of the ballots of a contest.
 ///
-/// To a contract it is where they come from and their rankings.
+/// To a contract it is where they come from, of how many candidates they are counted, if they are, and their rankings.
 #[derive(Drop)]
 pub struct Part {
     /// Where the ballots come from, if that is kept.
     pub origins: Option<Origins>,
-    /// For each ballot its ranking.
-    pub rankings: Rankings,
+    /// The rankings, kept or counted.
+    pub cast: Cast,
     // Which candidate an id looks like. It saves time, and tells nothing of the ballots.
     guesses: Guesses,
 }
 
 impl Model for Part {
+    ghost use Rattle.ballot_reader.specs.Casts.{counted_of, rankings_of};
     ghost use Rattle.ballot_reader.specs.Kept.{KeptPart};
 
     ghost Value = { KeptPart };
 
-    ghost view = { λ p. record { origins = p.origins; rankings = p.rankings } };
+    ghost view = { λ p. record {
+      origins = p.origins;
+      counted = counted_of p.cast;
+      rankings = rankings_of p.cast;
+    } };
 }
 
 // No origins, with room for so many, if they are kept.
@@ -97,8 +102,21 @@ fn keep_origin(origins: &mut Option<Origins>, id: &[u8], at: u32) -> Result<(), 
     Ok(())
 }
 
+// Of how many candidates the ballots of a contest are counted as they come, if they are.
+fn counted_for(contest: &Contest, keeps: bool) -> Option<u32>
+    ensures same { result ≡ counted_for keeps contest.now }
+    ensures few { IfSome result (λ n. n ≤ ALWAYS_SUMMED) }
+{
+    let n = contest.candidates.len();
+    if keeps || n > ALWAYS_SUMMED as usize {
+        return None;
+    }
+    Some(n as u32)
+}
+
 impl Part {
-    /// Nothing, with room for so many ballots of the contest. It is kept or not where they come from.
+    /// Nothing, with room for so many ballots of the contest. It is kept or not where they come from. Where it isn't, and there are few
+    /// candidates, ballots are counted as they come.
     pub fn nothing(
         alloc: Global,
         contest: &Contest,
@@ -106,11 +124,11 @@ impl Part {
         room: usize,
     ) -> Result<Part, Memory>
         requires { IsTrue (has_audited_size contest.now.candidates) }
-        ensures { IfOk result (λ part. part ≡ empty_part keeps) }
+        ensures { IfOk result (λ part. part ≡ empty_part keeps contest.now) }
     {
         Ok(Part {
             origins: no_origins(alloc, keeps, room)?,
-            rankings: Rankings::nothing(alloc, room, room.saturating_mul(PLACES_A_BALLOT))?,
+            cast: Cast::nothing(alloc, counted_for(contest, keeps), room)?,
             guesses: Guesses::of(contest.candidates.as_slice()),
         })
     }
@@ -124,7 +142,8 @@ impl Part {
         at: u32,
         preferences: Fields<'_>,
     ) -> Result<bool, Memory>
-        requires { IsTrue (has_audited_size contest.now.candidates) }
+        requires sized { IsTrue (has_audited_size contest.now.candidates) }
+        requires own { CountsOwn contest.now self.now }
         ensures known { IfOk result (λ known.
             known ≡ is_some (ranking_of contest.now.candidates preferences.entry)) }
         ensures added { IfOk result (λ _. (ranking : List ℕ)
@@ -132,19 +151,23 @@ impl Part {
             → self.new ≡ with_ballot self.old id.now at ranking) }
     {
         keep_origin(&mut self.origins, id, at)?;
-        rank(
-            contest.candidates.as_slice(),
-            &self.guesses,
-            preferences,
-            &mut self.rankings,
-        )
+        self.cast
+            .rank(contest.candidates.as_slice(), &self.guesses, preferences)
     }
 
-    /// Puts the rankings of another part behind its own. Where ballots come from is left as it is.
+    /// Of how many candidates the ballots are counted, if they are.
+    pub fn counted(&self) -> Option<u32>
+        ensures { result ≡ self.now.counted }
+    {
+        self.cast.counted_of()
+    }
+
+    /// Puts the rankings of another part behind its own, which are counted where these are. Where ballots come from is left as it is.
     pub fn append(&mut self, other: &Part) -> Result<(), Memory>
+        requires { other.now.counted ≡ self.now.counted }
         ensures { OnOk result (self.new ≡ with_rankings self.old other.now.rankings) }
     {
-        self.rankings.append(&other.rankings)
+        self.cast.append(&other.cast)
     }
 }
 
@@ -161,6 +184,8 @@ pub fn keep(
     requires within { place < length parts.now.items }
     requires sized { (part : KeptPart) → slice_get parts.now.items place ≡ Some (Some part)
         → IsTrue (has_audited_size contest.now.candidates) }
+    requires own { (part : KeptPart) → slice_get parts.now.items place ≡ Some (Some part)
+        → CountsOwn contest.now part }
     ensures known { IfOk result (λ known.
         known ≡ is_some (ranking_of contest.now.candidates preferences.entry)) }
     ensures kept { IfOk result (λ _. (ranking : List ℕ)

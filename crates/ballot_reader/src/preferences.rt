@@ -6,11 +6,14 @@ ghost use Rattle.ballot_reader.specs.Grammar.{are_names, ranking_of};
 
 use crate::guesses::Guesses;
 use crate::same::is_same;
+use crate::taker::RankingTaker;
 use csv_rows::Fields;
 use indexmap::IndexSet;
-use irv_base::{CandSet, Candidate, Memory, Name, Ranking, Rankings, candidate_named};
+use irv_base::{CandSet, Candidate, Memory, Name, Ranking, candidate_named};
 
-// The candidate with that id, first sought where it is guessed to stand.
+// The candidate with that id, first sought where it is guessed to stand. It isn't made part of what calls it: that has fewer instructions
+// and takes a tenth longer.
+#[inline(never)]
 fn candidate_of(candidates: &[Name], guesses: &Guesses, id: &[u8]) -> Option<Candidate>
     requires few { length candidates.now ≤ ROOM }
     requires differ { IsTrue (all_differ candidates.now) }
@@ -27,19 +30,21 @@ fn candidate_of(candidates: &[Name], guesses: &Guesses, id: &[u8]) -> Option<Can
 /// is put last isn't told. Guesses save time, and need candidates that are all different. It isn't made part of what calls it, since the
 /// processor has too few registers for both.
 #[inline(never)]
-pub(crate) fn rank(
+pub(crate) fn rank<T: RankingTaker>(
     candidates: &[Name],
     guesses: &Guesses,
     preferences: Fields<'_>,
-    rankings: &mut Rankings,
+    rankings: &mut T,
 ) -> Result<bool, Memory>
     requires few { length candidates.now ≤ ROOM }
     requires differ { IsTrue (all_differ candidates.now) }
+    requires room { length candidates.now ≤ T.room rankings.now }
+    ensures room { T.room rankings.new ≡ T.room rankings.old }
     ensures known { IfOk result (λ known.
         known ≡ is_some (ranking_of candidates.now preferences.entry)) }
     ensures ranked { IfOk result (λ _. (ranking : List ℕ)
         → ranking_of candidates.now preferences.entry ≡ Some ranking
-        → rankings.new ≡ rankings.old ++ ranking ∷ []) }
+        → T.rankings rankings.new ≡ T.rankings rankings.old ++ ranking ∷ []) }
 {
     rankings.begin()?;
     let mut seen = CandSet::empty();

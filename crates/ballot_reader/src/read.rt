@@ -5,13 +5,15 @@ ghost use Rattle.irv_base.specs.Names.{Id, all_differ};
 ghost use Rattle.ballot_reader.specs.declared.limits.TheConstants.{MOST_CONTESTS};
 ghost use Rattle.ballot_reader.specs.declared.wanted.Wanted.{Wanted as WantedContests};
 ghost use Rattle.ballot_reader.specs.declared.wanted.Wanted.TheVariants.{One, VotesOf, All as EachContest};
-ghost use Rattle.ballot_reader.specs.Ballots.{AreBallots, AreCandidates, BallotFile, votes_of, votes_with};
+ghost use Rattle.ballot_reader.specs.Ballots.{AreBallots, BallotFile, votes_of, votes_with};
+ghost use Rattle.ballot_reader.specs.Casts.{counted_of, rankings_of};
 ghost use Rattle.ballot_reader.specs.Grammar.{Ballot, Contest as ContestRecord, all_audited, asked_for, audited_contest, ballots_after, ballots_behind, ballots_from, ballots_of, contest_count, contests_behind, contests_from, contests_in, contests_of, file_of, has_audited_size};
 ghost use Rattle.file_fault.specs.Refusals.{Refuses};
 ghost use Rattle.ballot_reader.specs.Parts.{ComeBehind, IsRefusedBehind};
 ghost use Rattle.ballot_reader.specs.Kept.{IsKept, IsKeptUpTo, WantsAudited, contest_ids, file_with, is_wanted, keeps_origins, part_of};
 
 use crate::ballots::Ballots;
+use crate::cast::Cast;
 use crate::contest::{Contest, contest_of};
 use crate::count::contest_count;
 use crate::fault::{BRule, BallotFault};
@@ -20,7 +22,7 @@ use crate::part::{Origins, Part};
 use crate::votes::Votes;
 use crate::wanted::Wanted;
 use csv_rows::{Records, without_mark};
-use irv_base::{FEWEST_CANDIDATES, MOST_CANDIDATES, MOST_RECORDS, Memory, Name, Rankings};
+use irv_base::{FEWEST_CANDIDATES, MOST_CANDIDATES, MOST_RECORDS, Memory, Name};
 use std::alloc::Global;
 
 // The record of the first contest, counted from 1: the number of contests stands before it.
@@ -178,37 +180,44 @@ pub fn ballots_left(
     Ok(kept)
 }
 
-// A contest with the rankings of its ballots. It keeps the list of its candidates alone, and not the set, by which they were told apart.
-fn votes_of(alloc: Global, contest: Contest, rankings: Rankings) -> Result<Votes, Memory>
-    requires sized { IsTrue (has_audited_size contest.candidates) }
-    requires most { length rankings ≤ MOST_RECORDS }
-    requires below { All (λ ranking. All (λ c. c < length contest.candidates) ranking) rankings }
-    ensures votes { IfOk result (λ votes.
-        votes ≡ votes_with contest.id contest.candidates rankings) }
-    ensures candidates { IfOk result (λ votes. AreCandidates votes.candidates) }
+// The list of a contest's candidates, without the set by which they were told apart.
+fn candidates_of(alloc: Global, contest: &Contest) -> Result<Vec<Name>, Memory>
+    ensures { IfOk result (λ candidates. candidates.items ≡ contest.now.candidates) }
 {
     let mut candidates = Vec::new(alloc);
     candidates.extend_from_slice(contest.candidates.as_slice())?;
-    Ok(Votes::new(contest.id, candidates, rankings))
+    Ok(candidates)
+}
+
+// A contest with the rankings of its ballots.
+fn votes_of(alloc: Global, contest: Contest, cast: Cast) -> Result<Votes, Memory>
+    requires sized { IsTrue (has_audited_size contest.candidates) }
+    requires own { IfSome (counted_of cast) (λ n. n ≡ length contest.candidates) }
+    requires most { length (rankings_of cast) ≤ MOST_RECORDS }
+    requires below { All (λ ranking. All (λ c. c < length contest.candidates) ranking)
+        (rankings_of cast) }
+    ensures { IfOk result (λ votes.
+        votes ≡ votes_with contest.id contest.candidates (rankings_of cast)) }
+{
+    let candidates = candidates_of(alloc, &contest)?;
+    Ok(Votes::of(contest.id, candidates, cast))
 }
 
 // A contest with its ballots, of which it is kept where they come from.
 fn ballots_with(alloc: Global, contest: Contest, part: Part) -> Result<Ballots, Memory>
     requires sized { IsTrue (has_audited_size contest.candidates) }
+    requires listed { part.counted ≡ None }
     requires kept { (file : BallotFile) × (file_with contest part ≡ Some file)
         × AreBallots (length file.candidates) file.ids file.places file.rankings }
     ensures { IfOk result (λ ballots. file_with contest part ≡ Some ballots) }
 {
-    let Part {
-        origins,
-        rankings,
-        ..
-    } = part;
+    let Part { origins, cast, .. } = part;
     let Some(Origins { ids, places }) = origins else {
         unreachable!();
     };
-    let votes = votes_of(alloc, contest, rankings)?;
-    Ok(Ballots::new(votes, ids, places))
+    let candidates = candidates_of(alloc, &contest)?;
+    let rankings = cast.into_rankings();
+    Ok(Ballots::new(contest.id, candidates, rankings, ids, places))
 }
 
 // The contest at a place with what is kept of its ballots.
@@ -264,7 +273,7 @@ pub fn votes_kept(
         → votes ≡ votes_of (file_of chosen ballots)) }
 {
     let (contest, part) = taken(contests, audited, kept);
-    votes_of(alloc, contest, part.rankings)
+    votes_of(alloc, contest, part.cast)
 }
 
 // Each contest with the ballots that are kept, in the order of the file.

@@ -20,13 +20,15 @@ use std::marker::Model;
 use std::mem;
 use std::thread::Threads;
 
-/// Several workers read ballots once more bytes of whole lines are at hand than these: with fewer they would wait for each other too often.
-pub const SIDE_BY_SIDE: usize = 1 << 20;
+/// Several workers read ballots once more bytes of whole lines are at hand than these, or the file ends: with fewer they would wait for each
+/// other too often. With more they might not be looked at (`csv_rows::MOST_AT_HAND`).
+pub const SIDE_BY_SIDE: usize = 3 << 20;
 
 /// Reads the votes of a contest from a ballot file that comes in pieces, by one worker or by several. Of the file it keeps the lines that
 /// aren't read yet: most often the last alone, and with several workers up to `SIDE_BY_SIDE` bytes of whole lines. From lines on that come with a
 /// double quote, or a byte EF that is no byte order mark at the front, it keeps all that comes, and reads that at the end; so it does where
-/// the contests are refused, or they, one line or the lines in one piece have more than `csv_rows` looks at. Once a ballot is refused, nothing more is kept.
+/// the contests are refused, or where they, or one line or the lines in one piece together with what waits, have more than `csv_rows` looks at
+/// (`MOST_AT_HAND`). Once a ballot is refused, nothing more is kept.
 ///
 /// To a contract it is the contest that is asked for, how many bytes of whole lines may wait for more, what is at hand of the file, and how
 /// far the file is read.
@@ -118,14 +120,24 @@ impl<'r, R: Threads + Sync> VotesReader<'r, R> {
         Ok(())
     }
 
+    // Reads the whole lines that wait for more, when nothing more comes.
+    fn read_waiting(&mut self) -> Result<(), Memory>
+        ensures asked { self.new.asked ≡ self.old.asked }
+        ensures taken { (bytes : List ℕ) → HasTaken self.old bytes → HasTaken self.new bytes }
+    {
+        self.holds = 0;
+        self.take(&[])
+    }
+
     /// The votes of the contest, when all of the file came; or why it isn't read, as `read_ballots` tells it.
-    pub fn into_votes(self) -> Result<Votes, BallotFault>
+    pub fn into_votes(mut self) -> Result<Votes, BallotFault>
         ensures read { IfOk result (λ votes. (bytes : List ℕ) → HasTaken self.entry bytes
             → (file : BallotFile) × (ballots_of bytes self.entry.asked ≡ Ok file)
             × (votes ≡ votes_of file)) }
         ensures refused { IfErr result (λ fault. (bytes : List ℕ) → HasTaken self.entry bytes
             → Refuses (ballots_of bytes self.entry.asked) fault) }
     {
+        self.read_waiting()?;
         let VotesReader {
             alloc,
             asked,

@@ -1,6 +1,7 @@
 // Tests of files whose votes are read in pieces: each file is cut at every place, and says what it says whole.
 use ballot_reader::{BallotFault, Ballots, Votes, VotesReader, read_ballots};
-use irv_base::Rankings;
+use irv_tabulator::{TabFault, tabulate};
+use set_tallies::Counted;
 use std::thread::Threads;
 
 // Files that are read, and files that are refused: for a contest or a ballot, before a quote or behind one.
@@ -40,17 +41,37 @@ fn read_by_byte<R: AllocGlobal + Threads + Sync>(
     reader.into_votes()
 }
 
-fn same_rankings(a: &Rankings, b: &Rankings) -> bool {
-    a.len() == b.len() && (0..a.len()).all(|i| a.at(i) == b.at(i))
+// Whether votes have the tallies of ballots, round by round.
+fn same_tallies<R: AllocGlobal + Threads + Sync>(
+    rt: &R,
+    ballots: &Ballots,
+    votes: &Votes,
+) -> Result<bool, TabFault> {
+    let n = ballots.candidates().len() as u32;
+    let whole = Counted::of(rt, n, ballots.rankings(), 1)?;
+    let counted = votes.counted(rt, 1)?;
+    let (mut all, mut pieces) = (whole.tallies()?, counted.tallies()?);
+    let first = tabulate(rt.alloc(), &mut all)?;
+    let second = tabulate(rt.alloc(), &mut pieces)?;
+    let mut same = first.rounds.len() == second.rounds.len();
+    for (a, b) in first.rounds.iter().zip(second.rounds.iter()) {
+        same = same && a.tallies.as_slice() == b.tallies.as_slice() && a.exhausted == b.exhausted;
+    }
+    Ok(same)
 }
 
 /// Whether votes are those of ballots that were read whole, or are refused for the same.
-pub fn is_same(whole: &Result<Ballots, BallotFault>, votes: &Result<Votes, BallotFault>) -> bool {
+pub fn is_same<R: AllocGlobal + Threads + Sync>(
+    rt: &R,
+    whole: &Result<Ballots, BallotFault>,
+    votes: &Result<Votes, BallotFault>,
+) -> bool {
     match (whole, votes) {
         (Ok(ballots), Ok(votes)) => {
             ballots.contest() == votes.contest()
                 && ballots.candidates() == votes.candidates()
-                && same_rankings(ballots.rankings(), votes.rankings())
+                && ballots.rankings().len() == votes.records() as usize
+                && matches!(same_tallies(rt, ballots, votes), Ok(true))
         }
         (Err(fault), Err(other)) => fault == other,
         _ => false,
@@ -62,8 +83,8 @@ fn a_file_in_two_pieces_says_what_it_says_whole(rt: HostRuntime) {
     for file in FILES {
         let whole = read_ballots(rt.alloc(), file, None);
         for cut in 0..=file.len() {
-            assert!(rt; is_same(&whole, &read_in_two(&rt, file, cut, 1)));
-            assert!(rt; is_same(&whole, &read_in_two(&rt, file, cut, 3)));
+            assert!(rt; is_same(&rt, &whole, &read_in_two(&rt, file, cut, 1)));
+            assert!(rt; is_same(&rt, &whole, &read_in_two(&rt, file, cut, 3)));
         }
     }
 }
@@ -72,7 +93,7 @@ fn a_file_in_two_pieces_says_what_it_says_whole(rt: HostRuntime) {
 fn a_file_in_bytes_says_what_it_says_whole(rt: HostRuntime) {
     for file in FILES {
         let whole = read_ballots(rt.alloc(), file, None);
-        assert!(rt; is_same(&whole, &read_by_byte(&rt, file)));
+        assert!(rt; is_same(&rt, &whole, &read_by_byte(&rt, file)));
     }
 }
 

@@ -6,7 +6,7 @@ use std::alloc::Global;
 use std::thread::Threads;
 
 // So many ballots have more than `SIDE_BY_SIDE` bytes.
-const BALLOTS: u32 = 90_000;
+const BALLOTS: u32 = 240_000;
 
 // The contest's lines, which are read before any ballot is.
 const CONTEST: &[u8] = b"1\nContest,7,2,A,B\n";
@@ -62,7 +62,7 @@ fn several_workers_say_what_one_says(rt: HostRuntime) {
     let whole = read_ballots(alloc, &file, None);
     assert!(rt; whole.is_ok());
     for piece in [file.len(), 300_000, 65_537] {
-        assert!(rt; is_same(&whole, &read_by_four(&rt, &file, piece)));
+        assert!(rt; is_same(&rt, &whole, &read_by_four(&rt, &file, piece)));
     }
 }
 

@@ -10,8 +10,16 @@ use Rattle.ballot_reader.proofs.kept_parts.put_all.Goals as goal
 pub loop-place-init : goal.loop-place-init
 loop-place-init c = together-none IsPutBehind c.args.parts.now.items c.args.others.now
 
-pub put_at-requires : goal.put_at-requires
-put_at-requires c = omega (arith, c.loop-place.invariant.same, c.requires, c.loop-place-test.true)
+pub put_at-requires-clause-within : goal.put_at-requires-clause-within
+put_at-requires-clause-within c = omega (arith, c.loop-place.invariant.same, c.requires.each, c.loop-place-test.true)
+
+pub put_at-requires-clause-alike : goal.put_at-requires-clause-alike
+put_at-requires-clause-alike c = λ before there.
+    let others = c.args.others.now in
+    let place = c.loop-place.place in
+    let other = c.index-others-place.result in
+    c.requires.alike place before other (sym (c.loop-place.invariant.left place (omega arith)) ∙ there)
+    (slice_get_read others (length others) place other refl c.loop-place-test.true c.index-others-place.is)
 
 pub loop-place-preserved : goal.loop-place-preserved
 loop-place-preserved c =
@@ -19,7 +27,7 @@ loop-place-preserved c =
     let others = c.args.others.now in
     let place = c.loop-place.place in
     let other = c.index-others-place.result in
-    let (before, stood) = got own place (omega (arith, c.requires, c.loop-place-test.true)) in
+    let (before, stood) = got own place (omega (arith, c.requires.each, c.loop-place-test.true)) in
     let there = slice_get_read others (length others) place other refl c.loop-place-test.true c.index-others-place.is in
     let put = c.in_ok-put_at.ensures before (c.loop-place.invariant.left place (omega arith) ∙ stood) in
     subst (λ all. SoFarTogether (Option KeptPart) IsPutBehind own others all (place + 1)) (sym put)
@@ -27,4 +35,4 @@ loop-place-preserved c =
 
 pub returns : goal.returns
 returns c = together-all IsPutBehind c.args.parts.now.items c.args.others.now c.loop-place.parts.items c.loop-place.place c.loop-place.invariant
-    (omega (arith, c.requires, c.loop-place-test.false))
+    (omega (arith, c.requires.each, c.loop-place-test.false))

@@ -1,8 +1,13 @@
-use Rattle.std.proofs.Common.{◌∙◌, set, sym, ap}
+use Rattle.std.proofs.Common.{◌∙◌, Some, set, sym, ap}
 use Rattle.std.proofs.lemmas.Result.{on_ok_weaker}
-use Rattle.ballot_reader.specs.Parts.{part_behind}
+use Rattle.ballot_reader.specs.Parts.{form_of, part_behind}
 use Rattle.ballot_reader.proofs.PutBehind.{set-same}
 use Rattle.ballot_reader.proofs.kept_parts.put_at.Goals as goal
+
+pub append_at-requires-clause-alike : goal.append_at-requires-clause-alike
+append_at-requires-clause-alike c = λ before there.
+    let other = c.in-Some.is in
+    ap form_of (sym other) ∙ c.requires.alike (Some before) there
 
 pub returns-in-Some : goal.returns-in-Some
 returns-in-Some c = on_ok_weaker c.append_at.result

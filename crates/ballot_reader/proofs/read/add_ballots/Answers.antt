@@ -1,6 +1,6 @@
 use Rattle.std.proofs.Common.{◌∙◌, ◌++◌, ◌∷◌, [], length, refl, sym, ap, arith, length-append}
 use Rattle.ballot_reader.specs.Grammar.{ballot_of}
-use Rattle.ballot_reader.proofs.Adding.{keeps_audited, length-met, length-parts}
+use Rattle.ballot_reader.proofs.Adding.{each_counts_own, keeps_audited, length-met, length-parts}
 use Rattle.ballot_reader.proofs.Behind.{ballots-more}
 use Rattle.ballot_reader.proofs.read.add_ballots.Goals as goal
 
@@ -24,6 +24,12 @@ add-requires-clause-sized c =
     let (wanted, earlier, before) = c.requires.kept in
     let (ballots, so_far) = c.records.invariant wanted earlier before in
     keeps_audited c.args.contests.now wanted ballots c.records.kept.parts so_far.up_to.sized so_far.up_to.is_kept.parted
+
+pub add-requires-clause-own : goal.add-requires-clause-own
+add-requires-clause-own c =
+    let (wanted, earlier, before) = c.requires.kept in
+    let (ballots, so_far) = c.records.invariant wanted earlier before in
+    each_counts_own c.args.contests.now wanted ballots c.records.kept.parts so_far.up_to.is_kept.parted
 
 pub records-preserved : goal.records-preserved
 records-preserved c = λ wanted earlier before.

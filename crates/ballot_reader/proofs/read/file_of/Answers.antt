@@ -3,7 +3,7 @@ use Rattle.std.proofs.lemmas.Result.{IfOk-weaker}
 use Rattle.ballot_reader.proofs.Adding.{same_at, same_some}
 use Rattle.ballot_reader.specs.Grammar.{Contest, file_of}
 use Rattle.ballot_reader.specs.declared.wanted.Wanted.TheVariants.{One}
-use Rattle.ballot_reader.specs.Kept.{file_with}
+use Rattle.ballot_reader.specs.Kept.{KeptPart, file_with}
 use Rattle.ballot_reader.proofs.Ended.{are_ballots, file-is}
 use Rattle.ballot_reader.proofs.read.file_of.Goals as goal
 
@@ -17,6 +17,12 @@ ballots_with-requires-clause-kept c =
       file-is contest ballots part own,
       are_ballots c.args.contests.items (One audited) ballots c.args.kept audited contest kept c.taken-contest.ensures.there,
     )
+
+pub ballots_with-requires-clause-listed : goal.ballots_with-requires-clause-listed
+ballots_with-requires-clause-listed c =
+    let audited = c.args.audited in
+    let (ballots, kept) = c.requires.kept in
+    ap (λ (p : KeptPart). p.counted) (c.taken-contest.ensures.own (One audited) ballots kept (eq-eqb audited audited refl))
 
 pub returns : goal.returns
 returns c = IfOk-weaker c.ballots_with.result _ _ (λ file is chosen ballots at kept.

@@ -1,8 +1,8 @@
-use Rattle.std.proofs.Common.{◌≡◌, [], true, refl, sym, subst, arith}
+use Rattle.std.proofs.Common.{◌≡◌, [], true, refl, sym, ap, subst, arith}
 use Rattle.std.specs.Vec.Iter.{into_iter_items}
 use Rattle.std.proofs.lemmas.List.{nil_from_length}
 use Rattle.ballot_reader.specs.Grammar.{file_of}
-use Rattle.ballot_reader.specs.Kept.{IsKept}
+use Rattle.ballot_reader.specs.Kept.{IsKept, KeptPart}
 use Rattle.ballot_reader.specs.declared.wanted.Wanted.TheVariants.{All as EachContest}
 use Rattle.ballot_reader.proofs.Ended.{are_ballots, file-is}
 use Rattle.ballot_reader.proofs.Filed.{FiledSoFar, all_taken, filed-end, filed-none, next_taken}
@@ -22,6 +22,14 @@ ballots_with-requires-clause-sized c =
     let next = next_taken c.args.contests.items ballots c.in-Some.contest _ _ _ _ (c.loop-contest.invariant ballots before) c.in-Some.ensures.steps.0
     c.in-Some-Some.part _ part in
     c.requires.sized next.place c.in-Some.contest next.there (refl {a = true})
+
+pub ballots_with-requires-clause-listed : goal.ballots_with-requires-clause-listed
+ballots_with-requires-clause-listed c =
+    let (ballots, before) = c.requires.kept in
+    let part = rw c.in-Some-Some.field-0-is at c.in-Some-Some.ensures.items in
+    let next = next_taken c.args.contests.items ballots c.in-Some.contest _ _ _ _ (c.loop-contest.invariant ballots before) c.in-Some.ensures.steps.0
+    c.in-Some-Some.part _ part in
+    ap (λ (p : KeptPart). p.counted) next.parted
 
 pub ballots_with-requires-clause-kept : goal.ballots_with-requires-clause-kept
 ballots_with-requires-clause-kept c =

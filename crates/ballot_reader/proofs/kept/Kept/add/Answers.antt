@@ -51,6 +51,14 @@ keep-requires-clause-sized c = λ part at.
     let there = slice_get_read contests (length contests) place contest refl c.in-Ok.ensures.within c.index-contests-head.is in
     c.requires.sized place contest part there (sym (ap (λ (k : KeptBallots). slice_get k.parts place) c.self.view_is) ∙ at)
 
+pub keep-requires-clause-own : goal.keep-requires-clause-own
+keep-requires-clause-own c = λ part at.
+    let contests = c.args.contests.now in
+    let place = c.in-Ok.head.contest in
+    let contest = c.index-contests-head.result in
+    let there = slice_get_read contests (length contests) place contest refl c.in-Ok.ensures.within c.index-contests-head.is in
+    c.requires.own place contest part there (sym (ap (λ (k : KeptBallots). slice_get k.parts place) c.self.view_is) ∙ at)
+
 pub returns-then-not-branch-clause-refused : goal.returns-then-not-branch-clause-refused
 returns-then-not-branch-clause-refused c = rw c.at_record-then-not-branch.ensures (λ wanted ballots before.
     let contests = c.args.contests.now in

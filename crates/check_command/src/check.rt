@@ -29,7 +29,6 @@ use desk::Desk;
 use input_files::{assertions_in, bytes_of, votes_of_file};
 use irv_base::{Candidate, Order};
 use report::{spent_at, spent_sets};
-use set_tallies::Counted;
 use std::alloc::Global;
 use std::thread::Threads;
 
@@ -87,12 +86,7 @@ pub fn check<R: AllocGlobal + Threads + Sync>(
     ensures { IsOneOrMemory (Checks budget votes.now file.now) (due result) }
 {
     let alloc = rt.alloc();
-    let counted = Counted::of(
-        rt,
-        votes.candidates().len() as u32,
-        votes.rankings(),
-        WORKERS,
-    )?;
+    let counted = votes.counted(rt, WORKERS)?;
     let mut tallies = counted.tallies()?;
     match check_file(alloc, votes, &mut tallies, file, budget) {
         Ok(found) => found_answer(alloc, file, found),

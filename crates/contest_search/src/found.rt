@@ -61,12 +61,7 @@ pub fn find<R: AllocGlobal + Threads + Sync, G: Gate + Sync>(
     ensures { IfOk result (FoundIn budget votes.now) }
 {
     let alloc = rt.alloc();
-    let counted = Counted::of(
-        rt,
-        votes.candidates().len() as u32,
-        votes.rankings(),
-        workers,
-    )?;
+    let counted = votes.counted(rt, workers)?;
     let mut tallies = counted.tallies()?;
     match tabulate(alloc, &mut tallies) {
         Ok(tabulated) => search_of(rt, votes, &counted, &tabulated, workers, budget, gate),
@@ -241,7 +236,7 @@ fn file_of(
         order,
     } = certificate;
     let names = votes.candidates().to_vec(alloc)?;
-    let records = votes.rankings().len() as u32;
+    let records = votes.records();
     Ok(AssertionFile::new(Parts {
         contest: *votes.contest(),
         candidates: names,

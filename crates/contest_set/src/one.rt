@@ -131,13 +131,8 @@ pub fn audit_one<R: AllocGlobal + Threads + Sync, G: Gate + Sync>(
     ensures { IsOne m.now terms.now ballots.now seen.now place result }
 {
     let gate = Numbered { gate, place };
-    match find(
-        rt,
-        ballots.votes(),
-        ALONE,
-        Budget::Nodes(terms.nodes),
-        &gate,
-    )? {
+    let votes = ballots.votes(rt.alloc())?;
+    match find(rt, &votes, ALONE, Budget::Nodes(terms.nodes), &gate)? {
         Found::Certificate(file) => audited(rt.alloc(), place, ballots, m, seen, terms, file),
         Found::Tie { round, tied, votes } => Ok(ContestEnd::Tied {
             round,

@@ -25,8 +25,8 @@ Contest,1,3,1,2,3
 #[test]
 fn three_candidates_are_certified(rt: HostRuntime) {
     let ballots = read_ballots(rt.alloc(), THREE_CANDIDATES, None).expect(&rt, "ballots");
-    let votes = ballots.votes();
-    match find(&rt, votes, 2, Budget::Nodes(100_000), &NoGate) {
+    let votes = ballots.votes(rt.alloc()).expect(&rt, "votes");
+    match find(&rt, &votes, 2, Budget::Nodes(100_000), &NoGate) {
         Ok(Found::Certificate(file)) => {
             assert!(rt; file.winner() == ONE);
             assert!(rt; file.margin() == 1);
@@ -41,8 +41,8 @@ fn three_candidates_are_certified(rt: HostRuntime) {
 #[test]
 fn three_candidates_are_spent(rt: HostRuntime) {
     let ballots = read_ballots(rt.alloc(), THREE_CANDIDATES, None).expect(&rt, "ballots");
-    let votes = ballots.votes();
-    let found = find(&rt, votes, 1, Budget::Nodes(0), &NoGate);
+    let votes = ballots.votes(rt.alloc()).expect(&rt, "votes");
+    let found = find(&rt, &votes, 1, Budget::Nodes(0), &NoGate);
     assert!(rt; matches!(&found, Ok(Found::Spent { .. })));
 }
 
@@ -51,8 +51,8 @@ fn three_candidates_are_spent(rt: HostRuntime) {
 #[test]
 fn three_candidates_by_sets(rt: HostRuntime) {
     let ballots = read_ballots(rt.alloc(), THREE_CANDIDATES, None).expect(&rt, "ballots");
-    let votes = ballots.votes();
-    match find(&rt, votes, 1, Budget::Sets(3), &NoGate) {
+    let votes = ballots.votes(rt.alloc()).expect(&rt, "votes");
+    match find(&rt, &votes, 1, Budget::Sets(3), &NoGate) {
         Ok(Found::Certificate(file)) => {
             assert!(rt; file.margin() == 1);
             assert!(rt; file.claims().len() == 3);
@@ -65,8 +65,8 @@ fn three_candidates_by_sets(rt: HostRuntime) {
 #[test]
 fn three_candidates_are_spent_by_sets(rt: HostRuntime) {
     let ballots = read_ballots(rt.alloc(), THREE_CANDIDATES, None).expect(&rt, "ballots");
-    let votes = ballots.votes();
-    let found = find(&rt, votes, 1, Budget::Sets(2), &NoGate).expect(&rt, "found");
+    let votes = ballots.votes(rt.alloc()).expect(&rt, "votes");
+    let found = find(&rt, &votes, 1, Budget::Sets(2), &NoGate).expect(&rt, "found");
     match &found {
         Found::SpentSets {
             sets,
@@ -85,8 +85,8 @@ fn three_candidates_are_spent_by_sets(rt: HostRuntime) {
 fn one_against_one_is_a_tie(rt: HostRuntime) {
     let file = b"1\nContest,7,2,A,B\n7,b_1,A\n7,b_2,B\n".as_slice();
     let ballots = read_ballots(rt.alloc(), file, None).expect(&rt, "ballots");
-    let votes = ballots.votes();
-    let found = find(&rt, votes, 1, Budget::Nodes(100_000), &NoGate);
+    let votes = ballots.votes(rt.alloc()).expect(&rt, "votes");
+    let found = find(&rt, &votes, 1, Budget::Nodes(100_000), &NoGate);
     let is_first = matches!(
         &found,
         Ok(Found::Tie {

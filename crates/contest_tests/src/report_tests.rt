@@ -12,28 +12,24 @@ use report::{
     add_risk, add_signed_off, add_state, assertion_text, counts_text, order_text, set_text,
     spent_at, spent_text, state_text, tabulation, tie_text, yes_or_no,
 };
-use set_tallies::{Ahead, Bag, Tallies};
 use std::thread::Threads;
 
 fn tabulated<R: AllocGlobal + Threads + Sync>(rt: &R, votes: &Votes) -> Result<Tabulated, TabFault>
     ensures { IfOk result (IsTabulation (length (votes.now).candidates) (votes.now).rankings) }
 {
-    let n = votes.candidates().len() as u32;
-    let alloc = rt.alloc();
-    let bag = Bag::of(rt, n, votes.rankings(), 1)?;
-    let ahead = Ahead::fill(alloc, &bag)?;
-    let mut tallies = Tallies::new(alloc, &bag, &ahead, true)?;
-    tabulate(alloc, &mut tallies)
+    let counted = votes.counted(rt, 1)?;
+    let mut tallies = counted.tallies()?;
+    tabulate(rt.alloc(), &mut tallies)
 }
 
 #[test]
 fn two_candidates(rt: HostRuntime) {
     let file = b"1\nContest,7,2,A,B\n7,b_1,A\n7,b_2,B,A\n7,b_3,B\n7,b_4\n".as_slice();
     let ballots = read_ballots(rt.alloc(), file, None).expect(&rt, "ballots");
-    let votes = ballots.votes();
-    match tabulated(&rt, votes) {
+    let votes = ballots.votes(rt.alloc()).expect(&rt, "votes");
+    match tabulated(&rt, &votes) {
         Ok(t) => {
-            let text = tabulation(rt.alloc(), votes, &t).expect(&rt, "text");
+            let text = tabulation(rt.alloc(), &votes, &t).expect(&rt, "text");
             assert!(rt;
                 text.as_str()
                     == "contest 7\nrecords 4\nround 1: A=1 B=2 exhausted=1\neliminated A\nwinner B\n"
@@ -48,10 +44,10 @@ fn two_candidates(rt: HostRuntime) {
 fn tie_for_the_last_place(rt: HostRuntime) {
     let file = b"1\nContest,1,3,1,2,3\n1,t_1,1\n1,t_2,1\n1,t_3,1\n".as_slice();
     let ballots = read_ballots(rt.alloc(), file, None).expect(&rt, "ballots");
-    let votes = ballots.votes();
-    match tabulated(&rt, votes) {
+    let votes = ballots.votes(rt.alloc()).expect(&rt, "votes");
+    match tabulated(&rt, &votes) {
         Ok(t) => {
-            let text = tabulation(rt.alloc(), votes, &t).expect(&rt, "text");
+            let text = tabulation(rt.alloc(), &votes, &t).expect(&rt, "text");
             assert!(rt;
                 text.as_str()
                     == "contest 1\nrecords 3\nround 1: 1=3 2=0 3=0 exhausted=0\ntied 2,3\neliminated 2\nround 2: 1=3 3=0 exhausted=0\neliminated 3\nwinner 1\n"

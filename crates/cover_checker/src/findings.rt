@@ -27,7 +27,7 @@ pub fn is_about(votes: &Votes, file: &AssertionFile) -> bool
 {
     file.contest() == votes.contest()
         && file.candidates() == votes.candidates()
-        && file.records() as usize == votes.rankings().len()
+        && file.records() == votes.records()
 }
 
 /// The winner of the contest, if the file has another one.

@@ -16,6 +16,9 @@ use desk::{Desk, Taker};
 use irv_base::{Memory, Name};
 use std::thread::Threads;
 
+/// So many workers read a ballot file side by side, at most: more would wait for its bytes, which one of them asks for.
+pub const MOST_READERS: u32 = 4;
+
 // What the votes are read by.
 #[derive(Drop)]
 struct VotesTaker<'r, R: Threads + Sync> {

@@ -180,7 +180,7 @@ pub fn tabulation(alloc: Global, votes: &Votes, t: &Tabulated) -> Result<String,
     let text = whole_text(
         alloc,
         votes.contest().text(),
-        votes.rankings().len() as u32,
+        votes.records(),
         rounds.as_str(),
         id_of(names, t.winner),
     )?;

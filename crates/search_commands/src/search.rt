@@ -18,13 +18,10 @@ use cli_base::{Answer, AnswerKind, Refusal, refuse_at};
 use command::{PlanTerms, SearchTask};
 use contest_search::{Found, find, planned};
 use desk::{Desk, Gate};
-use input_files::votes_of_file;
+use input_files::{MOST_READERS, votes_of_file};
 use irv_base::Memory;
 use std::alloc::Global;
 use std::thread::Threads;
-
-// The votes are read by this many: parts of a MiB that several read side by side take longer to hand out than to read.
-const READERS: u32 = 1;
 
 /// The assertions that confirm the winner of the contest, or why there are none.
 pub fn answer<R: AllocGlobal + Threads + Sync, D: Desk, G: Gate + Sync>(
@@ -42,7 +39,8 @@ pub fn answer<R: AllocGlobal + Threads + Sync, D: Desk, G: Gate + Sync>(
         (Runs (script task.now)) (due result) }
     ensures served { IsAccountedFor 1 (D.served desk.old) (D.served desk.new) (due result).status }
 {
-    let votes = votes_of_file(rt, desk, &task.ballots, task.contest.as_ref(), READERS)?;
+    let readers = task.workers.min(MOST_READERS);
+    let votes = votes_of_file(rt, desk, &task.ballots, task.contest.as_ref(), readers)?;
     after_votes(rt, &votes, task, gate)
 }
 
@@ -67,7 +65,7 @@ fn has_cards(plan: Option<PlanTerms>, votes: &Votes) -> bool
     ensures { result ≡ has_cards plan votes.now }
 {
     match plan {
-        Some(terms) => votes.rankings().len() as u32 <= terms.cards,
+        Some(terms) => votes.records() <= terms.cards,
         None => true,
     }
 }

@@ -59,12 +59,7 @@ fn tabulate_all<R: AllocGlobal + Threads + Sync, G: Gate + Sync>(
     ensures { IsOneOrMemory (Tabulates nodes votes.now) (due result) }
 {
     let alloc = rt.alloc();
-    let counted = Counted::of(
-        rt,
-        votes.candidates().len() as u32,
-        votes.rankings(),
-        WORKERS,
-    )?;
+    let counted = votes.counted(rt, WORKERS)?;
     let mut tallies = counted.tallies()?;
     match tabulate(alloc, &mut tallies) {
         Ok(tabulated) => told(rt, votes, &counted, &tabulated, nodes, gate),

@@ -12,6 +12,19 @@ use check_command::check::check;
 use cli_base::{Answer, AnswerKind, Refusal};
 use std::thread::Threads;
 
+// What a check of the file answers.
+fn checked<R: AllocGlobal + Threads + Sync>(
+    rt: &R,
+    ballots: &Ballots,
+    file: &AssertionFile,
+    budget: Budget,
+) -> Result<Answer, Refusal>
+    ensures { IsOneOrMemory (Checks budget ballots.now file.now) (due result) }
+{
+    let votes = ballots.votes(rt.alloc())?;
+    check(rt, &votes, file, budget)
+}
+
 /// What a check of the file answers, unless it accepts the file.
 pub(crate) fn unless_accepted<R: AllocGlobal + Threads + Sync>(
     rt: &R,
@@ -27,7 +40,7 @@ pub(crate) fn unless_accepted<R: AllocGlobal + Threads + Sync>(
         (due (Ok answer)).status ≢ 0)) }
     ensures memory { IfErr result (λ refusal. due_refusal refusal ≡ out_of_memory) }
 {
-    let answer = check(rt, ballots.votes(), file, budget)?;
+    let answer = checked(rt, ballots, file, budget)?;
     match answer.kind {
         AnswerKind::Done => Ok(None),
         _ => Ok(Some(answer)),

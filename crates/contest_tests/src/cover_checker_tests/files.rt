@@ -8,7 +8,6 @@ use ballot_reader::read_ballots;
 use budget::Budget;
 use cover_checker::{CheckFault, Checked, check};
 use irv_base::{CandSet, Candidate};
-use set_tallies::{Ahead, Bag, Tallies};
 use std::process::Abort;
 use std::thread::Threads;
 
@@ -28,13 +27,11 @@ fn checked<R: Abort + AllocGlobal + Threads + Sync>(
 ) -> Result<Checked, CheckFault> {
     let alloc = rt.alloc();
     let ballots = read_ballots(alloc, ballots.as_bytes(), None).expect(rt, "ballots");
-    let votes = ballots.votes();
-    let n = votes.candidates().len() as u32;
-    let bag = Bag::of(rt, n, votes.rankings(), 1).expect(rt, "bag");
-    let ahead = Ahead::fill(alloc, &bag).expect(rt, "ahead");
-    let mut tallies = Tallies::new(alloc, &bag, &ahead, true).expect(rt, "tallies");
+    let votes = ballots.votes(alloc).expect(rt, "votes");
+    let counted = votes.counted(rt, 1).expect(rt, "counted");
+    let mut tallies = counted.tallies().expect(rt, "tallies");
     let file = read_file(alloc, file.as_bytes()).expect(rt, "file");
-    check(alloc, votes, &mut tallies, &file, budget)
+    check(alloc, &votes, &mut tallies, &file, budget)
 }
 
 // The answer to the certificate with one text in place of another.

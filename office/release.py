@@ -48,7 +48,7 @@ With the kit named above, on any machine:
     git clone <the repository> raire && cd raire
     git checkout {commit}
     rt version          # {kit}
-    rt ci --anew        # every proof from nothing, wrong bodies refused, every test
+    rt ci               # every proof from nothing, wrong bodies refused, every test
     ./raire --build
     sha256sum {program}
 

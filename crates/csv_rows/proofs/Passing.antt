@@ -1,15 +1,15 @@
 -- A text comes in pieces, and whole lines of it are passed.
-use Rattle.std.proofs.Common.{◌≡◌, ◌∙◌, ◌≤◌, ◌∷◌, ◌++◌, ◌==◌, [], ℕ, Bool, true, false, List, length, refl, sym, ap, arith, append_assoc}
-use Rattle.std.proofs.lemmas.List.{append-nil}
-use Rattle.std.specs.Prelude.{Option, Some, None, IfSome, is_some, not, ◌||◌}
-use Rattle.std.specs.List.{list_any}
+use Rattle.std.proofs.Common.{◌≡◌, ◌∙◌, ◌≤◌, ◌∷◌, ◌++◌, ◌==◌, [], ℕ, Bool, true, false, List, length, take, drop, nat_eq, refl, sym, ap, arith, append_assoc}
+use Rattle.std.proofs.lemmas.List.{append-nil, take-append-drop}
+use Rattle.std.specs.Prelude.{Option, Some, None, IfSome, is_some, not, ◌||◌, if◌then◌else◌}
+use Rattle.std.specs.List.{list_any, starts_with}
 use Rattle.csv.specs.Reading.{default_config, records}
 use Rattle.csv_rows.specs.Rows.{Fields}
-use Rattle.csv_rows.specs.Fields.{numbered, numbered_records, without_mark}
+use Rattle.csv_rows.specs.Fields.{byte_order_mark, numbered, numbered_records, without_mark}
 use Rattle.csv_rows.specs.Lines.{are_whole_lines, is_line_end, is_plain, is_unended}
 use Rattle.csv_rows.specs.Pieces.{AtHand, IsBehind, StandApart, text_of}
 use Rattle.csv_rows.proofs.Apart.{at-start, behind-feed, whole-append}
-use Rattle.csv_rows.proofs.Plain.{plain-records}
+use Rattle.csv_rows.proofs.Plain.{plain-parted, plain-records}
 
 -- a piece more
 pub taken : (text piece : List ℕ) (given : List Fields) (old new : AtHand) → text_of new ≡ text_of old ++ piece →
@@ -62,6 +62,12 @@ pub all-come : (text : List ℕ) (given : List Fields) (at_hand : AtHand) → Is
     numbered_records text ≡ given ++ numbered_records (text_of at_hand)
 all-come text given at_hand behind =
     ap numbered_records (sym (append-nil text)) ∙ behind.says [] ∙ ap (λ (t : List ℕ). given ++ numbered_records t) (append-nil (text_of at_hand))
+
+pub plain-unmarked : (text : List ℕ) → is_plain text ≡ true → is_plain (without_mark text) ≡ true
+plain-unmarked text h = by (starts_with nat_eq text byte_order_mark) where
+  by : (marked : Bool) → is_plain (if marked then drop 3 text else text) ≡ true
+  by true = (plain-parted (take 3 text) (drop 3 text) (ap is_plain (take-append-drop 3 text) ∙ h)).1
+  by false = h
 
 pub some-apart : {T : Type 0} (records : Option T) (lines : List ℕ) → 3 ≤ length lines → is_some records ≡ is_plain (without_mark lines) →
     (length (without_mark lines) == 0 ≡ true → ⊥) → IfSome records (λ _. StandApart lines)

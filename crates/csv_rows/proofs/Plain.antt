@@ -36,6 +36,14 @@ plain-parted (b ∷ front) behind h = by (is_odd_byte b) h (plain-parted front b
   by true h parts = absurd cc
   by false h parts = parts h
 
+pub plain-joined : (front behind : List ℕ) → is_plain front ≡ true → is_plain behind ≡ true → is_plain (front ++ behind) ≡ true
+plain-joined [] behind h more = more
+plain-joined (b ∷ front) behind h more = by (is_odd_byte b) h (λ rest. plain-joined front behind rest more) where
+  by : (odd : Bool) → not (odd || list_any is_odd_byte front) ≡ true → (is_plain front ≡ true → is_plain (front ++ behind) ≡ true) →
+      not (odd || list_any is_odd_byte (front ++ behind)) ≡ true
+  by true h joined = absurd cc
+  by false h joined = joined h
+
 pub plain-behind : (text : List ℕ) → is_plain text ≡ true → is_plain (behind_line text) ≡ true
 plain-behind [] h = refl
 plain-behind (b ∷ text) h =

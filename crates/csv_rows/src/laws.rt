@@ -4,5 +4,5 @@ ghost use Rattle.csv_rows.specs.declared.pieces.TheConstants as limit;
 
 /// The number of the limit.
 pub fn limits()
-    ensures most_at_hand { limit.MOST_AT_HAND ≡ 4194304 }
+    ensures most_at_hand { limit.MOST_AT_HAND ≡ 8388608 }
 {}

@@ -4,16 +4,16 @@ ghost use Rattle.csv_rows.specs.Fields.{numbered_records};
 ghost use Rattle.csv_rows.specs.Pieces.{IsBehind, StandApart, can_be_read};
 ghost use Rattle.csv_rows.specs.Rows.{Fields};
 
-use crate::lines::{LINE_FEED, whole_lines};
+use crate::lines::{LINE_FEED, is_plain, whole_lines};
 use crate::mark::{BYTE_ORDER_MARK, without_mark};
 use crate::plain_lines::PlainLines;
 use irv_base::Memory;
 use std::alloc::Global;
 use std::marker::Model;
 
-/// How many bytes of whole lines are looked at, at most. Where more are at hand, they couldn't be passed, and each piece would have them
-/// looked at again.
-pub const MOST_AT_HAND: usize = 4 << 20;
+/// How many bytes of whole lines are looked at, at most. Where more are at hand, they couldn't be passed, and each piece would have those
+/// that aren't plain looked at again.
+pub const MOST_AT_HAND: usize = 8 << 20;
 
 /// What is at hand of a text that comes in pieces: its whole lines, and the last line, of which more may come. Lines whose records are
 /// read are passed, so that a plain text need not be held whole.
@@ -23,14 +23,21 @@ pub const MOST_AT_HAND: usize = 4 << 20;
 pub struct Pieces {
     lines: Vec<u8>,
     last: Vec<u8>,
+    // how many bytes at the front of the lines were seen to be plain, when they came
+    plain: usize,
 }
 
 impl Model for Pieces {
+    ghost use Rattle.std.specs.Prelude.{◌≤◌, IsTrue, length, take};
+    ghost use Rattle.csv_rows.specs.Lines.{is_plain};
     ghost use Rattle.csv_rows.specs.Pieces.{AtHand};
 
     ghost Value = { AtHand };
 
     ghost view = { λ p. record { lines = p.lines.items; last = p.last.items } };
+
+    ghost invariant = { λ p.
+        (p.plain ≤ length p.lines.items) × IsTrue (is_plain (take p.plain p.lines.items)) };
 }
 
 impl Pieces {
@@ -41,6 +48,7 @@ impl Pieces {
         Pieces {
             lines: Vec::new(alloc),
             last: Vec::new(alloc),
+            plain: 0,
         }
     }
 
@@ -58,7 +66,17 @@ impl Pieces {
         self.lines.extend_from_slice(lines)?;
         self.last.clear();
         self.last.extend_from_slice(last)?;
+        self.look();
         Ok(())
+    }
+
+    // Looks whether the lines that came are plain, while they are near.
+    fn look(&mut self)
+        ensures { self.new ≡ self.old }
+    {
+        if self.lines.len() <= MOST_AT_HAND && is_plain(&self.lines[self.plain..]) {
+            self.plain = self.lines.len();
+        }
     }
 
     /// The whole lines, where what stands behind these can't change their records: they have no double quote and no byte EF but that of a
@@ -75,6 +93,9 @@ impl Pieces {
         let lines = without_mark(&self.lines);
         if lines.is_empty() {
             return None;
+        }
+        if self.plain == self.lines.len() {
+            return Some(PlainLines::of_plain(lines));
         }
         PlainLines::of(lines)
     }
@@ -96,6 +117,7 @@ impl Pieces {
     {
         self.lines.truncate(1);
         self.lines[0] = LINE_FEED;
+        self.plain = 0;
     }
 
     /// All that is at hand, when nothing more comes.
@@ -104,7 +126,11 @@ impl Pieces {
             → IsBehind text rows self
             → numbered_records text ≡ rows ++ numbered_records rest.items) }
     {
-        let Pieces { mut lines, last } = self;
+        let Pieces {
+            mut lines,
+            last,
+            ..
+        } = self;
         lines.extend_from_slice(&last)?;
         Ok(lines)
     }

@@ -1,5 +1,5 @@
 // The lines of a plain text, which can be parted.
-ghost use Rattle.std.specs.Prelude.{◌≡◌, ◌++◌, IfSome, is_some};
+ghost use Rattle.std.specs.Prelude.{◌≡◌, ◌++◌, IfSome, IsTrue, is_some};
 ghost use Rattle.csv_rows.specs.Fields.{numbered};
 ghost use Rattle.csv_rows.specs.Lines.{is_plain};
 ghost use Rattle.csv_rows.specs.Rows.{records_of};
@@ -39,7 +39,15 @@ impl<'t> PlainLines<'t> {
         if !is_plain(text) {
             return None;
         }
-        Some(PlainLines { text })
+        Some(PlainLines::of_plain(text))
+    }
+
+    /// The lines of a plain text.
+    pub(crate) fn of_plain(text: &'t [u8]) -> PlainLines<'t>
+        requires { IsTrue (is_plain text.now) }
+        ensures { result ≡ numbered (records_of text.now) }
+    {
+        PlainLines { text }
     }
 
     /// How many bytes they have.

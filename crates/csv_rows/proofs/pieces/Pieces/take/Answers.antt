@@ -32,9 +32,10 @@ returns c = λ text given behind.
     let begun : c.extend_from_slice-4.new.self.items ≡ rest =
     c.in_ok-extend_from_slice-4.ensures.items ∙ ap (λ (t : List ℕ). t ++ rest) c.clear.ensures.items in
     let some : length more == 0 ≡ true → ⊥ = λ none. false≢true (sym c.if-is_empty.false ∙ c.is_empty.ensures ∙ none) in
-    taken text c.args.piece.now given (record { lines = lines; last = last })
+    subst (IsBehind (text ++ c.args.piece.now) given) (sym c.look.ensures)
+    (taken text c.args.piece.now given (record { lines = lines; last = last })
     (record { lines = c.extend_from_slice-3.new.self.items; last = c.extend_from_slice-4.new.self.items })
     (ap₂ (λ (a b : List ℕ). a ++ b) ended begun ∙ lengthened lines last more rest c.args.piece.now c.whole_lines.ensures.parts)
     (λ whole. ap are_whole_lines ended ∙ still-whole (lines ++ last) more some c.whole_lines.ensures.whole)
     (λ unended. ap is_unended begun ∙ c.whole_lines.ensures.last)
-    (subst (IsBehind text given) (sym c.self.view_is) behind)
+    (subst (IsBehind text given) (sym c.self.view_is) behind))

@@ -10,3 +10,4 @@ pub mod Winners
 pub mod Noted
 pub mod Sharing
 pub mod Halving
+pub mod Paired

@@ -1,9 +1,9 @@
 -- Entries, as rankings are noted in those of each candidate, and joined.
-use Rattle.std.proofs.Common.{◌≡◌, ◌==◌, ℕ, ◌+◌, ◌<◌, ◌≤◌, Bool, true, false, cond, ◌&&◌, inl, inr, List, [], ◌∷◌, ◌++◌, All, length, map, set, take, replicate, get_or, count_by, refl, sym, ap, ap₂, subst, arith, eqb-true, length-append, ◌∙◌}
+use Rattle.std.proofs.Common.{◌≡◌, ◌==◌, ℕ, ◌+◌, ◌<◌, ◌≤◌, Bool, true, cond, ◌&&◌, inl, inr, List, [], ◌∷◌, ◌++◌, All, length, map, set, take, replicate, get_or, count_by, refl, sym, ap, ap₂, subst, arith, eqb-true, length-append, ◌∙◌}
 use Rattle.std.proofs.Math.Seq.{get_or-append_seam}
 use Rattle.std.proofs.lemmas.Bool.{cases_Bool, cases_lt, eqb-false}
-use Rattle.std.proofs.lemmas.List.{get_or_push, get_or_append_left, get_or-set_same, get_or-set_other, get_or-replicate, length-map, length-replicate, get_or_default, map-set}
-use Rattle.std.proofs.lemmas.List.Sums.{sum_by_push, sum_by_more, sum_by-le-sum_by, count_by-le-length}
+use Rattle.std.proofs.lemmas.List.{get_or_push, get_or_append_left, get_or-set_same, get_or-set_other, get_or-replicate, length-map, length-replicate, map-set}
+use Rattle.std.proofs.lemmas.List.Sums.{sum_by_more, sum_by-le-sum_by, count_by-le-length}
 use Rattle.set_tallies.specs.Bags.{misses, missing, total}
 use Rattle.set_tallies.specs.Befores.{has_missed, HasNoted, HasOneMore, SayTheSame, AllSayTheSame, Counted, AllCounted}
 use Rattle.set_tallies.specs.declared.entry.Entry.{Entry}

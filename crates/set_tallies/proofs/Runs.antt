@@ -2,7 +2,7 @@
 use Rattle.std.proofs.Common.{◌≡◌, ℕ, ◌+◌, ◌<◌, ◌≤◌, Bool, true, false, cond, List, [], ◌∷◌, ◌++◌, length, take, get_or, set, sum_by, IsPermutation, refl, sym, ap, arith, ◌∙◌}
 use Rattle.std.proofs.lemmas.List.{take_all}
 use Rattle.std.proofs.lemmas.List.Sorted.{sum_by-IsPermutation}
-use Rattle.std.proofs.lemmas.List.Sums.{sum_by_push, sum_by_more, sum_by_more_le_part, sum_by-set, sum_by-le-sum_by}
+use Rattle.std.proofs.lemmas.List.Sums.{sum_by_push, sum_by_more, sum_by_more_le_part, sum_by-le-sum_by}
 use Rattle.set_tallies.specs.Bags.{misses, missing, total}
 use Rattle.set_tallies.specs.Befores.{HasOneMore, SayTheSame}
 use Rattle.set_tallies.specs.declared.entry.Entry.{Entry}

@@ -3,6 +3,7 @@ pub mod Befores
 pub mod Countings
 pub mod Halves
 pub mod Laws
+pub mod Listings
 pub mod Rows
 pub mod Shares
 pub mod Sums

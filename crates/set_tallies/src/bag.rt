@@ -6,10 +6,10 @@ ghost use Rattle.set_tallies.specs.Befores.{AllCounted, has_missed};
 ghost use Rattle.set_tallies.specs.Sums.{AreHeld, votes_in};
 ghost use Rattle.set_tallies.specs.declared.sums.TheConstants.{MOST_SUMMED};
 
-use crate::cost::rows_in_time;
-use crate::count::{all_joined, missing, noted};
+use crate::cost::{count_of_noted, rows_in_time};
+use crate::count::{all_joined, noted};
 use crate::counting::Counting;
-use crate::entry::Entry;
+use crate::entries::Entries;
 use crate::halves::{Halves, can_be_halved};
 use crate::sums::{MOST_SUMMED, Sums};
 use irv_base::{Candidate, Memory, Rankings};
@@ -18,10 +18,10 @@ use std::marker::Model;
 use std::thread::Threads;
 
 /// So many candidates have the sums over all sets from the start: they are made as soon as entries would be.
-pub const ALWAYS_SUMMED: u32 = 14;
+pub const ALWAYS_SUMMED: u32 = 15;
 
-/// So have more candidates where no more rows than this would be counted from entries before the sums are made (`rows_in_time`).
-pub const FEWEST_ROWS: u64 = 32;
+/// So have more candidates where no more rows than this would be counted from entries before halved sums are made (`rows_in_time`).
+pub const FEWEST_ROWS: u64 = 128;
 
 /// What is kept of the records: the sums over all sets, in one of two forms, or of each candidate the different sets of those who stand before it on
 /// a ballot, each with the number of such ballots.
@@ -32,7 +32,7 @@ pub enum Votes {
     /// The same in a quarter of the room.
     Halved(Halves),
     /// The entries of each candidate.
-    Listed(Vec<Vec<Entry>>),
+    Listed(Vec<Entries>),
 }
 
 /// The records of a contest, whatever their order.
@@ -66,11 +66,7 @@ impl Model for Bag {
 }
 
 // The entries of each candidate, if rows of tallies are to be counted from them, and not to be read from sums.
-fn few_entries(
-    alloc: Global,
-    n: u32,
-    rankings: &Rankings,
-) -> Result<Option<Vec<Vec<Entry>>>, Memory>
+fn few_entries(alloc: Global, n: u32, rankings: &Rankings) -> Result<Option<Vec<Entries>>, Memory>
     requires room { n ≤ ROOM }
     requires most { length rankings.now ≤ MOST_RECORDS }
     requires below { All (λ ranking. All (λ c. c < n) ranking) rankings.now }
@@ -83,7 +79,7 @@ fn few_entries(
         return Ok(None);
     }
     let noted = noted(alloc, n, rankings)?;
-    if n <= MOST_SUMMED && rows_in_time(n, &noted) <= FEWEST_ROWS {
+    if n <= MOST_SUMMED && rows_in_time(n, count_of_noted(&noted), true) <= FEWEST_ROWS {
         return Ok(None);
     }
     let lists = all_joined(alloc, noted)?;
@@ -116,7 +112,7 @@ fn votes_of<R: AllocGlobal + Threads + Sync>(
 }
 
 // The sums that the entries of each candidate give.
-fn sums_of(alloc: Global, n: u32, lists: &[Vec<Entry>]) -> Result<Votes, Memory>
+fn sums_of(alloc: Global, n: u32, lists: &[Entries]) -> Result<Votes, Memory>
     requires some { 1 ≤ n }
     requires few { n ≤ MOST_SUMMED }
     requires entries { AreEntries n MOST_RECORDS (map (λ v. v.items) lists.now) }
@@ -222,7 +218,7 @@ impl Bag {
         match &self.votes {
             Votes::Summed(sums) => sums.at(c, set),
             Votes::Halved(halves) => halves.at(c, set),
-            Votes::Listed(lists) => missing(&lists[c.index()], set),
+            Votes::Listed(lists) => lists[c.index()].missing(set),
         }
     }
 }

@@ -2,9 +2,10 @@
 ghost use Rattle.std.specs.Prelude.{◌≡◌, ◌≤◌, ◌<◌, [], All, IsTrue, length, map, replicate, IfOk, OnOk};
 ghost use Rattle.irv_base.specs.Candidates.{is_distinct};
 ghost use Rattle.irv_base.specs.declared.limits.TheConstants.{ROOM, MOST_RECORDS};
-ghost use Rattle.set_tallies.specs.Bags.{missing, total};
+ghost use Rattle.set_tallies.specs.Bags.{total};
 ghost use Rattle.set_tallies.specs.Befores.{AllCounted, AllSayTheSame, HasNoted, HasOneMore, SayTheSame};
 
+use crate::entries::Entries;
 use crate::entry::Entry;
 use irv_base::{Candidate, MOST_RECORDS, Memory, Rankings};
 use std::alloc::Global;
@@ -89,18 +90,19 @@ fn runs(alloc: Global, entries: &[Entry]) -> Result<Vec<Entry>, Memory>
 }
 
 // One entry for each set that the entries have.
-fn joined(alloc: Global, entries: Vec<Entry>) -> Result<Vec<Entry>, Memory>
+fn joined(alloc: Global, entries: Vec<Entry>) -> Result<Entries, Memory>
     requires { total entries.items ≤ MOST_RECORDS }
     ensures { IfOk result (λ joined. SayTheSame entries.items joined.items) }
 {
     let mut sorted = entries;
     sorted.sort_unstable_by_key(|entry| entry.before);
     let runs = runs(alloc, &sorted)?;
-    Ok(runs)
+    let joined = Entries::of(alloc, &runs)?;
+    Ok(joined)
 }
 
 /// One entry for each set that the entries of a candidate have.
-pub fn all_joined(alloc: Global, noted: Vec<Vec<Entry>>) -> Result<Vec<Vec<Entry>>, Memory>
+pub fn all_joined(alloc: Global, noted: Vec<Vec<Entry>>) -> Result<Vec<Entries>, Memory>
     requires { All (λ entries. total entries ≤ MOST_RECORDS) (map (λ v. v.items) noted.items) }
     ensures { IfOk result (λ lists. AllSayTheSame
         (map (λ v. v.items) noted.items) (map (λ v. v.items) lists.items)) }
@@ -125,18 +127,4 @@ pub fn noted(alloc: Global, n: u32, rankings: &Rankings) -> Result<Vec<Vec<Entry
         note(&mut noted, n, rankings.at(i))?;
     }
     Ok(noted)
-}
-
-/// On how many ballots the candidate with these entries has nobody of the set before it.
-pub fn missing(entries: &[Entry], set: u32) -> u32
-    requires { total entries.now ≤ MOST_RECORDS }
-    ensures { result ≡ missing set entries.now }
-{
-    let mut votes = 0;
-    for entry in entries {
-        if entry.before & set == 0 {
-            votes += entry.count;
-        }
-    }
-    votes
 }

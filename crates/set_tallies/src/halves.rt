@@ -6,8 +6,7 @@ ghost use Rattle.set_tallies.specs.Halves.{IsHalved, half_at, halves_of, having,
 ghost use Rattle.set_tallies.specs.Sums.{column, apart};
 ghost use Rattle.set_tallies.specs.declared.sums.TheConstants.{MOST_SUMMED};
 
-use crate::count::missing;
-use crate::entry::Entry;
+use crate::entries::Entries;
 use crate::sums::{MOST_SUMMED, sum_apart};
 use crate::table::place;
 use irv_base::{CandSet, Candidate, Memory};
@@ -91,39 +90,40 @@ fn count_low(numbers: &mut [u32], n: u32, before: u32, count: u32)
 }
 
 // Counts the ballots of the entries.
-fn count_entries(numbers: &mut [u32], n: u32, entries: &[Entry])
+fn count_entries(numbers: &mut [u32], n: u32, entries: &Entries)
     requires few { (LOW_CANDIDATES ≤ n) × (n ≤ MOST_SUMMED) }
     requires zeros { numbers.old ≡ replicate (2 ^ n) 0 }
-    requires most { total entries.now ≤ MOST_RECORDS }
+    requires most { total entries.now.items ≤ MOST_RECORDS }
     ensures long { length numbers.new ≡ 2 ^ n }
     ensures says { (s low : ℕ) → s < 2 ^ (n - LOW_CANDIDATES) → low < LOW_SETS
         → apart s (column LOW_SETS (n - LOW_CANDIDATES) numbers.new low)
-        ≡ missing (s * LOW_SETS + low) entries.now }
+        ≡ missing (s * LOW_SETS + low) entries.now.items }
 {
-    for entry in entries {
+    for i in 0..entries.len() {
+        let entry = entries.at(i);
         count_low(numbers, n, entry.before % (1 << n), entry.count);
     }
 }
 
 // Turns zeros into the number of those ballots of the entries that have nobody of a set before, for each set.
-fn sum_entries(numbers: &mut [u32], n: u32, entries: &[Entry])
+fn sum_entries(numbers: &mut [u32], n: u32, entries: &Entries)
     requires few { (LOW_CANDIDATES ≤ n) × (n ≤ MOST_SUMMED) }
     requires zeros { numbers.old ≡ replicate (2 ^ n) 0 }
-    requires most { total entries.now ≤ MOST_RECORDS }
+    requires most { total entries.now.items ≤ MOST_RECORDS }
     ensures long { length numbers.new ≡ 2 ^ n }
-    ensures says { (set : ℕ) → set < 2 ^ n → slice_index numbers.new set ≡ missing set entries.now }
+    ensures says { (set : ℕ) → set < 2 ^ n → slice_index numbers.new set ≡ missing set entries.now.items }
 {
     count_entries(numbers, n, entries);
     sum_apart(numbers, LOW_SETS, n - LOW_CANDIDATES);
 }
 
 // The numbers of those ballots of the entries that have nobody of a set before, for each set.
-fn sums(alloc: Global, n: u32, entries: &[Entry]) -> Result<Vec<u32>, Memory>
+fn sums(alloc: Global, n: u32, entries: &Entries) -> Result<Vec<u32>, Memory>
     requires few { (LOW_CANDIDATES ≤ n) × (n ≤ MOST_SUMMED) }
-    requires most { total entries.now ≤ MOST_RECORDS }
+    requires most { total entries.now.items ≤ MOST_RECORDS }
     ensures long { IfOk result (λ numbers. length numbers.items ≡ 2 ^ n) }
     ensures says { IfOk result (λ numbers. (set : ℕ) → set < 2 ^ n
-        → slice_index numbers.items set ≡ missing set entries.now) }
+        → slice_index numbers.items set ≡ missing set entries.now.items) }
 {
     let mut numbers = vec![in alloc; 0; 1 << n]?;
     sum_entries(&mut numbers, n, entries);
@@ -149,13 +149,13 @@ fn put(table: &mut [u16], n: u32, c: Candidate, numbers: &[u32])
 }
 
 /// Whether no candidate is on more ballots than halved sums can count.
-pub fn can_be_halved(lists: &[Vec<Entry>]) -> bool
+pub fn can_be_halved(lists: &[Entries]) -> bool
     requires { All (λ entries. total entries ≤ MOST_RECORDS) (map (λ v. v.items) lists.now) }
     ensures { IsTrue result
         → All (λ entries. total entries ≤ MOST_HALVED) (map (λ v. v.items) lists.now) }
 {
     for entries in lists {
-        if missing(entries, 0) > MOST_HALVED {
+        if entries.missing(0) > MOST_HALVED {
             return false;
         }
     }
@@ -164,7 +164,7 @@ pub fn can_be_halved(lists: &[Vec<Entry>]) -> bool
 
 impl Halves {
     /// The sums over the ballots that the entries of each candidate count.
-    pub fn of_entries(alloc: Global, n: u32, lists: &[Vec<Entry>]) -> Result<Halves, Memory>
+    pub fn of_entries(alloc: Global, n: u32, lists: &[Entries]) -> Result<Halves, Memory>
         requires few { (LOW_CANDIDATES ≤ n) × (n ≤ MOST_SUMMED) }
         requires entries { AreEntries n MOST_HALVED (map (λ v. v.items) lists.now) }
         ensures table { IfOk result (IsHalved n) }

@@ -7,7 +7,7 @@ ghost use Rattle.set_tallies.specs.Befores.{has_missed};
 ghost use Rattle.set_tallies.specs.Sums.{IsSummed, column, apart, sums_of, sum_at};
 
 use crate::counting::Counting;
-use crate::entry::Entry;
+use crate::entries::Entries;
 use crate::shares::counted;
 use crate::table::{place, table_of};
 use irv_base::{Candidate, Memory, Rankings};
@@ -100,7 +100,7 @@ impl Sums {
     }
 
     /// The sums over the ballots that the entries of each candidate count.
-    pub fn of_entries(alloc: Global, n: u32, lists: &[Vec<Entry>]) -> Result<Sums, Memory>
+    pub fn of_entries(alloc: Global, n: u32, lists: &[Entries]) -> Result<Sums, Memory>
         requires some { 1 ≤ n }
         requires few { n ≤ MOST_SUMMED }
         requires entries { AreEntries n MOST_RECORDS (map (λ v. v.items) lists.now) }

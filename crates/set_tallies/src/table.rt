@@ -7,7 +7,7 @@ ghost use Rattle.set_tallies.specs.Befores.{has_missed};
 ghost use Rattle.set_tallies.specs.Sums.{column, apart};
 ghost use Rattle.set_tallies.specs.declared.sums.TheConstants.{MOST_SUMMED};
 
-use crate::entry::Entry;
+use crate::entries::Entries;
 use irv_base::{Candidate, Memory};
 use std::alloc::Global;
 
@@ -62,22 +62,23 @@ pub fn count(table: &mut [u32], n: u32, ranking: &[Candidate])
 }
 
 // Counts the ballots of the entries of a candidate. Of their sets the first `n` candidates count: there are no others.
-fn count_entries(table: &mut [u32], n: u32, c: Candidate, entries: &[Entry])
+fn count_entries(table: &mut [u32], n: u32, c: Candidate, entries: &Entries)
     requires few { n ≤ MOST_SUMMED }
     requires long { length table.old ≡ n * 2 ^ n }
     requires candidate { c < n }
-    requires fit { apart 0 (column n n table.old c) + total entries.now ≤ MOST_RECORDS }
+    requires fit { apart 0 (column n n table.old c) + total entries.now.items ≤ MOST_RECORDS }
     ensures long { length table.new ≡ n * 2 ^ n }
     ensures more { (s d : ℕ) → s < 2 ^ n → d < n → apart s (column n n table.new d)
-        ≡ apart s (column n n table.old d) + (if d == c then missing s entries.now else 0) }
+        ≡ apart s (column n n table.old d) + (if d == c then missing s entries.now.items else 0) }
 {
-    for entry in entries {
+    for i in 0..entries.len() {
+        let entry = entries.at(i);
         add(table, n, entry.before % (1 << n), c, entry.count);
     }
 }
 
 /// A table of the ballots that the entries of each candidate count.
-pub fn table_of(alloc: Global, n: u32, lists: &[Vec<Entry>]) -> Result<Vec<u32>, Memory>
+pub fn table_of(alloc: Global, n: u32, lists: &[Entries]) -> Result<Vec<u32>, Memory>
     requires few { n ≤ MOST_SUMMED }
     requires entries { AreEntries n MOST_RECORDS (map (λ v. v.items) lists.now) }
     ensures long { IfOk result (λ table. length table.items ≡ n * 2 ^ n) }

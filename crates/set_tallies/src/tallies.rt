@@ -9,8 +9,8 @@ ghost use Rattle.set_tallies.specs.Sums.{AreSums};
 
 use crate::ahead::Ahead;
 use crate::bag::{Bag, Votes};
-use crate::cost::rows_in_time;
-use crate::halves::Halves;
+use crate::cost::{count_of, rows_in_time};
+use crate::halves::{Halves, can_be_halved};
 use crate::rows::Rows;
 use crate::sums::{MOST_SUMMED, Sums};
 use irv_base::{CandSet, Candidate, Memory};
@@ -20,7 +20,9 @@ use std::marker::Model;
 /// The tallies of the sets of candidates, over the records of a bag.
 ///
 /// Where the bag has the sums over all sets, rows are read from them. Else a row that was counted is kept (`Rows` drops all at `MOST_ROWS`);
-/// once so many were counted as are in a part of the time that the sums take (`rows_in_time`), these are made, or the tallies give up. To a contract the tallies are what they are made from, the bag and the two numbers of NEB's margin.
+/// once as many were counted as are worth it (`rows_in_time`), the sums are made, or the tallies give up.
+///
+/// To a contract the tallies are what they are made from, the bag and the two numbers of NEB's margin.
 #[derive(Drop)]
 pub struct Tallies<'b> {
     alloc: Global,
@@ -83,7 +85,8 @@ fn rows_before_sums(bag: &Bag) -> u64 {
     match bag.kept() {
         Votes::Listed(lists) if bag.candidates() <= MOST_SUMMED => rows_in_time(
             bag.candidates(),
-            lists,
+            count_of(lists),
+            can_be_halved(lists),
         ),
         _ => u64::MAX,
     }

@@ -1,4 +1,4 @@
-use Rattle.std.proofs.Common.{◌≡◌, ◌==◌, ◌&&◌, cond, ◌+◌, ◌<◌, ◌^◌, ◌*◌, ◌%◌, ℕ, true, false, IsTrue, [], ◌∷◌, ◌++◌, All, length, map, drop, get_or, not, sym, ap, subst, arith, ◌∙◌}
+use Rattle.std.proofs.Common.{◌≡◌, ◌==◌, ◌&&◌, cond, ◌+◌, ◌<◌, ◌^◌, ◌*◌, ◌%◌, ℕ, true, false, IsTrue, ◌∷◌, length, drop, get_or, not, sym, ap, subst, arith, ◌∙◌}
 use Rattle.std.proofs.Math.Pow.{pow-lt}
 use Rattle.std.proofs.lemmas.Bool.{and_parts}
 use Rattle.std.proofs.lemmas.List.{drop_more, get_or_default, length-set}

@@ -1,4 +1,4 @@
-use Rattle.std.proofs.Common.{◌≤◌, All, ap, subst, arith}
+use Rattle.std.proofs.Common.{◌≤◌, All, subst, arith}
 use Rattle.std.proofs.lemmas.List.{take_all}
 use Rattle.std.proofs.lemmas.List.Elements.{All-map, All-more}
 use Rattle.irv_base.specs.declared.limits.TheConstants.{MOST_RECORDS}
@@ -12,13 +12,13 @@ pub missing-requires : goal.missing-requires
 missing-requires c =
     let own = at-place (λ es. total es ≤ MOST_RECORDS) (λ v. v.items) c.args.lists.now c.loop-entries.entries-index c.entries-item.result
     c.loop-entries-test.true c.requires c.entries-item.is in
-    omega (arith, own, ap total c.deref.ensures.value)
+    own
 
 pub loop-entries-preserved : goal.loop-entries-preserved
 loop-entries-preserved c =
     let item = c.entries-item.result in
     let few : total item.items ≤ MOST_HALVED =
-    omega (arith, c.if-missing-gt-MOST_HALVED.false, c.missing.ensures, missing-all c.deref.result.now, ap total c.deref.ensures.value) in
+    omega (arith, c.if-missing-gt-MOST_HALVED.false, c.missing.ensures, missing-all item.items) in
     All-more (λ entries. total entries.items ≤ MOST_HALVED) c.args.lists.now c.loop-entries.entries-index item c.loop-entries-test.true c.loop-entries.invariant
     (subst (λ entries. total entries.items ≤ MOST_HALVED) c.entries-item.is few)
 

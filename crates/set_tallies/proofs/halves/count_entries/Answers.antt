@@ -1,17 +1,20 @@
-use Rattle.std.proofs.Common.{◌≡◌, ◌+◌, ◌-◌, ◌*◌, ◌%◌, ◌^◌, ◌<◌, cond, length, get_or, sym, ap, pow_pos, arith, ◌∙◌}
+use Rattle.std.proofs.Common.{◌≡◌, ◌+◌, ◌-◌, ◌*◌, ◌%◌, ◌^◌, ◌<◌, cond, length, sym, ap, pow_pos, arith, ◌∙◌}
 use Rattle.std.proofs.lemmas.List.{length-replicate}
 use Rattle.std.proofs.lemmas.List.Sums.{sum_by_more}
 use Rattle.irv_base.proofs.Bits.{one_bit}
 use Rattle.set_tallies.specs.Bags.{misses}
-use Rattle.set_tallies.specs.declared.entry.Entry.{Entry}
 use Rattle.set_tallies.specs.Sums.{column, apart}
 use Rattle.set_tallies.proofs.Columns.{place-below, zeros-apart}
 use Rattle.set_tallies.proofs.Runs.{votes-within}
 use Rattle.set_tallies.proofs.Halving.{wide, misses-parts}
 use Rattle.set_tallies.proofs.halves.count_entries.Goals as goal
+use Rattle.set_tallies.proofs.halves.count_entries.Goals.{After-at-entry}
 
-pub loop-entry-init : goal.loop-entry-init
-loop-entry-init c =
+within : (c : After-at-entry) → c.loop-i.i < length c.args.entries.now.items
+within c = omega (arith, c.loop-i-test.true, c.len-i-end.ensures)
+
+pub loop-i-init : goal.loop-i-init
+loop-i-init c =
     let n = c.args.n in
     record {
       long = ap length c.requires.zeros ∙ length-replicate (2 ^ n) 0;
@@ -24,17 +27,18 @@ pub count_low-requires-clause-fit : goal.count_low-requires-clause-fit
 count_low-requires-clause-fit c = λ low l.
     omega (
       arith,
-      c.loop-entry.invariant.says 0 low (pow_pos (c.args.n - 4)) l,
-      votes-within (0 * 16 + low) c.args.entries.now c.loop-entry.entry-index (record { before = 0; count = 0 }) c.loop-entry-test.true,
+      c.loop-i.invariant.says 0 low (pow_pos (c.args.n - 4)) l,
+      votes-within (0 * 16 + low) c.args.entries.now.items c.loop-i.i c.at-entry.result (within (goal.at.count_low-requires-clause-fit c).After-at-entry),
+      ap (λ e. e.count) c.at-entry.ensures,
       c.requires.most,
     )
 
-pub loop-entry-preserved : goal.loop-entry-preserved
-loop-entry-preserved c =
+pub loop-i-preserved : goal.loop-i-preserved
+loop-i-preserved c =
     let n = c.args.n in
-    let entries = c.args.entries.now in
-    let i = c.loop-entry.entry-index in
-    let e : Entry = get_or entries i (record { before = 0; count = 0 }) in
+    let entries = c.args.entries.now.items in
+    let i = c.loop-i.i in
+    let e = c.at-entry.result in
     let bit : 1 * 2 ^ n % 2 ^ 32 ≡ 2 ^ n = one_bit n (omega (arith, c.requires.few.1)) in
     record {
       long = c.count_low.ensures.long;
@@ -46,7 +50,8 @@ loop-entry-preserved c =
             arith,
             added,
             parts,
-            c.loop-entry.invariant.says s low m l,
-            sum_by_more (λ x. cond (misses (s * 16 + low) x.before) x.count 0) entries i (record { before = 0; count = 0 }) c.loop-entry-test.true,
+            c.loop-i.invariant.says s low m l,
+            sum_by_more (λ x. cond (misses (s * 16 + low) x.before) x.count 0) entries i e (within (goal.at.loop-i-preserved c).After-at-entry),
+            ap (λ x. cond (misses (s * 16 + low) x.before) x.count 0) c.at-entry.ensures,
           );
     }

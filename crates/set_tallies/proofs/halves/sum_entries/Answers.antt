@@ -10,7 +10,7 @@ sum_apart-requires-clause-long c = c.count_entries.ensures.long ∙ sym (wide c.
 
 pub sum_apart-requires-clause-fit : goal.sum_apart-requires-clause-fit
 sum_apart-requires-clause-fit c = λ low l.
-    omega (arith, c.count_entries.ensures.says 0 low (pow_pos (c.args.n - 4)) l, missing-le (0 * 16 + low) c.args.entries.now, c.requires.most)
+    omega (arith, c.count_entries.ensures.says 0 low (pow_pos (c.args.n - 4)) l, missing-le (0 * 16 + low) c.args.entries.now.items, c.requires.most)
 
 pub returns-clause-long : goal.returns-clause-long
 returns-clause-long c = c.sum_apart.ensures.long ∙ wide c.args.n c.requires.few.0
@@ -22,4 +22,4 @@ returns-clause-says c = λ set below.
     let row : set / 16 < 2 ^ (n - 4) = (div-lt_iff_lt-mul (omega arith)).1 (omega (arith, wide n c.requires.few.0, below)) in
     says-low n c.count_entries.new.numbers c.sum_apart.new.table c.requires.few.0 c.sum_apart.ensures.sums set below
     ∙ c.count_entries.ensures.says (set / 16) (set % 16) row low
-    ∙ ap (λ s. missing s c.args.entries.now) (div-add-mod' set 16)
+    ∙ ap (λ s. missing s c.args.entries.now.items) (div-add-mod' set 16)

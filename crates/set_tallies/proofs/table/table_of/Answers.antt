@@ -1,4 +1,4 @@
-use Rattle.std.proofs.Common.{◌≡◌, ◌+◌, ◌<◌, ◌≤◌, ap, pow_pos, arith}
+use Rattle.std.proofs.Common.{◌<◌, ◌≤◌, ap, pow_pos, arith}
 use Rattle.irv_base.specs.declared.limits.TheConstants.{MOST_RECORDS}
 use Rattle.std.proofs.lemmas.List.{length-map}
 use Rattle.set_tallies.specs.Bags.{total}
@@ -16,4 +16,4 @@ count_entries-requires-clause-fit c =
     let few : total c.index-lists-c.result.items ≤ MOST_RECORDS =
     at-place (λ es. total es ≤ MOST_RECORDS) (λ v. v.items) lists d c.index-lists-c.result (omega (arith, own, c.requires.entries.one_each, length-map lists (λ v. v.items)))
     c.requires.entries.few c.index-lists-c.is in
-    omega (arith, ap (λ t. apart 0 (column n n t d)) c.deref_mut.ensures.value, none, few, ap total c.deref.ensures.value)
+    omega (arith, ap (λ t. apart 0 (column n n t d)) c.deref_mut.ensures.value, none, few)

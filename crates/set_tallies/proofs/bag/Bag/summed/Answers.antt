@@ -1,4 +1,4 @@
-use Rattle.std.proofs.Common.{◌≡◌, ℕ, List, [], map, get_or, sym, ap, ◌∙◌}
+use Rattle.std.proofs.Common.{ℕ, List, [], map, get_or, sym, ap, ◌∙◌}
 use Rattle.set_tallies.specs.Bags.{Kept, missing}
 use Rattle.set_tallies.specs.Sums.{votes_in}
 use Rattle.set_tallies.proofs.Filled.{all-same}

@@ -35,7 +35,7 @@ missing-requires c =
     let few : total c.index-in-Listed.result.now.items ≤ c.self.inside.records =
     at-place (λ es. total es ≤ c.self.inside.records) (λ v. v.items) lists c.index.result c.index-in-Listed.result.now within held.few
     c.index-in-Listed.ensures in
-    omega (arith, few, ap total c.deref.ensures.value, c.self.invariant.0.most)
+    omega (arith, few, c.self.invariant.0.most)
 
 pub returns-in-Summed : goal.returns-in-Summed
 returns-in-Summed c =
@@ -50,9 +50,9 @@ returns-in-Listed c =
     let held : AreEntries c.self.inside.n c.self.inside.records (map (λ v. v.items) c.in-Listed.lists.items) = rw c.in-Listed.is at c.self.invariant.1 in
     let lists = c.in-Listed.lists.items in
     let within : c.index.result < length lists = omega (arith, c.index.ensures.same, c.requires.candidate, n, held.one_each, length-map lists (λ v. v.items)) in
-    let own : get_or (map (λ v. v.items) lists) c.args.c [] ≡ c.deref.result.now =
+    let own : get_or (map (λ v. v.items) lists) c.args.c [] ≡ c.index-in-Listed.result.now.items =
     ap (λ k. get_or (map (λ v. v.items) lists) k []) (sym c.index.ensures.same)
-    ∙ own-entries (λ v. v.items) lists c.index.result c.index-in-Listed.result.now within c.index-in-Listed.ensures ∙ sym c.deref.ensures.value in
+    ∙ own-entries (λ v. v.items) lists c.index.result c.index-in-Listed.result.now within c.index-in-Listed.ensures in
     c.missing.ensures ∙ ap (missing c.args.set) (sym own) ∙ ap (λ v. votes_in v c.args.set c.args.c) (sym c.in-Listed.is)
     ∙ sym (votes-read c.self.inside.n (votes_in c.self.inside.votes) c.args.set c.args.c (rw n c.requires.below) (rw n c.requires.candidate))
     ∙ ap (λ b. votes_at b c.args.set c.args.c) c.self.view_is

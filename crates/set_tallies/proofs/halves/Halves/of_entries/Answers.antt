@@ -19,7 +19,7 @@ sums-requires-clause-most c =
     let few : total c.index-lists-c.result.items ≤ MOST_HALVED =
     at-place (λ es. total es ≤ MOST_HALVED) (λ v. v.items) lists d c.index-lists-c.result (omega (arith, own, c.requires.entries.one_each, length-map lists (λ v. v.items)))
     c.requires.entries.few c.index-lists-c.is in
-    omega (arith, few, ap total c.deref.ensures.value)
+    omega (arith, few)
 
 pub put-requires-clause-small : goal.put-requires-clause-small
 put-requires-clause-small c = λ set below.
@@ -32,10 +32,9 @@ put-requires-clause-small c = λ set below.
     omega (
       arith,
       few,
-      ap total c.deref.ensures.value,
-      ap (λ t. get_or t set 0) c.deref-in-loop-c.ensures.value,
+      ap (λ t. get_or t set 0) c.deref.ensures.value,
       c.in_ok-numbers.ensures.says set below,
-      missing-le set c.deref.result.now,
+      missing-le set c.index-lists-c.result.items,
     )
 
 pub loop-c-preserved : goal.loop-c-preserved
@@ -49,9 +48,8 @@ loop-c-preserved c =
     let some : 1 ≤ n = omega (arith, c.requires.few.0) in
     let long : length new ≡ table.len = c.put.ensures.long ∙ sym c.loop-c.invariant.long ∙ sym table.ok.0 in
     let written = all-written table.len new table.items long in
-    let entries : get_or (map (λ v. v.items) lists) d [] ≡ c.deref.result.now =
-    own-entries (λ v. v.items) lists d c.index-lists-c.result (omega (arith, own, c.requires.entries.one_each, length-map lists (λ v. v.items))) c.index-lists-c.is
-    ∙ sym c.deref.ensures.value in
+    let entries : get_or (map (λ v. v.items) lists) d [] ≡ c.index-lists-c.result.items =
+    own-entries (λ v. v.items) lists d c.index-lists-c.result (omega (arith, own, c.requires.entries.one_each, length-map lists (λ v. v.items))) c.index-lists-c.is in
     record {
       long = ap length written ∙ c.put.ensures.long;
       done = λ row e below l. ap (λ t. get_or t (row * n + e) 0) written ∙ elim (cases_Bool (e == d)) [
@@ -60,7 +58,7 @@ loop-c-preserved c =
             let within : having n row d < 2 ^ n = having-below n row d (omega (arith, below, twice n (λ z. omega (arith, z, some)))) in
             ap (λ x. get_or new (row * n + x) 0) at
             ∙ c.put.ensures.own row below
-            ∙ ap (λ t. get_or t (having n row d) 0) c.deref-in-loop-c.ensures.value
+            ∙ ap (λ t. get_or t (having n row d) 0) c.deref.ensures.value
             ∙ c.in_ok-numbers.ensures.says (having n row d) within
             ∙ ap (missing (having n row d)) (sym entries)
             ∙ ap (λ x. missing (having n row x) (get_or (map (λ v. v.items) lists) x [])) (sym at)

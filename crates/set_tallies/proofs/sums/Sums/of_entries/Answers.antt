@@ -1,4 +1,4 @@
-use Rattle.std.proofs.Common.{◌≡◌, ◌+◌, ◌*◌, ◌<◌, ◌≤◌, [], length, map, get_or, sym, ap, pow_pos, arith, ◌∙◌}
+use Rattle.std.proofs.Common.{◌≡◌, ◌+◌, ◌*◌, [], length, map, get_or, sym, ap, pow_pos, arith, ◌∙◌}
 use Rattle.set_tallies.specs.Sums.{column, apart}
 use Rattle.set_tallies.proofs.Runs.{missing-le}
 use Rattle.set_tallies.proofs.Tables.{all-written, says-sum}

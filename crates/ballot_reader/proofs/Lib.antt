@@ -22,6 +22,7 @@ pub mod PagesLeft
 pub mod Halves
 pub mod Eight
 pub mod Beginning
+pub mod Continued
 pub mod Staged
 pub mod Moved
 pub mod PutBehind

@@ -11,14 +11,13 @@ use Rattle.irv_base.specs.Candidates.{is_distinct}
 use Rattle.irv_base.specs.Names.{Id, all_differ, is_among, is_same}
 use Rattle.irv_base.specs.declared.limits.TheConstants.{MOST_RECORDS}
 use Rattle.ballot_reader.specs.Grammar.{Ballot, Contest, ballot_ids}
-use Rattle.ballot_reader.specs.Kept.{AllNoted, AreApart, IsKeptUpTo, KeptBallots, KeptPart, WantsAudited, counted_for, is_wanted, part_of, parts_from, rankings_in}
+use Rattle.ballot_reader.specs.Kept.{AllNoted, AreApart, IsKeptUpTo, KeptBallots, KeptPart, counted_for, is_wanted, part_of, parts_from, rankings_in}
 use Rattle.ballot_reader.specs.Noted.{AreNoted}
 use Rattle.ballot_reader.specs.Parts.{AreJoined, AreMetApart, ArePutBehind, AreTogether, CanJoin, IsReadAlone, IsReadBehind, part_behind}
 use Rattle.ballot_reader.specs.declared.noted.Noted.{Noted}
 use Rattle.ballot_reader.specs.declared.wanted.Wanted.{Wanted}
 use Rattle.ballot_reader.specs.declared.wanted.Wanted.TheVariants.{VotesOf}
 use Rattle.ballot_reader.proofs.Adding.{length-met, length-parts, met-at, part-at, same_at, same-refl, wanted_part}
-use Rattle.ballot_reader.proofs.Beginning.{ballots-append, ballots-length}
 use Rattle.ballot_reader.proofs.Differing.{or-false}
 use Rattle.ballot_reader.proofs.Ended.{got}
 use Rattle.ballot_reader.proofs.Moved.{AreOthers, among-bytes, ids-behind, length-moved, moved, rankings-behind, read-alone, read-bytes}
@@ -161,18 +160,6 @@ kept-behind contests audited xs at rows old its new can met parts counted before
         numbered = omega (arith, before.numbered, kept.counted, long);
       },
     )
-
--- two parts of which the second comes behind the first
-pub kept-together : (contests : List Contest) (audited : ℕ) (rows more : List Fields) (old its new : KeptBallots) →
-    WantsAudited contests (VotesOf audited) →
-    ((earlier : List Ballot) (at : ℕ) → IsKeptUpTo contests (VotesOf audited) earlier at old →
-    IsReadBehind contests (VotesOf audited) earlier at more (at + its.count) new) →
-    IsReadAlone contests (VotesOf audited) rows old → IsReadAlone contests (VotesOf audited) (rows ++ more) new
-kept-together contests audited rows more old its new sized joined (xs, read, kept) =
-    let first = 2 + length contests in
-    let long = ballots-length contests [] xs first rows read in
-    let (ballots, behind, up_to) = joined xs (first + length rows) (record { is_kept = kept; sized = sized; numbered = omega (arith, long) }) in
-    (ballots, ballots-append contests [] xs first rows more read ∙ behind, up_to.is_kept)
 
 -- ---- one contest after the other
 

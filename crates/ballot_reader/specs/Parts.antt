@@ -1,5 +1,5 @@
 -- Ballots that are read side by side: parts of a file, each read as if no ballots stood before it.
-use Rattle.std.specs.Prelude.{◌≡◌, ◌≤◌, ◌+◌, ◌++◌, [], ℕ, List, length, IsTrue, Option, None, Some, option_map, Ok}
+use Rattle.std.specs.Prelude.{◌≡◌, ◌≤◌, ◌+◌, ◌++◌, [], ℕ, List, length, IsTrue, Option, None, Some, option_map, Result, Ok, IfOk, IfErr}
 use Rattle.std.specs.List.{slice_get}
 use Rattle.csv_rows.specs.Rows.{Fields}
 use Rattle.file_fault.specs.Refusals.{Refuses}
@@ -52,6 +52,13 @@ abbrev pub IsRefusedBehind :
 IsRefusedBehind contests wanted first rows before fault =
     (earlier : List Ballot) → IsKeptUpTo contests wanted earlier first before →
     Refuses (ballots_after contests earlier first rows) fault
+
+-- what comes of keeping the ballots in these records behind those that were kept: the number of the record that comes next, or why one is refused
+abbrev pub IsAnswer :
+    List Contest → ℕ → ℕ → List Fields → KeptBallots → KeptBallots → Result ℕ (Fault BRule) → Type 0
+IsAnswer contests audited first rows before after answer =
+    IfOk answer (λ next. ComeBehind contests (VotesOf audited) first rows before next after)
+    × IfErr answer (λ fault. IsRefusedBehind contests (VotesOf audited) first rows before fault)
 
 -- ---- what can be put together
 

@@ -10,6 +10,7 @@ use Rattle.ballot_reader.specs.Begun.{HasBegun}
 use Rattle.ballot_reader.specs.Grammar.{ballots_from, ballots_of}
 use Rattle.ballot_reader.specs.declared.fault.BRule.{BRule}
 use Rattle.ballot_reader.specs.declared.stage.Stage.{Stage}
+use Rattle.ballot_reader.specs.declared.stage.TheConstants.{MOST_OF_CONTESTS}
 use Rattle.ballot_reader.specs.declared.stage.Stage.TheVariants.{Contests, Ballots, Refused}
 
 -- These records were read. Once one of them is refused, so is the file, whatever follows.
@@ -53,11 +54,12 @@ HasTaken reader bytes = IsAt reader bytes reader.stage
 abbrev pub LacksContests : Option Id → List Fields → Type 0
 LacksContests asked rows = (refusal : Refusal BRule) × (ballots_from asked rows ≡ Err refusal)
 
--- of whole lines that can be read only these are held: while no contests are read, those that would be refused as a file; behind contests a few, which
+-- of whole lines that can be read only these are held: while no contests are read, those that would be refused as a file, or many; behind contests a few, which
 -- wait for more. Where the file is refused, nothing is said
 abbrev pub HoldsLittle : Option Id → ℕ → List ℕ → Stage → Type 0
 HoldsLittle asked holds lines Contests =
-    IsTrue (can_be_read lines) → LacksContests asked (numbered_records lines)
+    IsTrue (can_be_read lines) → length lines ≤ MOST_OF_CONTESTS →
+    LacksContests asked (numbered_records lines)
 HoldsLittle asked holds lines (Ballots begun) =
     IsTrue (can_be_read lines) → length lines ≤ holds
 HoldsLittle asked holds lines (Refused fault) = ⊤

@@ -118,6 +118,11 @@ fn put_all(parts: &mut Vec<Option<Part>>, others: &[Option<Part>]) -> Result<(),
 }
 
 impl Kept {
+    /// Whether all ids that were met stand on pages.
+    pub fn are_paged(&self) -> bool {
+        self.met.iter().all(|met| met.elsewhere.is_empty())
+    }
+
     /// Whether what is kept of other ballots can be put behind this: of each contest it is seen that no id was met in both, and
     /// ballots are counted in both, of as many candidates, or in neither, and there aren't too many ballots.
     pub fn can_join(&self, part: &Kept) -> bool

@@ -2,6 +2,7 @@
 ghost use Rattle.std.specs.Prelude.{◌≡◌};
 ghost use Rattle.ballot_reader.specs.Laws.{ContestsAreEach, NoneIsMissed, WhatIsSpelledIsRead};
 ghost use Rattle.ballot_reader.specs.declared.limits.TheConstants as limit;
+ghost use Rattle.ballot_reader.specs.declared.stage.TheConstants as stage;
 ghost use Rattle.ballot_reader.specs.declared.votes_reader.TheConstants as reader;
 
 /// What one contest and its ballots are spelled as, record by record, is read as them.
@@ -20,5 +21,6 @@ pub fn contests_are_each()
 pub fn limits()
     ensures most_contests { limit.MOST_CONTESTS ≡ 64 }
     ensures most_listed { limit.MOST_LISTED ≡ 1000 }
-    ensures side_by_side { reader.SIDE_BY_SIDE ≡ 3145728 }
+    ensures side_by_side { reader.SIDE_BY_SIDE ≡ 6291456 }
+    ensures of_contests { stage.MOST_OF_CONTESTS ≡ 4194304 }
 {}

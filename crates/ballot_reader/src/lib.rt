@@ -37,5 +37,6 @@ pub use ids::Ids;
 pub use limits::{MOST_CONTESTS, MOST_LISTED};
 pub use preferences::ranking_of;
 pub use read::{read_ballots, read_contests};
+pub use stage::MOST_OF_CONTESTS;
 pub use votes::Votes;
 pub use votes_reader::{SIDE_BY_SIDE, VotesReader};

@@ -1,12 +1,13 @@
 // Ballots in lines that several workers read side by side.
-ghost use Rattle.std.specs.Prelude.{ℕ, ◌≡◌, ◌≤◌, ◌++◌, List, Ok, IfOk, IfErr, IfSome, IfNone, IsTrue, length};
+ghost use Rattle.std.specs.Prelude.{ℕ, ◌≡◌, ◌≤◌, ◌++◌, List, Ok, IfOk, IfErr, IfSome, IsTrue, length};
 ghost use Rattle.std.specs.Thread.{IsSync};
 ghost use Rattle.csv_rows.specs.Rows.{Fields as FieldList};
 ghost use Rattle.irv_base.specs.Names.{all_differ};
 ghost use Rattle.ballot_reader.specs.Grammar.{Ballot, Contest as ContestRecord};
-ghost use Rattle.ballot_reader.specs.Kept.{IsKeptUpTo, WantsAudited, contest_ids};
-ghost use Rattle.ballot_reader.specs.Parts.{CanBeRead, ComeBehind, IsReadAlone, IsRefusedBehind};
+ghost use Rattle.ballot_reader.specs.Kept.{IsKeptUpTo, contest_ids};
+ghost use Rattle.ballot_reader.specs.Parts.{CanBeRead, ComeBehind, IsAnswer, IsReadAlone, IsRefusedBehind};
 ghost use Rattle.ballot_reader.specs.declared.limits.TheConstants.{MOST_CONTESTS};
+ghost use Rattle.ballot_reader.specs.declared.wanted.Wanted.{Wanted as WantedContests};
 ghost use Rattle.ballot_reader.specs.declared.wanted.Wanted.TheVariants.{VotesOf};
 
 use crate::contest::Contest;
@@ -44,66 +45,120 @@ fn read_alone(
     }
 }
 
-// Two parts as one, if there are both, and the second can be put behind the first.
-fn together(front: Option<Kept>, behind: Option<Kept>) -> Result<Option<Kept>, Memory>
-    ensures { IfOk result (λ all. IfSome all (λ all. (contests : List ContestRecord)
-        → (audited : ℕ) → (rows more : List FieldList)
-        → WantsAudited contests (VotesOf audited)
-        → IfSome front (IsReadAlone contests (VotesOf audited) rows)
-        → IfSome behind (IsReadAlone contests (VotesOf audited) more)
-        → IsReadAlone contests (VotesOf audited) (rows ++ more) all)) }
+// Keeps the ballots in these lines, which come behind those that are kept, one after the other.
+fn add_in_order(
+    contests: &[Contest],
+    kept: &mut Kept,
+    first: u32,
+    lines: &PlainLines<'_>,
+) -> Result<u32, BallotFault>
+    requires few { length contests.now ≤ MOST_CONTESTS }
+    requires differ { IsTrue (all_differ (contest_ids contests.now)) }
+    requires kept { (wanted : WantedContests) × (earlier : List Ballot)
+        × IsKeptUpTo contests.now wanted earlier first kept.old }
+    ensures read { IfOk result (λ next. (wanted : WantedContests)
+        → ComeBehind contests.now wanted first lines.now kept.old next kept.new) }
+    ensures refused { IfErr result (λ fault. (wanted : WantedContests)
+        → IsRefusedBehind contests.now wanted first lines.now kept.old fault) }
 {
-    let Some(mut all) = front else {
-        return Ok(None);
-    };
-    let Some(part) = behind else {
-        return Ok(None);
-    };
-    if !all.can_join(&part) {
-        return Ok(None);
-    }
-    all.join(&part)?;
-    Ok(Some(all))
+    let mut records = lines.records();
+    add_ballots(contests, kept, first, &mut records)
 }
 
-// What is kept of the ballots in these lines, as `read_alone` tells it, where each worker reads a part of them. It is nothing as well where
-// parts can't be put together.
-#[cycle(parts)]
-fn part_of<R: Threads + Sync>(
+// The same by a worker that is started for it. This one waits: if it read, another that it has started might stand behind it on its processor.
+fn add_in_thread<R: Threads + Sync>(
+    rt: &R,
+    contests: &[Contest],
+    kept: &mut Kept,
+    first: u32,
+    lines: &PlainLines<'_>,
+) -> Result<u32, BallotFault>
+    requires few { length contests.now ≤ MOST_CONTESTS }
+    requires differ { IsTrue (all_differ (contest_ids contests.now)) }
+    requires kept { (wanted : WantedContests) × (earlier : List Ballot)
+        × IsKeptUpTo contests.now wanted earlier first kept.old }
+    ensures { (audited : ℕ) → IsAnswer contests.now audited first lines.now kept.old kept.new result }
+{
+    let mut read = || -> Result<u32, BallotFault>
+        requires { (length contests.now ≤ MOST_CONTESTS)
+            × IsTrue (all_differ (contest_ids contests.now))
+            × ((wanted : WantedContests) × (earlier : List Ballot)
+            × IsKeptUpTo contests.now wanted earlier first kept.now) }
+        ensures { (audited : ℕ) → IsAnswer contests.entry.now audited first lines.entry.now
+            kept.entry.now kept.exit.now result }
+    { add_in_order(contests, kept, first, lines) };
+    let mut wait = || {};
+    let (next, ()) = thread::join_mut(rt, &mut read, &mut wait);
+    next
+}
+
+// Puts what was read alone of these lines behind what is kept. Where there is nothing of that kind, or it can't be put there, the lines are
+// read in order.
+fn put_behind(
+    contests: &[Contest],
+    audited: usize,
+    kept: &mut Kept,
+    first: u32,
+    part: Option<Kept>,
+    lines: &PlainLines<'_>,
+) -> Result<u32, BallotFault>
+    requires few { length contests.now ≤ MOST_CONTESTS }
+    requires differ { IsTrue (all_differ (contest_ids contests.now)) }
+    requires kept { (earlier : List Ballot)
+        × IsKeptUpTo contests.now (VotesOf audited) earlier first kept.old }
+    requires alone { IfSome part (IsReadAlone contests.now (VotesOf audited) lines.now) }
+    ensures read { IfOk result (λ next.
+        ComeBehind contests.now (VotesOf audited) first lines.now kept.old next kept.new) }
+    ensures refused { IfErr result (λ fault.
+        IsRefusedBehind contests.now (VotesOf audited) first lines.now kept.old fault) }
+{
+    if let Some(part) = part {
+        if kept.can_join(&part) {
+            let next = first + part.count;
+            kept.join(&part)?;
+            return Ok(next);
+        }
+    }
+    add_in_order(contests, kept, first, lines)
+}
+
+// Keeps the ballots in the lines in front, the first of which is in the record number `first`, by so many workers. A further one reads those
+// behind meanwhile, as if nothing stood before them.
+#[cycle(behind)]
+fn read_both<R: Threads + Sync>(
     rt: &R,
     alloc: Global,
     contests: &[Contest],
     audited: usize,
-    lines: &PlainLines<'_>,
+    kept: &mut Kept,
+    first: u32,
+    front: &PlainLines<'_>,
     workers: usize,
-) -> Result<Option<Kept>, Memory>
-    requires { CanBeRead contests.now audited }
-    ensures { IfOk result (λ part.
-        IfSome part (IsReadAlone contests.now (VotesOf audited) lines.now)) }
+    behind: &PlainLines<'_>,
+) -> (Result<Option<Kept>, Memory>, Result<u32, BallotFault>)
+    requires read { CanBeRead contests.now audited }
+    requires kept { (earlier : List Ballot)
+        × IsKeptUpTo contests.now (VotesOf audited) earlier first kept.old }
+    ensures alone { IfOk result.0 (λ part.
+        IfSome part (IsReadAlone contests.now (VotesOf audited) behind.now)) }
+    ensures front { IsAnswer contests.now audited first front.now kept.old kept.new result.1 }
 {
-    if workers <= 1 {
-        return read_alone(alloc, contests, audited, lines);
-    }
-    let few = workers / 2;
-    let many = workers - few;
-    let (front, behind) = lines.cut((lines.len() / workers).saturating_mul(few));
-    let read_front = || -> Result<Option<Kept>, Memory>
-        requires { IsSync R.row × CanBeRead contests.now audited }
+    let mut read_behind = || -> Result<Option<Kept>, Memory>
+        requires { CanBeRead contests.now audited }
         ensures { IfOk result (λ part.
-            IfSome part (IsReadAlone contests.entry.now (VotesOf audited) front.entry)) }
-    { part_of(rt, alloc, contests, audited, &front, few) };
-    let read_behind = || -> Result<Option<Kept>, Memory>
-        requires { IsSync R.row × CanBeRead contests.now audited }
-        ensures { IfOk result (λ part.
-            IfSome part (IsReadAlone contests.entry.now (VotesOf audited) behind.entry)) }
-    { part_of(rt, alloc, contests, audited, &behind, many) };
-    let (first, second) = thread::join(rt, read_front, read_behind);
-    together(first?, second?)
+            IfSome part (IsReadAlone contests.entry.now (VotesOf audited) behind.entry.now)) }
+    { read_alone(alloc, contests, audited, behind) };
+    let mut read_front = || -> Result<u32, BallotFault>
+        requires { IsSync R.row × CanBeRead contests.now audited × ((earlier : List Ballot)
+            × IsKeptUpTo contests.now (VotesOf audited) earlier first kept.now) }
+        ensures { IsAnswer contests.entry.now audited first front.entry.now
+            kept.entry.now kept.exit.now result }
+    { add_parts(rt, alloc, contests, audited, kept, first, front, workers) };
+    thread::join_mut(rt, &mut read_behind, &mut read_front)
 }
 
-// Puts the ballots in these lines, read by several workers, behind those that are kept, and tells the number of the record that comes next.
-// It tells nothing and changes nothing where that isn't worth it, or a record is refused, or there would be too many ballots, or it isn't seen
-// that ids differ.
+// Keeps the ballots in these lines, the first of which is in the record number `first`, by so many workers, and tells the number that comes next.
+#[cycle(behind)]
 fn add_parts<R: Threads + Sync>(
     rt: &R,
     alloc: Global,
@@ -112,29 +167,30 @@ fn add_parts<R: Threads + Sync>(
     kept: &mut Kept,
     first: u32,
     lines: &PlainLines<'_>,
-    workers: u32,
-) -> Result<Option<u32>, Memory>
-    requires few { length contests.now ≤ MOST_CONTESTS }
-    requires differ { IsTrue (all_differ (contest_ids contests.now)) }
+    workers: usize,
+) -> Result<u32, BallotFault>
+    requires read { CanBeRead contests.now audited }
     requires kept { (earlier : List Ballot)
         × IsKeptUpTo contests.now (VotesOf audited) earlier first kept.old }
-    ensures read { IfOk result (λ next. IfSome next (λ next.
-        ComeBehind contests.now (VotesOf audited) first lines.now kept.old next kept.new)) }
-    ensures same { IfOk result (λ next. IfNone next (kept.new ≡ kept.old)) }
+    ensures { IsAnswer contests.now audited first lines.now kept.old kept.new result }
 {
-    let workers = (workers as usize).min(lines.len() / FEWEST_BYTES);
     if workers <= 1 {
-        return Ok(None);
+        return add_in_thread(rt, contests, kept, first, lines);
     }
-    let Some(part) = part_of(rt, alloc, contests, audited, lines, workers)? else {
-        return Ok(None);
-    };
-    if !kept.can_join(&part) {
-        return Ok(None);
+    let others = workers - 1;
+    let (front, behind) = lines.cut((lines.len() / workers).saturating_mul(others));
+    let (part, next) = read_both(
+        rt, alloc, contests, audited, kept, first, &front, others, &behind,
+    );
+    put_behind(contests, audited, kept, next?, part?, &behind)
+}
+
+// How many workers read these lines. Where ids stand elsewhere than on pages, nothing can be put behind them.
+fn workers_for(kept: &Kept, lines: &PlainLines<'_>, workers: u32) -> usize {
+    if workers <= 1 || !kept.are_paged() {
+        return 1;
     }
-    let next = first + part.count;
-    kept.join(&part)?;
-    Ok(Some(next))
+    (workers as usize).min(lines.len() / FEWEST_BYTES)
 }
 
 /// Keeps the ballots in these lines, the first of which is in the record number `first`, and tells the number that comes next. Where it is worth
@@ -158,11 +214,9 @@ pub fn add_lines<R: Threads + Sync>(
     ensures refused { IfErr result (λ fault.
         IsRefusedBehind contests.now (VotesOf audited) first lines.now kept.old fault) }
 {
-    match add_parts(rt, alloc, contests, audited, kept, first, lines, workers)? {
-        Some(next) => Ok(next),
-        None => {
-            let mut records = lines.records();
-            add_ballots(contests, kept, first, &mut records)
-        }
+    let workers = workers_for(kept, lines, workers);
+    if workers <= 1 {
+        return add_in_order(contests, kept, first, lines);
     }
+    add_parts(rt, alloc, contests, audited, kept, first, lines, workers)
 }

@@ -20,6 +20,10 @@ use irv_base::{Memory, Name};
 use std::alloc::Global;
 use std::thread::Threads;
 
+/// So many bytes of whole lines at the front of a file are looked at for its contests, at most: while these aren't whole, each piece has them
+/// looked at again.
+pub const MOST_OF_CONTESTS: usize = 4 << 20;
+
 /// How far a ballot file is read.
 #[derive(Drop)]
 pub enum Stage {
@@ -119,14 +123,16 @@ pub struct Step {
 }
 
 impl Stage {
-    // Whether ballots in the whole lines at hand wait for more of them: there are no more than so many bytes. That any wait is no promise.
+    // Whether the whole lines at hand aren't read now: ballots wait where there are no more than so many bytes, and contests where there are more
+    // than are looked at. That any wait is no promise.
     fn waits(&self, pieces: &Pieces, holds: usize) -> bool
         ensures { IsTrue result → (asked : Option Id)
             → HoldsLittle asked holds pieces.now.lines self.now }
     {
         match self {
             Stage::Ballots(_) => pieces.held() <= holds,
-            Stage::Contests | Stage::Refused(_) => false,
+            Stage::Contests => pieces.held() > MOST_OF_CONTESTS,
+            Stage::Refused(_) => false,
         }
     }
 

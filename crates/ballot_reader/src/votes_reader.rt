@@ -20,15 +20,15 @@ use std::marker::Model;
 use std::mem;
 use std::thread::Threads;
 
-/// Several workers read ballots once more bytes of whole lines are at hand than these, or the file ends: with fewer they would wait for each
-/// other too often. With more they might not be looked at (`csv_rows::MOST_AT_HAND`).
-pub const SIDE_BY_SIDE: usize = 3 << 20;
+/// Several workers read ballots once more bytes of whole lines are at hand than these, or the file ends: with fewer they would be started
+/// too often. With more they might not be looked at (`csv_rows::MOST_AT_HAND`).
+pub const SIDE_BY_SIDE: usize = 6 << 20;
 
 /// Reads the votes of a contest from a ballot file that comes in pieces, by one worker or by several. Of the file it keeps the lines that
 /// aren't read yet: most often the last alone, and with several workers up to `SIDE_BY_SIDE` bytes of whole lines. From lines on that come with a
 /// double quote, or a byte EF that is no byte order mark at the front, it keeps all that comes, and reads that at the end; so it does where
-/// the contests are refused, or where they, or one line or the lines in one piece together with what waits, have more than `csv_rows` looks at
-/// (`MOST_AT_HAND`). Once a ballot is refused, nothing more is kept.
+/// the contests are refused, or have more than `MOST_OF_CONTESTS` bytes with the lines that come in the same piece, or where one line or the
+/// lines in one piece together with what waits have more than `csv_rows` looks at (`MOST_AT_HAND`). Once a ballot is refused, nothing more is kept.
 ///
 /// To a contract it is the contest that is asked for, how many bytes of whole lines may wait for more, what is at hand of the file, and how
 /// far the file is read.

@@ -6,7 +6,7 @@ use std::alloc::Global;
 use std::thread::Threads;
 
 // So many ballots have more than `SIDE_BY_SIDE` bytes.
-const BALLOTS: u32 = 240_000;
+const BALLOTS: u32 = 450_000;
 
 // The contest's lines, which are read before any ballot is.
 const CONTEST: &[u8] = b"1\nContest,7,2,A,B\n";
@@ -67,12 +67,13 @@ fn several_workers_say_what_one_says(rt: HostRuntime) {
 }
 
 #[test]
-fn a_fault_in_a_later_part_is_told_by_its_record(rt: HostRuntime) {
+fn a_fault_in_any_part_is_told_by_its_record(rt: HostRuntime) {
     let alloc = rt.alloc();
-    let faults: [(u32, &[u8], BRule); 3] = [
-        (70_000, b"7,b_000003,A\n".as_slice(), BRule::B9),
-        (80_001, b"7,b,A,C\n".as_slice(), BRule::B8),
+    let faults: [(u32, &[u8], BRule); 4] = [
         (50_002, b"8,b,A\n".as_slice(), BRule::B7),
+        (130_000, b"7,b_000003,A\n".as_slice(), BRule::B9),
+        (250_001, b"7,b,A,C\n".as_slice(), BRule::B8),
+        (400_000, b"7,b_000004,A\n".as_slice(), BRule::B9),
     ];
     for (at, odd, rule) in faults {
         let file = file_with(alloc, at, odd).expect(&rt, "a file");

@@ -28,4 +28,4 @@ returns-in-None-clause-held g c = λ unread.
     let asked = option_copied c.args.asked in
     let (contests, lacks) = rw c.in-None.is at c.in_ok-stage.ensures.none in
     subst (HoldsLittle asked c.args.holds c.args.pieces.now.lines) (sym contests)
-    (λ readable. subst (LacksContests asked) c.in-Some.ensures.records lacks)
+    (λ readable few. subst (LacksContests asked) c.in-Some.ensures.records lacks)

@@ -1,17 +1,14 @@
 -- The ids of batches in a table of places, and one id more.
 use Rattle.std.proofs.Common.{◌⊎◌, inl, inr, ◌==◌, ◌≡◌, ◌∙◌, ◌++◌, ◌∷◌, [], ◌+◌, ◌-◌, ◌<◌, ◌≤◌, ℕ, zero, suc, Bool, true, false, List, Option, Some, None, length, get_or, set, cond, refl, sym, ap, subst, arith, length-append}
-use Rattle.std.specs.Prelude.{option_map, position}
-use Rattle.std.specs.BTreeMap.{insert_entry}
-use Rattle.std.specs.Cmp.Lexicographic.{bytes_decides, slice_cmp, texts_ties}
-use Rattle.std.specs.Map.{lookup}
-use Rattle.std.specs.Ordering.{is_eq, match_ordering, nat_cmp}
-use Rattle.std.specs.declared.cmp.Ordering.{Ordering}
-use Rattle.std.specs.declared.cmp.Ordering.TheVariants.{Less, Equal, Greater}
+use Rattle.std.specs.Prelude.{is_some, option_map, position}
+use Rattle.std.specs.Cmp.Lexicographic.{bytes_decides}
+use Rattle.std.specs.Option.{unwrap_or}
 use Rattle.std.proofs.lemmas.Bool.{both_ways, cases_Bool, cases_eq}
 use Rattle.std.proofs.lemmas.List.{get_or-append-add, get_or-set_other, get_or-set_same, get_or_append_left, length-set}
 use Rattle.std.proofs.lemmas.List.Quantifiers.{position-Some}
-use Rattle.irv_base.specs.Names.{Id, is_among, is_same}
+use Rattle.irv_base.specs.Names.{Id, is_among, is_name, is_same}
 use Rattle.irv_base.proofs.Positions.{first_place, later_place, none_first, some_first, some_position}
+use Rattle.ballot_reader.proofs.IdBytes.{read_at}
 use Rattle.ballot_reader.proofs.Differing.{among-set, or-false, same-comm}
 use Rattle.manifest.specs.BatchIds.{IsPlaced, IsTable, index_by, place_in}
 
@@ -24,18 +21,66 @@ index-some ids k later id =
     ap (λ b. cond b None (cond (is_same (get_or ids (suc k - 1) []) id) (Some (suc k - 1)) later)) some
     ∙ ap (λ n. cond (is_same (get_or ids n []) id) (Some n) later) e
 
-pub placed_at : (ids : List Id) (table : List ℕ) (later : Id → Option ℕ) (id : Id) (first : ℕ) → IsTable ids table later →
-    get_or table (place_in (length table) id) 0 ≡ first → IsPlaced ids first (later id) id
-placed_at ids table later id first h is = subst (λ n. IsPlaced ids n (later id) id) is (h.placed id)
+-- what the table has at the place of an id
+pub record AtPlace (ids : List Id) (table : List ℕ) (later : Option ℕ) (id : Id) (place number : ℕ) : Type 0 where
+  pub at : place ≡ place_in (length table) id
+  pub within : place < length table
+  pub first : get_or table place 0 ≡ number
+  pub placed : IsPlaced ids number later id
+
+-- as the code comes to know it
+pub at_place : (ids : List Id) (table : List ℕ) (later : Id → Option ℕ) (id : Id) (places place number : ℕ) → IsTable ids table later → is_name id ≡ true →
+    places ≡ length table → place ≡ place_in places id → place < places → number ≡ get_or table place number → AtPlace ids table (later id) id place number
+at_place ids table later id places place number h named long there below is =
+    let at : place ≡ place_in (length table) id = there ∙ ap (λ n. place_in n id) long in
+    let within : place < length table = omega (arith, below, long) in
+    let first = read_at table place number 0 within is in
+    record {
+      at = at;
+      within = within;
+      first = first;
+      placed = subst (λ n. IsPlaced ids n (later id) id) (ap (λ k. get_or table k 0) (sym at) ∙ first) (h.placed id named);
+    }
+
+pub first_tells : (ids : List Id) (first : ℕ) (later : Option ℕ) (id own : Id) (same : Bool) → IsPlaced ids first later id → (first ≡ 0 → ⊥) →
+    own ≡ get_or ids (first - 1) own → same ≡ is_same own id → is_same (get_or ids (first - 1) []) id ≡ same
+first_tells ids first later id own same h some is e =
+    let below : first - 1 < length ids = omega (arith, h.within, some) in
+    ap (λ x. is_same x id) (read_at ids (first - 1) own [] below is) ∙ sym e
+
+-- ---- whether an id is one of them
+
+among : (ids : List Id) (id : Id) (o : Option ℕ) → position (is_same id) ids ≡ o → is_among ids id ≡ is_some o
+among ids id o e = sym (among-set ids id) ∙ sym (some_position (is_same id) ids) ∙ ap is_some e
+
+pub new_at_free : (ids : List Id) (first : ℕ) (later : Option ℕ) (id : Id) → IsPlaced ids first later id → first ≡ 0 → is_among ids id ≡ false
+new_at_free ids zero later id h none = among ids id None (sym h.index)
+new_at_free ids (suc k) later id h none = absurd (omega (arith, none))
+
+pub first_again : (ids : List Id) (first : ℕ) (later : Option ℕ) (id : Id) → IsPlaced ids first later id → (first ≡ 0 → ⊥) →
+    is_same (get_or ids (first - 1) []) id ≡ true → is_among ids id ≡ true
+first_again ids zero later id h some same = absurd (some refl)
+first_again ids (suc k) later id h some same =
+    let e : suc k - 1 ≡ k = omega arith in
+    let own : is_same (get_or ids k []) id ≡ true = ap (λ n. is_same (get_or ids n []) id) (sym e) ∙ same in
+    among ids id (Some k) (sym h.index ∙ index-some ids k later id ∙ ap (λ b. cond b (Some k) later) own)
+
+position-later : (ids : List Id) (first : ℕ) (later : Option ℕ) (id : Id) → IsPlaced ids first later id → (first ≡ 0 → ⊥) →
+    is_same (get_or ids (first - 1) []) id ≡ false → position (is_same id) ids ≡ later
+position-later ids zero later id h some other = absurd (some refl)
+position-later ids (suc k) later id h some other =
+    let e : suc k - 1 ≡ k = omega arith in
+    let apart : is_same (get_or ids k []) id ≡ false = ap (λ n. is_same (get_or ids n []) id) (sym e) ∙ other in
+    sym h.index ∙ index-some ids k later id ∙ ap (λ b. cond b (Some k) later) apart
+
+pub among_later : (ids : List Id) (first : ℕ) (later : Option ℕ) (id : Id) → IsPlaced ids first later id → (first ≡ 0 → ⊥) →
+    is_same (get_or ids (first - 1) []) id ≡ false → is_among ids id ≡ is_some later
+among_later ids first later id h some other = among ids id later (position-later ids first later id h some other)
 
 pub found_within : (ids : List Id) (first i : ℕ) (later : Option ℕ) (id : Id) → IsPlaced ids first later id → (first ≡ 0 → ⊥) →
     is_same (get_or ids (first - 1) []) id ≡ false → later ≡ Some i → i < length ids
-found_within ids zero i later id h some other is = absurd (some refl)
-found_within ids (suc k) i later id h some other is =
-    let e : suc k - 1 ≡ k = omega arith in
-    let apart : is_same (get_or ids k []) id ≡ false = ap (λ n. is_same (get_or ids n []) id) (sym e) ∙ other in
-    let at : position (is_same id) ids ≡ Some i = sym h.index ∙ index-some ids k later id ∙ ap (λ b. cond b (Some k) later) apart ∙ is in
-    (position-Some (is_same id) ids i [] at).0
+found_within ids first i later id h some other is =
+    (position-Some (is_same id) ids i [] (position-later ids first later id h some other ∙ is)).0
 
 -- ---- one id more, and how another is found then
 
@@ -100,21 +145,21 @@ pub at_free : (ids : List Id) (table : List ℕ) (later : Id → Option ℕ) (id
     place ≡ place_in (length table) id → place < length table → get_or table place 0 ≡ 0 → IsTable (ids ++ id ∷ []) (set table place (length ids + 1)) later
 at_free ids table later id place h new at within free = record {
   some = omega (arith, h.some, length-set table place (length ids + 1));
-  placed = λ other. subst (λ n. IsPlaced (ids ++ id ∷ []) (get_or (set table place (length ids + 1)) (place_in n other) 0) (later other) other)
-      (sym (length-set table place (length ids + 1))) (by other (cases_eq (place_in (length table) other) place));
+  placed = λ other named. subst (λ n. IsPlaced (ids ++ id ∷ []) (get_or (set table place (length ids + 1)) (place_in n other) 0) (later other) other)
+      (sym (length-set table place (length ids + 1))) (by other named (cases_eq (place_in (length table) other) place));
 } where
-  by : (other : Id) → (place_in (length table) other ≡ place) ⊎ (place_in (length table) other ≡ place → ⊥) →
+  by : (other : Id) → is_name other ≡ true → (place_in (length table) other ≡ place) ⊎ (place_in (length table) other ≡ place → ⊥) →
       IsPlaced (ids ++ id ∷ []) (get_or (set table place (length ids + 1)) (place_in (length table) other) 0) (later other) other
-  by other (inl e) =
+  by other named (inl e) =
       let was : get_or table (place_in (length table) other) 0 ≡ 0 = ap (λ k. get_or table k 0) e ∙ free in
       let is : get_or (set table place (length ids + 1)) (place_in (length table) other) 0 ≡ length ids + 1 =
       ap (λ k. get_or (set table place (length ids + 1)) k 0) e ∙ get_or-set_same table place (length ids + 1) 0 within in
       subst (λ n. IsPlaced (ids ++ id ∷ []) n (later other) other) (sym is)
-      (comes_first ids id other (later other) new (subst (λ n. IsPlaced ids n (later other) other) was (h.placed other)))
-  by other (inr apart) =
+      (comes_first ids id other (later other) new (subst (λ n. IsPlaced ids n (later other) other) was (h.placed other named)))
+  by other named (inr apart) =
       let is = get_or-set_other table place (place_in (length table) other) (length ids + 1) 0 apart in
       subst (λ n. IsPlaced (ids ++ id ∷ []) n (later other) other) (sym is)
-      (stays ids id other (get_or table (place_in (length table) other) 0) (later other) (differs (cases_Bool (is_same id other))) (h.placed other)) where
+      (stays ids id other (get_or table (place_in (length table) other) 0) (later other) (differs (cases_Bool (is_same id other))) (h.placed other named)) where
         differs : (is_same id other ≡ true) ⊎ (is_same id other ≡ false) → is_same id other ≡ false
         differs (inr f) = f
         differs (inl t) = absurd (apart (ap (place_in (length table)) (sym ((bytes_decides id other).0 t)) ∙ sym at))
@@ -136,63 +181,49 @@ comes_later ids id (suc k) was new some h = record {
   free = λ e. absurd (some e);
 }
 
-pub at_taken : (ids : List Id) (table : List ℕ) (later now : Id → Option ℕ) (id : Id) (place : ℕ) → IsTable ids table later → is_among ids id ≡ false →
-    place ≡ place_in (length table) id → (get_or table place 0 ≡ 0 → ⊥)
-    → ((other : Id) → now other ≡ cond (is_same id other) (Some (length ids)) (later other)) → IsTable (ids ++ id ∷ []) table now
-at_taken ids table later now id place h new at some put = record {
+pub at_taken : (ids : List Id) (table : List ℕ) (later now : Id → Option ℕ) (id : Id) (place : ℕ) → IsTable ids table later → is_name id ≡ true →
+    is_among ids id ≡ false → place ≡ place_in (length table) id → (get_or table place 0 ≡ 0 → ⊥)
+    → ((other : Id) → is_name other ≡ true → now other ≡ cond (is_same id other) (Some (length ids)) (later other)) → IsTable (ids ++ id ∷ []) table now
+at_taken ids table later now id place h own new at some put = record {
   some = h.some;
-  placed = λ other. by other (cases_Bool (is_same id other));
+  placed = λ other named. by other named (cases_Bool (is_same id other));
 } where
-  by : (other : Id) → (is_same id other ≡ true) ⊎ (is_same id other ≡ false) →
+  by : (other : Id) → is_name other ≡ true → (is_same id other ≡ true) ⊎ (is_same id other ≡ false) →
       IsPlaced (ids ++ id ∷ []) (get_or table (place_in (length table) other) 0) (now other) other
-  by other (inl t) =
+  by other named (inl t) =
       let e : id ≡ other = (bytes_decides id other).0 t in
-      let is : now other ≡ Some (length ids) = put other ∙ ap (λ b. cond b (Some (length ids)) (later other)) t in
+      let is : now other ≡ Some (length ids) = put other named ∙ ap (λ b. cond b (Some (length ids)) (later other)) t in
       let there : get_or table (place_in (length table) id) 0 ≡ 0 → ⊥ = λ z. some (ap (λ k. get_or table k 0) at ∙ z) in
       subst (λ o. IsPlaced (ids ++ id ∷ []) (get_or table (place_in (length table) other) 0) o other) (sym is)
       (subst (λ x. IsPlaced (ids ++ id ∷ []) (get_or table (place_in (length table) x) 0) (Some (length ids)) x) e
-      (comes_later ids id (get_or table (place_in (length table) id) 0) (later id) new there (h.placed id)))
-  by other (inr f) =
-      let is : now other ≡ later other = put other ∙ ap (λ b. cond b (Some (length ids)) (later other)) f in
+      (comes_later ids id (get_or table (place_in (length table) id) 0) (later id) new there (h.placed id own)))
+  by other named (inr f) =
+      let is : now other ≡ later other = put other named ∙ ap (λ b. cond b (Some (length ids)) (later other)) f in
       subst (λ o. IsPlaced (ids ++ id ∷ []) (get_or table (place_in (length table) other) 0) o other) (sym is)
-      (stays ids id other (get_or table (place_in (length table) other) 0) (later other) f (h.placed other))
+      (stays ids id other (get_or table (place_in (length table) other) 0) (later other) f (h.placed other named))
 
--- ---- a number that is put under an id, in order
+-- ---- what stands among the later ones
 
-once : {X : Type 0} (b : Bool) (x y z : X) → cond b x z ≡ cond b x (cond b y z)
-once true x y z = refl
-once false x y z = refl
+pub stood : (later : Option ℕ) (i index : ℕ) → i ≡ unwrap_or later index → (i ≡ index → ⊥) → later ≡ Some i
+stood None i index e other = absurd (other e)
+stood (Some j) i index e other = ap Some (sym e)
 
--- what can't both hold is asked in either order
-in_turn : {X : Type 0} (a b : Bool) (x y z : X) → (a ≡ true → b ≡ false) → cond b y (cond a x z) ≡ cond a x (cond b y z)
-in_turn true b x y z apart = ap (λ c. cond c y x) (apart refl)
-in_turn false b x y z apart = refl
+pub none_stood : (later : Option ℕ) (i index : ℕ) → i ≡ unwrap_or later index → i ≡ index → ((j : ℕ) → later ≡ Some j → j < index) → later ≡ None
+none_stood None i index e same below = refl
+none_stood (Some j) i index e same below = absurd (omega (arith, e, same, below j refl))
 
-module _ {V : Type 0} (items : V → Id) where
-  abbrev under : List (V × ℕ) → Id → Option ℕ
-  under entries id = lookup (λ key. is_eq (slice_cmp nat_cmp id (items key))) entries
+pub same_later : (ids : List Id) (table : List ℕ) (later now : Id → Option ℕ) → IsTable ids table later →
+    ((other : Id) → is_name other ≡ true → now other ≡ later other) → IsTable ids table now
+same_later ids table later now h same = record {
+  some = h.some;
+  placed = λ other named. subst (λ o. IsPlaced ids (get_or table (place_in (length table) other) 0) o other) (sym (same other named)) (h.placed other named);
+}
 
-  one-put : (o : Ordering) (key : V) (number : ℕ) (first : V × ℕ) (entries behind : List (V × ℕ)) (id : Id) →
-      slice_cmp nat_cmp (items key) (items first.0) ≡ o
-      → under behind id ≡ cond (is_same (items key) id) (Some number) (under entries id)
-      → under (match_ordering o ((key, number) ∷ first ∷ entries) ((first.0, number) ∷ entries) (first ∷ behind)) id
-      ≡ cond (is_same (items key) id) (Some number) (under (first ∷ entries) id)
-  one-put Less key number first entries behind id e h =
-      ap (λ b. cond b (Some number) (under (first ∷ entries) id)) (sym (texts_ties id (items key)) ∙ same-comm id (items key))
-  one-put Equal key number first entries behind id e h =
-      let same : items key ≡ items first.0 = (bytes_decides (items key) (items first.0)).0 (texts_ties (items key) (items first.0) ∙ ap is_eq e) in
-      let here = is_eq (slice_cmp nat_cmp id (items first.0)) in
-      let tied = sym (texts_ties id (items first.0)) ∙ same-comm id (items first.0) ∙ ap (λ x. is_same x id) (sym same) in
-      once here (Some number) (Some first.1) (under entries id) ∙ ap (λ b. cond b (Some number) (cond here (Some first.1) (under entries id))) tied
-  one-put Greater key number first entries behind id e h =
-      let here = is_eq (slice_cmp nat_cmp id (items first.0)) in
-      let apart = λ (t : is_same (items key) id ≡ true).
-      ap (λ x. is_eq (slice_cmp nat_cmp x (items first.0))) (sym ((bytes_decides (items key) id).0 t)) ∙ ap is_eq e in
-      ap (cond here (Some first.1)) h ∙ in_turn (is_same (items key) id) here (Some number) (Some first.1) (under entries id) apart
-
-  pub under-put : (entries : List (V × ℕ)) (key : V) (number : ℕ) (id : Id) →
-      under (insert_entry (λ a b. slice_cmp nat_cmp (items a) (items b)) entries key number) id ≡ cond (is_same (items key) id) (Some number) (under entries id)
-  under-put [] key number id = ap (λ b. cond b (Some number) None) (sym (texts_ties id (items key)) ∙ same-comm id (items key))
-  under-put (first ∷ entries) key number id =
-      one-put (slice_cmp nat_cmp (items key) (items first.0)) key number first entries
-      (insert_entry (λ a b. slice_cmp nat_cmp (items a) (items b)) entries key number) id refl (under-put entries key number id)
+-- one that stood stays as it was
+pub at_met : (ids : List Id) (table : List ℕ) (later now : Id → Option ℕ) (id : Id) (i : ℕ) → IsTable ids table later → later id ≡ Some i →
+    ((other : Id) → is_name other ≡ true → now other ≡ cond (is_same id other) (Some i) (later other)) → IsTable ids table now
+at_met ids table later now id i h is put = same_later ids table later now h (λ other named. by other named (cases_Bool (is_same id other))) where
+  by : (other : Id) → is_name other ≡ true → (is_same id other ≡ true) ⊎ (is_same id other ≡ false) → now other ≡ later other
+  by other named (inl t) =
+      put other named ∙ ap (λ b. cond b (Some i) (later other)) t ∙ sym is ∙ ap later ((bytes_decides id other).0 t)
+  by other named (inr f) = put other named ∙ ap (λ b. cond b (Some i) (later other)) f

@@ -1,7 +1,7 @@
+pub mod IdWords
 pub mod BatchTable
 pub mod Numbers
 pub mod Pairs
-pub mod Judged
 pub mod SoFar
 pub mod CardAt
 pub mod Walked

@@ -1,6 +1,6 @@
 -- How the ids of batches are found: by a table of places, or among those that came later to their place.
-use Rattle.std.specs.Prelude.{◌≡◌, ◌≤◌, ◌-◌, ◌%◌, ◌==◌, ℕ, List, [], length, position, slice_index_or, if◌then◌else◌, Option, Some, None}
-use Rattle.irv_base.specs.Names.{Id, is_same}
+use Rattle.std.specs.Prelude.{◌≡◌, ◌≤◌, ◌-◌, ◌%◌, ◌==◌, ℕ, List, [], length, position, slice_index_or, if◌then◌else◌, Option, Some, None, IsTrue}
+use Rattle.irv_base.specs.Names.{Id, is_name, is_same}
 use Rattle.ballot_reader.specs.Ids.{digest}
 
 -- the place of an id in a table of so many
@@ -20,7 +20,8 @@ pub record IsPlaced (ids : List Id) (first : ℕ) (later : Option ℕ) (id : Id)
   -- an id whose place is free isn't among the later ones
   pub free : first ≡ 0 → later ≡ None
 
+-- each id that is a name is placed; other bytes may have the words of one
 pub record IsTable (ids : List Id) (table : List ℕ) (later : Id → Option ℕ) : Type 0 where
   pub some : 1 ≤ length table
   pub placed :
-      (id : Id) → IsPlaced ids (slice_index_or table (place_in (length table) id) 0) (later id) id
+      (id : Id) → IsTrue (is_name id) → IsPlaced ids (slice_index_or table (place_in (length table) id) 0) (later id) id

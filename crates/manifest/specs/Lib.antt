@@ -3,6 +3,7 @@ pub mod Manifest
 pub mod Spelling
 pub mod Faults
 pub mod BatchIds
+pub mod IdWords
 pub mod Firsts
 pub mod Laws
 pub mod Linked

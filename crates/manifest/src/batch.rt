@@ -1,5 +1,5 @@
 // The record of a batch.
-ghost use Rattle.std.specs.Prelude.{◌≡◌, ◌≤◌, ◌∷◌, [], length, IfSome, IfNone, IsTrue, false};
+ghost use Rattle.std.specs.Prelude.{◌≡◌, ◌≤◌, ◌++◌, ◌∷◌, [], length, IfOk, IfSome, IfNone, IsTrue, false};
 ghost use Rattle.csv.specs.Records.{fields_of};
 ghost use Rattle.csv_rows.specs.Fields.{trimmed_fields};
 ghost use Rattle.csv_rows.specs.Numbers.{number_of};
@@ -12,7 +12,7 @@ use crate::fault::MRule;
 use crate::limits::{MOST_BATCH_BYTES, MOST_BATCH_CARDS};
 use csv::ByteRecord;
 use csv_rows::{number_of, trimmed};
-use irv_base::{MOST_CARDS, Name};
+use irv_base::{MOST_CARDS, Memory, Name};
 
 /// A batch: its id, and how many cards it has.
 #[derive(Clone, Copy)]
@@ -73,19 +73,27 @@ fn batch_with(id: Name, others: u32, number: &[u8]) -> Result<Batch, MRule>
     }
 }
 
-/// The batch of a record, or the first rule that the record breaks, after batches with these ids and so many cards.
-pub fn batch_of(ids: &BatchIds, others: u32, row: &ByteRecord) -> Result<Batch, MRule>
+/// The batch of a record, or the first rule that the record breaks, after batches with these ids and so many cards. The id of the batch
+/// is put last among them.
+pub fn batch_of(
+    ids: &mut BatchIds,
+    others: u32,
+    row: &ByteRecord,
+) -> Result<Result<Batch, MRule>, Memory>
     requires { others ≤ MOST_CARDS }
-    ensures { result ≡ batch_of ids.now others (trimmed_fields (fields_of row.now)) }
+    ensures judged { IfOk result (λ judged.
+        judged ≡ batch_of ids.old others (trimmed_fields (fields_of row.now))) }
+    ensures put { IfOk result (λ judged.
+        IfOk judged (λ batch. ids.new ≡ ids.old ++ batch.id ∷ [])) }
 {
     let Some((id, number)) = pair_of(row) else {
-        return Err(MRule::M2);
+        return Ok(Err(MRule::M2));
     };
     let Some(id) = batch_id(id) else {
-        return Err(MRule::M4);
+        return Ok(Err(MRule::M4));
     };
-    if ids.index_of(&id).is_some() {
-        return Err(MRule::M4);
+    if !ids.put(id)? {
+        return Ok(Err(MRule::M4));
     }
-    batch_with(id, others, number)
+    Ok(batch_with(id, others, number))
 }

@@ -1,9 +1,14 @@
 // The ids of batches, and which batch has one.
-ghost use Rattle.std.specs.Prelude.{◌≡◌, ◌≤◌, ◌<◌, ◌++◌, ◌∷◌, [], Some, IfOk, IfSome, OnOk, false, length, position, slice_get};
+ghost use Rattle.std.specs.Prelude.{◌≡◌, ◌≤◌, ◌<◌, ◌++◌, ◌∷◌, [], ℕ, List, Some, IfOk, IfSome, OnErr, if◌then◌else◌, length, not, position, slice_get};
+ghost use Rattle.std.specs.BTreeMap.{get};
+ghost use Rattle.std.specs.Cmp.Lexicographic.{slice_cmp};
+ghost use Rattle.std.specs.Option.{unwrap_or};
+ghost use Rattle.std.specs.Ordering.{is_eq, nat_cmp};
 ghost use Rattle.irv_base.specs.Names.{is_among, is_same};
 ghost use Rattle.ballot_reader.specs.Ids.{digest};
 ghost use Rattle.manifest.specs.BatchIds.{place_in};
 
+use crate::id_words::IdWords;
 use irv_base::{Memory, Name};
 use std::alloc::Global;
 use std::collections::BTreeMap;
@@ -22,24 +27,24 @@ pub struct BatchIds {
     // at each place the number of the first id that has it, counted from 1, or 0
     table: Vec<u32>,
     // the indices of those that came later to their place
-    later: BTreeMap<Vec<u8>, u32>,
-    alloc: Global,
+    later: BTreeMap<IdWords, u32>,
 }
 
 impl Model for BatchIds {
     ghost use Rattle.std.specs.Prelude.{List};
-    ghost use Rattle.std.specs.BTreeMap.{get_by};
+    ghost use Rattle.std.specs.BTreeMap.{get};
     ghost use Rattle.std.specs.Cmp.Lexicographic.{slice_cmp};
     ghost use Rattle.std.specs.Ordering.{nat_cmp};
     ghost use Rattle.irv_base.specs.Names.{Id};
     ghost use Rattle.manifest.specs.BatchIds.{IsTable};
+    ghost use Rattle.manifest.specs.IdWords.{words_of};
 
     ghost Value = { List Id };
 
     ghost view = { λ b. b.ids.items };
 
     ghost invariant = { λ b. IsTable b.ids.items b.table.items
-        (λ id. get_by (λ key. slice_cmp nat_cmp id key.items) b.later) };
+        (λ id. get (slice_cmp nat_cmp) b.later (words_of id)) };
 }
 
 fn digest(id: &[u8]) -> u64
@@ -59,6 +64,23 @@ fn place_in(places: usize, id: &[u8]) -> usize
     (digest(id) % places as u64) as usize
 }
 
+// The index that stands under the words of an id: this one, if none stood there.
+fn index_under(
+    later: &mut BTreeMap<IdWords, u32>,
+    words: IdWords,
+    index: u32,
+) -> Result<u32, Memory>
+    ensures index { IfOk result (λ i.
+        i ≡ unwrap_or (get (slice_cmp nat_cmp) later.old words) index) }
+    ensures put { IfOk result (λ i. (others : List ℕ) → get (slice_cmp nat_cmp) later.new others
+        ≡ (if is_eq (slice_cmp nat_cmp words others) then Some i
+        else get (slice_cmp nat_cmp) later.old others)) }
+    ensures same { OnErr result ((others : List ℕ) → get (slice_cmp nat_cmp) later.new others
+        ≡ get (slice_cmp nat_cmp) later.old others) }
+{
+    Ok(*later.entry(words)?.or_insert(index))
+}
+
 impl BatchIds {
     /// No ids, with a table of one place more than `places`.
     pub fn nothing(alloc: Global, places: usize) -> Result<BatchIds, Memory>
@@ -68,7 +90,6 @@ impl BatchIds {
             ids: Vec::new(alloc),
             table: vec![in alloc; 0; places.saturating_add(1)]?,
             later: BTreeMap::new(alloc),
-            alloc,
         })
     }
 
@@ -93,16 +114,17 @@ impl BatchIds {
         if self.ids[i] == *id {
             return Some(i);
         }
-        match self.later.get(id.bytes()) {
+        match self.later.get(&IdWords::of(id)) {
             Some(i) => Some(*i as usize),
             None => None,
         }
     }
 
-    /// Puts an id last that isn't one of them. As many as `u32::MAX` are want of memory.
-    pub fn push(&mut self, id: Name) -> Result<(), Memory>
-        requires { is_among self.old id ≡ false }
-        ensures { OnOk result (self.new ≡ self.old ++ id ∷ []) }
+    /// Puts an id last if it isn't one of them, and answers whether it wasn't. As many as `u32::MAX` are want of memory.
+    pub fn put(&mut self, id: Name) -> Result<bool, Memory>
+        ensures new { IfOk result (λ new. new ≡ not (is_among self.old id)) }
+        ensures put { IfOk result (λ new.
+            self.new ≡ (if new then self.old ++ id ∷ [] else self.old)) }
     {
         let index = self.ids.len();
         if index >= u32::MAX as usize {
@@ -110,14 +132,19 @@ impl BatchIds {
         }
         self.ids.reserve(1)?;
         let place = place_in(self.table.len(), id.bytes());
-        if self.table[place] == 0 {
+        let first = self.table[place];
+        if first == 0 {
             self.table[place] = index as u32 + 1;
             self.ids.push_reserved(id);
-            return Ok(());
+            return Ok(true);
         }
-        let key = Vec::from_slice(self.alloc, id.bytes())?;
-        self.later.insert(key, index as u32)?;
+        if self.ids[first as usize - 1] == id {
+            return Ok(false);
+        }
+        if index_under(&mut self.later, IdWords::of(&id), index as u32)? != index as u32 {
+            return Ok(false);
+        }
         self.ids.push_reserved(id);
-        Ok(())
+        Ok(true)
     }
 }

@@ -6,6 +6,7 @@ mod batch_ids;
 mod card;
 pub mod examples;
 mod fault;
+mod id_words;
 pub mod laws;
 mod limits;
 mod link_fault;

@@ -34,13 +34,12 @@ fn batches_left(
     let mut firsts = Vec::new(alloc);
     let mut cards = 0;
     'records: while rows.read_numbered(row)? {
-        let batch = match batch_of(&ids, cards, row) {
+        let batch = match batch_of(&mut ids, cards, row)? {
             Ok(batch) => batch,
             Err(rule) => {
                 return Err(ManifestFault::at_record(rule, FIRST_BATCH + counts.len() as u32));
             }
         };
-        ids.push(batch.id)?;
         counts.push(batch.cards)?;
         firsts.push(cards + 1)?;
         cards += batch.cards;

@@ -26,13 +26,13 @@ use cli_base::{Answer, AnswerKind, Refusal};
 use command::{CheckTask, FileName};
 use cover_checker::{CheckFault, Checked, check as check_file};
 use desk::Desk;
-use input_files::{assertions_in, bytes_of, votes_of_file};
+use input_files::{assertions_in, bytes_of, readers_at_hand, votes_of_file};
 use irv_base::{Candidate, Order};
 use report::{spent_at, spent_sets};
 use std::alloc::Global;
 use std::thread::Threads;
 
-// The votes are read and counted by this many.
+// The votes are counted by this many, where they weren't as they were read.
 const WORKERS: u32 = 1;
 
 /// Whether the assertion file holds of the ballots of the contest.
@@ -50,7 +50,8 @@ pub fn answer<R: AllocGlobal + Threads + Sync, D: Desk>(
         (Runs (script task.now)) (due result) }
     ensures served { IsAccountedFor 2 (D.served desk.old) (D.served desk.new) (due result).status }
 {
-    let votes = votes_of_file(rt, desk, &task.ballots, task.contest.as_ref(), WORKERS)?;
+    let readers = readers_at_hand(rt);
+    let votes = votes_of_file(rt, desk, &task.ballots, task.contest.as_ref(), readers)?;
     after_votes(rt, desk, &votes, &task.assertions, task.budget)
 }
 

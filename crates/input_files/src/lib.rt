@@ -9,4 +9,4 @@ mod votes;
 pub use cards::{Cards, cards_for};
 pub use files::{assertions_in, ballots_in, bytes_of, contests_in, manifest_in, seen_in};
 pub use judged::{no_record_text, refuse_file, refuse_for};
-pub use votes::{MOST_READERS, votes_of_file};
+pub use votes::{MOST_READERS, readers_at_hand, votes_of_file};

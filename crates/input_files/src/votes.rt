@@ -7,6 +7,7 @@ ghost use Rattle.cli_base.specs.Due.{status_so_far};
 ghost use Rattle.cli_base.specs.Script.{ByDesk};
 ghost use Rattle.input_files.specs.Votes.{AreVotes};
 ghost use Rattle.ballot_reader.specs.Stages.{HasTaken};
+ghost use Rattle.input_files.specs.declared.votes.TheConstants.{MOST_READERS};
 
 use crate::judged::refuse_file;
 use ballot_reader::{Votes, VotesReader};
@@ -14,10 +15,22 @@ use cli_base::{Refusal, read_file_into};
 use command::FileName;
 use desk::{Desk, Taker};
 use irv_base::{Memory, Name};
+use std::thread;
 use std::thread::Threads;
 
-/// So many workers read a ballot file side by side, at most: more would wait for its bytes, which one of them asks for.
+/// So many workers read a ballot file side by side, at most: more would wait for its bytes, which one thread alone asks for.
 pub const MOST_READERS: u32 = 4;
+
+/// How many workers read a ballot file where a call doesn't say it: as many as there are processors, `MOST_READERS` at most.
+pub fn readers_at_hand<R: Threads>(rt: &R) -> u32
+    ensures some { 1 ≤ result }
+    ensures most { result ≤ MOST_READERS }
+{
+    match thread::available_parallelism(rt) {
+        Ok(processors) => processors.get().min(MOST_READERS as usize) as u32,
+        Err(_) => 1,
+    }
+}
 
 // What the votes are read by.
 #[derive(Drop)]

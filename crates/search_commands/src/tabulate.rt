@@ -17,7 +17,7 @@ use bound_search::{RaceFault, race};
 use cli_base::{Answer, AnswerKind, Refusal};
 use command::TabulateTask;
 use desk::{Desk, Gate};
-use input_files::votes_of_file;
+use input_files::{readers_at_hand, votes_of_file};
 use irv_base::{Candidate, Order};
 use irv_tabulator::{FirstTie, TabFault, Tabulated, tabulate};
 use report::tabulation;
@@ -25,7 +25,7 @@ use set_tallies::Counted;
 use std::alloc::Global;
 use std::thread::Threads;
 
-// Ballots are read and counted, and a tie is raced for, by this many.
+// Ballots are counted, where they weren't as they were read, and a tie is raced for, by this many.
 const WORKERS: u32 = 1;
 
 /// The rounds of the contest, or its first tie where the contest isn't decided. With a tie a race by one worker tells which; the task
@@ -45,7 +45,8 @@ pub fn answer<R: AllocGlobal + Threads + Sync, D: Desk, G: Gate + Sync>(
         (Runs (script task.now)) (due result) }
     ensures served { IsAccountedFor 1 (D.served desk.old) (D.served desk.new) (due result).status }
 {
-    let votes = votes_of_file(rt, desk, &task.ballots, task.contest.as_ref(), WORKERS)?;
+    let readers = readers_at_hand(rt);
+    let votes = votes_of_file(rt, desk, &task.ballots, task.contest.as_ref(), readers)?;
     tabulate_all(rt, &votes, task.nodes, gate)
 }
 

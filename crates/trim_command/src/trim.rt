@@ -21,13 +21,10 @@ use check_command::check::{check, spent_answer, spent_sets_answer};
 use cli_base::{Answer, AnswerKind, Refusal};
 use command::{FileName, TrimTask};
 use desk::Desk;
-use input_files::{assertions_in, bytes_of, votes_of_file};
+use input_files::{assertions_in, bytes_of, readers_at_hand, votes_of_file};
 use std::alloc::Global;
 use std::thread::Threads;
 use trimmer::{TrimFault, trim};
-
-// The votes are read by this many.
-const WORKERS: u32 = 1;
 
 /// The assertion file without the claims that can go, where a check accepts it; else what the check says.
 pub fn answer<R: AllocGlobal + Threads + Sync, D: Desk>(
@@ -44,7 +41,8 @@ pub fn answer<R: AllocGlobal + Threads + Sync, D: Desk>(
         (Runs (script task.now)) (due result) }
     ensures served { IsAccountedFor 2 (D.served desk.old) (D.served desk.new) (due result).status }
 {
-    let votes = votes_of_file(rt, desk, &task.ballots, task.contest.as_ref(), WORKERS)?;
+    let readers = readers_at_hand(rt);
+    let votes = votes_of_file(rt, desk, &task.ballots, task.contest.as_ref(), readers)?;
     after_votes(rt, desk, &votes, &task.assertions, task.budget)
 }
 

@@ -95,7 +95,7 @@ def main():
     with tempfile.TemporaryDirectory() as folder:
         path = os.path.join(folder, "b.raire")
         for k in range(files):
-            records = records_of(draws, 60_000 + draws.below(90_000))
+            records = records_of(draws, 100_000 + draws.below(200_000))
             kind, broken = damaged(draws, records)
             with open(path, "wb") as file:
                 file.write(file_of(draws, records, kind))

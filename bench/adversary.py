@@ -72,7 +72,7 @@ def ballots():
     honest = ["in order", "in no order", "at random"]
     pair("ids of which each digest is alike, in order", "tabulate", honest, "alike")
     pair("ids of which each digest is alike, in no order", "tabulate", honest, "alike, in no order")
-    pair("ids in no order, beside ids in order", "tabulate", ["in order"], "in no order")
+    pair("ids in no order", "tabulate", ["in order", "at random"], "in no order")
 
 
 # ---- names of batches

@@ -60,6 +60,14 @@ IsAnswer contests audited first rows before after answer =
     IfOk answer (λ next. ComeBehind contests (VotesOf audited) first rows before next after)
     × IfErr answer (λ fault. IsRefusedBehind contests (VotesOf audited) first rows before fault)
 
+-- this is kept of ballots that were read alone, put behind what was kept of others: where these went up to a record, those come behind them
+abbrev pub IsKeptBehind : KeptBallots → KeptBallots → KeptBallots → Type 0
+IsKeptBehind before part after =
+    (contests : List Contest) (audited : ℕ) (earlier : List Ballot) (at : ℕ) (rows : List Fields) →
+    IsKeptUpTo contests (VotesOf audited) earlier at before →
+    IsReadAlone contests (VotesOf audited) rows part →
+    IsReadBehind contests (VotesOf audited) earlier at rows (at + part.count) after
+
 -- ---- what can be put together
 
 -- of each contest it is seen that no id was met in both

@@ -1,12 +1,9 @@
 // What is kept of ballots that are read side by side, put together.
-ghost use Rattle.std.specs.Prelude.{ℕ, ◌≡◌, ◌<◌, ◌+◌, ◌↔◌, List, Option, Some, OnOk, IsTrue, length, option_map, slice_get, slice_set};
-ghost use Rattle.csv_rows.specs.Rows.{Fields as FieldList};
-ghost use Rattle.ballot_reader.specs.Grammar.{Ballot, Contest as ContestRecord};
+ghost use Rattle.std.specs.Prelude.{◌≡◌, ◌<◌, ◌↔◌, Option, Some, OnOk, IsTrue, length, option_map, slice_get, slice_set};
 ghost use Rattle.ballot_reader.specs.Joined.{ArePagesApart};
-ghost use Rattle.ballot_reader.specs.Kept.{IsKeptUpTo, KeptPart};
-ghost use Rattle.ballot_reader.specs.Parts.{AreAlike, AreJoined, AreMetApart, ArePutBehind, CanJoin, IsJoined, IsReadAlone, IsReadBehind, form_of, part_behind, with_rankings};
+ghost use Rattle.ballot_reader.specs.Kept.{KeptPart};
+ghost use Rattle.ballot_reader.specs.Parts.{AreAlike, AreJoined, AreMetApart, ArePutBehind, CanJoin, IsJoined, IsKeptBehind, form_of, part_behind, with_rankings};
 ghost use Rattle.ballot_reader.specs.declared.noted.Noted.{Noted as NotedIds};
-ghost use Rattle.ballot_reader.specs.declared.wanted.Wanted.TheVariants.{VotesOf};
 
 use crate::kept::Kept;
 use crate::noted::Noted;
@@ -140,12 +137,7 @@ impl Kept {
     /// Puts what is kept of ballots that were read alone behind what is kept of others. Of ids and places, where they are kept, nothing is told.
     pub fn join(&mut self, part: &Kept) -> Result<(), Memory>
         requires { CanJoin self.now part.now }
-        ensures { OnOk result ((contests : List ContestRecord) → (audited : ℕ)
-            → (earlier : List Ballot) → (at : ℕ) → (rows : List FieldList)
-            → IsKeptUpTo contests (VotesOf audited) earlier at self.old
-            → IsReadAlone contests (VotesOf audited) rows part.now
-            → IsReadBehind contests (VotesOf audited) earlier at rows (at + part.now.count)
-            self.new) }
+        ensures { OnOk result (IsKeptBehind self.old part.now self.new) }
     {
         join_all(&mut self.met, &part.met)?;
         put_all(&mut self.parts, &part.parts)?;

@@ -1,9 +1,8 @@
 // Ballots in lines that several workers read side by side.
-ghost use Rattle.std.specs.Prelude.{ℕ, ◌≡◌, ◌≤◌, ◌++◌, List, Ok, IfOk, IfErr, IfSome, IsTrue, length};
+ghost use Rattle.std.specs.Prelude.{ℕ, ◌≤◌, List, IfOk, IfErr, IfSome, IsTrue, length};
 ghost use Rattle.std.specs.Thread.{IsSync};
-ghost use Rattle.csv_rows.specs.Rows.{Fields as FieldList};
 ghost use Rattle.irv_base.specs.Names.{all_differ};
-ghost use Rattle.ballot_reader.specs.Grammar.{Ballot, Contest as ContestRecord};
+ghost use Rattle.ballot_reader.specs.Grammar.{Ballot};
 ghost use Rattle.ballot_reader.specs.Kept.{IsKeptUpTo, contest_ids};
 ghost use Rattle.ballot_reader.specs.Parts.{CanBeRead, ComeBehind, IsAnswer, IsReadAlone, IsRefusedBehind};
 ghost use Rattle.ballot_reader.specs.declared.limits.TheConstants.{MOST_CONTESTS};

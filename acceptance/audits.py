@@ -15,6 +15,7 @@ import subprocess
 import sys
 import tempfile
 
+import places  # noqa: F401
 import compare
 import plain
 import plain_audit

@@ -9,6 +9,7 @@ import subprocess
 import sys
 import tempfile
 
+import places  # noqa: F401
 from limits import MOST_CANDIDATES, MOST_CONTESTS, MOST_LISTED, MOST_NAME_BYTES, MOST_RECORDS
 
 MARK = b"\xef\xbb\xbf"

@@ -10,6 +10,7 @@ import subprocess
 import sys
 import tempfile
 
+import places  # noqa: F401
 from limits import MOST_BATCH_CARDS, MOST_RECORDS
 
 MOST_TIMES = 10

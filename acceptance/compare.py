@@ -11,6 +11,7 @@ import subprocess
 import sys
 import tempfile
 
+import places  # noqa: F401
 import plain
 import plain_audit
 from draws import Draws

@@ -15,6 +15,7 @@ import os
 import subprocess
 import sys
 
+import places  # noqa: F401
 import audits
 import compare
 import plain_audit

@@ -1,5 +1,5 @@
 #!/usr/bin/python3
-"""Tries ./convert: exports made by hand and by chance, in each form, against a plain count of them; exports that are bad or damaged.
+"""Tries ./raire convert: exports made by hand and by chance, in each form, against a plain count of them; exports that are bad or damaged.
 
 acceptance/convert.py PROGRAM [COUNT] takes the exports of acceptance/exports, and COUNT exports of each form that are drawn by chance
 (acceptance/made_exports.py). Each is converted, the ballot file is read back, and who is ranked on each card is compared with what a plain
@@ -19,7 +19,7 @@ import traceback
 
 TOP = os.path.dirname(os.path.dirname(os.path.abspath(__file__)))
 sys.dont_write_bytecode = True
-sys.path.insert(0, os.path.join(TOP, "office"))
+sys.path.insert(0, os.path.join(TOP, "tools", "office"))
 
 try:
     import convert  # that of office/
@@ -27,6 +27,7 @@ except ImportError as missing:
     print(f"acceptance/convert.py: NOT TRIED: {missing}; apt-get install python3-ijson python3-openpyxl")
     sys.exit(1)
 
+import places  # noqa: F401
 import bad_exports  # noqa: E402
 import made_exports  # noqa: E402
 import plain  # noqa: E402

@@ -13,6 +13,7 @@ import subprocess
 import sys
 import tempfile
 
+import places  # noqa: F401
 import audits
 import plain_audit
 from draws import Draws

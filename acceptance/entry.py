@@ -1,5 +1,5 @@
 #!/usr/bin/env python3
-"""Types whole audits into the page of ./cards --entry, in a browser, and looks at the pages of ./cards.
+"""Types whole audits into the page of ./raire cards --entry, in a browser, and looks at the pages of ./raire cards.
 
 acceptance/entry.py PROGRAM [FOLDER] fills in the town's cards by keyboard alone and the village's by mouse, with reloads and an
 end of the browser in the middle: what is saved has to be the examples' seen files, byte for byte. What a seen file can't say
@@ -22,7 +22,7 @@ LOOKS = {"narrow": (360, "screen", False), "wide": (1200, "screen", False), "dar
 
 
 class Entry:
-    """The page of ./cards --entry in a browser."""
+    """The page of ./raire cards --entry in a browser."""
 
     def __init__(self, opened, downloads):
         self.opened, self.downloads = opened, downloads
@@ -60,7 +60,7 @@ def rows_of(path):
 
 
 def made(tried, name, *words):
-    """A page of ./cards, in a file of its own."""
+    """A page of ./raire cards, in a file of its own."""
     status, page, err = tried.run("cards", *words)
     tried.see(f"{name} is made", status == 0 and err == "", err)
     write(name, page)

@@ -1,5 +1,5 @@
 #!/usr/bin/env python3
-"""Tries ./export: the assertions of examples and of contests by chance, in SHANGRLA's form, refute the same orders by the same margins.
+"""Tries ./raire export: the assertions of examples and of contests by chance, in SHANGRLA's form, refute the same orders by the same margins.
 
 acceptance/exported.py PROGRAM [COUNT] lets PROGRAM search each ballot file of examples/, within a budget, and COUNT contests that are drawn by chance, exports
 what it prints, and reads that as SHANGRLA's notebooks do: who wins, who loses, who is out already. The last line says how many came out as
@@ -13,6 +13,7 @@ import subprocess
 import sys
 import tempfile
 
+import places  # noqa: F401
 import plain
 import plain_audit
 
@@ -102,7 +103,7 @@ def main():
                 draws = ["--cards=1000000"] * (tried % 2)  # every second file says draws, which the export leaves away
                 if subprocess.run([program, "search", "--nodes", NODES, *draws, ballots], stdout=file, stderr=subprocess.DEVNULL).returncode:
                     continue
-            ran = subprocess.run([os.path.join(TOP, "export"), "shangrla", ballots, path], capture_output=True, env={**os.environ, "RAIRE": program})
+            ran = subprocess.run([os.path.join(TOP, "tools", "export"), "shangrla", ballots, path], capture_output=True, env={**os.environ, "RAIRE": program})
             wrong = ran.stderr.decode() if ran.returncode else compare(ballots, path, ran.stdout, random.Random(ballots))
             tried += 1
             if wrong:

@@ -14,11 +14,12 @@ import subprocess
 import sys
 import tempfile
 
+import places  # noqa: F401
 import limits
 import walk
 
 TOP = os.path.dirname(os.path.dirname(os.path.abspath(__file__)))
-sys.path.append(os.path.join(TOP, "hints"))
+sys.path.append(os.path.join(TOP, "tools", "hints"))
 
 import rules  # noqa: E402
 import table  # noqa: E402
@@ -179,12 +180,11 @@ OF_ALL_SEEN = [
     ("b_1,9,ballot\n\nb_1,10,ballot\nb_1,9,ballot\n", "V3", '"b_1" stood with "9" in record 1, line 1. Record 3, line 4: b_1,9,ballot'),
     ("b_1,11,ballot,Ann\n", "V5", '"Ann" is no candidate; the contest has "Ed", "Flo". Record 1, line 1: b_1,11,ballot,Ann'),
 ]
-SCRIPTS = ("agree", "batches", "boxes", "cards", "convert", "export", "release", "show")
 # Words; which of them is wrong.
 OF_WORDS = [
     (["serch", "x"], '"serch" is no command; nearly right is "search"'),
     (["x"], '"x" is no command; they are audit, check, contests, open, plan, plurality, poll, report, sample, search, tabulate, trial, trim'),
-    *[([script, "x"], f'"{script}" is no command; it is a script of its own: ./{script}') for script in SCRIPTS],
+    (["shwo", "x"], '"shwo" is no command; nearly right is "show"'),
     (["audit", "--draw", "5"], '"--draw" is no option of audit; nearly right is "--draws"'),
     (["search", "-x", "b"], '"-x" is no option of search; it has --contest, --workers, --nodes, --sets, --floor, --cards, --limit, --gamma'),
     (["search", "---sets", "1"], '"---sets" is no option of search; nearly right is "--sets"'),
@@ -436,11 +436,11 @@ def answers_are_left(tried):
 
 
 def cards_are_counted(tried):
-    """./boxes counts cards and records, and points at batches that no record names."""
+    """./raire boxes counts cards and records, and points at batches that no record names."""
     given = {**os.environ, "RAIRE": tried.program}
 
     def boxes(*words):
-        return tried.ran(words, os.path.join(TOP, "boxes"), env=given)
+        return tried.ran(words, os.path.join(TOP, "tools", "boxes"), env=given)
 
     write("total.csv", MANIFEST + "c,2\nTotal,6\n")
     write("batches.csv", MANIFEST)
@@ -459,15 +459,15 @@ def cards_are_counted(tried):
     tried.see("two files are wanted", boxes("ballots.raire") == (1, b"", told), boxes("ballots.raire"))
     with open(os.path.join(TOP, "docs", "help", "boxes.txt"), "rb") as file:
         tried.see("help is the page", boxes("--help") == (0, file.read(), ""))
-    got = tried.ran(["ballots.raire", "batches.csv"], os.path.join(TOP, "boxes"), env={**os.environ, "RAIRE": "/none"})
+    got = tried.ran(["ballots.raire", "batches.csv"], os.path.join(TOP, "tools", "boxes"), env={**os.environ, "RAIRE": "/none"})
     tried.see("a program is needed", got == (1, b"", "boxes: RAIRE names no program: /none\n"), got)
-    got = tried.ran(["ballots.raire", "batches.csv"], os.path.join(TOP, "boxes"), env={**os.environ, "RAIRE": "/bin/true"})
+    got = tried.ran(["ballots.raire", "batches.csv"], os.path.join(TOP, "tools", "boxes"), env={**os.environ, "RAIRE": "/bin/true"})
     tried.see("and one that answers", got == (1, b"", "boxes: /bin/true gave no answer\n"), got)
-    got = tried.ran(["ballots.raire", "batches.csv", "--contest=x"], os.path.join(TOP, "boxes"), env={**os.environ, "RAIRE": tried.script})
+    got = tried.ran(["ballots.raire", "batches.csv", "--contest=x"], os.path.join(TOP, "tools", "boxes"), env={**os.environ, "RAIRE": tried.script})
     told = f'raire: ballots.raire: B5 at 1\nraire: B5: {table.causes()["B5"]}. The file has the contests "9". "x" is none of them. {END}\n'
     tried.see("the line that ./raire adds is passed on", got == (2, b"", told), got)
     for to in (">/dev/full", ">&-"):
-        line = ["bash", "-c", f'"$0" "$@" {to}', os.path.join(TOP, "boxes"), "ballots.raire", "batches.csv"]
+        line = ["bash", "-c", f'"$0" "$@" {to}', os.path.join(TOP, "tools", "boxes"), "ballots.raire", "batches.csv"]
         ran = subprocess.run(line, capture_output=True, text=True, env=given)
         tried.see(f"boxes {to}", (ran.returncode, ran.stderr) == (8, "boxes: the output could not be written\n"), ran)
 

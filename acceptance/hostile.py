@@ -15,6 +15,7 @@ import tempfile
 import threading
 import time
 
+import places  # noqa: F401
 import audits
 import plain_audit
 from limits import MOST_CANDIDATES, MOST_CONTESTS, MOST_FILE_BYTES as LARGEST, MOST_LISTED, MOST_RECORDS, MOST_SETS

@@ -1,4 +1,4 @@
-"""Exports drawn by chance, in every form that ./convert reads, with every rule in them."""
+"""Exports drawn by chance, in every form that ./raire convert reads, with every rule in them."""
 import csv
 import json
 import os

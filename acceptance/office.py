@@ -1,5 +1,5 @@
 #!/usr/bin/env python3
-"""Tries what an office uses between the draws and the audit: ./cards, ./agree and ./batches.
+"""Tries what an office uses between the draws and the audit: ./raire cards, ./raire agree and ./raire batches.
 
 acceptance/office.py PROGRAM compares them with the examples' files and with what plain_audit.py draws and reads, and tries
 words and files that are refused. The page to type readings into is tried by acceptance/entry.py. The last line says how
@@ -10,6 +10,7 @@ import subprocess
 import sys
 import tempfile
 
+import places  # noqa: F401
 import plain_audit
 from draws import Draws
 
@@ -18,7 +19,7 @@ TOWN = os.path.join(TOP, "examples", "town")
 SEED = "2026-11-03 dice 2 6 1 4 5 5 3 1"
 MANIFEST, BALLOTS, ASSERTIONS, SEEN = (os.path.join(TOWN, name) for name in ("manifest.csv", "ballots.raire", "assertions.json", "seen.csv"))
 
-sys.path.append(os.path.join(TOP, "office"))
+sys.path.append(os.path.join(TOP, "tools", "office"))
 sys.dont_write_bytecode = True
 import records  # noqa: E402
 
@@ -29,7 +30,7 @@ class Tried:
 
     def run(self, script, *words, out=None):
         """The status and both texts of a script of the office, or of the program."""
-        path = self.program if script == "raire" else os.path.join(TOP, script)
+        path = self.program if script == "raire" else os.path.join(TOP, "tools", script)
         given = {**os.environ, "RAIRE": self.program}
         ran = subprocess.run([path, *words], stdin=subprocess.DEVNULL, stdout=out or subprocess.PIPE, stderr=subprocess.PIPE, env=given)
         return ran.returncode, (ran.stdout or b"").decode(), ran.stderr.decode()
@@ -55,7 +56,7 @@ def read(path):
         return file.read()
 
 
-# ---- ./cards
+# ---- ./raire cards
 
 def wanted_cards(seed, first, last):
     """Lines of a table, by the plain program's draws: each card once that no draw before `first` took, in the manifest's order."""
@@ -155,7 +156,7 @@ def card_words(tried):
     tried.see("the names are those of the contest", '"candidates": [{"id": "1", "name": "B"}, {"id": "2", "name": "C"}]' in page)
 
 
-# ---- ./agree
+# ---- ./raire agree
 
 def agreements(tried):
     text = read(SEEN)
@@ -201,7 +202,7 @@ def readings(tried):
         tried.see(f"records of {data}", [row for _, row in records.rows_of(data)] == plain_audit.records_of(data))
 
 
-# ---- ./batches
+# ---- ./raire batches
 
 def ward(margin, names=("P017", "P018"), contest="Ward 3"):
     """The records of a contest of two batches, each of 194 ballots, that Moss wins by so many votes."""
@@ -267,9 +268,9 @@ def helps(tried):
         given = {**os.environ, "RAIRE": "/none"}
         words = {"cards": [MANIFEST, "--seed=1", "--draws=1"], "batches": [BALLOTS, MANIFEST]}.get(script)
         if words:
-            ran = subprocess.run([os.path.join(TOP, script), *words], capture_output=True, text=True, env=given)
+            ran = subprocess.run([os.path.join(TOP, "tools", script), *words], capture_output=True, text=True, env=given)
             tried.see(f"{script} needs a program", (ran.returncode, ran.stderr) == (1, f"{script}: RAIRE names no program: /none\n"), ran)
-            ran = subprocess.run([os.path.join(TOP, script), *words], capture_output=True, text=True, env={**given, "RAIRE": "/bin/true"})
+            ran = subprocess.run([os.path.join(TOP, "tools", script), *words], capture_output=True, text=True, env={**given, "RAIRE": "/bin/true"})
             told = (1, "", f"{script}: /bin/true gave no answer\n")
             tried.see(f"{script} needs one that answers", (ran.returncode, ran.stdout, ran.stderr) == told, ran)
 
@@ -281,7 +282,7 @@ def main():
             os.chdir(folder)
             part(tried)
             os.chdir(here)
-    print(f"{tried.count - tried.failed} things of ./cards, ./agree and ./batches as they should be, {tried.failed} not")
+    print(f"{tried.count - tried.failed} things of ./raire cards, ./raire agree and ./raire batches as they should be, {tried.failed} not")
     sys.exit(1 if tried.failed else 0)
 
 

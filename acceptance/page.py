@@ -1,5 +1,5 @@
 #!/usr/bin/env python3
-"""Tries ./show: what it refuses, that its numbers are the program's, and how its pages look in a browser.
+"""Tries ./raire show: what it refuses, that its numbers are the program's, and how its pages look in a browser.
 
 acceptance/page.py PROGRAM [AUDITS] first tries words, programs and files that are refused, and what the page says of sessions
 and seen cards. Then it makes pages of so many generated audits, 40 if no number is given, and compares their numbers
@@ -23,6 +23,7 @@ import threading
 import time
 from multiprocessing.pool import ThreadPool
 
+import places  # noqa: F401
 import audits
 import compare
 import plain
@@ -33,11 +34,11 @@ from limits import MOST_CANDIDATES
 
 HERE = os.path.dirname(os.path.abspath(__file__))
 TOP = os.path.dirname(HERE)
-sys.path.append(os.path.join(TOP, "page"))
+sys.path.append(os.path.join(TOP, "tools", "page"))
 
 import orders  # noqa: E402
 
-SHOW = os.path.join(TOP, "show")
+SHOW = os.path.join(TOP, "tools", "show")
 BROWSERS = ("chromium-headless-shell", "chromium", "google-chrome")
 FLAGS = ["--headless", "--no-sandbox", "--disable-gpu", "--hide-scrollbars"]
 LOOKS = {"narrow": (360, "screen", False), "wide": (1200, "screen", False), "dark": (900, "screen", True), "print": (700, "print", False)}
@@ -58,7 +59,7 @@ class Tried:
         self.count += 1
         if not holds:
             self.failed += 1
-            print(f"./show: {shows}: not so {told}")
+            print(f"./raire show: {shows}: not so {told}")
 
 
 # Stands for the ./raire of a clone, without a build.
@@ -74,7 +75,7 @@ def write_program(path, text):
 
 
 class Shows:
-    """Runs ./show with a program that has every command."""
+    """Runs ./raire show with a program that has every command."""
 
     def __init__(self, program, folder):
         runs = audits.Runs(program)
@@ -184,12 +185,12 @@ def words(shows, tried):
 # ---- which program, and what it judged
 
 def copy_of_clone(folder):
-    """A clone's ./show with a ./raire that needs no build."""
-    for name in ("page", "acceptance"):
-        shutil.copytree(os.path.join(TOP, name), os.path.join(folder, name), ignore=shutil.ignore_patterns("cases", "__pycache__"))
-    shutil.copy(SHOW, folder)
+    """A clone's ./raire show with a ./raire that needs no build."""
+    for name in (os.path.join("tools", "page"), "plain"):
+        shutil.copytree(os.path.join(TOP, name), os.path.join(folder, name), ignore=shutil.ignore_patterns("__pycache__"))
+    shutil.copy(SHOW, os.path.join(folder, "tools"))
     write_program(os.path.join(folder, "raire"), STANDS_IN)
-    return os.path.join(folder, "show"), os.path.join(folder, "raire")
+    return os.path.join(folder, "tools", "show"), os.path.join(folder, "raire")
 
 
 def programs(shows, tried):

@@ -12,6 +12,7 @@ import subprocess
 import sys
 import tempfile
 
+import places  # noqa: F401
 from draws import Draws
 from limits import MOST_WORKERS
 

@@ -12,6 +12,7 @@ import multiprocessing
 import os
 import sys
 
+import places  # noqa: F401
 import audits
 import compare
 import plain

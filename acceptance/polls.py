@@ -15,6 +15,7 @@ import os
 import sys
 from fractions import Fraction
 
+import places  # noqa: F401
 import audits
 import plain
 import plain_audit

@@ -1,5 +1,5 @@
 #!/usr/bin/env python3
-"""Tries ./release: made twice it has the same bytes, and README's walk runs in what it unpacks to, on a path without `rt`.
+"""Tries ./raire release: made twice it has the same bytes, and README's walk runs in what it unpacks to, on a path without `rt`.
 
 acceptance/release.py PROGRAM makes a release of this clone's commit with PROGRAM in it. The last line says how many things were as they should be.
 """
@@ -16,7 +16,7 @@ import walk
 
 TOP = os.path.dirname(os.path.dirname(os.path.abspath(__file__)))
 sys.dont_write_bytecode = True
-sys.path.insert(0, os.path.join(TOP, "office"))
+sys.path.insert(0, os.path.join(TOP, "tools", "office"))
 
 import release  # noqa: E402 (that of office/)
 from ask import Refusal  # noqa: E402
@@ -84,44 +84,43 @@ def walks(folder):
 
 
 def scripts(folder):
-    """Each script at the top of the release tells its help, which is that of ./raire help."""
-    for name in sorted(os.listdir(folder)):
-        path = os.path.join(folder, name)
-        if os.path.isfile(path) and os.access(path, os.X_OK) and name != "raire":
-            status, out, err = ran(folder, f"./{name}", "--help")
-            yield f"./{name} --help: {err}", (status, out) == (0, ran(folder, "./raire", "help", name)[1])
+    """Each tool of the release prints its help, which is that of ./raire help."""
+    for name in sorted(os.listdir(os.path.join(folder, "tools"))):
+        if os.path.isfile(os.path.join(folder, "tools", name)):
+            status, out, err = ran(folder, "./raire", name, "--help")
+            yield f"./raire {name} --help: {err}", (status, out) == (0, ran(folder, "./raire", "help", name)[1])
 
 
 def by_the_script(folder):
-    """./release of a clone: what it refuses without a kit on the path, and of a folder that was changed."""
+    """./raire release of a clone: what it refuses without a kit on the path, and of a folder that was changed."""
     clone = os.path.join(folder, "clone")
     yield "the clone is there", ran(folder, "git", "clone", "-q", TOP, clone)[0] == 0
-    status, out, err = ran(clone, "./release")
+    status, out, err = ran(clone, "./raire", "release")
     yield "without a program nothing is released", (status, out) == (70, "") and err.endswith("release: there is no program to release\n")
     with open(os.path.join(clone, "another"), "w") as file:
         file.write("1\n")
     told = "release: a file of the folder is new or another one than in the commit: git status tells which\n"
-    yield "a folder that was changed isn't released", ran(clone, "./release") == (1, "", told)
-    status, out, err = ran(clone, "./release", "a", "b")
+    yield "a folder that was changed isn't released", ran(clone, "./raire", "release") == (1, "", told)
+    status, out, err = ran(clone, "./raire", "release", "a", "b")
     yield "two folders are no words", (status, out) == (1, "") and err.startswith("release: ")
     yield "nothing was written", not [name for name in os.listdir(clone) if name.endswith(".gz")]
 
 
 def by_the_built_program(program, folder):
-    """Where the program is this clone's own, and nothing was changed: ./release twice."""
+    """Where the program is this clone's own, and nothing was changed: ./raire release twice."""
     if not os.path.exists(walk.OWN) or not os.path.samefile(program, walk.OWN) or release.Commit().is_changed() or not shutil.which("rt"):
         return
     texts = []
     for name in ("one", "two"):
         os.mkdir(os.path.join(folder, name))
-        done = subprocess.run([os.path.join(TOP, "release"), os.path.join(folder, name)], capture_output=True, text=True)
-        yield f"./release: {done.stderr}", done.returncode == 0
+        done = subprocess.run([os.path.join(TOP, "raire"), "release", os.path.join(folder, name)], capture_output=True, text=True)
+        yield f"./raire release: {done.stderr}", done.returncode == 0
         (made_file,) = os.listdir(os.path.join(folder, name))
         with open(os.path.join(folder, name, made_file), "rb") as file:
             texts.append((made_file, file.read()))
         digest = hashlib.sha256(texts[-1][1]).hexdigest()
         yield "its digest is told", done.stdout == f"{digest}  {os.path.join(folder, name, made_file)}\n"
-    yield "./release twice: the same bytes", texts[0] == texts[1]
+    yield "./raire release twice: the same bytes", texts[0] == texts[1]
 
 
 def cases(program, folder):
@@ -153,7 +152,7 @@ def main():
             tried += 1
             if not holds:
                 failed += 1
-                print(f"./release: {shows}: not so")
+                print(f"./raire release: {shows}: not so")
     print(f"{tried - failed} things of a release as they should be, {failed} not")
     sys.exit(1 if failed else 0)
 

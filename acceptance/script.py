@@ -61,7 +61,7 @@ class Copy:
         shutil.copy(os.path.join(TOP, "raire"), folder)
         shutil.copy(os.path.join(TOP, "crates.txt"), folder)
         shutil.copytree(os.path.join(TOP, "docs", "help"), os.path.join(folder, "docs", "help"))
-        shutil.copytree(os.path.join(TOP, "build"), os.path.join(folder, "build"))
+        shutil.copytree(os.path.join(TOP, "tools", "build"), os.path.join(folder, "build"))
         for crate in crates():
             for part in ("src", "specs", "proofs", "must-fail"):
                 os.makedirs(os.path.join(folder, "crates", crate, part))
@@ -142,7 +142,7 @@ def builds(copy):
 
 def minutes_left():
     """What is told of the time that is left, by a clock of the test's own: at the pace of what is done, and nothing of a crate that was kept."""
-    sys.path.insert(0, os.path.join(TOP, "build"))
+    sys.path.insert(0, os.path.join(TOP, "tools", "build"))
     import build as builder
 
     named = {"low": [], "side": ["low", "std"], "other": ["low"], "raire": ["side", "low"], "above": ["raire"]}
@@ -198,23 +198,23 @@ def pages_are_true():
             if not os.path.exists(os.path.join(TOP, "crates", path.removeprefix("crates/"))):
                 print(f"{page} names {path}, which isn't there")
         with tempfile.TemporaryDirectory() as folder:
-            for name in ("raire", "show", "boxes", "cards", "agree", "batches", "examples", "acceptance"):
+            for name in ("raire", "tools", "plain", "examples", "acceptance"):
                 os.symlink(os.path.join(TOP, name), os.path.join(folder, name))
             os.mkdir(os.path.join(folder, "made"))
-            for line in re.findall(r"^    (\./(?:raire|show|boxes|acceptance)\S* .*)$", text, re.MULTILINE):
+            for line in re.findall(r"^    (\./(?:raire|acceptance)\S* .*)$", text, re.MULTILINE):
                 ran = subprocess.run(["bash", "-c", line], capture_output=True, cwd=folder)
                 told = b"templates are missing" in ran.stderr
                 yield f"{page}: {line}: {ran.stderr}", ran.returncode in (0, 3, 4, 5, 6, 10) or told
 
 
 def scripts_tell_their_help(folder):
-    """Each script at the top prints its page, also where Python has none of the libraries; what wants one says so."""
+    """Each tool prints its page, also where Python has none of the libraries; what wants one says so."""
     for library in ("ijson", "jinja2", "openpyxl"):
         with open(os.path.join(folder, f"{library}.py"), "w") as file:
             file.write("raise ImportError\n")
     given = {**os.environ, "PYTHONPATH": folder, "PYTHONDONTWRITEBYTECODE": "1"}
     for page in sorted(os.listdir(os.path.join(TOP, "docs", "help"))):
-        script = os.path.join(TOP, page.removesuffix(".txt"))
+        script = os.path.join(TOP, "tools", page.removesuffix(".txt"))
         if os.path.isfile(script) and page != "raire.txt":
             with open(os.path.join(TOP, "docs", "help", page)) as file:
                 wanted = (0, file.read(), "")
@@ -222,7 +222,7 @@ def scripts_tell_their_help(folder):
                 ran = subprocess.run([script, word], capture_output=True, text=True, env=given)
                 yield f"{page} behind {word}: {ran}", (ran.returncode, ran.stdout, ran.stderr) == wanted
     for name, words, told in (("show", ["x"], "show: templates are missing"), ("convert", ["plain", "x"], "convert: a library is missing")):
-        ran = subprocess.run([os.path.join(TOP, name), *words], capture_output=True, text=True, env=given)
+        ran = subprocess.run([os.path.join(TOP, "tools", name), *words], capture_output=True, text=True, env=given)
         yield f"{name} without its library: {ran}", (ran.returncode, ran.stdout) == (1, "") and ran.stderr.startswith(told)
 
 

@@ -16,6 +16,7 @@ import sys
 import tempfile
 import time
 
+import places  # noqa: F401
 import compare
 import plain
 import plain_sets

@@ -50,23 +50,20 @@ def printed_by(commands, folder, given):
 
 
 def write_stand_in(program, script):
-    """A ./raire of another program than the clone's own, which isn't built: the end of the script, from where the program is run."""
+    """A ./raire of another program than the clone's own, which is never built."""
     with open(os.path.join(TOP, "raire")) as file:
-        _, mark, end = file.read().partition("# Says what a refusal means")
-    head = ["#!/usr/bin/env bash", "set -euo pipefail", f"top={shlex.quote(TOP)}", f"program={shlex.quote(program)}", 'say() { echo "raire: $*" >&2; }']
+        text = file.read()
+    text = re.sub("(?m)^top=.*$", lambda _: f"top={shlex.quote(TOP)}", text)
+    text = re.sub("(?m)^program=.*$", lambda _: f"program={shlex.quote(program)}", text)
+    text = text.replace("is_built() {\n", "is_built() {\n    return\n")
     with open(script, "w") as file:
-        file.write("\n".join([*head, mark + end]))
+        file.write(text)
     os.chmod(script, 0o755)
 
 
-def scripts():
-    """The scripts at the top, such as ./show, save ./raire itself."""
-    return [name for name in os.listdir(TOP) if os.path.isfile(os.path.join(TOP, name)) and os.access(os.path.join(TOP, name), os.X_OK) and name != "raire"]
-
-
 def put_repository(program, folder):
-    """The names that a page uses. Another program than the clone's own stands in for ./raire, and ./show asks it."""
-    for name in ("examples", "acceptance", "docs", *scripts()):
+    """The names that a page uses. Another program than the clone's own stands in for ./raire, and ./raire show asks it."""
+    for name in ("examples", "acceptance", "docs", "plain", "tools"):
         os.symlink(os.path.join(TOP, name), os.path.join(folder, name))
     script = os.path.join(folder, "raire")
     if os.path.exists(OWN) and os.path.samefile(program, OWN):

@@ -12,7 +12,7 @@ import sys
 import tempfile
 
 TOP = os.path.dirname(os.path.dirname(os.path.abspath(__file__)))
-sys.path.append(os.path.join(TOP, "acceptance"))
+sys.path += [os.path.join(TOP, name) for name in ("acceptance", "plain")]
 
 from colliding import BATCHES, COUNTED_BYTES, alike_front, write, write_ballots, write_manifest  # noqa: E402
 from limits import MOST_RECORDS  # noqa: E402

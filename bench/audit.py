@@ -15,7 +15,7 @@ import tempfile
 import time
 
 TOP = os.path.dirname(os.path.dirname(os.path.abspath(__file__)))
-sys.path.append(os.path.join(TOP, "acceptance"))
+sys.path += [os.path.join(TOP, name) for name in ("acceptance", "plain")]
 
 import audits  # noqa: E402
 import plain_audit  # noqa: E402

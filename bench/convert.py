@@ -1,5 +1,5 @@
 #!/usr/bin/python3
-"""How much memory and time ./convert takes for large exports: bench/convert.py [MEGABYTES] [FORM..]
+"""How much memory and time ./raire convert takes for large exports: bench/convert.py [MEGABYTES] [FORM..]
 
 Makes an export of so many megabytes (left out: 1000) in each form (left out: dominion, nist, plain), converts it, and prints a line: the form, its
 bytes, cards, the peak of memory in MiB and the seconds of the processor.
@@ -102,7 +102,7 @@ def main():
             paths = FORMS[form](folder, size * 1_000_000)
             ballots = os.path.join(folder, "out.raire")
             with open(ballots, "wb") as out:
-                child = subprocess.Popen([os.path.join(TOP, "convert"), form, *paths], stdout=out, stderr=subprocess.DEVNULL)
+                child = subprocess.Popen([os.path.join(TOP, "tools", "convert"), form, *paths], stdout=out, stderr=subprocess.DEVNULL)
             _, status, used = os.wait4(child.pid, 0)
             with open(ballots, "rb") as file:
                 cards = sum(1 for _ in file) - 2

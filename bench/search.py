@@ -17,7 +17,7 @@ import tempfile
 import time
 
 TOP = os.path.dirname(os.path.dirname(os.path.abspath(__file__)))
-sys.path.append(os.path.join(TOP, "acceptance"))
+sys.path += [os.path.join(TOP, name) for name in ("acceptance", "plain")]
 
 from draws import Draws  # noqa: E402
 

@@ -24,7 +24,7 @@ import time
 from search import PROGRAM, weights_of, write_pool
 
 TOP = os.path.dirname(os.path.dirname(os.path.abspath(__file__)))
-sys.path.append(os.path.join(TOP, "acceptance"))
+sys.path += [os.path.join(TOP, name) for name in ("acceptance", "plain")]
 
 from limits import MOST_FILE_BYTES, MOST_SETS  # noqa: E402
 

@@ -6,7 +6,7 @@ are searched and assertion files judged. `run` gives the status and the two text
 save that it never lacks memory and that no search by nodes is ever spent. A check walks all orders, so it is for contests of up
 to seven candidates or so; with sets both are for up to sixteen.
 
-    acceptance/plain_audit.py COMMAND FILES.. OPTIONS..
+    plain/plain_audit.py COMMAND FILES.. OPTIONS..
 """
 import bisect
 import hashlib

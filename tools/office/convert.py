@@ -70,7 +70,7 @@ def call_of(given):
     words = [f"--contest={contest}" for contest in given.contest]
     words += [f"--{name}={getattr(given, name)}" for name in ("sheet", "candidates", "title", "batch", "ranks") if getattr(given, name) is not None]
     words += [f"--id={','.join(given.id)}"] if given.id else []
-    return shlex.join([f"./{NAME}", given.format, *given.files, *words])
+    return shlex.join(["./raire", NAME, given.format, *given.files, *words])
 
 
 def see_beside(given):

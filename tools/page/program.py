@@ -8,7 +8,7 @@ import tempfile
 
 from files import Refusal, told
 
-TOP = os.path.dirname(os.path.dirname(os.path.abspath(__file__)))
+TOP = os.path.dirname(os.path.dirname(os.path.dirname(os.path.abspath(__file__))))
 STANDS_IN = b"1\nContest,none of these,2,1,2\n"
 
 

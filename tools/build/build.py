@@ -13,7 +13,7 @@ import sys
 import tempfile
 import time
 
-TOP = os.path.dirname(os.path.dirname(os.path.abspath(__file__)))
+TOP = os.path.dirname(os.path.dirname(os.path.dirname(os.path.abspath(__file__))))
 PROGRAM = "raire"
 PARTS = ("src", "specs", "proofs")
 SECONDS_A_LINE = 0.05  # of a crate that has no time yet
@@ -49,7 +49,7 @@ def lines_of(crate):
 
 def measured():
     """The processor seconds of each crate that was measured."""
-    with open(os.path.join(TOP, "build", "seconds.txt")) as file:
+    with open(os.path.join(TOP, "tools", "build", "seconds.txt")) as file:
         rows = [line.split() for line in file if not line.startswith("#")]
     return {crate: float(it) for crate, it in rows}
 

@@ -1,14 +1,14 @@
 #!/usr/bin/env python3
 """Compares the lines of crates.txt with the crates: each names the libraries that the crate's text names, and no others.
 
-build/names.py tells what a line has and the text hasn't, and which crate the text has and the line hasn't. `rt` reads the sources of each
+tools/build/names.py tells what a line has and the text hasn't, and which crate the text has and the line hasn't. `rt` reads the sources of each
 library once for each way that leads to it, so a name too many costs time in every build.
 """
 import os
 import re
 import sys
 
-TOP = os.path.dirname(os.path.dirname(os.path.abspath(__file__)))
+TOP = os.path.dirname(os.path.dirname(os.path.dirname(os.path.abspath(__file__))))
 PARTS = "src", "specs", "proofs"
 
 

@@ -13,9 +13,8 @@ from words import ask_for_help, help_of, put, Words
 
 NAME = "release"
 PROGRAM = "crates/raire/out/raire"
-PARTS = ["README.md", "docs", "examples", "page", "hints", "office", "acceptance/plain.py", "acceptance/plain_audit.py",
-         "acceptance/plain_contests.py", "acceptance/plain_draws.py", "acceptance/plain_plurality.py", "acceptance/plain_poll.py",
-         "acceptance/plain_risk.py", "acceptance/plain_sets.py", "acceptance/plain_trim.py", "acceptance/limits.py"]
+PARTS = ["README.md", "docs", "examples", "plain", "raire", "tools"]
+APART = ("tools/build/", f"tools/{NAME}")  # what proves, builds and releases needs the sources
 MACHINE = "x86_64"
 
 File = collections.namedtuple("File", "data mode")
@@ -54,7 +53,7 @@ With the kit named above, on any machine:
 
 docs/trust.md says what each step shows, and what has to be believed. The program is what the kit's compiler makes of the proved code; that is proved by
 nobody, and that another machine gets the same bytes isn't claimed: run what you built yourself where that matters. All else in this file is text that
-can be compared with the commit: `./release` takes it from there. From one commit and one program `./release` makes the same bytes each time.
+can be compared with the commit: `./raire release` takes it from there. From one commit and one program `./raire release` makes the same bytes each time.
 """
 
 
@@ -82,12 +81,11 @@ class Commit:
         return bool(git("status", "--porcelain", top=self.top))
 
     def files(self):
-        """The files of a release that the commit has, and the scripts beside them."""
-        listed = git("ls-tree", "HEAD", top=self.top).decode().splitlines()
-        scripts = [line.split("\t")[1] for line in listed if line.startswith("100755 ")]
-        archive = io.BytesIO(git("archive", "--format=tar", "HEAD", *PARTS, *(name for name in scripts if name != NAME), top=self.top))
+        """The files of a release that the commit has."""
+        archive = io.BytesIO(git("archive", "--format=tar", "HEAD", *PARTS, top=self.top))
         with tarfile.open(fileobj=archive) as tar:
-            return {each.name: File(tar.extractfile(each).read(), 0o755 if each.mode & 0o100 else 0o644) for each in tar if each.isfile()}
+            listed = [each for each in tar if each.isfile() and not each.name.startswith(APART)]
+            return {each.name: File(tar.extractfile(each).read(), 0o755 if each.mode & 0o100 else 0o644) for each in listed}
 
 
 def made(commit, program, kit):

@@ -82,7 +82,7 @@ def see_output(paths):
     if sys.stdout is None:
         raise UNWRITTEN
     if sys.stdout.isatty():
-        raise told("the page goes to standard output: ./show FILES.. > page.html")
+        raise told("the page goes to standard output: ./raire show FILES.. > page.html")
     for path in paths:
         if os.path.exists(path) and os.path.samestat(os.stat(path), os.fstat(1)):
             raise told(f"the page would be written over {path}")
@@ -491,7 +491,7 @@ def in_words(claim, first, is_polled):
 
 
 def filled(page):
-    loader = jinja2.FileSystemLoader(os.path.join(TOP, "page"))
+    loader = jinja2.FileSystemLoader(os.path.join(TOP, "tools", "page"))
     made = jinja2.Environment(
         loader=loader, autoescape=True, trim_blocks=True, lstrip_blocks=True, undefined=jinja2.ChainableUndefined,
     )

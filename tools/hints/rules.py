@@ -318,7 +318,7 @@ def other_contest_seen(record, ballots):
 
 def drawn_cards(seed, manifest, draws):
     """The cards of these draws, in the order of their first ones, each with that draw."""
-    sys.path.append(os.path.join(os.path.dirname(os.path.dirname(os.path.abspath(__file__))), "acceptance"))
+    sys.path.append(os.path.join(os.path.dirname(os.path.dirname(os.path.dirname(os.path.abspath(__file__)))), "plain"))
     import plain_audit
 
     cards, found = plain_audit.Manifest(batches_of(manifest)), {}

@@ -7,6 +7,8 @@ from near import is_id, meant
 from records import quoted
 from table import DOCS
 
+TOOLS = os.path.join(os.path.dirname(DOCS), "tools")
+
 
 class Wrong(Exception):
     """The words are no command line; the text says which of them is wrong."""
@@ -45,15 +47,15 @@ def forms():
     found = {}
     for name, heads, text in pages():
         for head in heads:
-            if head.startswith("./raire "):
+            if head.startswith("./raire ") and name not in tools():
                 files = re.findall("[A-Z]+", re.sub(r"--\w+ [A-Z]+", "", head))
                 found.setdefault(name, []).append(Form(files, dict(options_of(head, text))))
     return found
 
 
-def scripts():
-    """What has a page and is no command: the scripts beside ./raire."""
-    return [name for name, heads, _ in pages() if heads[0].startswith(f"./{name} ")]
+def tools():
+    """What has a page and is no command of the program: ./raire runs it from tools/."""
+    return [name for name, _, _ in pages() if os.path.isfile(os.path.join(TOOLS, name))]
 
 
 def options_of(head, text):
@@ -76,11 +78,9 @@ def is_value(name, option, text):
 def call_of(words):
     """What the words ask for. The first word that is wrong is told."""
     commands = forms()
-    if words and words[0] in scripts():
-        raise Wrong(f"{quoted(words[0])} is no command; it is a script of its own: ./{words[0]}")
     if not words or words[0] not in commands:
         told = quoted(words[0]) if words else "nothing"
-        raise Wrong(f"{told} is no command; " + meant(words[0] if words else "", commands, "they are " + ", ".join(commands)))
+        raise Wrong(f"{told} is no command; " + meant(words[0] if words else "", [*commands, *tools()], "they are " + ", ".join(commands)))
     wrong = []
     for form in sorted(commands[words[0]], key=lambda form: likeness(form, words[1:]), reverse=True):
         try:

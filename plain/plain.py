@@ -8,8 +8,8 @@ searched by walking all suffixes in full (`certificate`) or, for larger ones, fr
 the status and the text of `raire check`, or the rule that the file breaks and its place. Its budget is one of nodes, or of `Sets`. A search with a `Plan` prints version 2 of
 the file, with the clean draws of each margin.
 
-    acceptance/plain.py search BALLOTS      acceptance/plain.py tabulate BALLOTS
-    acceptance/plain.py check BALLOTS ASSERTIONS
+    plain/plain.py search BALLOTS      plain/plain.py tabulate BALLOTS
+    plain/plain.py check BALLOTS ASSERTIONS
 """
 import itertools
 import json

@@ -11,7 +11,7 @@ from words import see_output, Words
 
 NAME = "cards"
 FORMS = ("page", "sheet", "entry")
-PAGES = os.path.join(TOP, "office")
+PAGES = os.path.join(TOP, "tools", "office")
 
 Card = collections.namedtuple("Card", "id batch number draws place")
 

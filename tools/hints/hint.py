@@ -1,7 +1,7 @@
 #!/usr/bin/env python3
 """Says in one line what a refusal of the program means, which record it is about, and what is nearly right.
 
-hints/hint.py PROGRAM STATUS WORDS.. is what ./raire asks behind a refusal, and behind a budget that is spent, of which the words alone tell
+tools/hints/hint.py PROGRAM STATUS WORDS.. is what ./raire asks behind a refusal, and behind a budget that is spent, of which the words alone tell
 which one goes further. It runs the program once more, for the line that the refusal
 had, and looks into the files that the words name. It prints nothing where the program answers otherwise now, or where a file is none that
 can be read twice. What a rule means stands in docs/faults.md.

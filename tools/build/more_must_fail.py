@@ -1,8 +1,8 @@
 #!/usr/bin/env python3
 """Tries the wrong bodies that the gate leaves out: those in the crates' more-must-fail/.
 
-    build/more_must_fail.py [NAME..]    tries those of these crates, or of all: the prover must refuse each
-    build/more_must_fail.py --look      sees that each wrong body, also of must-fail/, can be applied: what it changes stands once in its file
+    tools/build/more_must_fail.py [NAME..]    tries those of these crates, or of all: the prover must refuse each
+    tools/build/more_must_fail.py --look      sees that each wrong body, also of must-fail/, can be applied: what it changes stands once in its file
 
 They are tried by `rt ci` over a copy of the crates, in which they take the place of those in must-fail/. What an earlier run proved on this
 machine isn't proved again, if the kit can keep it.

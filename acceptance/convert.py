@@ -1,7 +1,7 @@
 #!/usr/bin/python3
 """Tries ./raire convert: exports made by hand and by chance, in each form, against a plain count of them; exports that are bad or damaged.
 
-acceptance/convert.py PROGRAM [COUNT] takes the exports of acceptance/exports, and COUNT exports of each form that are drawn by chance
+acceptance/convert.py PROGRAM [COUNT] takes the exports of examples/exports, and COUNT exports of each form that are drawn by chance
 (acceptance/made_exports.py). Each is converted, the ballot file is read back, and who is ranked on each card is compared with what a plain
 count of the export gives (acceptance/plain_export.py); what PROGRAM tabulates is compared with the tabulation of that count. The last line
 says how many came out as they should.
@@ -21,20 +21,20 @@ TOP = os.path.dirname(os.path.dirname(os.path.abspath(__file__)))
 sys.dont_write_bytecode = True
 sys.path.insert(0, os.path.join(TOP, "tools", "office"))
 
+import places  # noqa: E402, F401
 try:
     import convert  # that of office/
 except ImportError as missing:
     print(f"acceptance/convert.py: NOT TRIED: {missing}; apt-get install python3-ijson python3-openpyxl")
     sys.exit(1)
 
-import places  # noqa: F401
 import bad_exports  # noqa: E402
 import made_exports  # noqa: E402
 import plain  # noqa: E402
 import plain_audit  # noqa: E402
 import plain_export  # noqa: E402
 
-EXPORTS = os.path.join(TOP, "acceptance", "exports")
+EXPORTS = os.path.join(TOP, "examples", "exports")
 RULES = {"overvotes": ["end", "pass"], "skips": ["pass", "one", "two"], "repeats": ["pass", "end"], "write_ins": ["merge", "drop"]}
 TAKES_MARKS = ("dominion", "nist")
 
@@ -135,7 +135,7 @@ class Conversion:
 
 
 def by_hand(program):
-    """The exports of acceptance/exports: `words`, and what is wanted in `out`, `names` and `account`."""
+    """The exports of examples/exports: `words`, and what is wanted in `out`, `names` and `account`."""
     for name in sorted(os.listdir(EXPORTS)):
         folder = os.path.join(EXPORTS, name)
         with open(os.path.join(folder, "words")) as file:

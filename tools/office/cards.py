@@ -1,17 +1,23 @@
-"""What is fetched for the draws of a seed: as a table, a page with slips, a sheet to fill in, or a page to type readings into."""
+"""What is fetched for the draws of a seed, or all cards: as a table, a page with slips, a sheet to fill in, or a page to type readings into."""
 import collections
 import hashlib
 import json
 import os
+import re
 import shlex
 
+import called
 import records
+import terms
 from ask import ask, read, Refusal, TOP
 from words import see_output, Words
 
 NAME = "cards"
 FORMS = ("page", "sheet", "entry")
 PAGES = os.path.join(TOP, "tools", "office")
+MOST_ON_A_PAGE = 5_000
+MOST_RANKS = 1_000
+WRITE_IN = "write-in"  # in a file of marks: a write-in who is no candidate
 
 Card = collections.namedtuple("Card", "id batch number draws place")
 
@@ -23,18 +29,35 @@ def told(text):
 def words_of(words):
     parser = Words(NAME)
     parser.add_argument("manifest")
-    parser.option("--seed", "--draws", required=True)
-    parser.option("--after", "--places", "--ballots", "--contest", "--names")
-    for form in FORMS:
+    parser.option("--seed", "--draws", "--after", "--batch", "--places", "--ballots", "--contest", "--names", "--ranks")
+    for form in (*FORMS, "all", "marks"):
         parser.add_argument(f"--{form}", action="store_true")
     given = parser.parse_args(words)
+    see_draws(parser, given)
     if sum(getattr(given, form) for form in FORMS) > 1:
         parser.error("--page, --sheet and --entry are asked for one at a time")
     if given.entry != (given.ballots is not None or given.names is not None):
         parser.error("--entry wants the candidates: --ballots or --names" if given.entry else "--ballots and --names are for --entry")
-    if given.contest is not None and not given.entry:
-        parser.error("--contest is for --entry")
+    for name in ("contest", "ranks", "marks"):
+        if getattr(given, name) and not given.entry:
+            parser.error(f"--{name} is for --entry")
+    if given.ranks is not None and not (re.fullmatch("[0-9]{1,4}", given.ranks) and 1 <= int(given.ranks) <= MOST_RANKS):
+        parser.error(f"--ranks wants a number from 1 to {MOST_RANKS}")
     return given
+
+
+def see_draws(parser, given):
+    """The cards are those of a seed's draws, or all of them."""
+    if given.all:
+        for name in ("seed", "draws", "after"):
+            if getattr(given, name) is not None:
+                parser.error(f"--all takes all cards: no --{name}")
+        return
+    missing = [f"--{name}" for name in ("seed", "draws") if getattr(given, name) is None]
+    if missing:
+        parser.error(f"the following arguments are required: {', '.join(missing)} (or --all)")
+    if given.batch is not None:
+        parser.error("--batch is for --all")
 
 
 # ---- what is drawn
@@ -50,6 +73,8 @@ def drawn(given):
 
 def before(given):
     """How many draws were fetched before."""
+    if given.all:
+        return 0
     draws, text = int(given.draws), "0" if given.after is None else given.after
     if not (text.isascii() and text.isdigit() and int(text) < draws):
         raise told(f"--after wants fewer draws than --draws, which are {draws}")
@@ -58,6 +83,8 @@ def before(given):
 
 def fetched(given):
     """The cards that no draw took before, by batch and then by number, and those that are drawn again."""
+    if given.all:
+        return all_cards(given), []
     draws = drawn(given)
     after, places = before(given), places_of(given)
     cards, again = [], []
@@ -68,6 +95,18 @@ def fetched(given):
         elif of_card[-1] > after:
             again.append(card)
     return cards, again
+
+
+def all_cards(given):
+    """All cards of the manifest, or of the batches that are named, which may stand in any order."""
+    ask(NAME, "sample", [given.manifest], "--seed=1", "--draws=1")
+    sizes, places = records.batches_of(read(NAME, given.manifest)), places_of(given)
+    named = sizes if given.batch is None else dict.fromkeys(batch.strip() for batch in given.batch.split(","))
+    for batch in named:
+        if batch not in sizes:
+            raise Refusal(2, f"{NAME}: --batch names {batch or 'nothing'}, and {given.manifest} has no such batch\n")
+    place = {batch: place_of(places, batch, given) for batch in named}
+    return [Card(f"{batch}_{k}", batch, k, [], place[batch]) for batch in sizes if batch in named for k in range(1, sizes[batch] + 1)]
 
 
 def places_of(given):
@@ -102,34 +141,31 @@ def broken(path, at, what):
 # ---- candidates
 
 def names_of(given, contest):
-    """The names of candidates by their ids, of a file with a record each; of several contests those of the one that is meant."""
+    """The names of candidates by their ids, of a file with a record each, and what the contest is called; of several contests those of the one that is meant."""
     if given.names is None:
-        return {}
-    head, names = ["id", "name"], {}
-    for at, row in records.rows_of(read(NAME, given.names)):
-        if at == 1 and row[-2:] == head:
-            head = row
-            continue
-        if len(row) != len(head) or not all(row):
-            raise broken(given.names, at, f"isn't {','.join(head)} of a candidate")
-        *of, candidate, name = row
-        if of and contest is None:
+        return {}, contest
+    try:
+        found = called.Called(given.names, read(NAME, given.names))
+    except called.BadNames as bad:
+        raise Refusal(2, f"{NAME}: {bad}\n") from None
+    if found.has_contests and contest is None:
+        if len(found.candidates) > 1:
             raise Refusal(2, f"{NAME}: {given.names} has several contests; --contest says which is meant\n")
-        if of in ([], [contest]):
-            if candidate in names:
-                raise broken(given.names, at, f"is about {candidate}, who stood before")
-            names[candidate] = name
-    return names
+        contest = next(iter(found.candidates), None)
+    return found.of(contest), contest and found.contest(contest)
 
 
 def candidates_of(given):
-    """The contest, where it is told, and the ids of its candidates with what they are called."""
+    """The contest as it is called, where it is told, and the ids of its candidates with what they are called."""
     contest = given.contest if given.ballots is None else contest_of(given)
-    names = names_of(given, contest)
+    names, known_as = names_of(given, contest)
     ids = names if given.ballots is None else records.contests_of(read(NAME, given.ballots))[contest]
     if not ids:
         raise Refusal(2, f"{NAME}: {given.names} has no candidates{'' if contest is None else f' of contest {contest}'}\n")
-    return contest, [{"id": each, "name": names.get(each, each)} for each in ids]
+    shown = [{"id": each, "name": names.get(each, each)} for each in ids]
+    if given.marks and WRITE_IN not in {each["name"].lower() for each in shown}:
+        shown.append({"id": WRITE_IN, "name": "Write-in (no candidate)"})
+    return known_as, shown
 
 
 def contest_of(given):
@@ -170,7 +206,7 @@ def filled(template, **parts):
     except ImportError:
         raise told("templates are missing: apt-get install python3-jinja2") from None
     made = jinja2.Environment(loader=jinja2.FileSystemLoader(PAGES), autoescape=True, trim_blocks=True, lstrip_blocks=True)
-    made.filters["plural"] = plural
+    made.filters.update(plural=plural, with_blanks=terms.with_blanks, blanks_in=terms.blanks_in)
     return made.get_template(template).render(parts)
 
 
@@ -183,7 +219,7 @@ def was(cards):
 
 
 def page(given, cards, again):
-    asked = shlex.join(["./raire", "sample", given.manifest, f"--seed={given.seed}", f"--draws={given.draws}"])
+    asked = None if given.all else shlex.join(["./raire", "sample", given.manifest, f"--seed={given.seed}", f"--draws={given.draws}"])
     digest = hashlib.sha256(read(NAME, given.manifest)).hexdigest()
     return filled(
         "cards.html.j2", given=given, after=before(given), cards=cards, batches=by_batch(cards), again=again, asked=asked, digest=digest,
@@ -193,21 +229,29 @@ def page(given, cards, again):
 def entry(given, cards):
     if not cards:
         raise told(f"there is no card to read: {plural(before(given), 'draw')} took all of them")
+    if len(cards) > MOST_ON_A_PAGE:
+        raise told(f"{plural(len(cards), 'card')} are more than a page has, which is {MOST_ON_A_PAGE:,}; make one for each batch: --batch")
     contest, candidates = candidates_of(given)
-    data = {"contest": contest, "candidates": candidates, "cards": [card._asdict() for card in cards]}
+    ranks = len(candidates) if given.ranks is None else int(given.ranks)
+    data = {
+        "contest": contest, "candidates": candidates, "cards": [card._asdict() for card in cards], "ranks": ranks, "has_marks": given.marks,
+        "part": re.sub("[^A-Za-z0-9.-]", "_", given.batch or ""),
+    }
     key = hashlib.sha256(json.dumps(data, sort_keys=True).encode()).hexdigest()
-    return filled("entry.html.j2", data={**data, "key": key}, contest=contest, count=len(cards))
+    return filled("entry.html.j2", data={**data, "key": key}, called=contest, contest=contest, count=len(cards))
 
 
 def account(given, cards, again):
     """What is told beside the answer."""
+    note = terms.seed_note(given.seed or "")
+    about_seed = f"{NAME}: {note}\n" if note else ""
     if not before(given):
-        return ""
+        return about_seed
     lines = [f"{plural(len(cards), 'card')} of draws {before(given) + 1} to {int(given.draws)} {was(cards)} not drawn before"]
     if again:
         as_seen = "counts again as it was seen" if len(again) == 1 else "count again as they were seen"
         lines.append(f"{plural(len(again), 'card')} {was(again)}, and {as_seen}: {', '.join(again)}")
-    return "".join(f"{NAME}: {line}\n" for line in lines)
+    return about_seed + "".join(f"{NAME}: {line}\n" for line in lines)
 
 
 def answer(words):

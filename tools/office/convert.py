@@ -5,70 +5,115 @@ import shlex
 import shutil
 import sys
 
+import convert_clear_ballot
 import convert_dominion
+import convert_dominion_csv
+import convert_hart
 import convert_nist
 import convert_preflib
+import convert_seen
 import convert_sheet
 from ask import Refusal
 from convert_account import account
 from convert_book import Book
-from convert_export import chosen, NAME, told
-from convert_rules import Rules, RULES
+from convert_export import chosen, NAME, PAIRS, PLURALITY, RANKED, refused, told
+from convert_rules import OF_RANKS, OF_SOME, Rules, RULES
 from limits import MOST_LISTED
 from plain_audit import number_in
 from words import see_output, Words
 
-# Of each form what reads it, the options that it has beside those of all forms, and the rules that have a meaning for it.
+# Of each form what reads it, the options that it has beside those of all forms, and the rules of OF_SOME that have a meaning for it.
 FORMATS = {
-    "dominion": (convert_dominion.Export, ["marks"]),
-    "nist": (convert_nist.Export, ["marks", "id"]),
-    "ess": (convert_sheet.Ess, ["id", "sheet", "candidates"]),
-    "plain": (convert_sheet.Plain, ["id", "sheet", "candidates", "title"]),
-    "preflib": (convert_preflib.Export, ["title", "batch"]),
+    "dominion": (convert_dominion.Export, ["marks", "counts", "as"]),
+    "dominion-csv": (convert_dominion_csv.Export, ["counts", "as"]),
+    "hart": (convert_hart.Export, ["as", "seats"]),
+    "clear-ballot": (convert_clear_ballot.Export, ["id", "counts", "as"]),
+    "nist": (convert_nist.Export, ["marks", "id", "as"]),
+    "ess": (convert_sheet.Ess, ["id", "sheet", "candidates", "word", "as"]),
+    "plain": (convert_sheet.Plain, ["id", "sheet", "candidates", "title", "word"]),
+    "rctab": (convert_sheet.RcTab, ["id", "sheet", "candidates", "title", "word"]),
+    "preflib": (convert_preflib.Export, ["title", "batch", "word"]),
+    "seen": (convert_seen.Export, ["ballots"]),
+    "marks": (convert_seen.Export, ["ballots"]),
 }
-SOME = ["marks", "id", "sheet", "candidates", "title", "batch"]
+SOME = ["marks", "counts", "id", "sheet", "candidates", "title", "batch", "ballots", "word", "as", "seats"]
+VALUES = ["id", "sheet", "candidates", "title", "batch", "ballots", "account", "names"]
+AS = (RANKED, PLURALITY, PAIRS)
+MOST_CARDS = 10_000_000
 
 
 def words_of(words):
     parser = Words(NAME)
     parser.add_argument("format", choices=FORMATS)
     parser.add_argument("files", nargs="+")
-    parser.add_argument("--contest", action="append", default=[])
-    parser.option("--id", "--sheet", "--candidates", "--title", "--batch", "--ranks", "--account", "--names")
+    for name in ("contest", "word", "without"):
+        parser.add_argument(f"--{name}", action="append", default=[])
+    parser.option(*(f"--{name}" for name in VALUES), "--ranks", "--seats", "--cards")
+    parser.option("--as", choices=AS)
     for rule, meanings in RULES.items():
         parser.option(f"--{rule.replace('_', '-')}", choices=meanings)
     given = parser.parse_intermixed_args(words)
     for name in SOME:
-        if getattr(given, name) is not None and name not in FORMATS[given.format][1]:
+        if getattr(given, name) not in (None, []) and name not in FORMATS[given.format][1]:
             parser.error(f"--{name} has no meaning for {given.format}")
-    if "" in [*given.files, *given.contest, *(getattr(given, name) for name in ("id", "sheet", "candidates", "title", "batch", "account", "names"))]:
+    if "" in [*given.files, *given.contest, *given.word, *given.without, *(getattr(given, name) for name in VALUES)]:
         parser.error("a word is empty")
-    if given.ranks is not None:
-        given.ranks = number_in(given.ranks, 1, MOST_LISTED) or parser.error(f"--ranks wants a number from 1 to {MOST_LISTED}")
+    given.made = getattr(given, "as") or RANKED
+    see_rules(parser, given)
+    for name, low, high in (("ranks", 1, MOST_LISTED), ("seats", 1, MOST_LISTED), ("cards", 1, MOST_CARDS)):
+        if getattr(given, name) is not None:
+            setattr(given, name, number_in(getattr(given, name), low, high) or parser.error(f"--{name} wants a number from {low} to {high}"))
     for rule, meanings in RULES.items():
         setattr(given, rule, getattr(given, rule) or next(iter(meanings)))
     given.id = given.id and [part.strip() for part in given.id.split(",")]
     return given
 
 
+def see_rules(parser, given):
+    """Rules of ranks are for contests whose candidates are ranked, and the seats for those of several."""
+    for name in (*OF_RANKS, "ranks"):
+        if given.made != RANKED and getattr(given, name) is not None:
+            parser.error(f"--{name} has no meaning with --as {given.made}")
+    if given.seats is not None and given.made != PAIRS:
+        parser.error("--seats is for --as pairs")
+    if given.marks == "made" and given.counts is not None:
+        parser.error("--counts has no meaning with --marks made, which takes marks whatever the export counts")
+    if given.format in ("seen", "marks") and given.ballots is None:
+        parser.error(f"{given.format} wants the candidates: --ballots")
+
+
+def rules_of(given):
+    """The rules that have a meaning for this call."""
+    some = [name for name in FORMATS[given.format][1] if name != "counts" or "marks" not in FORMATS[given.format][1] or given.marks == "counted"]
+    return [rule for rule in RULES if (rule not in OF_SOME or rule in some) and (given.made == RANKED or rule not in OF_RANKS)]
+
+
 def converted(given):
-    """The book of all records, and the account of how they were read. It may be Refused."""
-    reader, some = FORMATS[given.format]
-    export, path = reader(given.files, given), " ".join(given.files)
-    contests = chosen(export.contests.values(), given.contest, path)
+    """The export, the book of all records, and the account of how they were read. It may be Refused."""
+    reader, path = FORMATS[given.format][0], " ".join(given.files)
+    export = reader(given.files, given)
+    contests = chosen(export.contests.values(), given.contest, given.made, path)
     export.see_chosen(contests)
-    book = Book(contests, Rules(*(getattr(given, rule) for rule in RULES)), given.ranks)
+    book = Book(contests, Rules(*(getattr(given, rule) for rule in RULES)), given.ranks, given.made, given.without, given.seats)
     for card in export.cards(contests):
         book.add(card)
+    see_all_read(given, book, path)
     book.close(given.contest, path)
-    rules = [rule for rule in RULES if rule != "marks" or "marks" in some]
-    return book, account(call_of(given), export, book, given.contest, rules)
+    return export, book, account(call_of(given), export, book, given.contest, rules_of(given))
+
+
+def see_all_read(given, book, path):
+    """Where the office says how many cards there are, so many have to be read."""
+    read = sum(book.read.values())
+    if given.cards not in (None, read):
+        raise refused(path, f"{read} cards were read, and --cards says {given.cards}: see whether a file is missing, or given twice")
 
 
 def call_of(given):
     """The words that say what is read and how; the rules are told beside them."""
-    words = [f"--contest={contest}" for contest in given.contest]
-    words += [f"--{name}={getattr(given, name)}" for name in ("sheet", "candidates", "title", "batch", "ranks") if getattr(given, name) is not None]
+    words = [f"--{name}={value}" for name in ("contest", "word", "without") for value in getattr(given, name)]
+    names = ("as", "seats", "sheet", "candidates", "title", "batch", "ballots", "ranks", "cards")
+    words += [f"--{name}={getattr(given, name)}" for name in names if getattr(given, name) is not None]
     words += [f"--id={','.join(given.id)}"] if given.id else []
     return shlex.join(["./raire", NAME, given.format, *given.files, *words])
 
@@ -76,7 +121,7 @@ def call_of(given):
 def see_beside(given):
     """The account and the names go to files of their own."""
     written = [path for path in (given.account, given.names) if path is not None]
-    read = [path for path in [*given.files, given.candidates] if path is not None and os.path.exists(path)]
+    read = [path for path in [*given.files, given.candidates, given.ballots] if path is not None and os.path.exists(path)]
     if len({os.path.realpath(path) for path in written}) < len(written):
         raise told("--account and --names are one file")
     for path in written:
@@ -118,10 +163,16 @@ def answer(words):
     given = words_of(words)
     see_output(NAME, given.files)
     see_beside(given)
-    book, told_of_it = converted(given)
-    with book.ballots(" ".join(given.files)) as ballots, beside(given.account, told_of_it), beside(given.names, book.names()):
-        put(ballots)
+    export, book, told_of_it = converted(given)
+    with text_of(given, export, book) as text, beside(given.account, told_of_it), beside(given.names, book.names()):
+        put(text)
     sys.stderr.write(told_of_it)
+
+
+def text_of(given, export, book):
+    """The ballot file; of marks the seen file."""
+    path = " ".join(given.files)
+    return book.seen(path, export.missing, export.has_contests) if given.format == "marks" else book.ballots(path)
 
 
 def main(words):

@@ -1,4 +1,5 @@
 """The account of a conversion: what was read and written, and what was done with each kind of mark."""
+from convert_export import RANKED
 from convert_rules import RULES
 from limits import FEWEST_CANDIDATES, MOST_CANDIDATES
 
@@ -7,6 +8,8 @@ FOUND = {
     "overvoted ranks": "overvotes", "skipped ranks": "skips", "ended by skipped ranks": None, "repeated candidates": "repeats",
     "write-ins": "write_ins", "ranks behind the end": None, "marks that aren't taken": "marks",
 }
+FOUND_UNRANKED = ("overvoted contests", "write-ins", "marks that aren't taken")
+OVERVOTED = "more marks than seats, so nobody has the vote"
 
 
 def meaning(rules, rule):
@@ -17,9 +20,8 @@ def meaning(rules, rule):
 def account(call, export, book, asked, rules):
     """The text of it. `rules` are those that have a meaning for this form."""
     lines = [call, *(f"rule: --{rule.replace('_', '-')} {getattr(book.rules, rule)}: {meaning(book.rules, rule)}" for rule in rules)]
-    lines += [f"read: {path}: {number} cards" for path, number in book.read.items()]
-    records = sum(book.counts[number]["records"] for number in book.kept)
-    lines.append(f"written: {records} records of {len(book.stood)} cards, of {len(book.kept)} contest{'s' * (len(book.kept) != 1)}")
+    lines += read_lines(book)
+    lines.append(f"written: {book.written()} records of {len(book.stood)} cards, of {len(book.names_of_contests())} contest{'s' * (len(book.names_of_contests()) != 1)}")
     lines.append(f"ids of cards: {export.made_of}, as in {book.first_id()}")
     if book.unplaced:
         why = "aren't a batch, an underscore and a number, so no manifest has these cards: open would refuse them (M7)"
@@ -31,16 +33,27 @@ def account(call, export, book, asked, rules):
     return "".join(f"{line}\n" for line in lines)
 
 
+MOST_FILES = 20
+
+
+def read_lines(book):
+    """The cards of each file; of many files their number and that of all cards."""
+    if len(book.read) > MOST_FILES:
+        yield f"read: {len(book.read)} files: {sum(book.read.values())} cards"
+    else:
+        yield from (f"read: {path}: {number} cards" for path, number in book.read.items())
+
+
 def of_contest(book, number):
     contest, counts, listed, name = book.contests[number], book.counts[number], book.listed[number], book.ids[number]
     yield f"contest {name}: {contest.name}" + (f" (its id is made of {contest.key})" if name != contest.key else "")
     nothing, nobody = counts["nothing marked"], counts["without a preference"]
     yield f"  records: {counts['records']}, of them with nothing marked {nothing}, without a preference {nobody}"
-    for what, rule in FOUND.items():
-        if what != "ended by skipped ranks" or book.rules.skips != "pass":
-            yield f"  {what}: {counts[what]}" + (f" ({meaning(book.rules, rule)})" if counts[what] and rule else "")
+    yield from of_ranks(book, counts) if book.made == RANKED else of_marks(book, number, counts)
     for each, called in listed.values():
         yield f"  candidate {each}" + (f": {called}" if each != called else "")
+    for each in book.out_of(number):
+        yield f"  left out, since withdrawn (--without): {each.name}"
     left = [each.name for place, each in enumerate(contest.candidates) if each.is_disabled and place not in listed and not each.is_write_in]
     if left:
         yield f"  left out, since disabled and nowhere ranked: {', '.join(left)}"
@@ -48,6 +61,20 @@ def of_contest(book, number):
         yield f"  warning: {len(listed)} candidates, and search takes {FEWEST_CANDIDATES} to {MOST_CANDIDATES} (B3)"
     if any(each.is_write_in for each in contest.candidates) and book.rules.write_ins == "drop":
         yield "  warning: write-ins are no candidate here, so that an audit can't find that one of them won"
+
+
+def of_ranks(book, counts):
+    for what, rule in FOUND.items():
+        if what != "ended by skipped ranks" or book.rules.skips != "pass":
+            yield f"  {what}: {counts[what]}" + (f" ({meaning(book.rules, rule)})" if counts[what] and rule else "")
+
+
+def of_marks(book, number, counts):
+    """Of a contest whose candidates aren't ranked: the overvotes, and who is elected by how many votes."""
+    for what in FOUND_UNRANKED:
+        yield f"  {what}: {counts[what]}" + (f" ({OVERVOTED})" if counts[what] and what == "overvoted contests" else "")
+    for pair in book.pairs.get(number, []):
+        yield f"  pair {pair.id}: {pair.winner} has {pair.margin} votes more than {pair.loser}"
 
 
 def left_out(export, book, asked):

@@ -2,7 +2,7 @@
 import re
 
 import convert_files
-from convert_export import add_mark, Candidate, Card, Contest, member, option, Place, refused, see_winners, Vote
+from convert_export import add_mark, Candidate, Card, Contest, member, option, OVERVOTED, Place, RANKED, refused, Vote
 
 VERSION = re.compile(r"5(\.\w+)+")
 EXPORT = re.compile(r"CvrExport(?:_(\d+))?\.json", re.IGNORECASE)
@@ -10,13 +10,15 @@ IMAGE = re.compile(r"(?:.*[/\\])?0*(\d+)_0*(\d+)_0*(\d+)[^/\\]*")  # 99813_00001
 LISTS = {"contestmanifest.json": "ContestManifest.json", "candidatemanifest.json": "CandidateManifest.json"}
 WITHHELD = "X"
 WRITE_IN = "WriteIn"
+BY_OTHER_WORDS = "--marks made takes the marks that aren't counted too, and --counts ignore doesn't look at these numbers"
 
 
 class Export:
     made_of = "TabulatorId_BatchId_RecordId of the session"
 
     def __init__(self, paths, options):
-        self.paths, self.marks = paths, options.marks
+        self.paths, self.marks, self.made = paths, options.marks, options.made
+        self.compares = options.counts == "compare" and options.marks == "counted"
         self.notes = {}
         self.exports, lists = [], {}
         for source in convert_files.sources_of(paths):
@@ -37,10 +39,28 @@ class Export:
         missing = [LISTS[name] for name in LISTS if name not in lists] + ["CvrExport.json or CvrExport_1.json .."] * (not self.exports)
         if missing:
             raise refused(" ".join(self.paths), f"there is no {', no '.join(missing)}")
+        self.see_parts()
         for source in (*lists.values(), *self.exports):
             found = convert_files.first(source, "Version")
             if type(found) is not str or not VERSION.fullmatch(found):
                 raise refused(source, f"Version is {found if found else 'missing'}; a Version 5 was looked for, such as 5.10.50.85")
+
+    def see_parts(self):
+        """The parts of an export are numbered from 0 or 1 on, without a gap; one without a number is the whole."""
+        parts = {}
+        for source in self.exports:
+            number = EXPORT.fullmatch(source.name)[1]
+            if number is None and len(self.exports) > 1:
+                raise refused(source, f"is an export of its own, and {self.exports[1].name} is a part of another one; give one export at a time")
+            if number is not None and int(number) in parts:
+                raise refused(source, f"a second part {int(number)}; the first is {parts[int(number)]}")
+            parts[None if number is None else int(number)] = source
+        if None in parts:
+            return
+        missing = [f"CvrExport_{number}.json" for number in range(min(1, *parts), max(parts)) if number not in parts]
+        if missing:
+            more = f" and {len(missing) - 10} more" if len(missing) > 10 else ""
+            raise refused(" ".join(self.paths), f"there is no {', no '.join(missing[:10])}{more}, and {parts[max(parts)].name} is there: a part of the export is missing")
 
     def read_contests(self, source):
         for number, each in enumerate(convert_files.items(source, "List.item"), 1):
@@ -49,9 +69,9 @@ class Export:
             ranks, votes = member(each, "NumOfRanks", int, place), member(each, "VoteFor", int, place)
             if key in self.contests:
                 raise refused(place, f"a second contest with Id {key}")
-            why_not = "isn't ranked (NumOfRanks)" if ranks < 2 else f"elects {votes} (VoteFor)" if votes != 1 else None
-            self.contests[key] = Contest(key, name, most_rank=max(ranks, 1), why_not=why_not)
-            self.contests[key].votes = votes
+            why_not = f"isn't ranked (NumOfRanks is {ranks})" if ranks < 2 else f"elects {votes} (VoteFor)" if votes != 1 else None
+            self.contests[key] = Contest(key, name, most_rank=ranks, why_not=why_not, seats=votes)
+            self.contests[key].is_ranked = ranks > 1
 
     def read_candidates(self, source):
         for number, each in enumerate(convert_files.items(source, "List.item"), 1):
@@ -65,8 +85,7 @@ class Export:
             contest.add(Candidate(key, member(each, "Description", str, place), is_write_in, bool(each.get("Disabled"))))
 
     def see_chosen(self, contests):
-        for contest in contests:
-            see_winners(contest, contest.votes, "VoteFor", " ".join(self.paths))
+        pass
 
     def cards(self, contests):
         taken = {contest.key: contest for contest in contests}
@@ -120,16 +139,74 @@ class Export:
         return f"{tabulator}_{batch}_{record}"
 
     def vote(self, vote, contest, place):
-        marks, uncounted = {}, 0
+        marks, others, uncounted = {}, {}, 0
         for mark in member(vote, "Marks", list, place):
             key, rank = str(member(mark, "CandidateId", int, place)), member(mark, "Rank", int, place)
             if key not in contest.numbers:
                 raise refused(place, f"CandidateId {key} is no candidate of the contest")
-            is_made = not member(mark, "IsAmbiguous", bool, place) if self.marks == "made" else member(mark, "IsVote", bool, place)
-            if is_made:
-                add_mark(marks, rank, contest.mark(contest.numbers[key], option(mark, "WriteinIndex", int, place)))
-            uncounted += not is_made
+            is_clear, is_vote = not member(mark, "IsAmbiguous", bool, place), member(mark, "IsVote", bool, place)
+            is_taken = is_clear if self.marks == "made" else is_vote
+            if is_taken or is_clear:
+                choice = contest.mark(contest.numbers[key], option(mark, "WriteinIndex", int, place))
+                add_mark(marks if is_taken else others, rank, choice)
+            uncounted += not is_taken
+        if self.compares:
+            found = Told(option(vote, "Overvotes", int, place), option(vote, "Undervotes", int, place))
+            see = found.see_ranked if self.made == RANKED else found.see_unranked
+            self.count("overvotes whose marks have IsVote false: told by Overvotes", see(contest, marks, others, place))
         return Vote(contest, marks, uncounted)
+
+
+class Told:
+    """A contest's own numbers of overvotes and undervotes, either of which may be missing.
+
+    Which of several meanings a version gives them no description says: an overvoted rank may be told as one overvote, or as its marks, and all of a
+    contest's as one. So what is refused is what no meaning allows.
+    """
+
+    def __init__(self, overvotes, undervotes):
+        self.overvotes, self.undervotes = overvotes, undervotes
+
+    def see_ranked(self, contest, marks, others, place):
+        """Adds the overvotes that are told while their marks aren't counted as votes; how many these are."""
+        over = {rank: choices for rank, choices in marks.items() if len(choices) > 1}
+        hidden = {}
+        if self.overvotes and not over:
+            made = {rank: marks.get(rank, set()) | others.get(rank, set()) for rank in marks.keys() | others.keys()}
+            over = hidden = {rank: choices for rank, choices in made.items() if len(choices) > 1}
+        self.see_overvotes(len(over), sum(map(len, over.values())), "rank", place)
+        for rank in hidden:
+            marks[rank] = {OVERVOTED}
+        blank = max(contest.most_rank, *marks, 0) - len(marks)
+        self.see_undervotes(not marks, blank, place)
+        return len(hidden)
+
+    def see_unranked(self, contest, marks, others, place):
+        """The same of a contest whose candidates aren't ranked."""
+        counted = set().union(*marks.values())
+        made = counted.union(*others.values())
+        is_hidden = bool(self.overvotes) and len(counted) <= contest.seats < len(made)
+        over = made if is_hidden else counted
+        self.see_overvotes(int(len(over) > contest.seats), len(over), "contest", place)
+        if is_hidden:
+            marks[1] = {OVERVOTED}
+        elif len(counted) <= contest.seats:
+            self.see_undervotes(len(counted) < contest.seats, contest.seats - len(counted), place)
+        return int(is_hidden)
+
+    def see_overvotes(self, found, marks, what, place):
+        if self.overvotes is None:
+            return
+        if not found and self.overvotes:
+            raise refused(place, f"Overvotes is {self.overvotes}, and no {what} has too many marks; {BY_OTHER_WORDS}")
+        if found and not (self.overvotes == 1 or found <= self.overvotes <= marks):
+            had = f"{found} {what}{'s have' if found > 1 else ' has'} too many marks"
+            raise refused(place, f"Overvotes is {self.overvotes}, and {had}; {BY_OTHER_WORDS}")
+
+    def see_undervotes(self, has_some, most, place):
+        """There are some where `has_some`, and never more than `most`."""
+        if self.undervotes is not None and not has_some <= self.undervotes <= most:
+            raise refused(place, f"Undervotes is {self.undervotes}, and by the marks it is {int(has_some)} to {most}; {BY_OTHER_WORDS}")
 
 
 def contests_of(version, place):

@@ -6,6 +6,7 @@ from ask import Refusal
 NAME = "convert"
 WRITE_IN = -1  # the candidate that all write-ins together are
 OVERVOTED = "overvoted"  # what stands at a rank that an export only calls overvoted
+RANKED, PLURALITY, PAIRS = "ranked", "plurality", "pairs"  # what records are made: rankings, one preference, or a contest for each winner and loser
 
 Candidate = collections.namedtuple("Candidate", "key name is_write_in is_disabled", defaults=(False, False))
 
@@ -37,10 +38,13 @@ def told(text):
 class Contest:
     """A contest of an export. Its candidates are those that the export lists, or those that stood on its records so far."""
 
-    def __init__(self, key, name, candidates=(), most_rank=None, why_not=None):
-        self.key, self.name, self.why_not = key, name, why_not
+    def __init__(self, key, name, candidates=(), most_rank=None, why_not=None, seats=1):
+        self.key, self.name, self.why_not = key, name, why_not  # why it isn't converted as a ranked contest where none is named
         self.most_rank = most_rank  # the highest rank that a mark may have; None where just the candidates tell it
+        self.seats = seats  # how many it elects; None where the export doesn't say
+        self.is_ranked = why_not is None
         self.is_open = False  # candidates are found on the way
+        self.keeps_order = False  # the candidates are those of a ballot file, in its order
         self.candidates, self.numbers = [], {}
         for candidate in candidates:
             self.add(candidate)
@@ -80,20 +84,34 @@ def option(value, name, kind, place, otherwise=None):
 KINDS = {str: "a text", int: "a whole number", bool: "true or false", list: "a list", dict: "an object"}
 
 
-def chosen(contests, asked, path):
-    """The contests that are converted: those asked for by name or id, or all that are ranked; and those that aren't."""
-    if not asked:
-        taken = [contest for contest in contests if contest.why_not is None]
-        if not taken:
-            listed = "; ".join(f"{contest}: {contest.why_not}" for contest in contests)
-            raise refused(path, f"no contest to convert; --contest names one of: {listed or 'none'}")
+def chosen(contests, asked, made, path):
+    """The contests that are converted: those asked for by name or id, or all of the kind that is made."""
+    if asked:
+        taken = list(dict.fromkeys(named(contests, word, path) for word in asked))
+        for contest in taken:
+            see_kind(contest, made, path)
         return taken
-    return list(dict.fromkeys(named(contests, word, path) for word in asked))
+    taken = [contest for contest in contests if (contest.why_not is None if made == RANKED else is_unranked(contest, made))]
+    if not taken:
+        listed = "; ".join(f"{contest}: {contest.why_not or 'is ranked'}" for contest in contests)
+        raise refused(path, f"no contest to convert; --contest names one of: {listed or 'none'}")
+    return taken
 
 
-def see_winners(contest, number, member_name, path):
-    if number != 1:
-        raise refused(path, f"contest {contest} elects {number} ({member_name}), so it is no contest of instant runoff")
+def is_unranked(contest, made):
+    return not contest.is_ranked and (made == PAIRS or contest.seats == 1)
+
+
+def see_kind(contest, made, path):
+    """A contest that is named is of the kind that is made of it."""
+    if made == RANKED and contest.seats not in (1, None):
+        raise refused(path, f"contest {contest} elects {contest.seats}, so it is no contest of instant runoff; --as pairs audits it by pairs of candidates")
+    if made == RANKED and contest.most_rank == 0:
+        raise refused(path, f"contest {contest} {contest.why_not}, so it has no order of candidates; --as plurality takes the one who is marked")
+    if made == PLURALITY and contest.seats not in (1, None):
+        raise refused(path, f"contest {contest} elects {contest.seats}; --as pairs audits it by pairs of candidates")
+    if made != RANKED and contest.is_ranked and contest.most_rank != 1:
+        raise refused(path, f"contest {contest} is ranked: leave --as {made} away")
 
 
 def named(contests, word, path):

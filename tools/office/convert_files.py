@@ -71,12 +71,15 @@ class Source:
                     raise refused(f"{self.path}: line {number}", "isn't UTF-8") from None
 
 
-def sources_of(paths):
-    """The files that are named, those of a folder, those of a zip; by name in each."""
+def sources_of(paths, is_deep=False):
+    """The files that are named, those of a folder, those of a zip; by name in each. `is_deep` takes folders in folders too."""
     found = []
     for path in paths:
         if os.path.isdir(path):
-            found += [Source(os.path.join(path, name)) for name in sorted(os.listdir(path))]
+            names = sorted(os.listdir(path))
+            folders = [os.path.join(path, name) for name in names if is_deep and os.path.isdir(os.path.join(path, name))]
+            found += [Source(os.path.join(path, name)) for name in names if os.path.join(path, name) not in folders]
+            found += sources_of(folders, is_deep)
         elif path.lower().endswith(".zip"):
             with faults(path):
                 archive = zipfile.ZipFile(path)

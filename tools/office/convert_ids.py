@@ -4,7 +4,7 @@ import unicodedata
 
 from convert_export import refused
 from limits import MOST_BATCH_BYTES, MOST_BATCH_CARDS, MOST_NAME_BYTES
-from plain import is_id
+from plain import is_id  # noqa: F401 (also for convert_book)
 
 WHAT = f"1 to {MOST_NAME_BYTES} characters from space to ~, no comma and no double quote, no blank at either end"
 CARD = re.compile(r"(.+)_([1-9][0-9]{0,9})")

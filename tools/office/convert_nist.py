@@ -1,22 +1,29 @@
-"""The common data format for cast vote records, NIST SP 1500-103, version 1.0.0, as JSON."""
+"""The common data format for cast vote records, NIST SP 1500-103, version 1.0.0, as JSON or XML."""
 import convert_files
-from convert_export import add_mark, Candidate, Card, Contest, member, option, Place, refused, see_winners, Vote
+import convert_nist_xml
+from convert_export import add_mark, Candidate, Card, Contest, member, option, Place, RANKED, refused, Vote
 
 TYPE, VERSION = "CVR.CastVoteRecordReport", "1.0.0"
-RANKED = "rcv"
+VARIATION = "rcv"
 MODIFIED = "cards that were adjudicated: the current snapshot is a modified one"
 
 
 class Export:
     def __init__(self, paths, options):
-        self.paths, self.marks, self.notes = paths, options.marks, {}
+        self.paths, self.marks, self.made, self.notes = paths, options.marks, options.made, {}
         self.id_members = options.id or ["BatchId", "BatchSequenceId"]
         self.made_of = "_".join(self.id_members)
         self.sources = convert_files.sources_of(paths)
         self.contests = {}
+        self.are_xml = {source: convert_nist_xml.is_xml(source) for source in self.sources}
         for source in self.sources:
-            self.see_version(source)
-            self.read_elections(source)
+            if self.are_xml[source]:
+                report = convert_nist_xml.Report(source)
+                report.see(source, TYPE.removeprefix("CVR."), VERSION)
+                self.read_elections(source, report.elections)
+            else:
+                self.see_version(source)
+                self.read_elections(source, convert_files.first(source, "Election"))
 
     def see_version(self, source):
         for name, wanted in (("@type", TYPE), ("Version", VERSION)):
@@ -24,10 +31,9 @@ class Export:
             if found != wanted:
                 raise refused(source, f"{name} is {'missing' if found is None else found}; {wanted} was looked for (NIST SP 1500-103)")
 
-    def read_elections(self, source):
+    def read_elections(self, source, elections):
         """Contests of several reports are the same where they have one @id; then the first one's lists hold."""
-        elections = convert_files.first(source, "Election")
-        if type(elections) is not list:
+        if type(elections) is not list or not elections:
             raise refused(source, "has no list Election")
         for number, election in enumerate(elections, 1):
             place = Place(source, "Election", number)
@@ -38,8 +44,8 @@ class Export:
 
     def add_contest(self, each, people, place):
         key = member(each, "@id", str, place)
-        contest = Contest(key, member(each, "Name", str, place), why_not=why_not(each))
-        contest.elects = option(each, "NumberElected", int, place, 1)
+        contest = Contest(key, member(each, "Name", str, place), why_not=why_not(each), seats=option(each, "NumberElected", int, place, 1))
+        contest.is_ranked = each.get("VoteVariation") == VARIATION
         for number, selection in enumerate(member(each, "ContestSelection", list, place.at(f"contest {key}")), 1):
             here = place.at(f"contest {key}, ContestSelection {number}")
             contest.add(self.candidate(selection, people, here))
@@ -56,14 +62,14 @@ class Export:
         return Candidate(key, " / ".join(names) or ("Write-in" if is_write_in else key), is_write_in)
 
     def see_chosen(self, contests):
-        for contest in contests:
-            see_winners(contest, contest.elects, "NumberElected", " ".join(self.paths))
+        pass
 
     def cards(self, contests):
         taken = {contest.key: contest for contest in contests}
         for source in self.sources:
             number = 0
-            for number, record in enumerate(convert_files.items(source, "CVR.item"), 1):
+            records = convert_nist_xml.records(source) if self.are_xml[source] else convert_files.items(source, "CVR.item")
+            for number, record in enumerate(records, 1):
                 yield self.card(record, Place(source, "CVR", number), taken)
             if number == 0:
                 raise refused(source, "has no records; a list CVR was looked for, with one for each card")
@@ -107,6 +113,8 @@ class Export:
             for index, position in enumerate(member(selection, "SelectionPosition", list, place)):
                 if self.counts(position, place):
                     rank = position.get("Rank", selection.get("Rank"))
+                    if rank is None and self.made != RANKED:
+                        rank = 1
                     if type(rank) is not int:
                         raise refused(place, f"a mark for {key} has no Rank")
                     add_mark(marks, rank, contest.mark(contest.numbers[key], option(position, "Position", int, place, index)))
@@ -121,6 +129,6 @@ class Export:
 
 def why_not(contest):
     """Why a contest isn't converted where none is named."""
-    if contest.get("VoteVariation") != RANKED:
-        return f"isn't said to be ranked (VoteVariation is {contest.get('VoteVariation', 'missing')}, and {RANKED} was looked for)"
+    if contest.get("VoteVariation") != VARIATION:
+        return f"isn't said to be ranked (VoteVariation is {contest.get('VoteVariation', 'missing')}, and {VARIATION} was looked for)"
     return f"elects {contest['NumberElected']} (NumberElected)" if contest.get("NumberElected") not in (None, 1) else None

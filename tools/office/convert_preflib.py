@@ -1,11 +1,12 @@
-"""PrefLib's orders, strict and incomplete (.soi) or with ties (.toi), in the form of 2022 and later (lines that begin with # and a name)."""
+"""PrefLib's orders, strict or with ties, complete or not (.soc, .soi, .toc, .toi), in the form of 2022 and later (lines that begin with # and a name)."""
 import re
 
 import convert_files
 from convert_export import add_mark, Candidate, Card, Contest, Place, refused, Vote
-from convert_sheet import title_of, WORDS
+from convert_sheet import Meanings, title_of, WORDS
 
-TYPES = ("soi", "toi")
+TYPES = ("soc", "soi", "toc", "toi")
+COMPLETE = ("soc", "toc")  # each order has all alternatives
 HEADING = re.compile(r"# ([A-Z][A-Z0-9 ]*):(.*)")
 ALTERNATIVE = re.compile(r"ALTERNATIVE NAME (\d+)")
 ORDER = re.compile(r"\s*(\d+)\s*:(.*)")
@@ -17,7 +18,7 @@ class Export:
     def __init__(self, paths, options):
         if len(paths) != 1:
             raise refused(" ".join(paths), "one file of PrefLib at a time: each is a contest of its own")
-        self.notes = {}
+        self.notes, self.meanings = {}, Meanings(options.word)
         self.source = convert_files.Source(paths[0])
         self.read_heading()
         name = options.title or self.heading["TITLE"][1].strip() or title_of(self.source, options)
@@ -42,11 +43,12 @@ class Export:
                 raise refused(place, f"{found[1]} stands twice")
             self.heading[found[1]] = place, found[2]
         if "DATA TYPE" not in self.heading:
-            wanted = "'# DATA TYPE: soi' or toi was looked for in the lines at the head"
+            wanted = f"'# DATA TYPE: soi' or another of {', '.join(TYPES)} was looked for in the lines at the head"
             raise refused(f"{self.source}: line 1", f"{wanted} (PrefLib's form since 2022; files of before begin with a number)")
         place, kind = self.heading["DATA TYPE"]
         if kind.strip() not in TYPES:
-            raise refused(place, f"the data type is {kind.strip()}; soi or toi was looked for")
+            raise refused(place, f"the data type is {kind.strip()}; one of {', '.join(TYPES)} was looked for")
+        self.is_complete = kind.strip() in COMPLETE
         self.heading.setdefault("TITLE", (place, ""))
 
     def candidates(self):
@@ -63,7 +65,14 @@ class Export:
             if not name or name in self.keys.values():
                 raise refused(place, f"{'no name' if not name else f'a second alternative is called {name}'}")
             self.keys[number] = name
-        return [Candidate(name, name, WORDS.get(name.lower()) == "write-in") for _, name in sorted(self.keys.items())]
+            self.see_name(place, name)
+        return [Candidate(name, name, self.meanings.of(name) == "write-in") for _, name in sorted(self.keys.items())]
+
+    def see_name(self, place, name):
+        """An alternative is a candidate or the write-ins, and no overvote or undervote."""
+        meaning = self.meanings.of(name)
+        if meaning in (None, "overvote", "undervote") and WORDS.get(name.lower()) != "write-in":
+            raise refused(place, self.meanings.why(name))
 
     def see_chosen(self, contests):
         pass
@@ -98,6 +107,9 @@ class Export:
                 if int(number) not in self.keys:
                     raise refused(place, f"{number} is no alternative")
                 add_mark(marks, rank, self.contest.mark(self.contest.numbers[self.keys[int(number)]], rank))
+        had = sum(map(len, marks.values()))
+        if self.is_complete and had != len(self.keys):
+            raise refused(place, f"has {had} of the {len(self.keys)} alternatives, and orders of this data type have all")
         if text.rstrip().endswith(","):
             raise refused(place, "the order ends in a comma")
         return Vote(self.contest, marks)

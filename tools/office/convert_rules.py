@@ -16,10 +16,28 @@ RULES = {
         "counted": "marks are taken that the export counts as votes",
         "made": "marks are taken that were made, also where the export doesn't count them",
     },
+    "counts": {
+        "compare": "the export's own numbers of overvotes and undervotes have to agree with the marks",
+        "ignore": "the export's own numbers of overvotes and undervotes aren't looked at",
+    },
 }
+OF_SOME = ("marks", "counts")  # rules that have a meaning for some forms alone
+OF_RANKS = ("overvotes", "skips", "repeats")  # rules that have a meaning where candidates are ranked
 
 Rules = collections.namedtuple("Rules", RULES)
 MOST_SKIPPED = {"pass": float("inf"), "one": 0, "two": 1}
+
+
+def choice_of(marks, seats, rules, counts):
+    """Those who are marked where candidates aren't ranked: nobody where they are more than the seats."""
+    chosen = {choice for choices in marks.values() for choice in choices}
+    if OVERVOTED in chosen or len(chosen) > seats:
+        counts["overvoted contests"] += 1
+        return []
+    write_ins = {choice for choice in chosen if isinstance(choice, WriteIn)}
+    counts["write-ins"] += len(write_ins)
+    merged = {WRITE_IN} if write_ins and rules.write_ins == "merge" else set()
+    return sorted((chosen - write_ins) | merged)
 
 
 def ranking_of(marks, rules, counts):

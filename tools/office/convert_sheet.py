@@ -1,15 +1,18 @@
-"""A sheet with a record a row and a column a rank: ES&S's form, and the plain one (id, 1st, 2nd, ..); CSV, or a workbook (.xlsx)."""
+"""A sheet with a record a row and a column a rank: ES&S's form, RCTab's, and the plain one (id, 1st, 2nd, ..); CSV, or a workbook (.xlsx)."""
 import csv
 import datetime
+import difflib
 import os
 import re
 import xml.etree.ElementTree as tree
 import zipfile
 
 import convert_files
-from convert_export import add_mark, Candidate, Card, Contest, OVERVOTED, Place, refused, told, Vote
+from convert_export import add_mark, Candidate, Card, Contest, OVERVOTED, Place, RANKED, refused, told, Vote
 
 ESS_CHOICE = re.compile(r"(.*?)\s*\b(?:choice\s+(\d+)\s+of\s+\d+|(\d+)(?:st|nd|rd|th)\s+choice)\b\s*(.*)", re.IGNORECASE)
+RCTAB_RANK = re.compile(r"rank[ _]?0*(\d+)", re.IGNORECASE)
+UNIFIED_IDS = ("ballotid", "ballot_id", "ballot id", "cast vote record", "cvr id", "id")
 PLAIN_CHOICE = re.compile(r"(?:rank|choice)?\s*0*(\d+)(?:st|nd|rd|th)?(?:\s+(?:rank|choice))?", re.IGNORECASE)
 ESS_ID, PLAIN_ID = "cast vote record", "id"
 WORDS = {
@@ -18,6 +21,54 @@ WORDS = {
 }
 WRITE_IN = Candidate("Write-in", "Write-in", True)
 WORKBOOKS = (".xlsx", ".xlsm")
+KINDS = ("overvote", "undervote", "write-in", "candidate")
+LIKE_WORDS = ("overvote", "undervote", "writein", "blank", "skipped", "novote")
+LIKENESS = 0.85  # 1 is the same; a letter more, less or another one in eight is above
+
+
+# ---- what cells stand for
+
+class Meanings:
+    """What the text of a cell stands for: a word, or somebody's name. --word says it of texts that are like a word, or like another name."""
+
+    def __init__(self, given):
+        self.given = {}
+        for word in given:
+            cell, _, meaning = map(str.strip, word.rpartition("="))
+            if not cell or not meaning:
+                raise told(f"--word wants a cell, = and what it stands for, such as 'over vote=overvote'; it has {word}")
+            self.given[cell] = meaning
+
+    def of(self, cell):
+        """One of KINDS; None where it has to be said."""
+        if cell in self.given:
+            return self.given[cell] if self.given[cell] in KINDS else "candidate"
+        if not cell:
+            return "undervote"
+        return WORDS.get(cell.lower()) or (None if is_like_a_word(cell) else "candidate")
+
+    def name(self, cell):
+        """The name that a candidate's cell has."""
+        given = self.given.get(cell, "candidate")
+        return cell if given == "candidate" else given
+
+    def is_told(self, cell):
+        return cell in self.given
+
+    @staticmethod
+    def why(cell):
+        kinds = ", ".join(KINDS[:-1]) + f" or {KINDS[-1]}"
+        return f"{cell} is like a word for an overvote, an undervote or a write-in, and is none that is known; --word '{cell}={KINDS[0]}' says what it is: {kinds}"
+
+
+def is_like_a_word(cell):
+    letters = re.sub("[^a-z]", "", cell.casefold())
+    return letters.startswith(LIKE_WORDS[:3]) or bool(difflib.get_close_matches(letters, LIKE_WORDS, 1, LIKENESS))
+
+
+def folded(name):
+    """What names share that differ by case or blanks alone."""
+    return "".join(name.casefold().split())
 
 
 # ---- rows
@@ -119,6 +170,7 @@ class Export:
 
     def __init__(self, paths, options):
         self.paths, self.options, self.notes = paths, options, {}
+        self.meanings, self.known = Meanings(options.word), {}
         self.sources = [convert_files.Source(path) for path in paths]
         self.head = None
         for source in self.sources:
@@ -173,6 +225,7 @@ class Export:
                 raise refused(f"{self.options.candidates}: line {number}", f"{name} stands twice")
             if name:
                 contests[0].add(WRITE_IN if WORDS.get(name.lower()) == "write-in" else Candidate(name, name))
+                self.known[contests[0].key, folded(name)] = name
 
     def cards(self, contests):
         for source in self.sources:
@@ -191,16 +244,33 @@ class Export:
             return None
         marks = {}
         for rank, cell in enumerate(cells, 1):
-            word = WORDS.get(cell.lower(), "name") if cell else "undervote"
-            if word == "overvote":
-                add_mark(marks, rank, OVERVOTED)
-            elif word == "write-in":
-                add_mark(marks, rank, contest.mark(contest.add(WRITE_IN), rank))
-            elif word == "name":
-                if not contest.is_open and cell not in contest.numbers:
-                    raise refused(place.at(f"rank {rank}"), f"{cell} isn't in {self.options.candidates}")
-                add_mark(marks, rank, contest.add(Candidate(cell, cell)))
+            choice = self.choice(contest, cell, rank, place)
+            if choice is not None:
+                add_mark(marks, rank, choice)
         return Vote(contest, marks)
+
+    def choice(self, contest, cell, rank, place):
+        """The mark that a cell is, or None."""
+        if cell in contest.numbers and not contest.candidates[contest.numbers[cell]].is_write_in:
+            return contest.numbers[cell]
+        meaning = self.meanings.of(cell)
+        if meaning in ("overvote", "write-in"):
+            return OVERVOTED if meaning == "overvote" else contest.mark(contest.add(WRITE_IN), rank)
+        if meaning == "undervote":
+            return None
+        if meaning is None:
+            raise refused(place.at(f"rank {rank}"), self.meanings.why(cell))
+        return self.candidate(contest, cell, place.at(f"rank {rank}"))
+
+    def candidate(self, contest, cell, place):
+        """Somebody who is named for the first time: not like another one by case or blanks alone."""
+        name = self.meanings.name(cell)
+        known = self.known.setdefault((contest.key, folded(name)), name)
+        if known != name and not self.meanings.is_told(cell):
+            raise refused(place, f"{name} and {known} differ by case or blanks alone; --word '{name}={known}' says that they are one, '{name}=candidate' that they are two")
+        if not contest.is_open and name not in contest.numbers:
+            raise refused(place, f"{name} isn't in {self.options.candidates}")
+        return contest.add(Candidate(name, name))
 
 
 class Ess(Export):
@@ -218,9 +288,39 @@ class Ess(Export):
                 if rank in ranks:
                     raise refused(place, f"several columns are rank {rank} of {name}")
                 ranks[rank] = column
-        if not columns:
+        if not columns and self.options.made == RANKED:
             raise refused(place, "no column has 'Choice 1 of 5' or '1st Choice' in its name, which were looked for (ES&S's form)")
         self.add_columns(place, columns)
+        if self.options.made != RANKED:
+            self.add_unranked(place, head)
+
+    def add_unranked(self, place, head):
+        """A contest that isn't ranked is a column that is named as it is; the form doesn't tell such columns from others."""
+        for name in self.options.contest:
+            if name not in head:
+                raise refused(place, f"no column is called {name}; --contest names the column of a contest that isn't ranked")
+            if name not in self.contests:
+                self.columns[name] = [head.index(name)]
+                self.contests[name] = Contest(name, name, most_rank=1, why_not="isn't ranked (one column)")
+                self.contests[name].is_open = True
+
+
+class RcTab(Export):
+    """RCTab's sheet of the records that it tabulates, and the unified form: the columns Rank 1, Rank 2, .. or rank1, rank2, .."""
+
+    own_id, is_blank_elsewhere = None, False
+    PARTS = ("Tabulator Id", "Batch Id", "Record Id")
+
+    def read_ranks(self, place, head):
+        ranks = {int(found[1]): column for column, cell in enumerate(head) if (found := RCTAB_RANK.fullmatch(cell))}
+        if not ranks:
+            raise refused(place, "no column is called Rank 1 or rank1, which were looked for (RCTab's form, and the unified one)")
+        self.add_columns(place, {title_of(self.sources[0], self.options): ranks})
+        if self.options.id is None:
+            lower = [cell.lower() for cell in head]
+            self.options.id = [name for name in self.PARTS if name.lower() in lower] or [name for name in head if name.lower() in UNIFIED_IDS][:1]
+        if not self.options.id:
+            raise refused(place, f"no column is called {', '.join(self.PARTS)} or {', '.join(UNIFIED_IDS)}; --id says which the card's id is made of")
 
 
 class Plain(Export):

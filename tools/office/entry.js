@@ -1,12 +1,12 @@
 "use strict";
-// What is read from each card: {kind, marks, taken}. The kind is null, or one of KINDS; marks has the candidate's place at each rank.
-const {key, candidates, cards} = JSON.parse(document.getElementById("data").textContent);
+// What is read from each card: {kind, marks, taken}. The kind is null, or one of KINDS; marks has the candidates at each rank. Where marks are entered
+// as they are on paper (hasMarks), a rank may have several candidates, a candidate several ranks, and a rank may be left out.
+const {key, candidates, cards, ranks, has_marks: hasMarks, part} = JSON.parse(document.getElementById("data").textContent);
 const KINDS = {missing: "not found", elsewhere: "contest not on card", nobody: "nobody ranked"};
 const by = (id) => document.getElementById(id);
-const ranks = candidates.length;
-let reader = null, readings = [], at = 0;
+let reader = null, asked = null, readings = [], at = 0;
 
-const unread = () => ({kind: null, marks: Array(ranks).fill(null), taken: false});
+const unread = () => ({kind: null, marks: Array.from({length: ranks}, () => []), taken: false});
 const tell = (text) => { by("alarm").textContent = text; };
 const name = (c) => candidates[c].name;
 
@@ -25,38 +25,45 @@ function keep() {
 // Who read last in this window, so that a page that is loaded again goes on; nobody where the browser keeps nothing.
 function lastReader(given) {
     try {
-        if (given) sessionStorage.setItem("reader of " + key, given);
-        return sessionStorage.getItem("reader of " + key);
+        if (given !== undefined) sessionStorage.setItem("reader of " + key, given);
+        return sessionStorage.getItem("reader of " + key) || null;
     } catch {
         return null;
     }
 }
 
 function isReading(value) {
-    const isMark = (mark) => mark === null || (Number.isInteger(mark) && mark >= 0 && mark < ranks);
+    const isMark = (c) => Number.isInteger(c) && c >= 0 && c < candidates.length;
+    const isRank = (marks) => Array.isArray(marks) && (hasMarks || marks.length < 2) && marks.every(isMark);
     return value && (value.kind === null || value.kind in KINDS) && Array.isArray(value.marks) && value.marks.length === ranks
-        && value.marks.every(isMark) && typeof value.taken === "boolean";
+        && value.marks.every(isRank) && typeof value.taken === "boolean";
+}
+
+// What this browser has kept under the reader's name, or null.
+function kept() {
+    let found = null;
+    try {
+        found = JSON.parse(localStorage.getItem(place()));
+    } catch {
+        found = null;
+    }
+    const isWhole = found && Array.isArray(found.readings) && found.readings.length === cards.length && found.readings.every(isReading);
+    return isWhole ? found : null;
 }
 
 function recall() {
-    let kept = null;
-    try {
-        kept = JSON.parse(localStorage.getItem(place()));
-    } catch {
-        kept = null;
-    }
-    const isWhole = kept && Array.isArray(kept.readings) && kept.readings.length === cards.length && kept.readings.every(isReading);
-    readings = isWhole ? kept.readings : cards.map(unread);
-    at = isWhole && Number.isInteger(kept.at) && cards[kept.at] ? kept.at : 0;
+    const found = kept();
+    readings = found ? found.readings : cards.map(unread);
+    at = found && Number.isInteger(found.at) && cards[found.at] ? found.at : 0;
 }
 
 // ---- what a reading says
 
 // The candidates by rank, or why a seen file can't say it.
 function ranked({marks}) {
-    const found = marks.filter((mark) => mark !== null);
-    const gap = marks.findIndex((mark) => mark === null);
-    if (marks.slice(gap < 0 ? ranks : gap).some((mark) => mark !== null)) {
+    const found = marks.flat();
+    const gap = marks.findIndex((each) => each.length === 0);
+    if (marks.slice(gap < 0 ? ranks : gap).some((each) => each.length)) {
         return {fault: "Rank " + (gap + 1) + " is left out, and a seen file can’t say that. Mark the ranks that count by the rules of the contest, from 1 on."};
     }
     return {found};
@@ -64,17 +71,18 @@ function ranked({marks}) {
 
 function faultOf(reading) {
     if (reading.kind !== null) return null;
-    const {found, fault} = ranked(reading);
+    const {found, fault} = hasMarks ? {found: reading.marks.flat()} : ranked(reading);
     return fault || (found.length ? null : "Nothing is marked. Rank candidates, or say that nobody is ranked, that the contest isn’t on the card, or that it wasn’t found.");
 }
 
 function inWords(reading) {
     if (reading.kind !== null) return KINDS[reading.kind];
-    return reading.marks.flatMap((mark, rank) => mark === null ? [] : [rank + 1 + " " + name(mark)]).join(", ") || "nothing yet";
+    return reading.marks.flatMap((each, rank) => each.length ? [rank + 1 + " " + each.map(name).join(" and ")] : []).join(", ") || "nothing yet";
 }
 
 function lineOf(card, reading) {
     if (reading.kind === "missing") return card.id + ",missing";
+    if (hasMarks) return [card.id, "marks", ...reading.marks.flatMap((each, rank) => each.flatMap((c) => [rank + 1, candidates[c].id]))].join(",");
     const found = reading.kind === null ? ranked(reading).found : [];
     return [card.id, "ballot", ...found.map((c) => candidates[c].id)].join(",");
 }
@@ -90,31 +98,34 @@ function change(how) {
 }
 
 function mark(c, rank) {
-    const {marks} = readings[at];
-    if (marks[rank] === c) return change((reading) => { reading.marks[rank] = null; });
-    if (marks[rank] !== null) return tell("Rank " + (rank + 1) + " has " + name(marks[rank]) + " already, and a seen file can’t say two at one rank.");
-    if (marks.includes(c)) return tell(name(c) + " has rank " + (marks.indexOf(c) + 1) + " already, and a seen file can’t say two ranks of one candidate.");
-    change((reading) => { reading.kind = null; reading.marks[rank] = c; });
+    const {marks} = readings[at], had = marks.findIndex((each) => each.includes(c));
+    if (marks[rank].includes(c)) return change((reading) => { reading.marks[rank] = marks[rank].filter((other) => other !== c); });
+    if (!hasMarks && marks[rank].length) return tell("Rank " + (rank + 1) + " has " + name(marks[rank][0]) + " already, and a seen file can’t say two at one rank.");
+    if (!hasMarks && had >= 0) return tell(name(c) + " has rank " + (had + 1) + " already, and a seen file can’t say two ranks of one candidate.");
+    change((reading) => { reading.kind = null; reading.marks[rank] = [...marks[rank], c].sort((a, b) => a - b); });
 }
 
+// The candidate at the first rank behind the last that is marked, or, where marks aren't entered as they are, at the first that is free.
 function markNext(c) {
-    const rank = readings[at].marks.indexOf(null);
-    if (readings[at].marks.includes(c)) return tell(name(c) + " has rank " + (readings[at].marks.indexOf(c) + 1) + " already.");
+    const {marks} = readings[at], had = marks.findIndex((each) => each.includes(c));
+    const rank = hasMarks ? marks.findLastIndex((each) => each.length) + 1 : marks.findIndex((each) => each.length === 0);
+    if (!hasMarks && had >= 0) return tell(name(c) + " has rank " + (had + 1) + " already.");
+    if (rank < 0 || rank >= ranks) return tell("All ranks have a mark: there are " + ranks + ".");
     mark(c, rank);
 }
 
 function choose(kind) {
     const reading = readings[at];
-    if (reading.marks.some((mark) => mark !== null)) return tell("Candidates are marked. Take these marks away first.");
+    if (reading.marks.flat().length) return tell("Candidates are marked. Take these marks away first.");
     change(() => { reading.kind = reading.kind === kind ? null : kind; });
     by("take").focus();
 }
 
 function takeAway() {
     const {kind, marks} = readings[at];
-    const last = Math.max(-1, ...marks.map((mark, rank) => mark === null ? -1 : rank));
+    const last = marks.findLastIndex((each) => each.length);
     if (kind !== null) change((reading) => { reading.kind = null; });
-    else if (last >= 0) change((reading) => { reading.marks[last] = null; });
+    else if (last >= 0) change((reading) => { reading.marks[last] = marks[last].slice(0, -1); });
 }
 
 function take() {
@@ -142,7 +153,7 @@ function save() {
     const text = cards.map((card, i) => lineOf(card, readings[i]) + "\n").join("");
     const link = document.createElement("a");
     link.href = URL.createObjectURL(new Blob([text], {type: "text/csv"}));
-    link.download = "seen_" + reader + ".csv";
+    link.download = (hasMarks ? "marks_" : "seen_") + reader + (part && "_" + part) + ".csv";
     link.click();
     setTimeout(() => URL.revokeObjectURL(link.href), 60000);
     tell("");
@@ -220,9 +231,9 @@ function showItem(i) {
 function show() {
     const card = cards[at], reading = readings[at];
     by("card").textContent = card.id;
-    by("where").textContent = "Card " + card.number + " of batch " + card.batch + (card.place ? ", " + card.place : "") + "; "
-        + (card.draws.length === 1 ? "draw " : "draws ") + card.draws.join(", ");
-    by("grid").querySelectorAll("button").forEach((made) => made.setAttribute("aria-pressed", reading.marks[made.dataset.rank] === +made.dataset.c));
+    by("where").textContent = "Card " + card.number + " of batch " + card.batch + (card.place ? ", " + card.place : "")
+        + (card.draws.length ? (card.draws.length === 1 ? "; draw " : "; draws ") + card.draws.join(", ") : "");
+    by("grid").querySelectorAll("button").forEach((made) => made.setAttribute("aria-pressed", reading.marks[made.dataset.rank].includes(+made.dataset.c)));
     by("kinds").querySelectorAll("button").forEach((made) => made.setAttribute("aria-pressed", reading.kind === made.dataset.kind));
     by("told").textContent = inWords(reading);
     by("saved").textContent = "";
@@ -233,11 +244,41 @@ function show() {
 
 function begin() {
     recall();
-    for (const id of ["reading", "all"]) by(id).hidden = false;
-    by("begin").hidden = true;
+    for (const id of ["reading", "all", "leave"]) by(id).hidden = false;
+    for (const id of ["begin", "again"]) by(id).hidden = true;
     cards.forEach((_, i) => showItem(i));
     show();
     cell(0, 0).focus();
+}
+
+function enter() {
+    reader = reader ?? asked;
+    lastReader(reader);
+    begin();
+}
+
+// Readings are kept under this name: of the same reader, or of another one with the same initials.
+function ask(found) {
+    const taken = found.readings.filter((each) => each.taken).length;
+    by("whose").textContent = "This browser has " + taken + " of " + cards.length + " cards read by " + reader + ". Did you read them?";
+    by("same").textContent = "Yes, go on as " + reader;
+    by("begin").hidden = true;
+    by("again").hidden = false;
+    asked = reader;
+    reader = null;
+    by("same").focus();
+}
+
+// Back to the question who reads.
+function nobody() {
+    reader = null;
+    lastReader("");
+    for (const id of ["reading", "all", "again", "leave"]) by(id).hidden = true;
+    by("begin").hidden = false;
+    by("progress").textContent = "";
+    by("reader").value = "";
+    tell("");
+    by("reader").focus();
 }
 
 // ---- keys
@@ -248,8 +289,8 @@ const LETTERS = {m: "missing", c: "elsewhere", n: "nobody"};
 function move([down, right]) {
     const {c, rank} = document.activeElement.dataset;
     if (c === undefined) return aim(0, 0);
-    const within = (value) => Math.max(0, Math.min(ranks - 1, value));
-    aim(within(+c + down), within(+rank + right));
+    const within = (value, most) => Math.max(0, Math.min(most - 1, value));
+    aim(within(+c + down, candidates.length), within(+rank + right, ranks));
 }
 
 // Whether the key was one of the page's own.
@@ -285,9 +326,13 @@ by("begin").addEventListener("submit", (event) => {
     if (!/^[A-Za-z0-9]{1,12}$/.test(given)) return tell("A reader’s name has 1 to 12 letters or digits.");
     tell("");
     reader = given;
-    lastReader(reader);
-    begin();
+    const found = kept();
+    if (found) return ask(found);
+    enter();
 });
+by("same").addEventListener("click", enter);
+by("other").addEventListener("click", nobody);
+by("leave").addEventListener("click", nobody);
 by("kinds").querySelectorAll("button").forEach((made) => made.addEventListener("click", () => choose(made.dataset.kind)));
 by("take").addEventListener("click", take);
 by("clear").addEventListener("click", takeAway);

@@ -147,12 +147,22 @@ def by_votes(values):
     ]
 
 
+def is_without_contest(was, found):
+    """A card that has no record, and on which nobody is ranked: one that doesn't have the contest. It is no discrepancy for any claim."""
+    return was is None and found == ()
+
+
+def without_contest(manifest, recorded, seen, draws_of):
+    """The drawn cards that have no record and nobody ranked."""
+    return [manifest.card(card) for card in sorted(draws_of) if is_without_contest(recorded.get(card), seen[card])]
+
+
 def differing(session, ids, manifest, recorded, claims, seen, draws_of):
-    """The drawn cards that were seen otherwise than recorded, with the discrepancy of each claim."""
+    """The drawn cards that were seen otherwise than recorded, with the discrepancy of each claim; those without the contest are told apart."""
     rows = []
     for card, draws in sorted(draws_of.items(), key=lambda item: item[1]):
         was, found = recorded.get(card), seen[card]
-        if was != found:
+        if was != found and not is_without_contest(was, found):
             values = [plain_audit.discrepancy(assertion, was, found) - 2 for assertion, _ in claims]
             rows.append({
                 "card": manifest.card(card), "draws": draws, "recorded": shown_ranking(was, ids),

@@ -58,9 +58,10 @@ class County:
     def contest(self, ballots, block):
         """A row of the page, and what it opens."""
         name, words = ballots.name, [f"--contest={ballots.name}"]
+        self.page.shown_of(ballots)
         status, text = self.page.program.must_run("tabulate", self.paths[:1], *words)
         found = {
-            "name": name, "ids": ballots.ids, "records": ballots.records, "tabulation": self.page.tabulation(status, text, ballots.ids),
+            "name": self.page.names.contest(name), "ids": ballots.ids, "records": ballots.records, "tabulation": self.page.tabulation(status, text, ballots.ids),
             "without": self.manifest.cards - ballots.records,
         }
         if block[1] == "tie":
@@ -83,11 +84,15 @@ class County:
         seen = self.seen[ballots.name]
         if audit.counted(self.draws_of, recorded, pairs, seen) != [state["counts"] for state in states]:
             raise told(f"{self.paths[2]} doesn't give the counts that {self.page.program.name} tells of contest {ballots.name}")
-        claims = [{"claim": claim, "margin": claim["margin"], "state": state, "number": j} for j, (claim, state) in enumerate(zip(file["assertions"], states), 1)]
+        claims = [
+            {"claim": self.page.named(claim), "margin": claim["margin"], "state": state, "number": j}
+            for j, (claim, state) in enumerate(zip(file["assertions"], states), 1)
+        ]
         return {
-            "winner": file["winner"], "margin": file["margin"], "claims": claims, "worst": max(states, key=lambda state: state["risk"]),
+            "winner": self.page.names.of(file["winner"]), "margin": file["margin"], "claims": claims, "worst": max(states, key=lambda state: state["risk"]),
             "open": sum(not state["is_confirmed"] for state in states),
-            "differing": audit.differing(self.terms, ballots.ids, self.manifest, recorded, pairs, seen, self.draws_of),
+            "differing": audit.differing(self.terms, self.page.shown(ballots.ids), self.manifest, recorded, pairs, seen, self.draws_of),
+            "without_contest": audit.without_contest(self.manifest, recorded, seen, self.draws_of),
         }
 
 
@@ -120,13 +125,13 @@ def told_of(contests, kind, words):
 
 
 def see_files(page):
-    """All contests on one sample have seed and draws, and neither one contest nor names, which are of one."""
+    """All contests on one sample have seed and draws, and nothing that is of one contest."""
     if "--contest" in page.options:
         raise told("--contest is of one contest, and these files and options are of all: leave it away, or give a session or an assertion file")
     if "--sets" in page.options:
         raise told("all contests on one sample have no --sets: give --nodes")
-    if page.has("names"):
-        raise told(f"{page.path('names')} names the candidates of one contest, and these files and options are of all")
+    if page.has("names") and not page.names.all.has_contests:
+        raise told(f"{page.path('names')} names the candidates of one contest, and these files and options are of all: begin it with contest,id,name")
     if page.has("counted"):
         raise told(f"{page.path('counted')} is a full count of one contest, and these files and options are of all")
 

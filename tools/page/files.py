@@ -66,7 +66,7 @@ def kind_of_rows(rows):
         return None
     seconds = [row[1] if len(row) > 1 else "" for row in rows]
     words = {word for row in rows for word in row[1:3]}  # the word of a seen card stands behind its id, or behind a contest's
-    if [field.lower() for field in rows[0]] == ["id", "name"]:
+    if [field.lower() for field in rows[0]] in (["id", "name"], ["contest", "id", "name"]):
         return "names"
     if rows[0][0] == "batch":
         return "manifest"

@@ -2,11 +2,12 @@
 import audit
 import county
 import plain_audit
+import terms
 from limits import GREATEST_GAMMA, MOST_DRAWS
 from texts import millionths, plural
 
-MARKS = {"unaudited": "○", "open": "◐", "unsigned": "✗", "said": "?", "signed": "✓", "against": "▲", "counted": "■", "unusual": "!"}
-MOST_USUAL_LIMIT, USUAL_GAMMAS = 100_000, range(50, 201)
+MARKS = {"unaudited": "○", "open": "◐", "unsigned": "✗", "said": "?", "signed": "✓", "against": "▲", "counted": "■", "part": "◪", "unusual": "!"}
+USUAL_GAMMAS = range(50, 201)
 ANY_GAMMA = range(1, GREATEST_GAMMA + 1)  # of a poll: which is best depends on how close its assertions are
 
 
@@ -19,7 +20,7 @@ def states(parts):
     session, counted = parts["session"], parts["counted"]
     if parts["poll"]:
         return of_poll(parts["poll"], parts["assertions"]["winner"])
-    found = [of_count(counted, parts["tabulation"] or parts["firsts"])] if counted else []
+    found = [of_count(counted, parts["tabulation"] or parts["firsts"], parts["manifest"])] if counted else []
     if not session:
         return found or [of_no_session(parts)]
     found.append(of_session(parts, session, counted))
@@ -38,14 +39,26 @@ def of_no_session(parts):
     return told("unaudited", "NOT AUDITED: records only.", "No paper has been looked at for this page.")
 
 
-def of_count(counted, recorded):
-    """What a full count says, and whether the records say the same."""
+def of_count(counted, recorded, manifest):
+    """What a full count says, whether the records say the same, and whether each card has a ballot in it."""
+    kind, head, more = wholeness(counted["records"], manifest["cards"] if manifest else None, recorded.get("records"))
     if "winner" not in counted:
-        return told("counted", "COUNTED IN FULL:", f"{counted['file']} leaves open who wins.")
+        return told(kind, head, f"{counted['file']} leaves open who wins.")
     text = f"{counted['winner']} wins by {plural(counted['records'], 'ballot')} of {counted['file']}."
     if "winner" in recorded and recorded["winner"] != counted["winner"]:
         text += f" The records elect {recorded['winner']}: they are wrong, or the count is."
-    return told("counted", "COUNTED IN FULL:", text + " Whether these are all ballots is for those who watched the count to say.")
+    return told(kind, head, f"{text} {more}")
+
+
+def wholeness(ballots, cards, records):
+    """Whether a count has a ballot for each card of the manifest, or for each record where there is no manifest."""
+    all_of, what = (cards, "CARDS") if cards is not None else (ballots if records is None else records, "RECORDS")
+    if ballots < all_of:
+        more = "This is no full count until each of them is accounted for: a card that doesn’t have the contest, or one that can’t be found."
+        return "part", f"COUNTED, BUT {all_of - ballots:,} OF {all_of:,} {what} HAVE NO BALLOT IN IT:", more
+    if ballots > all_of:
+        return "part", f"COUNTED, WITH {ballots:,} BALLOTS FOR {all_of:,} {what}:", "Some ballots are of no card: see which."
+    return "counted", "COUNTED IN FULL:", "Whether these are all ballots is for those who watched the count to say."
 
 
 def of_poll(poll, winner):
@@ -107,9 +120,10 @@ OTHERWISE = "The program ran the whole audit again, and ended with other bytes."
 
 def unusual(session, gammas=USUAL_GAMMAS):
     """Terms that few audits have; who sees them asks for the reason."""
-    terms = []
-    if session["limit"] > MOST_USUAL_LIMIT:
-        terms.append(f"a risk limit of {millionths(session['limit'])}, which is above {millionths(MOST_USUAL_LIMIT)}")
+    found = []
+    if not terms.is_usual(session["limit"]):
+        side, bound = ("above", terms.MOST_USUAL_LIMIT) if session["limit"] > terms.MOST_USUAL_LIMIT else ("below", terms.LEAST_USUAL_LIMIT)
+        found.append(f"a risk limit of {terms.percent(session['limit'])} percent, which is {side} {terms.percent(bound)}")
     if session["gamma"] not in gammas:
-        terms.append(f"a gamma of {session['gamma']} thousandths, which is outside {gammas[0]} to {gammas[-1]}")
-    return [told("unusual", "UNUSUAL TERMS:", ", and ".join(terms) + ".")] if terms else []
+        found.append(f"a gamma of {session['gamma']} thousandths, which is outside {gammas[0]} to {gammas[-1]}")
+    return [told("unusual", "UNUSUAL TERMS:", ", and ".join(found) + ".")] if found else []

@@ -19,6 +19,7 @@ import planned
 import polled
 import rounds
 import state
+import terms
 from files import broken_to_page, Refusal, told
 from limits import GREATEST_GAMMA, GREATEST_LIMIT, MOST_DRAWS, MOST_NODES, MOST_SETS
 from names import Names
@@ -143,7 +144,7 @@ class Page:
             raise told(f"{self.path('assertions')} doesn't have the margins of {self.path('session')}")
         if self.has("ballots") and file["contest"] in self.contests():
             self.options.setdefault("--contest", file["contest"])
-        self.names.see(file["candidates"])
+        self.names.see(file["candidates"], file["contest"])
         self.parts["assertions"] = file
 
     def contests(self, kind="ballots"):
@@ -163,7 +164,7 @@ class Page:
         status, text = self.program.must_run("tabulate", [self.path("ballots")], *self.contest_words(), is_shown=not is_plurality)
         contests = self.contests()
         name = self.options.get("--contest") or next(iter(contests))
-        self.names.see(contests[name])
+        self.names.see(contests[name], name)
         self.parts["contest"], self.parts["ids"] = name, contests[name]
         if is_plurality:
             self.read_firsts()
@@ -365,6 +366,7 @@ class Page:
         self.parts["seen"] = {
             "cards": len(draws_of), "draws": last["draws"],
             "differing": audit.differing(session, self.shown(self.ballots.ids), self.manifest, self.recorded, claims, seen, draws_of),
+            "without": audit.without_contest(self.manifest, self.recorded, seen, draws_of),
         }
 
     def note_unjudged(self):
@@ -380,15 +382,22 @@ class Page:
     def shown(self, ids):
         return [self.names.of(c) for c in ids]
 
+    def shown_of(self, ballots):
+        """The candidates of a contest by their names; from here on names are those of this contest."""
+        self.names.see(ballots.ids, ballots.name)
+        return self.shown(ballots.ids)
+
+    def named(self, claim):
+        """An assertion with names for ids."""
+        rest = {"rest": self.shown(claim["rest"])} if "rest" in claim else {}
+        return {**claim, "winner": self.names.of(claim["winner"]), "loser": self.names.of(claim["loser"]), **rest}
+
     def named_assertions(self):
         """The assertion file with names for ids, as the page shows it."""
-        file, of = self.parts["assertions"], self.names.of
+        file = self.parts["assertions"]
         if file:
-            claims = [
-                {**claim, "winner": of(claim["winner"]), "loser": of(claim["loser"]), **({"rest": self.shown(claim["rest"])} if "rest" in claim else {})}
-                for claim in file["assertions"]
-            ]
-            file = {**file, "winner": of(file["winner"]), "candidates": self.shown(file["candidates"]), "assertions": claims}
+            claims = [self.named(claim) for claim in file["assertions"]]
+            file = {**file, "winner": self.names.of(file["winner"]), "candidates": self.shown(file["candidates"]), "assertions": claims}
             self.parts["assertions"] = file
         return file
 
@@ -495,6 +504,7 @@ def filled(page):
     made = jinja2.Environment(
         loader=loader, autoescape=True, trim_blocks=True, lstrip_blocks=True, undefined=jinja2.ChainableUndefined,
     )
+    made.filters.update(with_blanks=terms.with_blanks, blanks_in=terms.blanks_in)
     made.filters.update(plural=plural, ordinal=ordinal, risk=audit.risk_text, short=audit.short, millionths=millionths, number=shown, listed=listed)
     if page.parts["county"]:
         return filled_county(page, made)
@@ -534,7 +544,7 @@ def title(page):
     parts = page.parts
     file, session = parts["assertions"], parts["session"]
     name = parts.get("contest") or (file and file["contest"]) or (session and session["contest"])
-    return f"Contest {name}" if name else " and ".join(f"a {file.what}" for file in page.files.values()).capitalize()
+    return f"Contest {page.names.contest(name)}" if name else " and ".join(f"a {file.what}" for file in page.files.values()).capitalize()
 
 
 def put(text):

@@ -1,0 +1,87 @@
+#!/usr/bin/env python3
+"""Says what of an audit's terms is easily taken for something else: a risk limit, which counts millionths, and the blanks of a seed.
+
+tools/office/terms.py WORDS.. is what ./raire asks after an answer, if --limit or --seed is among its words, or its command is report.
+"""
+import json
+import re
+import sys
+
+BLANK = "\u2423"
+LEAST_USUAL_LIMIT, MOST_USUAL_LIMIT = 1_000, 200_000  # 0.1 and 20 percent
+MOST_SESSION_BYTES = 67_108_864
+
+
+def percent(limit):
+    """A limit in millionths as a number of percent."""
+    return f"{limit / 10_000:.4f}".rstrip("0").rstrip(".")
+
+
+def is_usual(limit):
+    return LEAST_USUAL_LIMIT <= limit <= MOST_USUAL_LIMIT
+
+
+def limit_note(limit):
+    usual = "" if is_usual(limit) else "; that is unusual: --limit counts millionths, so 5 percent is --limit 50000"
+    return f"the risk limit {limit} is {percent(limit)} percent{usual}"
+
+
+def blanks_in(seed):
+    """What is easily overlooked among the blanks of a seed, in words; nothing if there is nothing."""
+    found = ["begins with a blank"] * seed.startswith(" ") + ["has two blanks in a row"] * ("  " in seed) + ["ends with a blank"] * seed.endswith(" ")
+    return " and ".join(filter(None, [", ".join(found[:-1]), *found[-1:]]))
+
+
+def with_blanks(seed):
+    """A seed for a page: each blank is seen there, and is copied as a blank."""
+    import markupsafe
+
+    return markupsafe.Markup('<span class="blank"> </span>').join(seed.split(" "))
+
+
+def seed_note(seed):
+    """A line about a seed whose blanks are easily overlooked, or nothing."""
+    found = blanks_in(seed)
+    return f'the seed {found}: "{seed.replace(" ", BLANK)}", where each {BLANK} is a blank' if found else ""
+
+
+def value_of(name, words):
+    """The value of an option, as ./raire reads words; None if it isn't among them."""
+    for word, following in zip(words, [*words[1:], ""]):
+        if word == "--":
+            return None
+        if word.startswith(f"--{name}="):
+            return word.partition("=")[2]
+        if word == f"--{name}":
+            return following
+    return None
+
+
+def seed_of_session(path):
+    """The seed of a session that the program has read."""
+    try:
+        with open(path, encoding="utf-8") as file:
+            seed = json.loads(file.read(MOST_SESSION_BYTES)).get("seed")
+    except (OSError, ValueError, AttributeError, RecursionError):
+        return ""
+    return seed if isinstance(seed, str) else ""
+
+
+def notes(words):
+    command, limit, seed = words[0], value_of("limit", words), value_of("seed", words)
+    if command == "report" and len(words) > 1:
+        seed = seed_of_session(words[-1])
+    if limit is not None and re.fullmatch("[0-9]{1,10}", limit):
+        yield limit_note(int(limit))
+    if seed and seed_note(seed):
+        yield seed_note(seed)
+
+
+def main():
+    sys.stderr.reconfigure(errors="backslashreplace")
+    for note in notes(sys.argv[1:]):
+        sys.stderr.write(f"raire: {note}\n")
+
+
+if __name__ == "__main__":
+    main()

@@ -124,7 +124,7 @@ class Conversion:
 
     def ids_of(self, name, counted):
         """The ids of the candidates of the count, by the names that stand in names.csv, or by their own keys."""
-        rows = [row for row in rows_of(self.names_path) if row.get("contest", name) == name]
+        rows = [row for row in rows_of(self.names_path) if row["contest"] == name and row["id"]]
         ids, found = {row["name"]: row["id"] for row in rows}, {}
         for key, called in counted.names.items():
             if called in ids and called != plain_export.WRITE_IN:
@@ -159,17 +159,59 @@ def read(path):
 
 
 def by_chance(program, count):
-    for form, number in itertools.product(made_exports.MAKERS, range(count)):
-        chance = random.Random(f"{form} {number}")
+    for maker, number in itertools.product(made_exports.MAKERS, range(count)):
+        chance, form = random.Random(f"{maker} {number}"), maker.partition(" ")[0]
         with tempfile.TemporaryDirectory() as folder:
-            paths, words = made_exports.MAKERS[form](folder, chance)
+            paths, words = made_exports.MAKERS[maker](folder, chance)
             for name, meanings in RULES.items():
                 if chance.random() < 0.7:
                     words = [*words, f"--{name.replace('_', '-')}", chance.choice(meanings)]
             if form in TAKES_MARKS and chance.random() < 0.5:
                 words = [*words, "--marks", chance.choice(["counted", "made"])]
             made = Conversion(form, paths, words, folder)
-            yield f"{form} {number} {' '.join(words)}", made.compare(program)
+            yield f"{maker} {number} {' '.join(words)}", made.compare(program)
+
+
+def by_chance_unranked(program, count):
+    """Contests whose candidates aren't ranked: each record of one seat, each pair of several, and who wins, against a plain count."""
+    for number in range(count):
+        chance = random.Random(f"unranked {number}")
+        with tempfile.TemporaryDirectory() as folder:
+            paths, words = made_exports.unranked(folder, chance)
+            write_ins = chance.choice(["merge", "drop"])
+            words = [*words, "--write-ins", write_ins]
+            status, data, err = called(["dominion", *paths, *words, "--names", os.path.join(folder, "names.csv")])
+            wrong = see_unranked(status, data, err, plain_export.chosen(paths, write_ins), words[1], write_ins)
+            yield f"unranked {number} {' '.join(words)}", wrong
+
+
+def see_unranked(status, data, err, counted, made, write_ins):
+    """What isn't as the plain count has it, or None."""
+    if made == "plurality":
+        counted = {key: each for key, each in counted.items() if each[0] == 1}
+    wanted, ties = {}, 0
+    for key, (seats, names, cards) in counted.items():
+        all_of = [name for name in dict.fromkeys(names.values()) if name != plain_export.WRITE_IN]
+        ids = all_of + [plain_export.WRITE_IN] * (plain_export.WRITE_IN in names.values() and write_ins == "merge")
+        shown = {**{name: name for name in all_of}, plain_export.WRITE_IN: next((str(c) for c, name in names.items() if name == plain_export.WRITE_IN), "")}
+        if made == "plurality":
+            wanted[str(key)] = [shown[each] for each in ids], {card: tuple(shown[each] for each in chosen) for card, chosen in cards.items()}
+            continue
+        votes = {each: sum(each in chosen for chosen in cards.values()) for each in ids}
+        order = sorted(ids, key=lambda each: -votes[each])
+        ties += len(order) <= seats or votes[order[seats - 1]] == votes[order[seats]]
+        for w, l in itertools.product(order[:seats], order[seats:]):
+            ballots = {card: tuple(shown[each] for each in (w, l) if chosen & {w, l} == {each}) for card, chosen in cards.items()}
+            wanted[f"{key}: {shown[w]} over {shown[l]}"] = [shown[w], shown[l]], ballots
+    if ties or not wanted or len(wanted) > 64:
+        return None if status == 2 and not data else f"status {status}, and {ties} ties in {len(wanted)} contests: {err}"
+    if status:
+        return f"status {status}: {err}"
+    got = {}
+    for name, (ids, _) in plain_audit.contest_records(plain_audit.records_of(data)).items():
+        ballots = plain_audit.ballots_of(data, name)
+        got[name] = list(ids), {card: tuple(ids[each] for each in ranking) for card, _, ranking in ballots.cast}
+    return None if got == wanted else f"{got}, and the plain count has {wanted}"
 
 
 def bad():
@@ -222,11 +264,12 @@ def damage(path, chance):
 
 def damaged(count):
     """Whatever stands in an export, a call ends with the text or with a line that names the file."""
-    for form, number in itertools.product(made_exports.MAKERS, range(count)):
-        chance = random.Random(f"damaged {form} {number}")
+    for maker, number in itertools.product(made_exports.MAKERS, range(count)):
+        chance, form = random.Random(f"damaged {maker} {number}"), maker.partition(" ")[0]
         with tempfile.TemporaryDirectory() as folder:
-            paths, words = made_exports.MAKERS[form](folder, chance)
-            path = chance.choice([os.path.join(paths[0], name) for name in sorted(os.listdir(paths[0]))] if os.path.isdir(paths[0]) else paths)
+            paths, words = made_exports.MAKERS[maker](folder, chance)
+            files = [os.path.join(where, name) for where, _, names in sorted(os.walk(paths[0])) for name in sorted(names)]
+            path = chance.choice(files if os.path.isdir(paths[0]) else paths)
             if path.endswith(".json") and chance.random() < 0.8:
                 value = json.loads(read(path).decode("utf-8-sig"))
                 change(value, chance)
@@ -237,15 +280,15 @@ def damaged(count):
             try:
                 status, out, err = called([form, *paths, *words])
                 is_told = status == 0 and bool(out) or status == 2 and out == b"" and err.startswith("convert: ") and folder in err and err.count("\n") == 1
-                yield f"damaged {form} {number}", None if is_told else f"{status}, {len(out)} bytes: {err}"
+                yield f"damaged {maker} {number}", None if is_told else f"{status}, {len(out)} bytes: {err}"
             except Exception as fault:
-                yield f"damaged {form} {number}", "".join(traceback.format_exception(fault)[-3:])
+                yield f"damaged {maker} {number}", "".join(traceback.format_exception(fault)[-3:])
 
 
 def main():
     program, count = os.path.abspath(sys.argv[1]), int(sys.argv[2]) if len(sys.argv) > 2 else 200
     tried = failed = 0
-    for name, wrong in itertools.chain(by_hand(program), by_chance(program, count), bad(), damaged(count)):
+    for name, wrong in itertools.chain(by_hand(program), by_chance(program, count), by_chance_unranked(program, count), bad(), damaged(count)):
         tried += 1
         if wrong:
             failed += 1

@@ -3,6 +3,7 @@ import csv
 import json
 import os
 import zipfile
+from xml.sax.saxutils import escape
 
 NAMES = [
     "Ash", "Birch", "Cedar", "Elm", "Fir", "Peña, Ana", "O\u2019Neil \u201cBud\u201d", 'Jo "Jo" Li', "\u6797", "Rep. Smith, J. (54)", "Żółw", "Pena Ana", "x" * 70, "A/B",
@@ -63,14 +64,30 @@ def dominion(folder, chance):
         made = {"CandidateId": people[name, each], "Rank": rank, "IsAmbiguous": not is_vote and maybe(chance, 0.7), "IsVote": is_vote, "MarkDensity": 90}
         return {**made, "WriteinIndex": rank} if each == WRITE_IN else made
 
+    def told(marks, ranks):
+        """The overvotes and undervotes of marks, in one of the meanings that they may have; an overvote's marks needn't be counted as votes."""
+        by_rank = {}
+        for made in marks:
+            if made["IsVote"]:
+                by_rank.setdefault(made["Rank"], set()).add((made["CandidateId"], made.get("WriteinIndex")))
+        over = {rank for rank, made in by_rank.items() if len(made) > 1}
+        if over and maybe(chance, 0.4):
+            for made in marks:
+                made["IsAmbiguous"] = not made["IsVote"]
+                made["IsVote"] = made["IsVote"] and made["Rank"] not in over
+        number = chance.choice([1, len(over), sum(len(by_rank[rank]) for rank in over)]) if over else 0
+        blank = ranks - len(by_rank)
+        return chance.choice([{}, {"Overvotes": number}]) if not over else {"Overvotes": number}, chance.choice([{}, {"Undervotes": blank}, {"Undervotes": int(not by_rank)}])
+
     def version_of(card, is_current):
         votes = []
         for name, ranks in card.items():
             marks = [mark(name, each, rank) for rank, names in enumerate(ranks, 1) for each in names]
             for _ in range(maybe(chance, 0.2)):
                 marks.append(mark(name, chance.choice(drawn.contests[name]), chance.randint(1, len(drawn.contests[name])), False))
+            over, under = told(marks, len(drawn.contests[name]))
             chance.shuffle(marks)
-            votes.append({"Id": numbers[name], "ManifestationId": 1, "Undervotes": 0, "Overvotes": 0, "Marks": marks})
+            votes.append({"Id": numbers[name], "ManifestationId": 1, **under, **over, "Marks": marks})
         votes.append({"Id": 900, "Marks": [{"CandidateId": 901, "Rank": 1, "IsAmbiguous": False, "IsVote": True}]})
         return {"PrecinctPortionId": 1, "BallotTypeId": 2, "IsCurrent": is_current, **({"Contests": votes} if is_old else {"Cards": [{"Id": 4, "Contests": votes}]})}
 
@@ -230,10 +247,21 @@ def plain(folder, chance):
 
 # ---- PrefLib
 
+def complete(chance, names, kind):
+    """An order of all names, in which some share a place where the kind has ties."""
+    left, places = chance.sample(names, len(names)), []
+    while left:
+        size = chance.choice([1, 1, 2]) if kind == "toc" else 1
+        places.append([left.pop() for _ in range(min(size, len(left)))])
+    return places
+
+
 def preflib(folder, chance):
-    kind = chance.choice(["soi", "toi"])
-    drawn = Drawn(chance, most_contests=1, most_at_a_rank=1 if kind == "soi" else 3, skips=False)
+    kind = chance.choice(["soc", "soi", "toc", "toi"])
+    drawn = Drawn(chance, most_contests=1, most_at_a_rank=1 if kind[0] == "s" else 3, skips=False)
     ((contest, names),) = drawn.contests.items()
+    if kind[-1] == "c":
+        drawn.cards = [{contest: complete(chance, names, kind)} for _ in drawn.cards]
     orders = {}
     for card in drawn.cards:
         ranks = [[str(names.index(each) + 1) for each in places] for places in card[contest]]
@@ -252,4 +280,182 @@ def preflib(folder, chance):
     return [path], []
 
 
-MAKERS = {"dominion": dominion, "nist": nist, "ess": ess, "plain": plain, "preflib": preflib}
+
+# ---- Dominion as CSV
+
+def dominion_csv(folder, chance):
+    drawn = Drawn(chance)
+    columns, people = [], []
+    for name, names in drawn.contests.items():
+        title = f"{name} (Number of positions=1, Number of ranks={len(names)})"
+        columns += [(title, f"{each}({rank})", name, each, rank) for rank in range(1, len(names) + 1) for each in names]
+    columns += [("Sheriff (Vote For=1)", "Ida", "Sheriff", "Ida", 1)]
+    fixed = ["CvrNumber", "TabulatorNum", "BatchId", "RecordId", "ImprintedId", "CountingGroup", "PrecinctPortion", "BallotType"]
+    blank = [""] * len(fixed)
+    head = [["made", "5.10.50.85", *blank[2:], *[""] * len(columns)], [*blank, *(each[0] for each in columns)], [*blank, *(each[1] for each in columns)]]
+    head.append([*fixed, *("NON" for _ in columns)])
+    rows = []
+    for place, card in enumerate(drawn.cards, 1):
+        tabulator, batch = 1 + place % 2, 1 + place // 7
+        record = "X" if maybe(chance, 0.3) else str(place)
+        row = [str(place), str(tabulator), str(batch), record, f'="{tabulator}-{batch}-{place}"', "Mail", "P1", "T"]
+        for _, _, name, each, rank in columns:
+            if name == "Sheriff":
+                row.append(chance.choice(["0", "1"]))
+            elif name not in card:
+                row.append("")
+            else:
+                row.append("1" if rank <= len(card[name]) and each in card[name][rank - 1] else "0")
+        rows.append(row)
+    if maybe(chance, 0.5):
+        chance.shuffle(rows)
+    path = os.path.join(folder, "CVR_Export.csv")
+    with open(path, "w", newline="", encoding=chance.choice(["utf-8", "utf-8-sig"])) as file:
+        csv.writer(file, quoting=chance.choice([csv.QUOTE_ALL, csv.QUOTE_MINIMAL])).writerows(head + rows)
+    return [path], []
+
+
+# ---- Hart
+
+def hart(folder, chance):
+    drawn = Drawn(chance)
+    made = os.path.join(folder, "cvrs")
+    os.makedirs(os.path.join(made, "batch two"))
+    ids = {name: f"c{place}" for place, name in enumerate(drawn.contests)}
+    space = chance.choice([' xmlns="http://tempuri.org/CVRDesign.xsd"', ""])
+    for place, card in enumerate(drawn.cards, 1):
+        batch, contests = 1 + place // 7, []
+        for name, ranks in card.items():
+            options = []
+            for number, each in enumerate(drawn.contests[name]):
+                value = "".join("1" if rank < len(ranks) and each in ranks[rank] else "0" for rank in range(len(drawn.contests[name])))
+                if place > 1 and "1" not in value and maybe(chance, 0.7):
+                    continue
+                named = "<WriteInData><Text>Jo</Text></WriteInData>" if each == WRITE_IN else f"<Name>{escape(each)}</Name><Id>{ids[name]}-{number}</Id>"
+                options.append(f"<Option>{named}<Value>{value}</Value></Option>")
+            chance.shuffle(options)
+            undervotes = "<Undervotes>1</Undervotes>" * maybe(chance, 0.3)
+            contests.append(f"<Contest><Name>{escape(name)}</Name><Id>{ids[name]}</Id><Options>{''.join(options)}</Options>{undervotes}</Contest>")
+        contests.append("<Contest><Name>Sheriff</Name><Id>_other</Id><Options><Option><Name>Ida</Name><Id>i</Id><Value>1</Value></Option></Options></Contest>")
+        text = (
+            f'<?xml version="1.0" encoding="utf-8"?>\n<Cvr{space}><Contests>{"".join(contests)}</Contests><BatchSequence>{place}</BatchSequence>'
+            f"<SheetNumber>1</SheetNumber><BatchNumber>{batch}</BatchNumber><CvrGuid>g{place}</CvrGuid></Cvr>"
+        )
+        with open(os.path.join(made, *["batch two"] * (batch == 2), f"1_{place:05}.xml"), "w", encoding="utf-8") as file:
+            file.write(text)
+    if maybe(chance, 0.5):
+        with zipfile.ZipFile(made + ".zip", "w", zipfile.ZIP_DEFLATED) as archive:
+            for where, _, names in os.walk(made):
+                for name in names:
+                    archive.write(os.path.join(where, name), os.path.relpath(os.path.join(where, name), made))
+        return [made + ".zip"], []
+    return [made], []
+
+
+# ---- Clear Ballot
+
+def clear_ballot(folder, chance):
+    drawn = Drawn(chance, most_at_a_rank=3)
+    columns = [(name, each) for name, names in drawn.contests.items() for each in names] + [("Sheriff", "Ida")]
+    fixed = ["RowNumber", "BoxID", "BoxPosition", "BallotID", "PrecinctID", "BallotStyleID", "PrecinctStyleName", "ScanComputerName", "Status", "Remade"]
+    head = fixed + [f"Choice_{place}_1:{name.replace(':', '')}:Vote For 1:{each}:NON" for place, (name, each) in enumerate(columns, 1)]
+    rows = []
+    for place, card in enumerate(drawn.cards, 1):
+        row = [str(place), f"Box {1 + place // 7}", str(place), f"b{place}", "1", "1", "P", "scanner", "Counted", "0"]
+        for name, each in columns:
+            if name == "Sheriff":
+                row.append("1")
+            elif name not in card:
+                row.append("")
+            else:
+                row.append(str(next((rank for rank, names in enumerate(card[name], 1) if each in names), 0)))
+        rows.append(row)
+    path = os.path.join(folder, "cvr.csv")
+    with open(path, "w", newline="", encoding="utf-8") as file:
+        csv.writer(file).writerows([head, *rows])
+    named = [word for name in drawn.contests for word in ("--contest", name)]
+    return [path], named + ["--id", "BallotID"] * maybe(chance, 0.3)
+
+
+# ---- NIST SP 1500-103 as XML
+
+def nist_xml(folder, chance):
+    paths, words = nist(folder, chance)
+    for path in paths:
+        with open(path, encoding="utf-8-sig") as file:
+            report = json.load(file)
+        space = chance.choice([' xmlns="http://itl.nist.gov/ns/voting/1500-103/v1"', ""])
+        names = sorted(name for name in report if not name.startswith("@"))
+        text = "".join(element(name, report[name]) for name in names)
+        with open(path.replace(".json", ".xml"), "w", encoding="utf-8") as file:
+            file.write(f'<?xml version="1.0" encoding="UTF-8"?>\n<CastVoteRecordReport{space} xmlns:xsi="http://www.w3.org/2001/XMLSchema-instance">{text}</CastVoteRecordReport>\n')
+        os.remove(path)
+    return [path.replace(".json", ".xml") for path in paths], words
+
+
+def element(name, value):
+    if isinstance(value, list) and name == "CandidateIds":
+        return f"<{name}>{' '.join(value)}</{name}>"
+    if isinstance(value, list):
+        return "".join(element(name, each) for each in value)
+    if not isinstance(value, dict):
+        return f"<{name}>{escape(str(value).lower() if isinstance(value, bool) else str(value))}</{name}>"
+    given = f' ObjectId="{value["@id"]}"' if "@id" in value else ""
+    given += f' xsi:type="{value["@type"].removeprefix("CVR.")}"' if "@type" in value else ""
+    return f"<{name}{given}>{''.join(element(key, each) for key, each in sorted(value.items()) if not key.startswith('@'))}</{name}>"
+
+
+# ---- RCTab, and the unified form
+
+def rctab(folder, chance):
+    drawn = Drawn(chance, most_contests=1)
+    ((contest, names),) = drawn.contests.items()
+    is_unified = maybe(chance, 0.4)
+    ranks = [f"rank{rank}" if is_unified else f"Rank {rank}" for rank in range(1, len(names) + 1)]
+    rows = [["ballotID", "precinct", *ranks] if is_unified else ["CVR Provider", "Tabulator Id", "Batch Id", "Record Id", "Precinct", "Precinct Portion", *ranks]]
+    for place, card in enumerate(drawn.cards, 1):
+        cells = [cell(each) for each in card[contest] + [[]] * (len(names) - len(card[contest]))]
+        cells = [each.replace("undervote", "skipped").replace("Write-in", "writein") for each in cells] if is_unified else cells
+        rows.append([f"b_{place}", "P", *cells] if is_unified else ["made", "7", str(1 + place // 7), str(place), "P", "", *cells])
+    return [save(os.path.join(folder, "rctab cvr"), rows, chance)], ["--ranks", "9"]
+
+
+# ---- contests whose candidates aren't ranked
+
+def unranked(folder, chance):
+    """Dominion's JSON with contests of one and of several seats, and overvotes as it may write them."""
+    version, contests, listed, sessions = "5.10.50.85", [], [], []
+    for number in range(1, 1 + chance.randint(1, 3)):
+        seats, names = chance.randint(1, 3), chance.sample(NAMES, chance.randint(4, 6)) + [WRITE_IN] * maybe(chance, 0.5)
+        contests.append({"Description": f"Board {number}", "Id": number, "VoteFor": seats, "NumOfRanks": 0})
+        listed += [
+            {"Description": each, "Id": 100 * number + place, "ContestId": number, "Type": "WriteIn" if each == WRITE_IN else "Regular", "Disabled": 0}
+            for place, each in enumerate(names)
+        ]
+    contests.append({"Description": "Ranked", "Id": 900, "VoteFor": 1, "NumOfRanks": 3})
+    listed.append({"Description": "Ida", "Id": 901, "ContestId": 900, "Type": "Regular", "Disabled": 0})
+    for place in range(1, chance.randint(20, 60)):
+        votes = []
+        for contest in contests[:-1]:
+            people = [each["Id"] for each in listed if each["ContestId"] == contest["Id"]]
+            if place > 1 and maybe(chance, 0.2):
+                continue
+            weights = [1 / (1 + at) for at in range(len(people))]
+            chosen = sorted(set(chance.choices(people, weights, k=chance.randint(0, contest["VoteFor"] + 1))))
+            over = max(0, len(chosen) - contest["VoteFor"])
+            counted = not over or maybe(chance, 0.5)
+            marks = [{"CandidateId": each, "Rank": 1, "IsAmbiguous": False, "IsVote": counted} for each in chosen]
+            votes.append({"Id": contest["Id"], "Undervotes": max(0, contest["VoteFor"] - len(chosen)), "Overvotes": chance.choice([1, len(chosen)]) if over else 0, "Marks": marks})
+        votes.append({"Id": 900, "Undervotes": 3, "Overvotes": 0, "Marks": []})
+        sessions.append({"TabulatorId": 1, "BatchId": 1, "RecordId": place, "Original": {"IsCurrent": True, "Cards": [{"Id": 1, "Contests": votes}]}})
+    made = os.path.join(folder, "export")
+    os.mkdir(made)
+    for name, value in (("ContestManifest", {"List": contests}), ("CandidateManifest", {"List": listed}), ("CvrExport", {"Sessions": sessions})):
+        dump(os.path.join(made, f"{name}.json"), {"Version": version, **value}, chance)
+    return [made], ["--as", chance.choice(["plurality", "pairs"])]
+
+
+MAKERS = {
+    "dominion": dominion, "dominion-csv": dominion_csv, "hart": hart, "clear-ballot": clear_ballot, "nist": nist, "nist as XML": nist_xml, "ess": ess,
+    "plain": plain, "rctab": rctab, "preflib": preflib,
+}

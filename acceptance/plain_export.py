@@ -8,6 +8,7 @@ import io
 import json
 import os
 import re
+import xml.dom.minidom
 import zipfile
 
 WRITE_IN, OVERVOTE, NOBODY = "write-ins, merged", "overvote", ""
@@ -70,12 +71,18 @@ def dominion(paths, rules, _):
                 record = int(re.search(r"_0*(\d+)\*", session["ImageMask"])[1])
             version = session["Original"] if session["Original"]["IsCurrent"] else session["Modified"]
             for contest in version.get("Contests") or sum((card["Contests"] for card in version.get("Cards", [])), []):
-                marks = []
+                marks, clear = [], []
                 for mark in contest["Marks"]:
+                    is_write_in = people[contest["Id"], mark["CandidateId"]]["Type"] == "WriteIn"
+                    name = (WRITE_IN, mark["CandidateId"], mark.get("WriteinIndex")) if is_write_in else str(mark["CandidateId"])
                     if mark["IsVote"] if rules["marks"] == "counted" else not mark["IsAmbiguous"]:
-                        is_write_in = people[contest["Id"], mark["CandidateId"]]["Type"] == "WriteIn"
-                        name = (WRITE_IN, mark["CandidateId"], mark.get("WriteinIndex")) if is_write_in else str(mark["CandidateId"])
                         put(marks, mark["Rank"], name)
+                    if mark["IsVote"] or not mark["IsAmbiguous"]:
+                        put(clear, mark["Rank"], name)
+                if contest.get("Overvotes") and rules["marks"] == "counted" and max(map(len, marks), default=0) < 2:
+                    for rank in (rank for rank, place in enumerate(clear, 1) if len(place) > 1):
+                        for name in clear[rank - 1]:
+                            put(marks, rank, name)
                 contests[str(contest["Id"])].cards[f"{session['TabulatorId']}_{session['BatchId']}_{record}"] = ranked(marks, rules)
     return contests
 
@@ -83,7 +90,7 @@ def dominion(paths, rules, _):
 def nist(paths, rules, made_of):
     contests = {}
     for _, data in whole(paths):
-        report = json.loads(data.decode("utf-8-sig"))
+        report = json.loads(data.decode("utf-8-sig")) if not data.lstrip().startswith(b"<") else of_xml(xml.dom.minidom.parseString(data).documentElement)
         for election in report["Election"]:
             people = {each["@id"]: each["Name"] for each in election.get("Candidate", [])}
             for contest in election["Contest"]:
@@ -106,6 +113,130 @@ def nist(paths, rules, made_of):
     return contests
 
 
+def of_xml(node):
+    """A report in XML as its JSON has it."""
+    below = [each for each in node.childNodes if each.nodeType == each.ELEMENT_NODE]
+    if not below and not node.hasAttribute("ObjectId"):
+        text = "".join(each.data for each in node.childNodes)
+        return {"CandidateIds": str.split, "Rank": int, "Position": int, "IsWriteIn": "true".__eq__}.get(node.localName, str)(text)
+    value = {"@id": node.getAttribute("ObjectId")}
+    for each in below:
+        if each.localName in ("Election", "Candidate", "Contest", "ContestSelection", "CVR", "CVRSnapshot", "CVRContest", "CVRContestSelection", "SelectionPosition"):
+            value.setdefault(each.localName, []).append(of_xml(each))
+        else:
+            value[each.localName] = of_xml(each)
+    if node.localName == "Contest":
+        value.setdefault("ContestSelection", [])
+    return value
+
+
+def table(path):
+    with open(path, encoding="utf-8-sig", newline="") as file:
+        return list(csv.reader(file))
+
+
+def dominion_csv(paths, rules, _):
+    contests = {}
+    for path in paths:
+        _, titles, choices, head, *rows = table(path)
+        contests.update({title.rsplit(" (", 1)[0]: Counted({}) for title in titles if "Number of ranks" in title})
+        for row in rows:
+            given = dict(zip(head, row))
+            card = given["ImprintedId"].strip('="').replace("-", "_")
+            marks = {}
+            for column, (title, choice) in enumerate(zip(titles, choices)):
+                if "Number of ranks" in title and row[column]:
+                    name, rank = choice[:-1].rsplit("(", 1)
+                    title = title.rsplit(" (", 1)[0]
+                    ranks = marks.setdefault(title, [])
+                    name = WRITE_IN if name == "Write-in" else name
+                    contests[title].names[name] = name
+                    if row[column] == "1":
+                        put(ranks, int(rank), (WRITE_IN, column) if name == WRITE_IN else name)
+            for title, ranks in marks.items():
+                contests[title].cards[card] = ranked(ranks, rules)
+    return contests
+
+
+def hart(paths, rules, _):
+    contests, found = {}, []
+    for path in paths:
+        if os.path.isdir(path):
+            found += [open(os.path.join(where, name), "rb").read() for where, _, names in os.walk(path) for name in sorted(names)]
+        else:
+            with zipfile.ZipFile(path) as archive:
+                found += [archive.read(name) for name in archive.namelist() if name.endswith(".xml")]
+
+    def text(node, name):
+        return next(each.firstChild.data for each in node.childNodes if each.localName == name)
+
+    for data in found:
+        root = xml.dom.minidom.parseString(data).documentElement
+        card = f"{text(root, 'BatchNumber')}_{text(root, 'BatchSequence')}"
+        for contest in root.getElementsByTagName("Contest"):
+            key, marks = text(contest, "Id"), []
+            if key == "_other":
+                continue
+            counted = contests.setdefault(key, Counted({}))
+            for place, option in enumerate(contest.getElementsByTagName("Option")):
+                is_write_in = bool(option.getElementsByTagName("WriteInData"))
+                name = WRITE_IN if is_write_in else text(option, "Id")
+                counted.names[name] = WRITE_IN if is_write_in else text(option, "Name")
+                for rank, digit in enumerate(text(option, "Value"), 1):
+                    if digit == "1":
+                        put(marks, rank, (WRITE_IN, place) if is_write_in else name)
+            counted.cards[card] = ranked(marks, rules)
+    return contests
+
+
+def clear_ballot(paths, rules, made_of):
+    contests = {}
+    for path in paths:
+        head, *rows = table(path)
+        for row in rows:
+            given, marks = dict(zip(head, row)), {}
+            card = "_".join(given[name] for name in made_of or ("BoxID", "BoxPosition"))
+            for column, (name, value) in enumerate(given.items()):
+                if name.startswith("Choice_") and value and ":Sheriff:" not in name:
+                    _, title, _, choice, _ = name.split(":")
+                    choice = WRITE_IN if choice == "Write-in" else choice
+                    contests.setdefault(title, Counted({})).names[choice] = choice
+                    ranks = marks.setdefault(title, [])
+                    if value != "0":
+                        put(ranks, int(value), (WRITE_IN, column) if choice == WRITE_IN else choice)
+            for title, ranks in marks.items():
+                contests[title].cards[card] = ranked(ranks, rules)
+    return contests
+
+
+def rctab(paths, rules, made_of):
+    def columns_of(path, head):
+        found = [(int(re.search(r"\d+", name)[0]), column) for column, name in enumerate(head) if re.fullmatch(r"rank ?\d+", name, re.IGNORECASE)]
+        return {os.path.splitext(os.path.basename(paths[0]))[0]: [column for _, column in sorted(found)]}
+    head = next(row for _, row in sheets(paths))
+    own = ["ballotID"] if "ballotID" in head else ["Tabulator Id", "Batch Id", "Record Id"]
+    return sheet(paths, rules, made_of or own, columns_of, True)
+
+
+def chosen(paths, write_ins):
+    """Of each contest of Dominion's JSON that isn't ranked: its seats, the names of its candidates, and who is chosen on each card."""
+    files = {name: json.loads(data.decode("utf-8-sig")) for name, data in whole(paths)}
+    contests = {}
+    for each in files["ContestManifest.json"]["List"]:
+        people = [person for person in files["CandidateManifest.json"]["List"] if person["ContestId"] == each["Id"]]
+        names = {person["Id"]: WRITE_IN if person["Type"] == "WriteIn" else str(person["Id"]) for person in people}
+        if each["NumOfRanks"] == 0:
+            contests[each["Id"]] = each["VoteFor"], names, {}
+    for session in files["CvrExport.json"]["Sessions"]:
+        for vote in session["Original"]["Cards"][0]["Contests"]:
+            if vote["Id"] in contests:
+                seats, names, cards = contests[vote["Id"]]
+                marked = {names[mark["CandidateId"]] for mark in vote["Marks"]}
+                out = {WRITE_IN} if write_ins == "drop" else set()
+                cards[f"1_1_{session['RecordId']}"] = set() if len(vote["Marks"]) > seats else marked - out
+    return contests
+
+
 def sheets(paths):
     for path in paths:
         if path.endswith(".xlsx"):
@@ -120,11 +251,11 @@ def sheets(paths):
 
 def meant(cell, rank):
     """What a cell stands for."""
-    if cell.lower() in ("", "undervote"):
+    if cell.lower() in ("", "undervote", "skipped"):
         return set()
     if cell.lower() == "overvote":
         return {"one", "another"}
-    return {(WRITE_IN, rank)} if cell.lower() in ("write-in", "uwi") else {cell}
+    return {(WRITE_IN, rank)} if cell.lower() in ("write-in", "writein", "uwi") else {cell}
 
 
 def sheet(paths, rules, made_of, columns_of, is_everywhere):
@@ -180,7 +311,10 @@ def preflib(paths, rules, made_of):
     return {title: contest}
 
 
-READERS = {"dominion": dominion, "nist": nist, "ess": ess, "plain": plain, "preflib": preflib}
+READERS = {
+    "dominion": dominion, "dominion-csv": dominion_csv, "hart": hart, "clear-ballot": clear_ballot, "nist": nist, "ess": ess, "plain": plain, "rctab": rctab,
+    "preflib": preflib,
+}
 
 
 def counted(form, paths, rules, made_of=None):

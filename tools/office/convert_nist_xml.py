@@ -7,6 +7,7 @@ from convert_export import refused
 LISTS = ("CVRSnapshot", "CVRContest", "CVRContestSelection", "SelectionPosition", "Contest", "Candidate", "ContestSelection")
 NUMBERS = ("Rank", "Position", "NumberElected", "NumberVotes")
 REFERENCES = ("CandidateIds",)  # several in one text, with blanks between
+MAY_BE_EMPTY = {"Contest": "ContestSelection", "CVRContestSelection": "SelectionPosition"}  # lists that JSON has to have
 TRUTHS = {"true": True, "1": True, "false": False, "0": False}
 TYPE = "{http://www.w3.org/2001/XMLSchema-instance}type"
 
@@ -23,6 +24,8 @@ def value_of(element):
         found = {"@id": element.get("ObjectId"), "@type": element.get(TYPE)}
         for each in element:
             add(found, convert_xml.local(each), value_of(each))
+        if name in MAY_BE_EMPTY:
+            found.setdefault(MAY_BE_EMPTY[name], [])
         return {key: value for key, value in found.items() if value is not None}
     if name in NUMBERS:
         return int(text) if re.fullmatch("[0-9]{1,18}", text) else text

@@ -145,7 +145,7 @@ def by_hand(program):
         with tempfile.TemporaryDirectory() as place:
             made = Conversion(form, files, words[len(files):], place)
             made.is_by_hand = True
-            yield name, made.compare(program)
+            yield name, made.compare(program) if form in plain_export.READERS and not {"--as", "--word"} & set(words) else made.err * bool(made.status)
             if made.status:
                 continue
             for wanted, got in (("out", made.data), ("names", read(made.names_path)), ("account", made.err.replace(folder + "/", "").encode())):

@@ -150,7 +150,8 @@ def sentences(program, status, line):
     if path is None:
         return []
     key, causes = said if said in FOUND else said.split()[0], table.causes()
-    head = f"{key}: {causes.get(key + table.OF_A_SESSION * ('SESSION' in call.files), causes[key])}"
+    about = table.OF_CONTESTS if call.command == "contests" else table.OF_A_SESSION * ("SESSION" in call.files)
+    head = f"{key}: {causes.get(key + about, causes[key])}"
     try:
         return [head, *(FOUND[key](path) if key in FOUND else found(call, path, said)), "What to do: docs/faults.md"]
     except (LookupError, TypeError, ValueError, AttributeError, StopIteration, OSError):

@@ -335,7 +335,7 @@ def unread(seed, manifest, seen, draws):
 
 def told_unread(left, drawn, of):
     more = f" and {len(left) - MOST_UNREAD} more" if len(left) > MOST_UNREAD else ""
-    return f"Not read yet{of} ({len(left)} of the {len(drawn)} cards that are drawn): {' '.join(left[:MOST_UNREAD])}{more}"
+    return f"Not read yet{of} ({len(left)} of the {len(drawn)} cards that are drawn): {', '.join(left[:MOST_UNREAD])}{more}"
 
 
 def unread_in_contests(seed, manifest, seen, draws, ballots, k):
@@ -344,7 +344,19 @@ def unread_in_contests(seed, manifest, seen, draws, ballots, k):
     left = {name: [card for card in drawn if (card, name) not in read] for name in heads_of(ballots)}
     meant = [name for name, cards in left.items() if cards and drawn[cards[0]] == k]
     told = [told_unread(left[name], drawn, f" for {quoted(name)}") for name in meant[:MOST_CONTESTS]]
-    return told + ([f"So it is for {listed(meant[MOST_CONTESTS:])}"] if meant[MOST_CONTESTS:] else []) + ["A contest that is tied wants none"] * (len(meant) > 1)
+    return [
+        *told, *[f"So it is for {listed(meant[MOST_CONTESTS:])}"] * bool(meant[MOST_CONTESTS:]), *["A contest that is tied wants none"] * (len(meant) > 1),
+        *without_contest(left, meant, ballots),
+    ]
+
+
+def without_contest(left, meant, ballots):
+    """The unread cards that have no record of the contest, most of which don't have it: how that is written."""
+    recorded = {tuple(record.fields[:2]) for record in records(ballots)}
+    found = [f"{card},{name},ballot" for name in meant[:MOST_CONTESTS] for card in left[name] if (name, card) not in recorded]
+    cards = {line.partition(",")[0] for line in found}
+    told = f"{len(cards)} of these cards {'has' if len(cards) == 1 else 'have'} no record of the contest"
+    return [f"{told}: where the card doesn't have it, write {found[0]}"] if found else []
 
 
 # ---- assertion files and sessions

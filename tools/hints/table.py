@@ -6,6 +6,7 @@ DOCS = os.path.join(os.path.dirname(os.path.dirname(os.path.dirname(os.path.absp
 # What the program says, and none of the tools beside it: a line of theirs begins with their name.
 KEYS = re.compile(r"`(?:raire: (?:<[a-z]+>: )?)?([BFMSV][0-9]+|bad words|no such file|too long|read fault)\b")
 OF_A_SESSION = ", of a session"  # a row about a call that has one
+OF_CONTESTS = ", of all contests"  # a row about `contests`
 
 
 def rows(page):
@@ -38,5 +39,6 @@ def causes():
     found, digits = {}, {name: number.replace(",", "") for name, number in limits().items()}
     for cells in rows("faults.md"):
         if len(cells) == 4 and cells[0].isdigit() and (key := KEYS.match(cells[1])):
-            found.setdefault(key[1] + OF_A_SESSION * cells[1].endswith(OF_A_SESSION), in_words(cells[2], digits))
+            about = next((words for words in (OF_A_SESSION, OF_CONTESTS) if cells[1].endswith(words)), "")
+            found.setdefault(key[1] + about, in_words(cells[2], digits))
     return found

@@ -1,6 +1,8 @@
 """Two readings of the same cards: written where both are the same, told where they aren't."""
+import itertools
 import os
 
+import called
 import records
 from ask import read, Refusal
 from words import see_output, Words
@@ -15,34 +17,58 @@ def reading_of(path):
         raise Refusal(2, f"{NAME}: {path}: {broken}\n") from None
 
 
-def shown(reading):
+def shown(reading, names):
     """A reading in words."""
     if reading == records.MISSING:
         return "missing"
-    return ", ".join(reading) or "nobody ranked"
+    if isinstance(reading, records.Marks):
+        by_rank = itertools.groupby(reading, key=lambda pair: pair[0])
+        return ", ".join(f"{rank} {' and '.join(names.get(c, c) for _, c in pairs)}" for rank, pairs in by_rank) or "nothing marked"
+    between = "; " if any("," in names.get(c, c) for c in reading) else ", "
+    return between.join(names.get(c, c) for c in reading) or "nobody ranked"
 
 
-def differences(first, second, paths):
+def names_of(given):
+    """What the candidates are called, of the contest that is meant."""
+    if given.names is None:
+        return {}
+    try:
+        found = called.Called(given.names, read(NAME, given.names))
+    except called.BadNames as bad:
+        raise Refusal(2, f"{NAME}: {bad}\n") from None
+    contest = given.contest if given.contest is not None else next(iter(found.candidates), None)
+    if found.has_contests and given.contest is None and len(found.candidates) > 1:
+        raise Refusal(2, f"{NAME}: {given.names} has several contests; --contest says which is meant\n")
+    if not found.of(contest):
+        raise Refusal(2, f"{NAME}: {given.names} has no candidates of contest {contest}\n")
+    return found.of(contest)
+
+
+def differences(first, second, paths, names):
     """A line for each card that was read otherwise, or that stands in one file alone."""
     for card, reading in first.items():
         if card not in second:
-            yield f"{card}: only in {paths[0]}: {shown(reading)}"
-        elif reading != second[card]:
-            yield f"{card}: {shown(reading)} in {paths[0]}; {shown(second[card])} in {paths[1]}"
+            yield f"{card}: only in {paths[0]}: {shown(reading, names)}"
+        elif reading != second[card] or type(reading) is not type(second[card]):
+            yield f"{card}: {shown(reading, names)} in {paths[0]}; {shown(second[card], names)} in {paths[1]}"
     for card, reading in second.items():
         if card not in first:
-            yield f"{card}: only in {paths[1]}: {shown(reading)}"
+            yield f"{card}: only in {paths[1]}: {shown(reading, names)}"
 
 
 def answer(words):
     parser = Words(NAME)
     parser.add_argument("files", nargs=2)
-    paths = parser.parse_intermixed_args(words).files
-    see_output(NAME, paths)
+    parser.option("--names", "--contest")
+    given = parser.parse_intermixed_args(words)
+    if given.contest is not None and given.names is None:
+        parser.error("--contest is for --names")
+    paths = given.files
+    see_output(NAME, filter(None, [*paths, given.names]))
     if all(map(os.path.exists, paths)) and os.path.samefile(*paths):
         raise Refusal(1, f"{NAME}: {paths[0]} and {paths[1]} are one file; give the readings of two people\n")
     first, second = map(reading_of, paths)
-    told = list(differences(first, second, paths))
+    told = list(differences(first, second, paths, names_of(given)))
     cards = len(set(first) | set(second))
     account = f"{cards - len(told)} of {cards} cards were read the same"
     if told:

@@ -19,15 +19,15 @@ def words_of(words):
     return parser.parse_intermixed_args(words)
 
 
-def judge(given):
+def judge(given, contest):
     """Both files and the link between them, as `open` judges them: the file of assertions comes last, and this one is none."""
-    contest = [f"--contest={given.contest}"] if given.contest is not None else []
+    options = [f"--contest={contest}"] if contest is not None else []
     with tempfile.TemporaryDirectory() as folder:
         empty = os.path.join(folder, "none.json")
         with open(empty, "w"):
             pass
         try:
-            ask(NAME, "open", [given.ballots, given.manifest, empty], "--seed=none", *contest)
+            ask(NAME, "open", [given.ballots, given.manifest, empty], "--seed=none", *options)
         except Refusal as refusal:
             if refusal.status == 2 and refusal.text.startswith(f"raire: {empty}: F1 at 0\n"):
                 return
@@ -39,25 +39,69 @@ def plural(number, one):
     return f"{number} {one}{'s' * (number != 1)}"
 
 
-def counts(contest, batches, recorded):
-    """The lines of the answer."""
-    cards = sum(batches.values())
-    without = (card for batch, size in batches.items() for card in (f"{batch}_{k}" for k in range(1, size + 1)) if card not in recorded)
-    told, count = " ".join(itertools.islice(without, MOST_TOLD)), cards - len(recorded)
+def cards_of(batches):
+    return (f"{batch}_{k}" for batch, size in batches.items() for k in range(1, size + 1))
+
+
+def without(batches, recorded):
+    """How many cards have no record, and which."""
+    told = ", ".join(itertools.islice((card for card in cards_of(batches) if card not in recorded), MOST_TOLD))
+    count = sum(batches.values()) - len(recorded)
     more = f" and {count - MOST_TOLD} more" if count > MOST_TOLD else ""
-    yield from (f"contest {contest}", f"cards {cards}", f"records {len(recorded)}")
-    yield f"cards without a record {count}" + (f": {told}" if told else "") + more
+    return f"cards without a record {count}" + (f": {told}" if told else "") + more
+
+
+def unnamed(batches, recorded):
+    """The batches of which no record names a card."""
     named = {records.batch_of(card)[0] for card in recorded}
-    for batch, size in batches.items():
-        if batch not in named:
-            yield f"batch {batch}: {plural(size, 'card')}, and no record names one"
+    return {batch: size for batch, size in batches.items() if batch not in named}
+
+
+def of_unnamed(batches, empty):
+    """A line for each of them. One with as many cards as all others together is most likely their total."""
+    cards = sum(batches.values())
+    for batch, size in empty.items():
+        total = "; ALL OTHERS TOGETHER HAVE AS MANY: a total that was left in the manifest?" if 2 * size == cards and len(batches) > 2 else ""
+        yield f"batch {batch}: {plural(size, 'card')}, and no record names one{total}"
+
+
+def counts(contest, batches, recorded):
+    """The lines about one contest."""
+    yield from (f"contest {contest}", f"cards {sum(batches.values())}", f"records {len(recorded)}", without(batches, recorded))
+    yield from of_unnamed(batches, unnamed(batches, recorded))
+
+
+def counts_of_all(batches, recorded):
+    """The lines about several contests: a line for each, then the batches that no record of any names."""
+    yield f"cards {sum(batches.values())}"
+    for contest, cards in recorded.items():
+        empty = unnamed(batches, cards)
+        other = {batch: size for batch, size in batches.items() if batch not in empty}
+        more = f"; and {plural(sum(empty.values()), 'card')} in batches that have none: {', '.join(empty)}" if empty else ""
+        yield f"contest {contest}: records {len(cards)}, {without(other, cards)}{more}"
+    yield from of_unnamed(batches, unnamed(batches, set().union(*recorded.values())))
 
 
 def answer(words):
     given = words_of(words)
     see_output(NAME, [given.ballots, given.manifest])
-    judge(given)
+    listed = contests_in(given)
+    for contest in listed or [given.contest]:
+        judge(given, contest)
     ballots, manifest = read(NAME, given.ballots), read(NAME, given.manifest)
-    contest = given.contest if given.contest is not None else next(iter(records.contests_of(ballots)))
-    recorded = {ballot for ballot, _ in records.ballots_of(ballots, contest)}
-    return "".join(f"{line}\n" for line in counts(contest, records.batches_of(manifest), recorded)), ""
+    named = listed or [given.contest if given.contest is not None else next(iter(records.contests_of(ballots)))]
+    recorded = records.cards_by_contest(ballots, named)
+    batches = records.batches_of(manifest)
+    lines = counts_of_all(batches, recorded) if listed else counts(named[0], batches, recorded[named[0]])
+    return "".join(f"{line}\n" for line in lines), ""
+
+
+def contests_in(given):
+    """All contests of a file that has several, where none is named. What is no ballot file is for the program to refuse."""
+    if given.contest is not None:
+        return []
+    try:
+        listed = list(records.contests_of(read(NAME, given.ballots)))
+    except (ValueError, LookupError, StopIteration):
+        return []
+    return listed if len(listed) > 1 else []

@@ -177,8 +177,8 @@ class Told:
         self.see_overvotes(len(over), sum(map(len, over.values())), "rank", place)
         for rank in hidden:
             marks[rank] = {OVERVOTED}
-        blank = max(contest.most_rank, *marks, 0) - len(marks)
-        self.see_undervotes(not marks, blank, place)
+        most = max(contest.most_rank, *marks, 0) - sum(len(choices) == 1 and choices != {OVERVOTED} for choices in marks.values())
+        self.see_undervotes(not marks, most, place)
         return len(hidden)
 
     def see_unranked(self, contest, marks, others, place):

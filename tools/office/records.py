@@ -9,6 +9,7 @@ import itertools
 
 MARK = b"\xef\xbb\xbf"
 MISSING = "missing"
+MARKS = "marks"  # of a file of marks: behind it stand ranks, each with who is marked there
 
 csv.field_size_limit(2**31 - 1)
 
@@ -63,6 +64,17 @@ def ballots_of(data, contest):
             yield ballot, ranking_of(preferences)
 
 
+def cards_by_contest(data, contests):
+    """The ids of the ballots of each of these contests."""
+    found = {contest: set() for contest in contests}
+    numbered = rows_of(data)
+    _, (count, *_) = next(numbered)
+    for _, (name, ballot, *_) in itertools.islice(numbered, int(count), None):
+        if name in found:
+            found[name].add(ballot)
+    return found
+
+
 def ranking_of(preferences):
     return tuple(dict.fromkeys(filter(None, preferences)))
 
@@ -83,22 +95,56 @@ def batch_of(card):
 # ---- seen files, which are judged here
 
 def seen_of(data):
-    """What was seen of each card, in the file's order: who is ranked, or MISSING."""
+    """What was seen of each card, in the file's order: who is ranked, the Marks of a file of marks, or MISSING."""
     seen, places = {}, {}
-    for at, (card, *reading) in rows_of(data):
+    for at, fields in rows_of(data):
+        see_quotes(at, fields)
+        card, *reading = fields
         if not any(reading):
-            raise Broken("V1", at, f"the card {card} has no reading")
-        if reading[0] not in ("ballot", MISSING):
-            raise Broken("V1", at, f"the card {card} has neither ballot nor missing behind it, but {reading[0] or 'nothing'}")
+            raise Broken("V1", at, f"the card {short(card)} has no reading")
+        if reading[0] not in ("ballot", MISSING, MARKS):
+            raise Broken("V1", at, f"the card {short(card)} has neither ballot nor missing behind it, but {short(reading[0]) or 'nothing'}")
         if reading[0] == MISSING and any(reading[1:]):
             raise Broken("V1", at, f"the card {card} is missing, and something stands behind that")
         if card in seen:
             raise Broken("V3", at, f"the card {card} stood before, in record {places[card]}")
-        seen[card] = MISSING if reading[0] == MISSING else ranking_of(reading[1:])
+        seen[card] = MISSING if reading[0] == MISSING else marks_of(at, card, reading[1:]) if reading[0] == MARKS else ranking_of(reading[1:])
         places[card] = at
     return seen
 
 
+class Marks(tuple):
+    """What is marked on a card: pairs of a rank and a candidate, by rank and then by candidate."""
+
+
+def marks_of(at, card, fields):
+    while fields and not fields[-1]:
+        fields = fields[:-1]
+    ranks = fields[::2]
+    if len(fields) % 2 or not all(rank.isascii() and rank.isdigit() and int(rank) >= 1 for rank in ranks):
+        raise Broken("V1", at, f"the card {card} has marks, and behind that no ranks with a candidate each")
+    return Marks(sorted({(int(rank), candidate) for rank, candidate in zip(ranks, fields[1::2])}))
+
+
+def see_quotes(at, fields):
+    """A quote that isn't closed takes the lines behind it into its field: no id has a line's end."""
+    open_quote = next((field for field in fields if "\n" in field or "\r" in field), None)
+    if open_quote is not None:
+        raise Broken("V1", at, f'a quote isn\'t closed in its line, before {short(open_quote.splitlines()[0])}; take it out, or close it')
+
+
+def short(text, most=70):
+    """A text of a file on one line, and no longer than `most`."""
+    text = "".join(c if c.isprintable() else " " for c in text)
+    return text if len(text) <= most else text[: most - 2] + ".."
+
+
 def seen_text(seen):
     """The text of a seen file."""
-    return text_of([card, MISSING] if reading == MISSING else [card, "ballot", *reading] for card, reading in seen.items())
+    return text_of([card, *seen_fields(reading)] for card, reading in seen.items())
+
+
+def seen_fields(reading):
+    if reading == MISSING:
+        return [MISSING]
+    return [MARKS, *(field for pair in reading for field in pair)] if isinstance(reading, Marks) else ["ballot", *reading]

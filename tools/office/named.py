@@ -1,0 +1,103 @@
+#!/usr/bin/python3
+"""The lines of ./raire tabulate, plan, report, check, poll and contests with names for ids: ./raire COMMAND .. --names NAMES."""
+import json
+import os
+import re
+import subprocess
+import sys
+
+sys.dont_write_bytecode = True
+
+import called
+import terms
+from ask import path_of_program, read, Refusal
+from words import put
+
+NAME = "names"
+
+
+def parted(words):
+    """The path of the names, and the other words."""
+    rest, path, words = [], None, list(words)
+    while words:
+        word = words.pop(0)
+        if word == "--":
+            return path, [*rest, word, *words]
+        if word == "--names" or word.startswith("--names="):
+            if path is not None:
+                raise Refusal(1, f"{NAME}: --names stands twice\n")
+            path = word.partition("=")[2] if "=" in word else (words.pop(0) if words and not words[0].startswith("-") else "")
+            if not path:
+                raise Refusal(1, f"{NAME}: --names wants a file: records contest,id,name, as ./raire convert --names writes it\n")
+        else:
+            rest.append(word)
+    return path, rest
+
+
+def contest_of(words):
+    """The contest that the words are about: that of --contest, or of an assertion file or a session among the files."""
+    given = terms.value_of("contest", words)
+    for path in [] if given is not None else [word for word in words[1:] if not word.startswith("-") and os.path.isfile(word)]:
+        try:
+            with open(path, encoding="utf-8") as file:
+                found = json.load(file) if file.read(1) == "{" and file.seek(0) == 0 else None
+            given = given or (found or {}).get("contest")
+        except (OSError, ValueError, RecursionError):
+            continue
+    return given
+
+
+class Lines:
+    """Puts names for ids in one line after the other; a line `contest ID` says which contest the next ones are about."""
+
+    def __init__(self, names, contest):
+        self.names = names
+        self.see(contest)
+
+    def see(self, contest):
+        self.of = self.names.of(contest)
+        self.one = "|".join(map(re.escape, sorted(self.of, key=len, reverse=True))) or "(?!)"
+
+    def listed(self, text):
+        return "; ".join(self.of.get(c, c) for c in text.split(","))
+
+    def name(self, c):
+        return self.of.get(c, c)
+
+    def shown(self, line):
+        if line.startswith("contest "):
+            self.see(line.removeprefix("contest "))
+            return f"contest {self.names.contest(line.removeprefix('contest '))}"
+        if re.match("round [0-9]+: ", line):
+            return re.sub(rf" ({self.one})=(?=[0-9]+( |$))", lambda found: f" {self.name(found[1])}=", line)
+        claim = re.fullmatch(rf"((?:no: assertion )?NE[BN]|.*? NE[BN]) ({self.one}) ({self.one})(?: \{{([^}}]*)\}})?(.*)", line)
+        if claim:
+            rest = f" {{{self.listed(claim[4])}}}" if claim[4] is not None else ""
+            return f"{claim[1]} {self.name(claim[2])}, {self.name(claim[3])}{rest}{claim[5]}"
+        told = re.fullmatch("(tied |eliminated |winner |candidate |order |no: winner is |no: order )(.*?)( stands)?", line)
+        return f"{told[1]}{self.listed(told[2])}{told[3] or ''}" if told else line
+
+
+def answer(words):
+    path, rest = parted(words)
+    try:
+        names = called.Called(path, read(NAME, path))
+    except called.BadNames as bad:
+        raise Refusal(2, f"{NAME}: {bad}\n") from None
+    ran = subprocess.run([path_of_program(NAME), *rest], stdin=subprocess.DEVNULL, stdout=subprocess.PIPE)
+    lines = Lines(names, contest_of(rest))
+    return ran.returncode, "".join(f"{lines.shown(line)}\n" for line in ran.stdout.decode(errors="replace").splitlines())
+
+
+def main():
+    try:
+        status, text = answer(sys.argv[1:])
+        put(NAME, text)
+    except Refusal as refusal:
+        sys.stderr.write(refusal.text)
+        return refusal.status
+    return status
+
+
+if __name__ == "__main__":
+    sys.exit(main())

@@ -1,0 +1,117 @@
+"""The rounds of a contest up to a tie, or on by the order that breaks ties: counted here, outside of the proof."""
+import called
+import records
+from ask import ask, read, Refusal
+from words import see_output, Words
+
+NAME, TIE = "rounds", 3
+
+
+def words_of(words):
+    parser = Words(NAME)
+    parser.add_argument("ballots")
+    parser.option("--contest", "--ties", "--names")
+    return parser.parse_intermixed_args(words)
+
+
+def judged(given):
+    """The text of the program's tabulation; None where the contest is tied, or where its ties are more than the budget can follow."""
+    options = [f"--contest={given.contest}"] if given.contest is not None else []
+    try:
+        return ask(NAME, "tabulate", [given.ballots], *options)
+    except Refusal as refusal:
+        if refusal.status not in (3, 4):
+            raise
+        return None
+
+
+def order_of(given, ids):
+    """The candidates who go first where they tie, by the order that is given."""
+    order = [each.strip() for each in given.ties.split(",")] if given.ties is not None else []
+    for each in order:
+        if each not in ids:
+            raise Refusal(2, f"{NAME}: --ties names {each or 'nobody'}, who is no candidate; there are: {'; '.join(ids)}\n")
+    if len(set(order)) < len(order):
+        raise Refusal(2, f"{NAME}: --ties names a candidate twice\n")
+    return order
+
+
+class Tied(Exception):
+    """Candidates share the least votes, and the order doesn't say which of them goes first."""
+
+
+def gone_of(votes, tied, order, lines, shown):
+    """Who is eliminated of those who have the least votes."""
+    if len(tied) == 1:
+        return tied[0]
+    lines.append(f"tied {shown(tied)}")
+    listed = [c for c in order if c in tied]
+    if len(listed) == len(tied):
+        lines.append(f"the order that is given puts {shown(listed[:1])} first of them")
+        return listed[0]
+    if votes[tied[0]] == 0:
+        lines.append("nobody has a vote for them, so whichever goes first, the votes stay the same")
+        return tied[0]
+    raise Tied(tied)
+
+
+def counted(ids, rankings, order, shown):
+    """The lines of the rounds, and who is tied where the order doesn't go on."""
+    lines, remaining = [], list(ids)
+    for number in range(1, len(ids)):
+        votes, exhausted = dict.fromkeys(remaining, 0), 0
+        for ranking, ballots in rankings.items():
+            first = next((c for c in ranking if c in votes), None)
+            if first is None:
+                exhausted += ballots
+            else:
+                votes[first] += ballots
+        lines.append(f"round {number}: {' '.join(f'{shown([c])}={votes[c]}' for c in remaining)} exhausted={exhausted}")
+        tied = [c for c in remaining if votes[c] == min(votes.values())]
+        try:
+            gone = gone_of(votes, tied, order, lines, shown)
+        except Tied:
+            return lines, tied
+        lines.append(f"eliminated {shown([gone])}")
+        remaining.remove(gone)
+    return [*lines, f"winner {shown(remaining)}"], None
+
+
+def names_of(given, contest):
+    try:
+        found = called.Called(given.names, read(NAME, given.names)) if given.names is not None else called.Nobody()
+    except called.BadNames as bad:
+        raise Refusal(2, f"{NAME}: {bad}\n") from None
+    return found
+
+
+def answer(words):
+    given = words_of(words)
+    see_output(NAME, filter(None, [given.ballots, given.names]))
+    text = judged(given)
+    data = read(NAME, given.ballots)
+    contests = records.contests_of(data)
+    contest = given.contest if given.contest is not None else next(iter(contests))
+    names, order = names_of(given, contest), order_of(given, contests[contest])
+    called_of = names.of(contest)
+
+    def shown(ids):
+        called_so = [called_of.get(c, c) for c in ids]
+        return ("; " if any("," in name for name in called_so) else ",").join(called_so)
+
+    rankings = {}
+    for _, ranking in records.ballots_of(data, contest):
+        rankings[ranking] = rankings.get(ranking, 0) + 1
+    lines, tied = counted(contests[contest], rankings, order, shown)
+    head = [f"contest {names.contest(contest)}", f"records {sum(rankings.values())}"]
+    out = "".join(f"{line}\n" for line in [*head, *lines])
+    if tied:
+        raise Refusal(TIE, f"{out}{NAME}: {shown(tied)} tie: --ties gives the order in which those who tie are eliminated, the first of it first\n")
+    return out, account(text, lines, order, shown)
+
+
+def account(text, lines, order, shown):
+    told = "counted by this tool alone: nothing of it is proved"
+    if order:
+        return f"{NAME}: {told}. Where candidates tie, the first of these is eliminated: {shown(order)}\n"
+    return f"{NAME}: {told}{'' if text is None else '; ./raire tabulate elects the same' if text.splitlines()[-1] == lines[-1] else ''}\n"

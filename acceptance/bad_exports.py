@@ -68,14 +68,14 @@ def dominion_contest_on_no_card(folder):
 def dominion_contest_that_elects_two(folder):
     contests = {"Version": "5.10", "List": [{"Description": "Board", "Id": 5, "VoteFor": 2, "NumOfRanks": 0}]}
     words = dominion(folder, session(1), files={"ContestManifest.json": contests})
-    return [*words, "--contest", "Board"], 2, "in: contest 5 (Board) elects 2 (VoteFor), so it is no contest of instant runoff"
+    return [*words, "--contest", "Board"], 2, "in: contest 5 (Board) elects 2, so it is no contest of instant runoff; --as pairs audits it by pairs of candidates"
 
 
 @case
 def dominion_no_ranked_contest(folder):
     contests = {"Version": "5.10", "List": [{"Description": "Sheriff", "Id": 5, "VoteFor": 1, "NumOfRanks": 0}]}
     words = dominion(folder, session(1), files={"ContestManifest.json": contests})
-    return words, 2, "in: no contest to convert; --contest names one of: 5 (Sheriff): isn't ranked (NumOfRanks)"
+    return words, 2, "in: no contest to convert; --contest names one of: 5 (Sheriff): isn't ranked (NumOfRanks is 0)"
 
 
 @case
@@ -230,7 +230,7 @@ def nist_unknown_contest(folder):
 @case
 def nist_contest_of_three_winners(folder):
     words = [*nist(folder, report(contest={"NumberElected": 3})), "--contest", "Mayor"]
-    return words, 2, "report1.json: contest c (Mayor) elects 3 (NumberElected), so it is no contest of instant runoff"
+    return words, 2, "report1.json: contest c (Mayor) elects 3, so it is no contest of instant runoff; --as pairs audits it by pairs of candidates"
 
 
 @case
@@ -474,14 +474,14 @@ def preflib(folder, *changes):
 
 @case
 def preflib_of_before_2022(folder):
-    told = ("a.soi: line 1: '# DATA TYPE: soi' or toi was looked for in the lines at the head (PrefLib's form since 2022; files of before begin with a "
-            "number)")
+    told = ("a.soi: line 1: '# DATA TYPE: soi' or another of soc, soi, toc, toi was looked for in the lines at the head (PrefLib's form since 2022; files of "
+            "before begin with a number)")
     return ["preflib", put(folder, "a.soi", "2\n1,Ash\n2,Birch\n1,1,1\n1,1,2\n")], 2, told
 
 
 @case
 def preflib_of_another_type(folder):
-    return preflib(folder, ("TYPE: soi", "TYPE: cat")), 2, "a.soi: line 2: the data type is cat; soi or toi was looked for"
+    return preflib(folder, ("TYPE: soi", "TYPE: cat")), 2, "a.soi: line 2: the data type is cat; one of soc, soi, toc, toi was looked for"
 
 
 @case
@@ -519,6 +519,506 @@ def preflib_no_order(folder):
 def preflib_a_name_is_missing(folder):
     told = "a.soi: NUMBER ALTERNATIVES is 2, and there are names of 1"
     return preflib(folder, ("# ALTERNATIVE NAME 2: Birch\n", "")), 2, told
+
+
+# ---- parts and counts of Dominion's export
+
+BY_OTHER = "--marks made takes the marks that aren't counted too, and --counts ignore doesn't look at these numbers"
+PARTS = {"CvrExport.json": None, **{f"CvrExport_{part}.json": {"Version": "5.10", "Sessions": [session(part)]} for part in (1, 3)}}
+
+
+def told(number, over, under, *marks, is_vote=True):
+    """A session whose contest tells its overvotes and undervotes."""
+    made = session(number, *marks)
+    vote = made["Original"]["Cards"][0]["Contests"][0]
+    vote |= {"Overvotes": over, "Undervotes": under}
+    for mark in vote["Marks"]:
+        mark["IsVote"] = is_vote
+    return made
+
+
+@case
+def dominion_part_that_is_missing(folder):
+    return dominion(folder, files=PARTS), 2, "in: there is no CvrExport_2.json, and CvrExport_3.json is there: a part of the export is missing"
+
+
+@case
+def dominion_first_parts_that_are_missing(folder):
+    files = {**PARTS, "CvrExport_1.json": None}
+    return dominion(folder, files=files), 2, "in: there is no CvrExport_1.json, no CvrExport_2.json, and CvrExport_3.json is there: a part of the export is missing"
+
+
+@case
+def dominion_part_beside_a_whole(folder):
+    files = {"CvrExport_1.json": PARTS["CvrExport_1.json"]}
+    return dominion(folder, session(2), files=files), 2, "CvrExport.json: is an export of its own, and CvrExport_1.json is a part of another one; give one export at a time"
+
+
+@case
+def dominion_cards_that_are_missing(folder):
+    words = [*dominion(folder, session(1), session(2)), "--cards", "3"]
+    return words, 2, "in: 2 cards were read, and --cards says 3: see whether a file is missing, or given twice"
+
+
+@case
+def dominion_overvote_without_marks(folder):
+    words = dominion(folder, told(1, 1, 1, (1, 1)))
+    return words, 2, f"CvrExport.json: session 1: contest 5: Overvotes is 1, and no rank has too many marks; {BY_OTHER}"
+
+
+@case
+def dominion_overvote_that_is_not_told(folder):
+    words = dominion(folder, told(1, 0, 0, (1, 1), (2, 1)))
+    return words, 2, f"CvrExport.json: session 1: contest 5: Overvotes is 0, and 1 rank has too many marks; {BY_OTHER}"
+
+
+@case
+def dominion_more_overvotes_than_marks(folder):
+    words = dominion(folder, told(1, 4, 0, (1, 1), (2, 1)))
+    return words, 2, f"CvrExport.json: session 1: contest 5: Overvotes is 4, and 1 rank has too many marks; {BY_OTHER}"
+
+
+@case
+def dominion_more_overvotes_than_uncounted_marks(folder):
+    words = dominion(folder, told(1, 3, 0, (1, 1), (2, 1), is_vote=False))
+    return words, 2, f"CvrExport.json: session 1: contest 5: Overvotes is 3, and 1 rank has too many marks; {BY_OTHER}"
+
+
+@case
+def dominion_no_undervote_and_no_mark(folder):
+    return dominion(folder, told(1, 0, 0)), 2, f"CvrExport.json: session 1: contest 5: Undervotes is 0, and by the marks it is 1 to 3; {BY_OTHER}"
+
+
+@case
+def dominion_more_undervotes_than_ranks(folder):
+    words = dominion(folder, told(1, 0, 3, (1, 1)))
+    return words, 2, f"CvrExport.json: session 1: contest 5: Undervotes is 3, and by the marks it is 0 to 2; {BY_OTHER}"
+
+
+@case
+def dominion_uncounted_mark_and_no_undervote(folder):
+    words = dominion(folder, told(1, 0, 0, (1, 1), is_vote=False))
+    return words, 2, f"CvrExport.json: session 1: contest 5: Undervotes is 0, and by the marks it is 1 to 3; {BY_OTHER}"
+
+
+def unranked(folder, seats, *sessions):
+    contests = {"Version": "5.10", "List": [{"Description": "Board", "Id": 5, "VoteFor": seats, "NumOfRanks": 0}]}
+    return dominion(folder, *sessions, files={"ContestManifest.json": contests})
+
+
+@case
+def dominion_contest_that_is_not_ranked(folder):
+    words = [*unranked(folder, 1, session(1)), "--contest", "5"]
+    return words, 2, "in: contest 5 (Board) isn't ranked (NumOfRanks is 0), so it has no order of candidates; --as plurality takes the one who is marked"
+
+
+@case
+def dominion_plurality_of_two_seats(folder):
+    words = [*unranked(folder, 2, session(1)), "--contest", "5", "--as", "plurality"]
+    return words, 2, "in: contest 5 (Board) elects 2; --as pairs audits it by pairs of candidates"
+
+
+@case
+def dominion_plurality_of_a_ranked_contest(folder):
+    return [*dominion(folder, session(1)), "--contest", "Mayor", "--as", "plurality"], 2, "in: contest 5 (Mayor) is ranked: leave --as plurality away"
+
+
+@case
+def dominion_pairs_that_tie(folder):
+    words = [*unranked(folder, 1, session(1, (1, 1)), session(2, (2, 1))), "--as", "pairs"]
+    return words, 2, "in: contest 5 (Board) elects 1, and these share the last seat with 1 votes: Ash; Birch"
+
+
+@case
+def dominion_pairs_without_a_loser(folder):
+    words = [*unranked(folder, 2, session(1, (1, 1))), "--as", "pairs"]
+    return words, 2, "in: contest 5 (Board) elects 2, and has 2 candidates: there is no loser, so no pair"
+
+
+@case
+def dominion_too_few_undervotes_of_two_seats(folder):
+    words = [*unranked(folder, 2, told(1, 0, 0, (1, 1))), "--as", "pairs"]
+    return words, 2, f"CvrExport.json: session 1: contest 5: Undervotes is 0, and by the marks it is 1 to 1; {BY_OTHER}"
+
+
+@case
+def dominion_overvote_of_one_seat_that_is_not_there(folder):
+    words = [*unranked(folder, 1, told(1, 1, 0, (1, 1))), "--as", "plurality"]
+    return words, 2, f"CvrExport.json: session 1: contest 5: Overvotes is 1, and no contest has too many marks; {BY_OTHER}"
+
+
+# ---- Dominion as CSV
+
+def by_columns(folder, *rows, ranks=2, version="5.10.50.85", **other):
+    title = other.get("title", f"Mayor (Number of positions=1, Number of ranks={ranks})")
+    choices = other.get("choices", [f"{name}({rank})" for rank in (1, 2) for name in ("Ash", "Birch")])
+    names = other.get("names", ["CvrNumber", "TabulatorNum", "BatchId", "RecordId", "ImprintedId"])
+    blank = [""] * len(names)
+    head = [["Town", version], [*blank, *[title] * len(choices)], [*blank, *choices], [*names, *[""] * len(choices)]]
+    text = "".join(",".join(f'"{cell}"' for cell in row) + "\n" for row in [*head, *rows])
+    return ["dominion-csv", put(folder, "a.csv", text)]
+
+
+ONE, TWO = ["1", "4", "1", "1", "4-1-1", "1", "0", "0", "1"], ["2", "4", "1", "2", "4-1-2", "1", "0", "0", "1"]
+
+
+@case
+def dominion_csv_of_another_version(folder):
+    return by_columns(folder, ONE, version="4.1"), 2, "a.csv: line 1: the version, the second field, is 4.1; a Version 5 was looked for, such as 5.10.50.85 (Dominion's CSV)"
+
+
+@case
+def dominion_csv_cut_off_at_its_head(folder):
+    return ["dominion-csv", put(folder, "a.csv", "Town,5.10.50.85\n")], 2, "a.csv: has 1 of the 4 lines at its head"
+
+
+@case
+def dominion_csv_without_batch(folder):
+    words = by_columns(folder, ONE, names=["CvrNumber", "TabulatorNum", "Batch", "RecordId", "ImprintedId"])
+    return words, 2, "a.csv: the four lines at the head: no column is called BatchId in the fourth (Dominion's CSV)"
+
+
+@case
+def dominion_csv_title_without_seats(folder):
+    told = "a.csv: the four lines at the head: column 6: Mayor doesn't end in (Vote For=1) or (Number of positions=1, Number of ranks=4)"
+    return by_columns(folder, ONE, title="Mayor"), 2, told
+
+
+@case
+def dominion_csv_choice_without_a_rank(folder):
+    told = "a.csv: the four lines at the head: column 7: Birch doesn't end in a rank from 1 to 2 in brackets, as in Ash(1)"
+    return by_columns(folder, ONE, choices=["Ash(1)", "Birch", "Ash(2)", "Birch(2)"]), 2, told
+
+
+@case
+def dominion_csv_choice_twice(folder):
+    told = "a.csv: the four lines at the head: column 7: a second column is Ash, rank 1 of Mayor"
+    return by_columns(folder, ONE, choices=["Ash(1)", "Ash(1)", "Ash(2)", "Birch(2)"]), 2, told
+
+
+@case
+def dominion_csv_short_line(folder):
+    return by_columns(folder, ONE, TWO[:-1]), 2, "a.csv: line 6: has 8 fields, and its head has 9"
+
+
+@case
+def dominion_csv_two_in_a_cell(folder):
+    told = "a.csv: line 5: contest Mayor, column 6: is 2, where 1 or 0 was looked for, or nothing where the card doesn't have the contest"
+    return by_columns(folder, [*ONE[:5], "2", "0", "0", "1"]), 2, told
+
+
+@case
+def dominion_csv_cards_that_are_missing(folder):
+    told = "a.csv: CvrNumber goes from 1 to 3 on 2 cards: cards are missing, or stand twice; --counts ignore takes what is there"
+    return by_columns(folder, ONE, ["3", *TWO[1:]]), 2, told
+
+
+@case
+def dominion_csv_that_begins_later(folder):
+    told = "a.csv: CvrNumber goes from 2 to 2 on 1 cards: cards are missing, or stand twice; --counts ignore takes what is there"
+    return by_columns(folder, TWO), 2, told
+
+
+@case
+def dominion_csv_withheld_without_an_imprint(folder):
+    return by_columns(folder, ["1", "4", "1", "X", "4-2-1", *ONE[5:]]), 2, "a.csv: line 5: RecordId is X, and ImprintedId isn't 4-1- and a number"
+
+
+@case
+def dominion_csv_two_cards_of_one_id(folder):
+    return by_columns(folder, ONE, ["2", *ONE[1:]]), 2, "a.csv: line 6: a second card has the id 4_1_1"
+
+
+@case
+def dominion_csv_of_two_winners(folder):
+    words = [*by_columns(folder, ONE, title="Mayor (Number of positions=2, Number of ranks=2)"), "--contest", "Mayor"]
+    return words, 2, "a.csv: contest Mayor elects 2, so it is no contest of instant runoff; --as pairs audits it by pairs of candidates"
+
+
+@case
+def dominion_csv_another_head(folder):
+    words = by_columns(folder, ONE)
+    other = put(folder, "b.csv", open(os.path.join(folder, "a.csv")).read().replace("Birch", "Cedar"))
+    return [*words, other], 2, "b.csv: has another head than the first file"
+
+
+# ---- Hart
+
+def hart(folder, *cards):
+    for number, card in enumerate(cards, 1):
+        put(folder, f"{number}.xml", card)
+    return ["hart", folder]
+
+
+def card_of(number, options, batch=1, contest="<Name>Mayor</Name><Id>m</Id>", root="Cvr"):
+    contests = f"<Contests><Contest>{contest}<Options>{options}</Options></Contest></Contests>"
+    return f"<{root}>{contests}<BatchSequence>{number}</BatchSequence><BatchNumber>{batch}</BatchNumber></{root}>"
+
+
+def option_of(name, value):
+    return f"<Option><Name>{name}</Name><Id>{name}</Id><Value>{value}</Value></Option>"
+
+
+BOTH = option_of("Ash", "10") + option_of("Birch", "01")
+
+
+@case
+def hart_without_files(folder):
+    put(folder, "a.txt", "")
+    return ["hart", folder], 2, "in: has no .xml file; a file for each card was looked for (Hart's CVR folders)"
+
+
+@case
+def hart_of_another_root(folder):
+    return hart(folder, card_of(1, BOTH, root="Ballot")), 2, "1.xml: is a Ballot; a Cvr was looked for (Hart's form)"
+
+
+@case
+def hart_cut_off(folder):
+    return hart(folder, card_of(1, BOTH), card_of(2, BOTH)[:-4]), 2, "2.xml: no XML, or cut off: unclosed token: line 1, column 280"
+
+
+@case
+def hart_value_that_is_none(folder):
+    return hart(folder, card_of(1, option_of("Ash", "12"))), 2, "1.xml: contest m: the Value of Ash is 12; a 0 or 1 for each rank was looked for"
+
+
+@case
+def hart_option_without_an_id(folder):
+    return hart(folder, card_of(1, "<Option><Name>Ash</Name><Value>10</Value></Option>")), 2, "1.xml: contest m: Option has no Id"
+
+
+@case
+def hart_without_a_batch(folder):
+    return hart(folder, card_of(1, BOTH, batch="")), 2, "1.xml: Cvr has no BatchNumber"
+
+
+@case
+def hart_contest_of_two_names(folder):
+    words = hart(folder, card_of(1, BOTH), card_of(2, BOTH, contest="<Name>Mayer</Name><Id>m</Id>"))
+    return words, 2, "2.xml: contest m: is called Mayer, and Mayor on an earlier card"
+
+
+@case
+def hart_contest_twice_on_a_card(folder):
+    twice = card_of(1, BOTH).replace("<Contests>", "<Contests><Contest><Name>Mayor</Name><Id>m</Id><Options/></Contest>")
+    return hart(folder, twice), 2, "1.xml: contest m: stands twice on the card"
+
+
+@case
+def hart_two_cards_of_one_id(folder):
+    return hart(folder, card_of(1, BOTH), card_of(1, BOTH)), 2, "2.xml: a second card has the id 1_1"
+
+
+@case
+def hart_no_ranked_contest(folder):
+    words = hart(folder, card_of(1, option_of("Ash", "1")))
+    return words, 2, "in: no contest to convert; --contest names one of: m (Mayor): isn't ranked (each Value is one digit)"
+
+
+@case
+def hart_pairs_without_seats(folder):
+    words = [*hart(folder, card_of(1, option_of("Ash", "1"))), "--as", "pairs"]
+    return words, 2, "1.xml: contest m: the export doesn't say how many the contest elects: --seats says it"
+
+
+# ---- Clear Ballot
+
+CLEAR = "RowNumber,BoxID,BoxPosition,BallotID,Status,Remade,Choice_1_1:Mayor:Vote For 1:Ash:NON,Choice_2_1:Mayor:Vote For 1:Birch:NON\n"
+
+
+def clear_ballot(folder, *rows, head=CLEAR):
+    return ["clear-ballot", put(folder, "a.csv", head + "".join(row + "\n" for row in rows)), "--contest", "Mayor"]
+
+
+@case
+def clear_ballot_without_a_contest(folder):
+    words = clear_ballot(folder, "1,b,1,1,,,1,2")[:2]
+    return words, 2, "a.csv: no contest to convert; --contest names one of: Mayor: isn't said to be ranked (Clear Ballot's form doesn't say it of any)"
+
+
+@case
+def clear_ballot_of_another_form(folder):
+    return clear_ballot(folder, head="id,1st\n"), 2, "a.csv: line 1: no column begins with Choice_, which was looked for (Clear Ballot's form)"
+
+
+@case
+def clear_ballot_choice_without_a_party(folder):
+    told = ("a.csv: line 1: column 7: Choice_1_1:Mayor:Vote For 1:Ash isn't Choice_, contest, Vote For and a number, choice and party with colons between "
+            "(Clear Ballot's form)")
+    return clear_ballot(folder, head=CLEAR.replace(":Ash:NON", ":Ash")), 2, told
+
+
+@case
+def clear_ballot_row_that_is_missing(folder):
+    told = "a.csv: line 3: RowNumber is 3 behind 1: rows are missing, or stand twice; --counts ignore takes what is there"
+    return clear_ballot(folder, "1,b,1,1,,,1,2", "3,b,3,3,,,1,2"), 2, told
+
+
+@case
+def clear_ballot_cell_that_is_no_rank(folder):
+    told = "a.csv: line 2: contest Mayor, column 7: is 1;2, where a number from 0 on was looked for, or nothing where the card doesn't have the contest"
+    return clear_ballot(folder, "1,b,1,1,,,1;2,2"), 2, told
+
+
+@case
+def clear_ballot_without_boxes(folder):
+    told = "a.csv: line 1: no column is called BoxID; --id says which the card's id is made of"
+    return clear_ballot(folder, head=CLEAR.replace("BoxID", "Box")), 2, told
+
+
+# ---- NIST SP 1500-103 as XML
+
+def xml(folder, body, root="CastVoteRecordReport"):
+    return ["nist", put(folder, "a.xml", f"<{root}>{body}</{root}>")]
+
+
+@case
+def nist_xml_of_another_root(folder):
+    return xml(folder, "<Version>1.0.0</Version>", "Report"), 2, "a.xml: the root is Report; CastVoteRecordReport was looked for (NIST SP 1500-103)"
+
+
+@case
+def nist_xml_without_version(folder):
+    return xml(folder, ""), 2, "a.xml: Version is missing; 1.0.0 was looked for (NIST SP 1500-103)"
+
+
+@case
+def nist_xml_cut_off(folder):
+    return ["nist", put(folder, "a.xml", "<CastVoteRecordReport><Version>1.0")], 2, "a.xml: no XML, or cut off: no element found: line 1, column 34"
+
+
+@case
+def nist_xml_without_elections(folder):
+    return xml(folder, "<Version>1.0.0</Version>"), 2, "a.xml: has no list Election"
+
+
+# ---- words in cells
+
+@case
+def ess_word_that_is_not_known(folder):
+    text = "Cast Vote Record,Mayor Choice 1 of 2,Mayor Choice 2 of 2\n1,Ash,Birch\n2,over vote,Birch\n"
+    told = ("a.csv: line 3: rank 1: over vote is like a word for an overvote, an undervote or a write-in, and is none that is known; --word "
+            "'over vote=overvote' says what it is: overvote, undervote, write-in or candidate")
+    return ["ess", put(folder, "a.csv", text)], 2, told
+
+
+@case
+def plain_blank_that_is_not_known(folder):
+    told = ("a.csv: line 2: rank 2: Blank is like a word for an overvote, an undervote or a write-in, and is none that is known; --word 'Blank=overvote' "
+            "says what it is: overvote, undervote, write-in or candidate")
+    return ["plain", put(folder, "a.csv", "id,1,2\nb_1,Ash,Blank\n")], 2, told
+
+
+@case
+def plain_write_in_with_a_name(folder):
+    told = ("a.csv: line 2: rank 1: Write-in: Jo is like a word for an overvote, an undervote or a write-in, and is none that is known; --word "
+            "'Write-in: Jo=overvote' says what it is: overvote, undervote, write-in or candidate")
+    return ["plain", put(folder, "a.csv", "id,1,2\nb_1,Write-in: Jo,Ash\n")], 2, told
+
+
+@case
+def plain_name_in_capitals(folder):
+    told = ("a.csv: line 3: rank 1: ASH and Ash differ by case or blanks alone; --word 'ASH=Ash' says that they are one, 'ASH=candidate' that they are two")
+    return ["plain", put(folder, "a.csv", "id,1,2\nb_1,Ash,Birch\nb_2,ASH,Birch\n")], 2, told
+
+
+@case
+def plain_name_with_another_blank(folder):
+    told = ("a.csv: line 3: rank 2: Ann  Lee and Ann Lee differ by case or blanks alone; --word 'Ann  Lee=Ann Lee' says that they are one, "
+            "'Ann  Lee=candidate' that they are two")
+    return ["plain", put(folder, "a.csv", "id,1,2\nb_1,Ann Lee,Birch\nb_2,Birch,Ann  Lee\n")], 2, told
+
+
+@case
+def a_word_without_a_meaning(folder):
+    told = "--word wants a cell, = and what it stands for, such as 'over vote=overvote'; it has Ash"
+    return ["plain", put(folder, "a.csv", "id,1\nb_1,Ash\n"), "--word", "Ash"], 1, told
+
+
+@case
+def preflib_alternative_like_a_word(folder):
+    told = ("a.soi: line 7: over vote is like a word for an overvote, an undervote or a write-in, and is none that is known; --word 'over vote=overvote' "
+            "says what it is: overvote, undervote, write-in or candidate")
+    return preflib(folder, ("ALTERNATIVE NAME 2: Birch", "ALTERNATIVE NAME 2: over vote")), 2, told
+
+
+@case
+def preflib_order_that_is_not_complete(folder):
+    told = "a.soi: line 9: has 1 of the 2 alternatives, and orders of this data type have all"
+    return preflib(folder, ("TYPE: soi", "TYPE: soc")), 2, told
+
+
+# ---- RCTab, seen files
+
+@case
+def rctab_of_another_form(folder):
+    return ["rctab", put(folder, "a.csv", "id,first\n1,Ash\n")], 2, "a.csv: line 1: no column is called Rank 1 or rank1, which were looked for (RCTab's form, and the unified one)"
+
+
+@case
+def rctab_without_ids(folder):
+    told = ("a.csv: line 1: no column is called Tabulator Id, Batch Id, Record Id or ballotid, ballot_id, ballot id, cast vote record, cvr id, id; --id says "
+            "which the card's id is made of")
+    return ["rctab", put(folder, "a.csv", "precinct,Rank 1\nP,Ash\n")], 2, told
+
+
+def seen(folder, text, *more, form="seen"):
+    ballots = put(folder, "b.raire", "1\nContest,Mayor,2,Ash,Birch\nMayor,b_1,Ash\n")
+    return [form, put(folder, "seen.csv", text), "--ballots", ballots, *more]
+
+
+@case
+def seen_card_twice(folder):
+    return seen(folder, "b_1,ballot,Ash\nb_1,ballot,Ash\n"), 2, "seen.csv: record 2: the card b_1 stood before"
+
+
+@case
+def seen_nobody_who_is_a_candidate(folder):
+    return seen(folder, "b_1,ballot,ash\n"), 2, "seen.csv: record 1: ash is no candidate of contest Mayor in b.raire"
+
+
+@case
+def seen_without_a_reading(folder):
+    return seen(folder, "b_1,\n"), 2, "seen.csv: record 1: nothing is neither ballot, marks nor missing, nor a contest of b.raire"
+
+
+@case
+def seen_quote_that_is_not_closed(folder):
+    return seen(folder, 'b_1,ballot,"Ash\nb_2,ballot,Ash\n'), 2, "seen.csv: record 1: has a quote that isn't closed in its line"
+
+
+@case
+def marks_without_a_candidate(folder):
+    told = "seen.csv: record 1: behind marks a rank and a candidate were looked for, again and again; there are 3 fields"
+    return seen(folder, "b_1,marks,1,Ash,2\n", form="marks"), 2, told
+
+
+@case
+def marks_of_no_rank(folder):
+    return seen(folder, "b_1,marks,0,Ash\n", form="marks"), 2, "seen.csv: record 1: 0 is no rank"
+
+
+@case
+def marks_of_a_write_in_who_is_no_candidate(folder):
+    told = "seen.csv: record 1: a write-in is marked, and contest Mayor of b.raire has no candidate for write-ins; --write-ins drop passes over them"
+    return seen(folder, "b_1,marks,1,write-in\n", form="marks"), 2, told
+
+
+@case
+def marks_without_ballots(folder):
+    return seen(folder, "b_1,marks\n", form="marks")[:2], 1, "marks wants the candidates: --ballots; ./raire help convert tells its words"
+
+
+@case
+def without_somebody_else(folder):
+    return seen(folder, "b_1,ballot,Ash\n", "--without", "Cedar"), 2, "seen.csv: --without names Cedar, who is no candidate; there are: Ash; Birch"
+
+
+@case
+def skips_of_plurality(folder):
+    words = [*dominion(folder, session(1)), "--as", "plurality", "--skips", "one"]
+    return words, 1, "--skips has no meaning with --as plurality; ./raire help convert tells its words"
 
 
 # ---- words

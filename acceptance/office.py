@@ -1,5 +1,5 @@
 #!/usr/bin/env python3
-"""Tries what an office uses between the draws and the audit: ./raire cards, ./raire agree and ./raire batches.
+"""Tries what an office uses around an audit: ./raire cards, agree, batches, boxes, manifest, rounds, names for ids, and what is said of terms.
 
 acceptance/office.py PROGRAM compares them with the examples' files and with what plain_audit.py draws and reads, and tries
 words and files that are refused. The page to type readings into is tried by acceptance/entry.py. The last line says how
@@ -134,7 +134,7 @@ def card_words(tried):
         (["--after", "40"], "--after wants fewer draws"), (["--after=x"], "--after wants fewer draws"), (["--after=-1"], "--after wants fewer draws"),
         (["--seed", "2"], "--seed stands twice"), (["--page", "--sheet"], "--page, --sheet and --entry are asked for one"), (["more"], "unrecognized"),
         (["--entry"], "--entry wants the candidates"), (["--ballots", BALLOTS], "--ballots and --names are for"), (["--plac=x"], "unrecognized"),
-        (["--contest=1"], "--contest is for"),
+        (["--contest=1"], "--contest is for"), (["--ranks=2"], "--ranks is for"),
     ]:
         tried.refused(1, f"cards: {told}", "cards", *words, *more)
     write("one.csv", "batch,cards\nb,1\n")
@@ -258,10 +258,190 @@ def bad_batches(tried):
         tried.refused(status, told, "batches", *words)
 
 
+# ---- ./raire boxes, of one contest and of all
+
+def counted_boxes(tried):
+    write("m.csv", "batch,cards\nB 1,3\nB 2,2\nTotal,5\n")
+    write("b.raire", "2\nContest,1,2,Ann,Ben\nContest,2,2,Cy,Di\n1,B 1_1,Ann\n1,B 1_3,Ben\n1,B 2_1,Ann\n2,B 2_1,Cy\n2,B 2_2\n")
+    total = "batch Total: 5 cards, and no record names one; ALL OTHERS TOGETHER HAVE AS MANY: a total that was left in the manifest?\n"
+    one = "contest 1\ncards 10\nrecords 3\ncards without a record 7: B 1_2, B 2_2, Total_1, Total_2, Total_3, Total_4, Total_5\n" + total
+    tried.see("boxes of one contest", tried.run("boxes", "b.raire", "m.csv", "--contest=1") == (0, one, ""), tried.run("boxes", "b.raire", "m.csv", "--contest=1"))
+    both = (
+        "cards 10\ncontest 1: records 3, cards without a record 2: B 1_2, B 2_2; and 5 cards in batches that have none: Total\n"
+        "contest 2: records 2, cards without a record 0; and 8 cards in batches that have none: B 1, Total\n" + total
+    )
+    tried.see("boxes of all contests in one call", tried.run("boxes", "b.raire", "m.csv") == (0, both, ""), tried.run("boxes", "b.raire", "m.csv"))
+    write("few.csv", "batch,cards\nB 1,3\nB 2,1\n")
+    tried.refused(2, "raire: b.raire: M7 at 8\n", "boxes", "b.raire", "few.csv")
+
+
+# ---- all cards, marks as they stand, names
+
+def all_cards(tried):
+    write("m.csv", "batch,cards\nB1,2\nB2,1\nB3,2\n")
+    tried.see("all cards", tried.run("cards", "m.csv", "--all") == (0, "batch,number,card,draws\nB1,1,B1_1,\nB1,2,B1_2,\nB2,1,B2_1,\nB3,1,B3_1,\nB3,2,B3_2,\n", ""))
+    tried.see("a sheet of some batches", tried.run("cards", "m.csv", "--all", "--batch", "B3, B1", "--sheet") == (0, "B1_1,\nB1_2,\nB3_1,\nB3_2,\n", ""))
+    for words, told in [
+        (["--all", "--seed=1"], "--all takes all cards: no --seed"), (["--seed=1", "--draws=1", "--batch=B1"], "--batch is for --all"),
+        ([], "the following arguments are required: --seed, --draws (or --all)"), (["--all", "--marks"], "--marks is for --entry"),
+        (["--all", "--entry", "--ballots", BALLOTS, "--ranks=0"], "--ranks wants a number from 1 to 1000"),
+    ]:
+        tried.refused(1, f"cards: {told}", "cards", "m.csv", *words)
+    tried.refused(2, "cards: --batch names B9, and m.csv has no such batch\n", "cards", "m.csv", "--all", "--batch=B9")
+    write("large.csv", "batch,cards\nB1,5001\n")
+    tried.refused(1, "cards: 5,001 cards are more than a page has", "cards", "large.csv", "--all", "--entry", "--ballots", BALLOTS)
+    write("names.csv", 'contest,id,name\n1,,Town council\n1,Ash,"Ash, Ana"\n')
+    page = tried.run("cards", "m.csv", "--all", "--entry", "--marks", "--ranks=3", "--ballots", BALLOTS, "--contest", "Town council seat 3")[1]
+    tried.see("marks have a row for write-ins", '"Write-in (no candidate)"' in page and '"ranks": 3' in page and '"has_marks": true' in page)
+
+
+def marks(tried):
+    """Two readings of marks are compared mark by mark, and become a seen file by the rules of ./raire convert."""
+    write("a.csv", "B1_1,marks,1,Ash,1,Elm,2,Birch\nB1_2,marks\nB1_3,missing\n")
+    write("b.csv", "B1_1,marks,2,Birch,1,Elm,1,Ash\nB1_2,marks,,\nB1_3,missing\n")
+    tried.see("the same marks in another order", tried.run("agree", "a.csv", "b.csv")[:2] == (0, "B1_1,marks,1,Ash,1,Elm,2,Birch\nB1_2,marks\nB1_3,missing\n"))
+    write("b.csv", "B1_1,marks,1,Ash,2,Birch\nB1_2,ballot\nB1_3,marks,3,Elm\n")
+    write("names.csv", 'id,name\nAsh,"Ash, Ana"\n')
+    wanted = (
+        "agree: B1_1: 1 Ash, Ana and Elm, 2 Birch in a.csv; 1 Ash, Ana, 2 Birch in b.csv\nagree: B1_2: nothing marked in a.csv; nobody ranked in b.csv\n"
+        "agree: B1_3: missing in a.csv; 3 Elm in b.csv\nagree: 0 of 3 cards were read the same; nothing is written\n"
+    )
+    got = tried.run("agree", "a.csv", "b.csv", "--names", "names.csv")
+    tried.see("marks that differ are told by name", got == (6, "", wanted), got)
+    for skips, seen in (("pass", "B1_1,ballot,Birch\nB1_2,ballot\nB1_3,missing\n"), ("one", "B1_1,ballot,Birch\nB1_2,ballot\nB1_3,missing\n")):
+        got = tried.run("convert", "marks", "a.csv", "--ballots", BALLOTS, "--overvotes=pass", f"--skips={skips}")
+        tried.see(f"marks by the rules, skips {skips}", got[:2] == (0, seen), got)
+    for bad, told in [
+        ("B1_1,marks,1\n", "V1 at 1: the card B1_1 has marks, and behind that no ranks"), ("B1_1,marks,x,Ash\n", "V1 at 1: the card B1_1 has marks"),
+        ('B1_1,ballot,"Ash\nB1_2,ballot\n', "V1 at 1: a quote isn't closed in its line, before Ash; take it out, or close it\n"),
+    ]:
+        write("b.csv", bad)
+        tried.refused(2, f"agree: b.csv: {told}", "agree", "a.csv", "b.csv")
+    write("b.csv", 'B1_1,ballot,"Ash\n' + "B1_2,ballot,Birch\n" * 2000)
+    told = tried.run("agree", "a.csv", "b.csv")[2]
+    tried.see("a quote that isn't closed prints a line, and no file", len(told) < 200, len(told))
+
+
+def named(tried):
+    """The program's lines with names for ids; the status and the other lines are the program's."""
+    write("b.raire", "1\nContest,101,3,15,16,17\n101,b_1,15\n101,b_2,16\n101,b_3,16\n101,b_4,17,16\n")
+    write("names.csv", 'contest,id,name\n101,,Mayor\n101,15,"Ash, Ana"\n101,16,Birch\n101,17,Zoë\n')
+    given = ["--names", "names.csv"]
+    got = run_script(tried, "tabulate", "b.raire", *given)
+    wanted = "contest Mayor (101)\nrecords 4\nround 1: Ash, Ana=1 Birch=2 Zoë=1 exhausted=0\ntied Ash, Ana; Zoë\neliminated Ash, Ana\nround 2: Birch=2 Zoë=1 exhausted=1\neliminated Zoë\nwinner Birch\n"
+    tried.see("a tabulation with names", got == (0, wanted, ""), got)
+    write("a.json", tried.run("raire", "search", "b.raire")[1])
+    write("m.csv", "batch,cards\nb,4\n")
+    got = run_script(tried, "plan", "m.csv", "a.json", *given)
+    tried.see("a plan with names", got[0] == 0 and "Birch, Ash, Ana" in got[1] and "15" not in got[1], got)
+    write("s.json", tried.run("raire", "open", "b.raire", "m.csv", "a.json", "--seed=1")[1])
+    got = run_script(tried, "report", "s.json", *given)
+    tried.see("a report with names", got[0] == 0 and got[1].startswith("contest Mayor (101)\ncards 4\n"), got)
+    got = run_script(tried, "contests", "b.raire", "m.csv", "s.csv", "--seed=1", "--draws=1", *given)
+    tried.see("a refusal is the program's", got[0] == 12 and got[2].startswith("raire: s.csv: no such file\n"), got)
+    for text, told in [("", "names: names.csv"), ("id,name\n1,A\n1,B\n", "names: names.csv: record 3 is about 1, who stood before")]:
+        write("names.csv", text)
+        got = run_script(tried, "tabulate", "b.raire", *given)
+        tried.see(f"names {text!r}", (got[0], got[2][:len(told)]) == (2, told) if text else got[0] == 0, got)
+
+
+def run_script(tried, *words):
+    """A command of the program with --names, as ./raire passes it on."""
+    ran = subprocess.run([os.path.join(TOP, "tools", "office", "named.py"), *words], capture_output=True, text=True, env={**os.environ, "RAIRE": tried.program})
+    return ran.returncode, ran.stdout, ran.stderr
+
+
+# ---- terms that are easily taken otherwise
+
+def terms(tried):
+    import terms as told
+
+    for limit, percent, is_usual in ((5, "0.0005", False), (999, "0.0999", False), (1_000, "0.1", True), (50_000, "5", True), (200_000, "20", True), (200_001, "20.0001", False)):
+        tried.see(f"{limit} millionths are {percent} percent", (told.percent(limit), told.is_usual(limit)) == (percent, is_usual))
+    for seed, note in [
+        ("2026 dice 6", ""), (" 2", "begins with a blank"), ("2 ", "ends with a blank"), ("a  b", "has two blanks in a row"),
+        (" a  b ", "begins with a blank, has two blanks in a row and ends with a blank"),
+    ]:
+        tried.see(f"the blanks of {seed!r}", told.blanks_in(seed) == note, told.blanks_in(seed))
+        tried.see(f"{seed!r} is shown with each blank", told.seed_note(seed) == (f'the seed {note}: "{seed.replace(" ", "␣")}", where each ␣ is a blank' if note else ""))
+    for words, wanted in [
+        (["plan", "m", "a", "--limit", "5"], "raire: the risk limit 5 is 0.0005 percent; that is unusual: --limit counts millionths, so 5 percent is --limit 50000\n"),
+        (["poll", "--limit=50000", "--seed=1"], "raire: the risk limit 50000 is 5 percent\n"), (["sample", "m", "--seed", "1 "], 'raire: the seed ends with a blank: "1␣", where each ␣ is a blank\n'),
+        (["plan", "--", "--limit=5"], ""),
+    ]:
+        ran = subprocess.run([os.path.join(TOP, "tools", "office", "terms.py"), *words], capture_output=True, text=True)
+        tried.see(f"what is told of {words}", (ran.returncode, ran.stdout, ran.stderr) == (0, "", wanted), ran)
+    status, page, err = tried.run("cards", MANIFEST, "--seed=2026  6 ", "--draws=2", "--page")
+    tried.see("a page shows each blank of a seed", '<code class="seed">2026<span class="blank"> </span><span class="blank"> </span>6<span class="blank"> </span></code>' in page)
+    tried.see("and says that there are some", "It has two blanks in a row and ends with a blank." in page and err.startswith('cards: the seed has two blanks'), err)
+    tried.see("its command has the seed in quotes", "&#39;--seed=2026  6 &#39;" in page)
+
+
+# ---- ./raire manifest
+
+def manifests(tried):
+    write("l.csv", "Tabulator,Batch ID,Ballots,First,Last\n01,1,10,1,10\n1,2,5,11,15\n2,1,6,20,25\n2,2,0,,\n")
+    wanted = "batch,cards\n1_1,10\n1_2,5\n2_1,6\n"
+    told = (
+        "manifest: 3 batches with 21 cards; the id of a card is batch, _ and its number from 1, as in 1_1_1\nmanifest: left out, since without cards: 2_2\n"
+        "manifest: numbers 16 to 19 are missing: between batch 1_2 and batch 2_1\n"
+    )
+    got = tried.run("manifest", "dominion", "l.csv")
+    tried.see("a manifest of Dominion's batches", got == (0, wanted, told), got)
+    write("o.csv", "Box name,Shelf,How many\nBox 7,left,3\nBox 8,right,4\nAll,,7\n")
+    got = tried.run("manifest", "plain", "o.csv", "--batch=Box name", "--count=How many")
+    tried.see("a manifest of an office's boxes, and its total", got[:2] == (0, "batch,cards\nBox 7,3\nBox 8,4\nAll,7\n") and "batch All has 7 cards, as many as all others together" in got[2], got)
+    write("h.csv", "Batch Number;Cards\n1;2\n")
+    tried.refused(2, "manifest: h.csv: line 1: no column is called batchnumber", "manifest", "hart", "h.csv")
+    for text, told in [
+        ("batch,cards\nB1,x\n", "line 2: x is no number of cards"), ("batch,cards\nB1,\"1,200\"\n", "line 2: 1,200 is no number of cards; without marks it would be 1200"),
+        ("batch,cards\nB1,2\nB1,3\n", "line 3: the batch B1 stood before, at b.csv: line 2"), ("batch,cards\nB1,2\n,2\n", "line 3: a row of 2 cards has no batch"),
+        ("batch,cards\nTotal,2\n", "line 2: a row of 2 cards has no batch: take a line of totals out"), ("batch,cards\nÖl,2\n", "line 2: no manifest can have the batch Öl"),
+        ("batch,cards,first,last\nB1,2,1,3\n", "line 2: the numbers 1 to 3 are 3 cards, and the count is 2"), ("batch,first,last\nB1,5,4\n", "line 2: the numbers 5 to 4 are 0 cards"),
+        ("batch,first,last\nB1,1,5\nB2,5,6\n", "line 3: the numbers 5 to 6 of batch B2 overlap with those of batch B1, which end with 5"),
+        ("batch\nB1\n", "line 1: no column is called cards, count"), ("", "is empty"),
+    ]:
+        write("b.csv", text)
+        tried.refused(2, f"manifest: b.csv: {told}" if told != "is empty" else "manifest: b.csv: is empty", "manifest", "plain", "b.csv")
+    write("b.csv", "batch,first,last\nB1,1,5\nB2,3,6\n")
+    write("b.csv", "batch,first,last\nB1,1,5\nB2,1,6\nB3,3,4\nB4,1,1\n")
+    got = tried.run("manifest", "plain", "b.csv")
+    tried.see("numbers of each batch", got[0] == 0 and "manifest: batch B3 begins with the number 3, and ids count from 1: numbers 1 to 2 are missing\n" in got[2], got)
+
+
+# ---- ./raire rounds
+
+def rounds(tried):
+    """By the order that is given where candidates tie; the same as the program where they don't."""
+    draws = Draws(60)
+    for number in range(60):
+        n = 2 + draws.below(4)
+        ids = [f"c{c}" for c in range(n)]
+        ballots = [[ids[draws.below(n)] for _ in range(draws.below(n + 1))] for _ in range(1 + draws.below(9))]
+        write("b.raire", f"1\nContest,x,{n},{','.join(ids)}\n" + "".join(f"x,b_{k},{','.join(each)}\n".replace(",\n", "\n") for k, each in enumerate(ballots, 1)))
+        order = sorted(ids, key=lambda _: draws.below(1000))
+        status, text, err = tried.run("rounds", "b.raire", "--ties", ",".join(order))
+        gone, remaining = [], list(ids)
+        while len(remaining) > 1:
+            votes = {c: sum(next((each for each in ballot if each in remaining), None) == c for ballot in ballots) for c in remaining}
+            gone.append(min(remaining, key=lambda c: (votes[c], order.index(c))))
+            remaining.remove(gone[-1])
+        told = [line.removeprefix("eliminated ") for line in text.splitlines() if line.startswith("eliminated ")]
+        tried.see(f"rounds {number}", (status, told, text.splitlines()[-1]) == (0, gone, f"winner {remaining[0]}"), (text, err))
+        tried.see("that they aren't proved is told", "nothing of it is proved" in err, err)
+    tie = os.path.join(TOP, "examples", "tie_that_matters.raire")
+    got = tried.run("rounds", tie)
+    wanted = "contest 1\nrecords 5\nround 1: 1=2 2=2 3=1 exhausted=0\neliminated 3\nround 2: 1=2 2=2 exhausted=1\ntied 1,2\n"
+    tried.see("the rounds up to a tie", got == (3, wanted, "rounds: 1,2 tie; --ties gives the order in which those who tie are eliminated, the first of it first\n"), got)
+    tried.refused(2, "rounds: --ties names 9, who is no candidate; there are: 1; 2; 3\n", "rounds", tie, "--ties=9")
+    tried.refused(2, "rounds: --ties names a candidate twice\n", "rounds", tie, "--ties=1,1")
+    tried.see("an order without one who ties stops there", tried.run("rounds", tie, "--ties=3,1")[0] == 3)
+
+
 # ---- words and outputs of all
 
 def helps(tried):
-    for script in ("cards", "agree", "batches"):
+    for script in ("cards", "agree", "batches", "boxes", "manifest", "rounds"):
         page = read(os.path.join(TOP, "docs", "help", f"{script}.txt"))
         for word in ("--help", "-h", "help"):
             tried.see(f"{script} {word}", tried.run(script, word) == (0, page, ""))
@@ -277,12 +457,14 @@ def helps(tried):
 
 def main():
     tried, here = Tried(sys.argv[1]), os.getcwd()
-    for part in (tables, places, sheets, card_words, agreements, readings, own_batches, helps):
+    for part in (
+        tables, places, sheets, card_words, agreements, readings, own_batches, counted_boxes, all_cards, marks, named, terms, manifests, rounds, helps,
+    ):
         with tempfile.TemporaryDirectory() as folder:
             os.chdir(folder)
             part(tried)
             os.chdir(here)
-    print(f"{tried.count - tried.failed} things of ./raire cards, ./raire agree and ./raire batches as they should be, {tried.failed} not")
+    print(f"{tried.count - tried.failed} things of the office's tools as they should be, {tried.failed} not")
     sys.exit(1 if tried.failed else 0)
 
 

@@ -139,7 +139,9 @@ def dominion_csv(paths, rules, _):
     contests = {}
     for path in paths:
         _, titles, choices, head, *rows = table(path)
-        contests.update({title.rsplit(" (", 1)[0]: Counted({}) for title in titles if "Number of ranks" in title})
+        for title in titles:
+            if "Number of ranks" in title:
+                contests.setdefault(title.rsplit(" (", 1)[0], Counted({}))
         for row in rows:
             given = dict(zip(head, row))
             card = given["ImprintedId"].strip('="').replace("-", "_")
@@ -255,7 +257,7 @@ def meant(cell, rank):
         return set()
     if cell.lower() == "overvote":
         return {"one", "another"}
-    return {(WRITE_IN, rank)} if cell.lower() in ("write-in", "writein", "uwi") else {cell}
+    return {(WRITE_IN, rank)} if cell.lower() in ("write-in", "writein", "uwi", "undeclared write-ins") else {cell}
 
 
 def sheet(paths, rules, made_of, columns_of, is_everywhere):

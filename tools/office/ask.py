@@ -8,11 +8,11 @@ MOST_FILE_BYTES = 67_108_864  # of a file that the program reads
 
 
 class Refusal(Exception):
-    """Nothing is answered: the status, and what is told."""
+    """Nothing is answered: the status, and what is told; `out` is what standard output has all the same."""
 
-    def __init__(self, status, text):
+    def __init__(self, status, text, out=""):
         super().__init__(text)
-        self.status, self.text = status, text
+        self.status, self.text, self.out = status, text, out
 
 
 def path_of_program(name):

@@ -34,7 +34,7 @@ FORMATS = {
     "rctab": (convert_sheet.RcTab, ["id", "sheet", "candidates", "title", "word"]),
     "preflib": (convert_preflib.Export, ["title", "batch", "word"]),
     "seen": (convert_seen.Export, ["ballots"]),
-    "marks": (convert_seen.Export, ["ballots"]),
+    "marks": (convert_seen.Export, ["ballots", "as", "seats"]),
 }
 SOME = ["marks", "counts", "id", "sheet", "candidates", "title", "batch", "ballots", "word", "as", "seats"]
 VALUES = ["id", "sheet", "candidates", "title", "batch", "ballots", "account", "names"]
@@ -76,6 +76,8 @@ def see_rules(parser, given):
             parser.error(f"--{name} has no meaning with --as {given.made}")
     if given.seats is not None and given.made != PAIRS:
         parser.error("--seats is for --as pairs")
+    if given.format == "marks" and given.made == PAIRS and given.seats is None:
+        parser.error("marks of pairs want --seats: how many the contest elects")
     if given.marks == "made" and given.counts is not None:
         parser.error("--counts has no meaning with --marks made, which takes marks whatever the export counts")
     if given.format in ("seen", "marks") and given.ballots is None:
@@ -94,7 +96,8 @@ def converted(given):
     export = reader(given.files, given)
     contests = chosen(export.contests.values(), given.contest, given.made, path)
     export.see_chosen(contests)
-    book = Book(contests, Rules(*(getattr(given, rule) for rule in RULES)), given.ranks, given.made, given.without, given.seats)
+    made = PLURALITY if given.format == "marks" and given.made == PAIRS else given.made  # the pairs are those of the ballot file
+    book = Book(contests, Rules(*(getattr(given, rule) for rule in RULES)), given.ranks, made, given.without, given.seats)
     for card in export.cards(contests):
         book.add(card)
     see_all_read(given, book, path)
@@ -172,7 +175,9 @@ def answer(words):
 def text_of(given, export, book):
     """The ballot file; of marks the seen file."""
     path = " ".join(given.files)
-    return book.seen(path, export.missing, export.has_contests) if given.format == "marks" else book.ballots(path)
+    if given.format != "marks":
+        return book.ballots(path)
+    return book.seen_of_pairs(export.missing, export.pairs) if given.made == PAIRS else book.seen(export.missing, export.has_contests)
 
 
 def main(words):

@@ -65,7 +65,7 @@ class Book:
         self.waiting.write(f"{place}\t{card.id}\t{' '.join(map(str, ranking))}\n".encode())
 
     def seats_of(self, contest, card):
-        seats = 1 if self.made == PLURALITY else self.seats or contest.seats
+        seats = self.seats or (1 if self.made == PLURALITY else contest.seats)
         if seats is None:
             raise refused(card.place.at(f"contest {contest.key}"), "the export doesn't say how many the contest elects: --seats says it")
         return seats
@@ -237,7 +237,7 @@ class Book:
         made.seek(0)
         return made
 
-    def seen(self, path, missing, has_contests):
+    def seen(self, missing, has_contests):
         """The text of a seen file: what counts of the marks of each card, and the cards that weren't found."""
         made = tempfile.TemporaryFile()
         for contest, card, ids in self.rows():
@@ -247,14 +247,27 @@ class Book:
         made.seek(0)
         return made
 
+    def seen_of_pairs(self, missing, pairs):
+        """The same where each card is read for pairs of candidates: a record for each pair, with the one of both who is chosen."""
+        made = tempfile.TemporaryFile()
+        for _, card, ids in self.rows():
+            for pair, both in pairs.items():
+                chosen = [each for each in ids if each in both]
+                made.write((",".join([card, pair, "ballot", *chosen * (len(chosen) == 1)]) + "\n").encode())
+        for card, _ in missing:
+            made.write("".join(f"{card},{pair},missing\n" for pair in pairs).encode())
+        made.seek(0)
+        return made
+
     def names(self):
         """What contests and candidates are called, as a comma-separated file."""
         rows = [["contest", "id", "name"]]
         for number in self.kept:
-            name = self.ids[number]
-            for contest in [pair.id for pair in self.pairs.get(number, [])] or [name]:
-                title = f"{self.contests[number].name}{contest.removeprefix(name)}" if number in self.pairs else self.contests[number].name
-                ids = next(ids for head, ids in self.heads() if head == contest)
-                rows += [[contest, "", title]] * (title != contest)
-                rows += [[contest, each, called] for each, called in self.listed[number].values() if each in ids]
+            name, listed = self.contests[number].name, self.listed[number]
+            for pair in self.pairs.get(number, []):
+                both = [listed[place] for place in pair.places]
+                rows.append([pair.id, "", f"{name}: {both[0][1]} over {both[1][1]}"])
+                rows += [[pair.id, *each] for each in both]
+            rows += [[self.ids[number], "", name]] * (name != self.ids[number])
+            rows += [[self.ids[number], *each] for each in listed.values()]
         return text_of(rows)

@@ -66,7 +66,7 @@ class Export:
     def wanted(element, name, place):
         found = convert_xml.text_of(element, name)
         if not found:
-            raise refused(place, f"a {convert_xml.local(element)} has no {name}")
+            raise refused(place, f"{convert_xml.local(element)} has no {name}")
         return found
 
     def see_chosen(self, contests):

@@ -4,11 +4,12 @@ import csv
 import convert_files
 import records
 from ask import ask, Refusal
-from convert_export import add_mark, Candidate, Card, Contest, NAME, Place, refused, Vote
+from convert_export import add_mark, Candidate, Card, Contest, NAME, PAIRS, Place, RANKED, refused, Vote
 from convert_sheet import WORDS
 
 BALLOT, MARKS = "ballot", "marks"
 WRITE_IN = "write-in"
+WHOLE = "the contest of all pairs"
 
 
 class Export:
@@ -20,9 +21,10 @@ class Export:
         self.paths, self.options, self.notes, self.missing = paths, options, {}, []
         self.sources = [convert_files.Source(path) for path in paths]
         self.contests = {}
-        for key, ids in self.heads().items():
+        self.pairs = self.heads() if options.made == PAIRS else {}
+        for key, ids in ({WHOLE: list(dict.fromkeys(each for both in self.pairs.values() for each in both))} if self.pairs else self.heads()).items():
             contest = self.contests[key] = Contest(key, key, [Candidate(each, each, WORDS.get(each.lower()) == WRITE_IN) for each in ids])
-            contest.keeps_order = True
+            contest.keeps_order, contest.is_ranked = True, options.made == RANKED
         self.stood, self.has_contests = set(), False
 
     def heads(self):
@@ -58,7 +60,7 @@ class Export:
         if rest and rest[0] not in (BALLOT, MARKS, records.MISSING):
             name, *rest = rest
             if name not in self.contests or not rest:
-                raise refused(place, f"{name} is neither {BALLOT}, {MARKS} nor {records.MISSING}, nor a contest of {self.options.ballots}")
+                raise refused(place, f"{name or 'nothing'} is neither {BALLOT}, {MARKS} nor {records.MISSING}, nor a contest of {self.options.ballots}")
             self.has_contests = True
         elif len(taken) > 1:
             raise refused(place, f"doesn't say which contest it is about; --contest names one of: {'; '.join(taken)}")

@@ -56,7 +56,7 @@ def gone_of(votes, tied, order, lines, shown):
 
 
 def counted(ids, rankings, order, shown):
-    """The lines of the rounds, and who is tied where the order doesn't go on."""
+    """The lines of the rounds, and who wins, or who is tied where the order doesn't go on."""
     lines, remaining = [], list(ids)
     for number in range(1, len(ids)):
         votes, exhausted = dict.fromkeys(remaining, 0), 0
@@ -71,10 +71,10 @@ def counted(ids, rankings, order, shown):
         try:
             gone = gone_of(votes, tied, order, lines, shown)
         except Tied:
-            return lines, tied
+            return lines, None, tied
         lines.append(f"eliminated {shown([gone])}")
         remaining.remove(gone)
-    return [*lines, f"winner {shown(remaining)}"], None
+    return [*lines, f"winner {shown(remaining)}"], remaining[0], None
 
 
 def names_of(given, contest):
@@ -102,16 +102,21 @@ def answer(words):
     rankings = {}
     for _, ranking in records.ballots_of(data, contest):
         rankings[ranking] = rankings.get(ranking, 0) + 1
-    lines, tied = counted(contests[contest], rankings, order, shown)
+    lines, winner, tied = counted(contests[contest], rankings, order, shown)
     head = [f"contest {names.contest(contest)}", f"records {sum(rankings.values())}"]
     out = "".join(f"{line}\n" for line in [*head, *lines])
     if tied:
-        raise Refusal(TIE, f"{out}{NAME}: {shown(tied)} tie: --ties gives the order in which those who tie are eliminated, the first of it first\n")
-    return out, account(text, lines, order, shown)
+        raise Refusal(TIE, f"{NAME}: {shown(tied)} tie; --ties gives the order in which those who tie are eliminated, the first of it first\n", out)
+    return out, account(text, winner, order, shown)
 
 
-def account(text, lines, order, shown):
-    told = "counted by this tool alone: nothing of it is proved"
-    if order:
-        return f"{NAME}: {told}. Where candidates tie, the first of these is eliminated: {shown(order)}\n"
-    return f"{NAME}: {told}{'' if text is None else '; ./raire tabulate elects the same' if text.splitlines()[-1] == lines[-1] else ''}\n"
+def account(text, winner, order, shown):
+    """What is told beside the rounds: that they aren't proved, and what the program says of the winner."""
+    lines = ["counted by this tool alone: nothing of it is proved"]
+    lines += [f"where candidates tie, the first of these is eliminated: {shown(order)}"] * bool(order)
+    if text is None:
+        lines.append("by the records alone the contest is tied: ./raire search finds no assertions, and the winner hangs on the order")
+    else:
+        same = "the same winner, however ties are broken" if text.splitlines()[-1] == f"winner {winner}" else "ANOTHER WINNER: report it"
+        lines.append(f"./raire tabulate has {same}")
+    return "".join(f"{NAME}: {line}\n" for line in lines)

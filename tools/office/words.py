@@ -63,6 +63,16 @@ def main(name, answer, words):
         put(name, text)
         sys.stderr.write(account)
     except Refusal as refusal:
-        sys.stderr.write(refusal.text)
-        return refusal.status
+        return ended(name, refusal)
     return 0
+
+
+def ended(name, refusal):
+    """The status of a call that is refused, or that ends where it can't go on."""
+    try:
+        if refusal.out:
+            put(name, refusal.out)
+    except Refusal as full:
+        refusal = full
+    sys.stderr.write(refusal.text)
+    return refusal.status

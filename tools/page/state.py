@@ -55,7 +55,8 @@ def wholeness(ballots, cards, records):
     all_of, what = (cards, "CARDS") if cards is not None else (ballots if records is None else records, "RECORDS")
     if ballots < all_of:
         more = "This is no full count until each of them is accounted for: a card that doesn’t have the contest, or one that can’t be found."
-        return "part", f"COUNTED, BUT {all_of - ballots:,} OF {all_of:,} {what} HAVE NO BALLOT IN IT:", more
+        have = "HAS" if all_of - ballots == 1 else "HAVE"
+        return "part", f"COUNTED, BUT {all_of - ballots:,} OF {all_of:,} {what} {have} NO BALLOT IN IT:", more
     if ballots > all_of:
         return "part", f"COUNTED, WITH {ballots:,} BALLOTS FOR {all_of:,} {what}:", "Some ballots are of no card: see which."
     return "counted", "COUNTED IN FULL:", "Whether these are all ballots is for those who watched the count to say."

@@ -482,11 +482,16 @@ def states(shows, tried):
 
 
 def unusual(shows, tried, files):
-    """A limit above a tenth and a gamma that few audits have are named."""
+    """A limit and a gamma that few audits have are named, and the blanks of a seed are shown."""
+    write("session.json", plain_audit.run(["open", *files, "--seed=2026  6 "])[1])
+    page = shows.run("session.json")[1]
+    blank = '<span class="blank"> </span>'
+    tried.see("each blank of a seed is shown", f'<code class="seed">2026{blank}{blank}6{blank}</code>' in page and "It has two blanks in a row and ends with a blank." in page)
     for terms, said in [
-        ((), None), (("--limit=100000", "--gamma=50"), None), (("--gamma=200",), None),
-        (("--limit=100001",), "a risk limit of 0.100001, which is above 0.1."), (("--gamma=49",), "a gamma of 49 thousandths, which is outside 50 to 200."),
-        (("--limit=300000", "--gamma=201"), "a risk limit of 0.3, which is above 0.1, and a gamma of 201 thousandths, which is outside 50 to 200."),
+        ((), None), (("--limit=200000", "--gamma=50"), None), (("--gamma=200",), None), (("--limit=1000",), None),
+        (("--limit=200001",), "a risk limit of 20.0001 percent, which is above 20."), (("--gamma=49",), "a gamma of 49 thousandths, which is outside 50 to 200."),
+        (("--limit=999",), "a risk limit of 0.0999 percent, which is below 0.1."), (("--limit=5",), "a risk limit of 0.0005 percent, which is below 0.1."),
+        (("--limit=300000", "--gamma=201"), "a risk limit of 30 percent, which is above 20, and a gamma of 201 thousandths, which is outside 50 to 200."),
     ]:
         go_on(files, "session.json", [], *terms)
         found = [text for kind, _, text in states_of(shows.run("session.json")[1]) if kind == "unusual"]
@@ -591,8 +596,9 @@ def counts(shows, tried):
         status, page, err = shows.run(*words)
         text = text_of(page) if status == 0 else err
         found = states_of(page)
-        tried.see("the village is counted", status == 0 and [kind for kind, _, _ in found] == ["counted", "unsigned"], (found, err))
-        tried.see("who wins by the count", found and found[0][2].startswith("COUNTED IN FULL: Oak wins by 59 ballots of counted.raire."), found)
+        tried.see("the village is counted", status == 0 and [kind for kind, _, _ in found] == ["part", "unsigned"], (found, err))
+        head = "COUNTED, BUT 1 OF 60 CARDS HAS NO BALLOT IN IT: Oak wins by 59 ballots of counted.raire. This is no full count until"
+        tried.see("who wins by the count, and how many cards have no ballot in it", found and found[0][2].startswith(head), found)
         tried.see("the audit before it", found and found[-1][2].startswith("NOT SIGNED OFF after 38 draws in 1 round: 3 of 3 assertions"), found)
         tried.see("nobody is told to draw on", status == 0 and "Draw further cards" not in text)
         count = text.partition("The full count ")[2]
@@ -604,11 +610,22 @@ def counts(shows, tried):
     write("others_counted.raire", "1\nContest,7,2,1,3\n7,b_1,1\n")
     write("contest_counted.raire", "1\nContest,8,2,1,2\n8,b_1,1\n")
     write("b.raire", "1\nContest,7,2,1,2\n7,b_1,1\n7,b_2,2\n7,b_3,2\n")
+    write("m.csv", "batch,cards\nb,3\n")
+    write("more.csv", "batch,cards\nb,402\nc,4998\n")
+    for words, head in [
+        (["counted.raire", "a.raire"], "COUNTED IN FULL: "), (["counted.raire", "a.raire", "m.csv"], "COUNTED IN FULL: "),
+        (["counted.raire", "a.raire", "more.csv"], "COUNTED, BUT 5,397 OF 5,400 CARDS HAVE NO BALLOT IN IT: "), (["b.raire", "less_counted.raire"], "COUNTED, BUT 1 OF 3 RECORDS HAS NO BALLOT IN IT: "),
+        (["less.raire", "counted.raire"], "COUNTED, WITH 3 BALLOTS FOR 2 RECORDS: "),
+    ]:
+        write("less.raire", "1\nContest,7,2,1,2\n7,b_1,1\n7,b_3,1\n")
+        write("less_counted.raire", "1\nContest,7,2,1,2\n7,b_1,1\n7,b_3,1\n")
+        found = states_of(shows.run(*words)[1])
+        tried.see(f"whether {words} is whole", found and found[0][2].startswith(head), found)
     found = states_of(shows.run("counted.raire", "a.raire")[1])
     tried.see("another winner is told", found and "2 wins by 3 ballots of counted.raire. The records elect 1: they are wrong, or the count is." in found[0][2], found)
     page = shows.run("a.raire", "tie_counted.raire")[1]
     found = states_of(page)
-    tried.see("its state is", found and found[0][2] == "COUNTED IN FULL: tie_counted.raire leaves open who wins.", found)
+    tried.see("its state is", found and found[0][2] == "COUNTED, BUT 1 OF 3 RECORDS HAS NO BALLOT IN IT: tie_counted.raire leaves open who wins.", found)
     tried.see("its ballots are told", "The full count 2 ballots of tie_counted.raire." in text_of(page), text_of(page)[:600])
     tried.see("no tree is told where there is none", "The page itself proves nothing." in text_of(page) and "drawn and counted by it" not in page)
     tried.see("a count without a winner is told", "leaves open who wins" in page and "Candidates share the least votes in round 1" in page, page[:300])
@@ -639,7 +656,7 @@ def pluralities(shows, tried):
     holds, alone = "The assertions hold of these records: the program opened this audit again", "Counted by this page alone. Give the manifest too"
     said, session, ballots, manifest = "SIGNED OFF in round 2, after 24 draws", "session.json", "ballots.raire", "manifest.csv"
     for words, kind, told, untold in [
-        ([*files], "signed", [leads, behind, holds, "Main_40 Draws 12 Recorded no record Seen nobody ranked"], [unread, alone]),
+        ([*files], "signed", [leads, behind, holds, "Another 1 drawn card has no record, and nobody is ranked there: as a card that doesn’t have the contest. No assertion has a discrepancy. Main_40"], [unread, alone]),
         ([session, ballots, manifest], "said", [leads, behind, holds], [unread, alone]), ([session, ballots], "said", [leads, behind, alone], [unread, holds]),
         ([session], "said", [unread], [holds, alone]), ([session, manifest, "seen.csv"], "said", [unread, "session, ballot file and manifest are given too"], [holds, alone]),
     ]:
@@ -701,7 +718,8 @@ def counted_pluralities(shows, tried, files):
     ]:
         page = shows.run(*files.values(), name)[1]
         text, found = text_of(page), states_of(page)
-        tried.see(f"the state by {name}", [kind for kind, _, _ in found] == ["counted", "signed"] and found[0][2].startswith(f"COUNTED IN FULL: {head}"), found)
+        part = f"COUNTED, BUT {2 if name == 'counted.raire' else 88} OF 90 CARDS HAVE NO BALLOT IN IT: {head}"
+        tried.see(f"the state by {name}", [kind for kind, _, _ in found] == ["part", "signed"] and found[0][2].startswith(part), found)
         tried.see(f"the first preferences of {name}", count in text.partition("The full count ")[2], text.partition("The full count ")[2][:400])
 
 
@@ -729,7 +747,7 @@ def polls(shows, tried):
         ([*files, "--draws=100"], ["open"], f"OPEN: not confirmed by a poll after 100 draws: 1 of 5 assertions is above the limit of 0.05. This says nothing about who won. {draw}", True),
         ([*files, "--draws=150"], ["signed"], f"CONFIRMED BY A POLL after 150 draws. {confirms}: each assertion has a risk of at most 0.05 by the drawn cards.", True),
         ([files[0], "more.json", "seen.csv", "--draws=150"], ["signed"], "CONFIRMED BY A POLL after 150 draws.", True),
-        ([*files, "--draws=150", "--limit=200000"], ["signed", "unusual"], "CONFIRMED BY A POLL after 150 draws.", True),
+        ([*files, "--draws=150", "--limit=200001"], ["signed", "unusual"], "CONFIRMED BY A POLL after 150 draws.", True),
         ([*files, "--draws=1000"], ["unsigned"], "NOT CONFIRMED BY A POLL, and no cards left: 3 of 5 assertions are above", True),
         ([*unpolled, "--draws=150"], ["unsigned"], "NOT POLLED: the assertions don’t prove the winner of their file (no: order ", False),
         ([*files, "--draws=150", "--nodes=1"], ["unaudited"], "NOT POLLED: the budget ended before it was known whether the assertions prove the winner of their file (spent, ", False),
@@ -798,6 +816,7 @@ def counties(shows, tried):
         found = states_of(shows.run(*files, *terms, *more)[1])
         tried.see(f"the county's state with {more}", found and found[0][0] == kind and told in found[0][2], found)
         tried.see(f"what is unusual with {more}", [each for each, _, _ in found[1:]] == ["unusual"] * (more != ["--limit=1"]), found)
+    county_by_names(shows, tried, files, terms)
     small_counties(shows, tried)
     refused_counties(shows, tried, files, terms)
 
@@ -847,6 +866,18 @@ def small_counties(shows, tried):
     write("seen.csv", "".join(f"b_{k},a=1 <i>,ballot,{line.split(',')[2]}\n" for k, line in enumerate(cast.splitlines(), 1)))
     status, page, err = shows.run(*words)
     tried.see("ids with blanks and marks are told apart", status == 0 and "<i>" not in page.partition("<main>")[2] and "Winner Lee Margin" in text_of(page), err)
+
+
+def county_by_names(shows, tried, files, terms):
+    """The names of contests and candidates stand for ids in each row and in what it opens."""
+    heads = plain_audit.contest_records(plain_audit.records_of(plain_audit.read(files[0])))
+    lines = [f"{name},{c},{c} of {name.upper()}" for name, (ids, _) in heads.items() for c in ids]
+    write("names.csv", "contest,id,name\n" + "".join(f"{name},,The {name} contest\n" for name in heads) + "".join(line + "\n" for line in lines))
+    status, page, err = shows.run(*files, "names.csv", *terms)
+    text = text_of(page).partition("What this page is made of")[0] if status == 0 else err
+    for told in ("The Mayor contest (Mayor) ✓ signed off Winner Chen of MAYOR", "Fox of SHERIFF can't be eliminated", "Lopez of COUNCIL WARD 2 and Moss of COUNCIL WARD 2 share", "Diaz of MAYOR > Chen of MAYOR"):
+        tried.see(f"the county's page by names says {told}", told in text, text[:900])
+    tried.see("cards without the contest stand apart", "no record, and nobody is ranked there: as a card that doesn’t have the contest" in text and "Seen nobody ranked Discrepancy none" not in text)
 
 
 def refused_counties(shows, tried, files, terms):
@@ -930,10 +961,11 @@ def names(shows, tried):
     page = shows.run(*whole, "names.csv")[1]
     tried.see("a card's ranking has names", "Lee, Ann > Zoë Œil" in text_of(page), text_of(page)[-900:])
     for text, told in [
-        ("c-one,Zoë\n", "doesn't begin with a line id,name"), ("id,name\nc-one\n", "record 2 isn't an id and a name"), ("id,name\nc-one,\n", "record 2 isn't"),
-        ("id,name\nc-one,A\nc-one,B\n", "record 3 names c-one once more"), ("id,name\nc-four,A\n", "has a name for c-four, who is no candidate"),
+        ("c-one,Zoë\n", "doesn't begin with a line id,name"), ("id,name\nc-one\n", "record 2 isn't id,name of a candidate"), ("id,name\nc-one,\n", "record 2 isn't"),
+        ("id,name\nc-one,A\nc-one,B\n", "record 3 is about c-one, who stood before"), ("contest,id,name\n8,c-one,A\n", "has no names for the candidates of contest 7"),
+        ("contest,id,name\n7,c-one,A\n7,c-one,B\n", "record 3 is about c-one, who stood before"), ("id,name\nc-four,A\n", "has a name for c-four, who is no candidate"),
         ("id,name\nc-one,A\nc-two,A\n", "both c-one and c-two are called A"), ("id,name\nc-one,c-two\n", "both c-one and c-two are called c-two"),
-        ("id,name\nc-one,A\u202eB\n", "record 2 isn't an id and a name that can be shown"), ('id,name\nc-one,"A\n', "isn't comma-separated text"),
+        ("id,name\nc-one,A\u202eB\n", "record 2 isn't id,name of a candidate, with a name that can be shown"), ('id,name\nc-one,"A\n', "isn't comma-separated text"),
     ]:
         write("names.csv", text)
         got = shows.run("ballots.raire", "names.csv")
@@ -945,6 +977,9 @@ def names(shows, tried):
     got = shows.run("session.json", "names.csv")
     tried.see("names without candidates are told", got[0] == 1 and "names.csv names candidates: give a ballot file" in got[2], got)
     tried.see("one name is enough", "<b>A</b> wins" in shows.run("ballots.raire", "names.csv")[1])
+    write("names.csv", 'contest,id,name\n7,,"Mayor, Town"\n7,c-one,A\n9,c-one,B\n')
+    text = text_of(shows.run("ballots.raire", "names.csv")[1])
+    tried.see("names of several contests, and of the contest", "Contest Mayor, Town (7)" in text and "A wins by the records" in text, text[:300])
 
 
 # A program that prints a prepared text for a tabulation.

@@ -2,8 +2,6 @@
 import csv
 import io
 
-import records
-
 HEADS = (["id", "name"], ["contest", "id", "name"])
 
 
@@ -46,11 +44,12 @@ class Called:
 
 
 def numbered(path, data):
+    """The records that aren't blank, numbered; a quote that isn't closed is no comma-separated text."""
     try:
-        text = data.decode("utf-8-sig")
-        return list(records.rows(io.StringIO(text, newline="")))
+        rows = list(csv.reader(io.StringIO(data.decode("utf-8-sig"), newline=""), strict=True))
     except (UnicodeDecodeError, csv.Error):
         raise BadNames(f"{path} isn't comma-separated text in UTF-8") from None
+    return enumerate((fields for fields in ([field.strip(" \t") for field in row] for row in rows) if any(fields)), 1)
 
 
 class Nobody:

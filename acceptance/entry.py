@@ -32,8 +32,12 @@ class Entry:
         self.begin(reader)
 
     def begin(self, reader):
+        """Where readings are kept under this name, the page asks whether the same person goes on."""
         self.opened.press(*reader, "Enter")
-        self.opened.wait("!document.getElementById('reading').hidden")
+        self.opened.wait("!document.getElementById('reading').hidden || !document.getElementById('again').hidden")
+        if not self.opened.value("document.getElementById('again').hidden"):
+            self.opened.press("Enter")
+            self.opened.wait("!document.getElementById('reading').hidden")
 
     def text(self, name):
         return self.opened.value(f"document.getElementById({json.dumps(name)}).innerText")
@@ -47,9 +51,9 @@ class Entry:
     def mark(self, candidate, rank):
         self.click(f"#grid tbody tr:nth-child({candidate + 1}) td:nth-child({rank + 2}) button")
 
-    def saved(self, reader):
+    def saved(self, reader, kind="seen"):
         """The file that the browser was given to save."""
-        path, end = os.path.join(self.downloads, f"seen_{reader}.csv"), time.monotonic() + browser.PATIENCE
+        path, end = os.path.join(self.downloads, f"{kind}_{reader}.csv"), time.monotonic() + browser.PATIENCE
         while not os.path.exists(path) and time.monotonic() < end:
             time.sleep(0.05)
         return read(path) if os.path.exists(path) else None
@@ -151,6 +155,58 @@ def refusals(tried, page, keep):
         tried.see("what is kept and no reading isn't taken", entry.text("progress") == "Z: 0 of 81 cards read", entry.text("progress"))
 
 
+def same_initials(tried, page, keep):
+    """A second reader of the same initials is asked, and doesn't get the first one's marks."""
+    with browser.Browser(os.path.abspath("profile"), os.path.abspath("saved")) as opened:
+        entry = Entry(opened, "saved")
+        entry.open(page, "JD")
+        entry.press("1", "Enter", "2", "Enter")
+        entry.click("#leave")
+        tried.see("another reader is asked for a name", opened.value("document.getElementById('reading').hidden && !document.getElementById('begin').hidden"))
+        opened.press("J", "D", "Enter")
+        opened.wait("!document.getElementById('again').hidden")
+        tried.see("whether the same person reads", entry.text("whose") == "This browser has 2 of 81 cards read by JD. Did you read them?", entry.text("whose"))
+        picture(opened, keep, "again")
+        tried.see("nothing is shown before the answer", opened.value("document.getElementById('reading').hidden"))
+        entry.click("#other")
+        opened.press(*"JD2", "Enter")
+        opened.wait("!document.getElementById('reading').hidden")
+        tried.see("another name begins anew", entry.text("progress") == "JD2: 0 of 81 cards read", entry.text("progress"))
+        entry.press("3", "Enter")
+        entry.click("#leave")
+        entry.begin("JD")
+        tried.see("the first one goes on", entry.text("progress") == "JD: 2 of 81 cards read", entry.text("progress"))
+        opened.reload()
+        tried.see("a page that is loaded again goes on by itself", entry.text("progress") == "JD: 2 of 81 cards read", entry.text("progress"))
+
+
+def by_marks(tried, keep):
+    """Marks as they stand: two at a rank, a candidate at two ranks, ranks left out, more ranks than candidates; the file has each mark."""
+    write("few.csv", "batch,cards\nB1,5\n")
+    page = made(tried, "marks.html", "few.csv", "--all", "--batch", "B1", "--entry", "--marks", "--ranks", "5", "--ballots", BALLOTS)
+    with browser.Browser(os.path.abspath("profile"), os.path.abspath("saved")) as opened:
+        opened.look(1000, 900)
+        entry = Entry(opened, "saved")
+        entry.open(page, "M")
+        tried.see("the grid has the ballot's ranks", opened.value("document.querySelectorAll('#grid thead th').length") == 6)
+        tried.see("no draw is told of a card of a full count", entry.text("where") == "Card 1 of batch B1", entry.text("where"))
+        for c, rank in ((0, 0), (3, 0), (1, 2), (1, 4)):
+            entry.mark(c, rank)
+        tried.see("marks are told as they stand", entry.text("told") == "1 Ash and Elm, 3 Birch, 5 Birch", entry.text("told"))
+        picture(opened, keep, "marks")
+        entry.press("Enter", "2", "1", "Enter", "m", "Enter", "n", "Enter")
+        entry.press("1", "1", "1", "1", "1", "1")
+        tried.see("no mark goes above the ballot's ranks", entry.text("alarm") == "All ranks have a mark: there are 5.", entry.text("alarm"))
+        entry.press("Backspace", "Backspace", "Backspace", "Backspace", "Enter", "Enter")
+        wanted = "B1_1,marks,1,Ash,1,Elm,3,Birch,5,Birch\nB1_2,marks,1,Birch,2,Ash\nB1_3,missing\nB1_4,marks\nB1_5,marks,1,Ash\n"
+        got = entry.saved("M_B1", "marks")
+        tried.see("the file of marks", got == wanted, got)
+        write("marks.csv", got or "")
+        read_by = tried.run("convert", "marks", "marks.csv", "--ballots", BALLOTS, "--ranks=5")
+        tried.see("it is read by the rules", read_by[:2] == (0, "B1_1,ballot\nB1_2,ballot,Birch,Ash\nB1_4,ballot\nB1_5,ballot,Ash\nB1_3,missing\n"), read_by)
+    return page
+
+
 def keeps_nothing(tried, page):
     """Where the browser has no storage, that is told, and the page works."""
     with browser.Browser(os.path.abspath("profile"), os.path.abspath("saved")) as opened:
@@ -234,7 +290,9 @@ def main():
         by_mouse(tried, village)
         refusals(tried, page, keep)
         keeps_nothing(tried, page)
-        looks(tried, {"entry": page, "page": made(tried, "page.html", *town, "--page"), **many(tried)}, keep)
+        same_initials(tried, page, keep)
+        marks = by_marks(tried, keep)
+        looks(tried, {"entry": page, "entry_marks": marks, "page": made(tried, "page.html", *town, "--page"), **many(tried)}, keep)
         os.chdir(here)
     print(f"{tried.count - tried.failed} things of the entry page and of the pages of cards as they should be, {tried.failed} not")
     sys.exit(1 if tried.failed else 0)

@@ -37,6 +37,7 @@ class Entry:
         self.opened.wait("!document.getElementById('reading').hidden || !document.getElementById('again').hidden")
         if not self.opened.value("document.getElementById('again').hidden"):
             self.opened.press("Enter")
+            self.click("#same")
             self.opened.wait("!document.getElementById('reading').hidden")
 
     def text(self, name):
@@ -167,6 +168,7 @@ def same_initials(tried, page, keep):
         opened.wait("!document.getElementById('again').hidden")
         tried.see("whether the same person reads", entry.text("whose") == "This browser has 2 of 81 cards read by JD. Did you read them?", entry.text("whose"))
         picture(opened, keep, "again")
+        opened.press("Enter", "Enter", "1")
         tried.see("nothing is shown before the answer", opened.value("document.getElementById('reading').hidden"))
         entry.click("#other")
         opened.press(*"JD2", "Enter")

@@ -167,7 +167,7 @@ def hart(paths, rules, _):
             found += [open(os.path.join(where, name), "rb").read() for where, _, names in os.walk(path) for name in sorted(names)]
         else:
             with zipfile.ZipFile(path) as archive:
-                found += [archive.read(name) for name in archive.namelist() if name.endswith(".xml")]
+                found += [archive.read(name) for name in sorted(archive.namelist()) if name.endswith(".xml")]
 
     def text(node, name):
         return next(each.firstChild.data for each in node.childNodes if each.localName == name)

@@ -1,15 +1,17 @@
 #!/usr/bin/python3
 """How much memory and time ./raire convert takes for large exports: bench/convert.py [MEGABYTES] [FORM..]
 
-Makes an export of so many megabytes (left out: 1000) in each form (left out: dominion, nist, plain), converts it, and prints a line: the form, its
-bytes, cards, the peak of memory in MiB and the seconds of the processor.
+Makes an export of so many megabytes (left out: 1000) in each form (left out: all of FORMS), converts it, and prints a line: the form, its bytes, cards,
+the peak of memory in MiB and the seconds of the processor.
 """
+import itertools
 import json
 import os
 import random
 import subprocess
 import sys
 import tempfile
+import zipfile
 
 TOP = os.path.dirname(os.path.dirname(os.path.abspath(__file__)))
 CANDIDATES = range(1, 10)  # the last one is the write-in
@@ -51,7 +53,7 @@ def dominion(folder, size):
     sessions = []
     for ranking in rankings():
         marks = [{"CandidateId": c, "Rank": rank, **mark} for rank, c in enumerate(ranking, 1)]
-        votes = [{"Id": each, "ManifestationId": each, "Undervotes": 0, "Overvotes": 0, "OutstackConditionIds": [], "Marks": marks * (each == 5)} for each in (6, 5)]
+        votes = [{"Id": each, "ManifestationId": each, "Undervotes": 9 - len(marks), "Overvotes": 0, "OutstackConditionIds": [], "Marks": marks * (each == 5)} for each in (6, 5)]
         version = {"PrecinctPortionId": 1, "BallotTypeId": 1, "IsCurrent": True, "Cards": [{"Id": 4, "KeyInId": 4, "PaperIndex": 0, "Contests": votes}]}
         sessions.append(json.dumps({
             "TabulatorId": 1, "BatchId": 77777, "RecordId": 88888, "CountingGroupId": 2, "ImageMask": "D:\\NAS\\Results\\Images\\00001_77777_88888*.*",
@@ -92,7 +94,68 @@ def plain(folder, size):
     return [path]
 
 
-FORMS = {"dominion": dominion, "nist": nist, "plain": plain}
+def dominion_csv(folder, size):
+    fixed = ["CvrNumber", "TabulatorNum", "BatchId", "RecordId", "ImprintedId", "CountingGroup", "PrecinctPortion", "BallotType"]
+    columns = [(c, rank) for rank in CANDIDATES for c in CANDIDATES]
+    title, blank = '"Mayor (Number of positions=1, Number of ranks=9)"', [""] * len(fixed)
+    head = [["made", "5.10.50.85"], [*blank, *[title] * 81], [*blank, *(f"{'Write-in' if c == 9 else f'Candidate {c}'}({rank})" for c, rank in columns)], [*fixed, *[""] * 81]]
+    marks = [",".join("1" if rank <= len(ranking) and ranking[rank - 1] == c else "0" for c, rank in columns) for ranking in rankings()]
+    rows = (f"{n + 1},1,{n // 50 + 1},{n % 50 + 1},1-{n // 50 + 1}-{n % 50 + 1},Mail,{'x' * 600},T,{marks[n % POOL]}\n" for n in itertools.count())
+    path = os.path.join(folder, "export.csv")
+    filled(path, size, "".join(",".join(row) + "\n" for row in head), "", "", rows)
+    return [path]
+
+
+def clear_ballot(folder, size):
+    fixed = "RowNumber,BoxID,BoxPosition,BallotID,PrecinctID,BallotStyleID,PrecinctStyleName,ScanComputerName,Status,Remade"
+    head = fixed + "".join(f",Choice_{c}_1:Mayor:Vote For 1:{'Write-in' if c == 9 else f'Candidate {c}'}:NON" for c in CANDIDATES) + "\n"
+    cells = [",".join(str(ranking.index(c) + 1 if c in ranking else 0) for c in CANDIDATES) for ranking in rankings()]
+    rows = (f"{n + 1},B{n // 50 + 1},{n % 50 + 1},{n},1,1,{'x' * 800},s,,0,{cells[n % POOL]}\n" for n in itertools.count())
+    path = os.path.join(folder, "export.csv")
+    filled(path, size, head, "", "", rows)
+    return [path, "--contest", "Mayor"]
+
+
+def nist_xml(folder, size):
+    """A report as the schema orders it: the records stand before the election."""
+    election = '<Election ObjectId="_e">' + "".join(f'<Candidate ObjectId="_p{c}"><Name>Candidate {c}</Name></Candidate>' for c in CANDIDATES)
+    chosen = "".join(
+        f'<ContestSelection ObjectId="_s{c}">' + ("<IsWriteIn>true</IsWriteIn>" if c == 9 else f"<CandidateIds>_p{c}</CandidateIds>") + "</ContestSelection>" for c in CANDIDATES
+    )
+    election += f'<Contest ObjectId="_c">{chosen}<Name>Mayor</Name><VoteVariation>rcv</VoteVariation></Contest></Election>'
+    records = []
+    for ranking in rankings():
+        marks = "".join(
+            f"<CVRContestSelection><ContestSelectionId>_s{c}</ContestSelectionId><SelectionPosition><HasIndication>yes</HasIndication>"
+            f"<IsAllocable>yes</IsAllocable><NumberVotes>1</NumberVotes><Rank>{rank}</Rank></SelectionPosition></CVRContestSelection>" for rank, c in enumerate(ranking, 1)
+        )
+        snapshot = f'<CVRSnapshot ObjectId="_n"><CVRContest><ContestId>_c</ContestId>{marks}</CVRContest><Type>interpreted</Type></CVRSnapshot>'
+        records.append(f"<CVR><BatchId>77777</BatchId><BatchSequenceId>88888</BatchSequenceId>{snapshot}<CurrentSnapshotId>_n</CurrentSnapshotId></CVR>\n")
+    path = os.path.join(folder, "report.xml")
+    filled(path, size, '<CastVoteRecordReport xmlns="http://itl.nist.gov/ns/voting/1500-103/v1">\n', "", f"{election}<Version>1.0.0</Version></CastVoteRecordReport>\n", numbered(records))
+    return [path]
+
+
+def hart(folder, size):
+    """A zip with a file for each card."""
+    path, written = os.path.join(folder, "cvrs.zip"), 0
+    cards = numbered([
+        '<?xml version="1.0"?><Cvr xmlns="http://tempuri.org/CVRDesign.xsd"><Contests><Contest><Name>Mayor</Name><Id>m</Id><Options>' + "".join(
+            f"<Option><Name>Candidate {c}</Name><Id>c{c}</Id><Value>{''.join('1' if ranking[rank:rank + 1] == [c] else '0' for rank in range(9))}</Value></Option>" for c in CANDIDATES
+        ) + "</Options></Contest></Contests><BatchSequence>88888</BatchSequence><BatchNumber>77777</BatchNumber></Cvr>" for ranking in rankings()
+    ])
+    with zipfile.ZipFile(path, "w", zipfile.ZIP_DEFLATED) as archive:
+        for number, card in enumerate(cards):
+            archive.writestr(f"{number}.xml", card)
+            written += len(card)
+            if written >= size:
+                break
+    return [path]
+
+
+FORMS = {
+    "dominion": dominion, "dominion-csv": dominion_csv, "hart": hart, "clear-ballot": clear_ballot, "nist": nist, "nist as XML": nist_xml, "plain": plain,
+}
 
 
 def main():
@@ -102,7 +165,7 @@ def main():
             paths = FORMS[form](folder, size * 1_000_000)
             ballots = os.path.join(folder, "out.raire")
             with open(ballots, "wb") as out:
-                child = subprocess.Popen([os.path.join(TOP, "tools", "convert"), form, *paths], stdout=out, stderr=subprocess.DEVNULL)
+                child = subprocess.Popen([os.path.join(TOP, "tools", "convert"), form.partition(" ")[0], *paths], stdout=out, stderr=subprocess.DEVNULL)
             _, status, used = os.wait4(child.pid, 0)
             with open(ballots, "rb") as file:
                 cards = sum(1 for _ in file) - 2

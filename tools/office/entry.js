@@ -266,7 +266,7 @@ function ask(found) {
     by("again").hidden = false;
     asked = reader;
     reader = null;
-    by("same").focus();
+    by("whose").focus();  // so that no key that is pressed by habit answers
 }
 
 // Back to the question who reads.

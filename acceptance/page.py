@@ -656,7 +656,7 @@ def pluralities(shows, tried):
     holds, alone = "The assertions hold of these records: the program opened this audit again", "Counted by this page alone. Give the manifest too"
     said, session, ballots, manifest = "SIGNED OFF in round 2, after 24 draws", "session.json", "ballots.raire", "manifest.csv"
     for words, kind, told, untold in [
-        ([*files], "signed", [leads, behind, holds, "Another 1 drawn card has no record, and nobody is ranked there: as a card that doesn’t have the contest. No assertion has a discrepancy. Main_40"], [unread, alone]),
+        ([*files], "signed", [leads, behind, holds, "Another 2 drawn cards have no record, and nobody is ranked there: as a card that doesn’t have the contest. No assertion has a discrepancy. Main_23, Main_40"], [unread, alone]),
         ([session, ballots, manifest], "said", [leads, behind, holds], [unread, alone]), ([session, ballots], "said", [leads, behind, alone], [unread, holds]),
         ([session], "said", [unread], [holds, alone]), ([session, manifest, "seen.csv"], "said", [unread, "session, ballot file and manifest are given too"], [holds, alone]),
     ]:

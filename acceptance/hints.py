@@ -258,7 +258,8 @@ class Tried:
 
     def breaks(self, name, text, rule, told, *words):
         write(name, text)
-        status, err = self.says(words, ". ".join(part for part in (f"{rule}: {table.causes()[rule]}", told, END) if part))
+        causes, about = table.causes(), table.OF_CONTESTS * (words[0] == "contests")
+        status, err = self.says(words, ". ".join(part for part in (f"{rule}: {causes.get(rule + about, causes[rule])}", told, END) if part))
         self.see(f"{text[:60]!r} breaks {rule}", status == 2 and f"raire: {name}: {rule} " in err, err)
 
 
@@ -309,7 +310,7 @@ def audits_are_told(tried):
         tried.breaks("seen.csv", text, rule, told, "poll", *files[1:], "seen.csv", "--seed=10", "--draws=4")
     cards = dict.fromkeys(line.split(",")[2] for line in tried.ran(["sample", "manifest.csv", "--seed=10", "--draws=9"])[1].decode().split())
     left = [card for card in cards if card != "b_1"]
-    told = f"Not read yet ({len(left)} of the {len(cards)} cards that are drawn): {' '.join(left)}"
+    told = f"Not read yet ({len(left)} of the {len(cards)} cards that are drawn): {', '.join(left)}"
     tried.see("several cards are unread", len(left) > 1)
     tried.breaks("seen.csv", SEEN, "V4", told, "audit", "open.json", *files, "seen.csv", "--draws=9")
     tried.breaks("seen.csv", SEEN, "V4", told, "poll", *files[1:], "seen.csv", "--seed=10", "--draws=9")
@@ -333,8 +334,12 @@ def contests_are_told(tried):
         tried.breaks("seen.csv", text, rule, told, *words)
     text = "".join(f"{card},{name},ballot\n" for card in drawn for name in (9, 11) if (card, name) != (drawn[-1], 11))
     tried.breaks("seen.csv", text, "V4", f'Not read yet for "11" (1 of the {len(drawn)} cards that are drawn): {drawn[-1]}', *words)
-    unread, none = f"({len(drawn)} of the {len(drawn)} cards that are drawn): {' '.join(drawn)}", "A contest that is tied wants none"
-    tried.breaks("seen.csv", "", "V4", ". ".join([*(f'Not read yet for "{name}" {unread}' for name in (9, 10, 11)), none]), *words)
+    unread, none = f"({len(drawn)} of the {len(drawn)} cards that are drawn): {', '.join(drawn)}", "A contest that is tied wants none"
+    recorded = {tuple(line.split(",")[:2]) for line in TWO.splitlines()}
+    bare = [f"{card},{name},ballot" for name in ("9", "10", "11") for card in drawn if (name, card) not in recorded]
+    apart = f"{len(bare)} of these have no record in the ballot file: if the card doesn't have the contest, write {bare[0]}"
+    tried.see("some cards have no record of a contest", len(bare) > 1)
+    tried.breaks("seen.csv", "", "V4", ". ".join([*(f'Not read yet for "{name}" {unread}' for name in (9, 10, 11)), none, apart]), *words)
     write("far.raire", TWO + "11,c_1,Ed\n")
     write("seen.csv", "")
     tried.breaks("far.raire", TWO + "11,c_1,Ed\n", "M7", '"c" is no batch; the manifest has "b". Record 7, line 7: 11,c_1,Ed', "contests", "far.raire", *words[2:])
@@ -447,9 +452,9 @@ def cards_are_counted(tried):
     wanted = "contest 9\ncards 4\nrecords 3\ncards without a record 1: b_4\n"
     tried.see("a card without a record is counted", boxes("ballots.raire", "batches.csv") == (0, wanted.encode(), ""), boxes("ballots.raire", "batches.csv"))
     status, out, err = boxes("ballots.raire", "total.csv")
-    wanted = "batch c: 2 cards, and no record names one\nbatch Total: 6 cards, and no record names one\n"
+    wanted = "batch c: 2 cards, and no record names one\nbatch Total: 6 cards, and no record names one; ALL OTHERS TOGETHER HAVE AS MANY: a total that was left in the manifest?\n"
     tried.see("a batch that no record names is pointed at", (status, err) == (0, "") and out.decode().endswith(wanted), (out, err))
-    tried.see("and is counted", b"\ncards 12\n" in out and b"\ncards without a record 9: b_4 c_1 c_2 Total_1" in out, out)
+    tried.see("and is counted", b"\ncards 12\n" in out and b"\ncards without a record 9: b_4, c_1, c_2, Total_1" in out, out)
     write("broken.csv", "batch,cards\nb,x\n")
     tried.see("what the program refuses is refused", boxes("ballots.raire", "broken.csv") == (2, b"", "raire: broken.csv: M3 at 2\n"))
     write("far.raire", HEAD + "9,c_1,Ann\n")

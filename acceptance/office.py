@@ -76,7 +76,8 @@ def wanted_cards(seed, first, last):
 def tables(tried):
     for seed, draws in ((SEED, 1), (SEED, 40), (SEED, 90), ("x", 1000), (" -1", 7)):
         words = [MANIFEST, f"--seed={seed}", "--draws", str(draws)]
-        tried.see(f"the cards of {draws} draws of {seed!r}", tried.run("cards", *words) == (0, wanted_cards(seed, 1, draws), ""))
+        note = f'cards: the seed begins with a blank: "␣{seed[1:]}", where each ␣ is a blank\n' if seed[0] == " " else ""
+        tried.see(f"the cards of {draws} draws of {seed!r}", tried.run("cards", *words) == (0, wanted_cards(seed, 1, draws), note))
         after = draws // 2
         status, out, err = tried.run("cards", *words, f"--after={after}")
         tried.see(f"those that {after} draws didn't take", (status, out) == (0, wanted_cards(seed, after + 1, draws)), err)

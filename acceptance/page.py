@@ -81,7 +81,7 @@ class Shows:
         runs = audits.Runs(program)
         self.path = os.path.join(folder, "raire")
         write_program(self.path, ASKS)
-        plain = os.path.join(HERE, "plain_audit.py")
+        plain = os.path.join(TOP, "plain", "plain_audit.py")
         self.given = {**os.environ, "RAIRE": self.path, "PROGRAM": runs.program, "COMMANDS": " ".join(runs.commands), "PLAIN": plain}
 
     def run(self, *words, program=None, script=SHOW):
@@ -815,7 +815,7 @@ def counties(shows, tried):
     ]:
         found = states_of(shows.run(*files, *terms, *more)[1])
         tried.see(f"the county's state with {more}", found and found[0][0] == kind and told in found[0][2], found)
-        tried.see(f"what is unusual with {more}", [each for each, _, _ in found[1:]] == ["unusual"] * (more != ["--limit=1"]), found)
+        tried.see(f"what is unusual with {more}", [each for each, _, _ in found[1:]] == ["unusual"], found)
     county_by_names(shows, tried, files, terms)
     small_counties(shows, tried)
     refused_counties(shows, tried, files, terms)

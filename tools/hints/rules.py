@@ -354,9 +354,8 @@ def without_contest(left, meant, ballots):
     """The unread cards that have no record of the contest, most of which don't have it: how that is written."""
     recorded = {tuple(record.fields[:2]) for record in records(ballots)}
     found = [f"{card},{name},ballot" for name in meant[:MOST_CONTESTS] for card in left[name] if (name, card) not in recorded]
-    cards = {line.partition(",")[0] for line in found}
-    told = f"{len(cards)} of these cards {'has' if len(cards) == 1 else 'have'} no record of the contest"
-    return [f"{told}: where the card doesn't have it, write {found[0]}"] if found else []
+    told = f"{len(found)} of these {'has' if len(found) == 1 else 'have'} no record in the ballot file"
+    return [f"{told}: if the card doesn't have the contest, write {found[0]}"] if found else []
 
 
 # ---- assertion files and sessions

@@ -28,11 +28,16 @@ class Place(collections.namedtuple("Place", "path kind number part", defaults=(N
 
 
 def refused(place, text):
-    return Refusal(2, f"{NAME}: {place}: {text}\n")
+    return Refusal(2, f"{NAME}: {one_line(f'{place}: {text}')}\n")
 
 
 def told(text):
-    return Refusal(1, f"{NAME}: {text}\n")
+    return Refusal(1, f"{NAME}: {one_line(text)}\n")
+
+
+def one_line(text):
+    """A text of a file may have line ends, as where a quote isn't closed."""
+    return "".join(c if c.isprintable() else " " for c in text)
 
 
 class Contest:

@@ -1,5 +1,5 @@
 #!/usr/bin/env python3
-"""Tries ./raire release: made twice it has the same bytes, and README's walk runs in what it unpacks to, on a path without `rt`.
+"""Tries ./raire release: made twice it has the same bytes, and the walks of README and docs/office.md run in what it unpacks to, on a path without `rt`.
 
 acceptance/release.py PROGRAM makes a release of this clone's commit with PROGRAM in it. The last line says how many things were as they should be.
 """
@@ -73,14 +73,16 @@ def as_unpacked(folder, program):
 
 
 def walks(folder):
-    """The commands of README, in the folder that was unpacked."""
-    with open(os.path.join(folder, "README.md")) as file:
-        shown = list(walk.shown(file.read()))
+    """The commands of README and of the office's page, in the folder that was unpacked."""
     given = {name: value for name, value in os.environ.items() if name != "RAIRE"}
-    printed = walk.printed_by([command for command, _ in shown], folder, {**given, "PATH": PATH})
-    for (command, wanted), got in zip(shown, printed):
-        yield f"README: {command}\nwanted {wanted}got {got}", walk.is_as_shown(got, wanted)
-    yield "README: all were run", 0 < len(shown) <= len(printed)
+    for page in ("README.md", os.path.join("docs", "office.md")):
+        with open(os.path.join(folder, page)) as file:
+            shown = list(walk.shown(file.read()))
+        printed = walk.printed_by([command for command, _ in shown], folder, {**given, "PATH": PATH})
+        for (command, wanted), got in zip(shown, printed):
+            is_untried = any(told in got for told in walk.UNTRIED)
+            yield f"{page}: {command}\nwanted {wanted}got {got}", is_untried or walk.is_as_shown(got, wanted)
+        yield f"{page}: all were run", 0 < len(shown) <= len(printed)
 
 
 def scripts(folder):

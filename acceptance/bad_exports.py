@@ -392,7 +392,7 @@ def workbook_with_merged_cells(folder):
 @case
 def workbook_with_several_sheets(folder):
     words = ["plain", workbook(folder, ROWS, lambda book: book.create_sheet("Notes"))]
-    return words, 2, "cvr.xlsx: has several sheets; --sheet names one of: Sheet, Notes"
+    return words, 2, "cvr.xlsx: has several sheets; --sheet names one of: Sheet; Notes"
 
 
 @case

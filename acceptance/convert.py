@@ -228,6 +228,16 @@ def bad():
             yield f"bad: {name}", None if (got[0], got[1], shown) == wanted and not left else f"{got[0]}, {len(got[1])} bytes, {left}: {shown}wanted {wanted}"
 
 
+def too_large():
+    """More records than a file may have are told as many contests, or as one that is too large by itself."""
+    book = convert.Book([], None, None)
+    for of_contest, told in (
+        (900_000, "is record 1000001, and a .raire file has at most 1000000; convert fewer contests at once: --contest"),
+        (1_000_001, "is record 1000001 of one contest, and no .raire file has more than 1000000: this contest is too large for the program"),
+    ):
+        yield f"too many records, {of_contest} of one contest", None if book.too_many(of_contest) == told else book.too_many(of_contest)
+
+
 VALUES = [None, True, 0, -1, 7, 2**70, 1.5, "", "1", "yes", "X", [], [[]], {}, {"Id": 1}]
 
 
@@ -288,7 +298,7 @@ def damaged(count):
 def main():
     program, count = os.path.abspath(sys.argv[1]), int(sys.argv[2]) if len(sys.argv) > 2 else 200
     tried = failed = 0
-    for name, wrong in itertools.chain(by_hand(program), by_chance(program, count), by_chance_unranked(program, count), bad(), damaged(count)):
+    for name, wrong in itertools.chain(by_hand(program), by_chance(program, count), by_chance_unranked(program, count), bad(), too_large(), damaged(count)):
         tried += 1
         if wrong:
             failed += 1

@@ -56,7 +56,7 @@ def of_contest(book, number):
         yield f"  left out, since withdrawn (--without): {each.name}"
     left = [each.name for place, each in enumerate(contest.candidates) if each.is_disabled and place not in listed and not each.is_write_in]
     if left:
-        yield f"  left out, since disabled and nowhere ranked: {', '.join(left)}"
+        yield f"  left out, since disabled and nowhere ranked: {'; '.join(left)}"
     if not FEWEST_CANDIDATES <= len(listed) <= MOST_CANDIDATES:
         yield f"  warning: {len(listed)} candidates, and search takes {FEWEST_CANDIDATES} to {MOST_CANDIDATES} (B3)"
     if any(each.is_write_in for each in contest.candidates) and book.rules.write_ins == "drop":

@@ -111,7 +111,7 @@ def rows_of_workbook(source, sheet):
         names = [each.title for each in book.worksheets]
         if sheet is None and len(names) != 1 or sheet is not None and sheet not in names:
             why = "has several sheets" if sheet is None else f"no sheet is called {sheet}"
-            raise refused(source, f"{why}; --sheet names one of: {', '.join(names)}")
+            raise refused(source, f"{why}; --sheet names one of: {'; '.join(names)}")
         page = book[sheet or names[0]]
         page.reset_dimensions()
         yield from texts_of(source, page)

@@ -889,6 +889,20 @@ def nist_xml_cut_off(folder):
 
 
 @case
+def nist_xml_entity_of_another_file(folder):
+    text = '<!DOCTYPE x [<!ENTITY a SYSTEM "/etc/hostname">]><CastVoteRecordReport><Version>&a;</Version></CastVoteRecordReport>'
+    return ["nist", put(folder, "a.xml", text)], 2, "a.xml: no XML, or cut off: undefined entity &a;: line 1, column 80"
+
+
+@case
+def nist_xml_entities_that_grow(folder):
+    entities = "".join(f'<!ENTITY e{k} "{f"&e{k - 1};" * 10 if k else "x" * 100}">' for k in range(9))
+    text = f"<!DOCTYPE x [{entities}]><CastVoteRecordReport><Version>&e8;</Version></CastVoteRecordReport>"
+    told = "a.xml: no XML, or cut off: limit on input amplification factor (from DTD and entities) breached: line 1, column "
+    return ["nist", put(folder, "a.xml", text)], 2, told + str(text.index("&e8;"))
+
+
+@case
 def nist_xml_without_elections(folder):
     return xml(folder, "<Version>1.0.0</Version>"), 2, "a.xml: has no list Election"
 

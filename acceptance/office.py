@@ -12,6 +12,7 @@ import tempfile
 
 import places  # noqa: F401
 import plain_audit
+import walk
 from draws import Draws
 
 TOP = os.path.dirname(os.path.dirname(os.path.abspath(__file__)))
@@ -372,10 +373,33 @@ def terms(tried):
     ]:
         ran = subprocess.run([os.path.join(TOP, "tools", "office", "terms.py"), *words], capture_output=True, text=True)
         tried.see(f"what is told of {words}", (ran.returncode, ran.stdout, ran.stderr) == (0, "", wanted), ran)
+    by_the_script(tried)
     status, page, err = tried.run("cards", MANIFEST, "--seed=2026  6 ", "--draws=2", "--page")
     tried.see("a page shows each blank of a seed", '<code class="seed">2026<span class="blank"> </span><span class="blank"> </span>6<span class="blank"> </span></code>' in page)
     tried.see("and says that there are some", "It has two blanks in a row and ends with a blank." in page and err.startswith('cards: the seed has two blanks'), err)
     tried.see("its command has the seed in quotes", "&#39;--seed=2026  6 &#39;" in page)
+
+
+def by_the_script(tried):
+    """./raire says on standard error what a limit is in percent and which blanks a seed has; standard output and status are the program's."""
+    walk.write_stand_in(tried.program, "raire")
+    write("names.csv", "id,name\nBirch,Bea Birch\n")
+
+    def ran(*words):
+        got = subprocess.run(["./raire", *words], stdin=subprocess.DEVNULL, capture_output=True, text=True, env={**os.environ, "RAIRE": tried.program})
+        return got.returncode, got.stdout, got.stderr
+
+    note = 'raire: the seed has two blanks in a row and ends with a blank: "a␣␣b␣", where each ␣ is a blank\n'
+    for words, told in [
+        (["plan", MANIFEST, ASSERTIONS, "--limit", "5"], "raire: the risk limit 5 is 0.0005 percent; that is unusual: --limit counts millionths, so 5 percent is --limit 50000\n"),
+        (["plan", MANIFEST, ASSERTIONS, "--limit=100000"], "raire: the risk limit 100000 is 10 percent\n"), (["plan", MANIFEST, ASSERTIONS], ""),
+        (["sample", MANIFEST, "--seed=a  b ", "--draws=3"], note), (["sample", MANIFEST, "--seed=a b", "--draws=3"], ""),
+        (["open", BALLOTS, MANIFEST, ASSERTIONS, "--seed", "a  b ", "--limit=5"], "raire: the risk limit 5 is 0.0005 percent; that is unusual: --limit counts millionths, so 5 percent is --limit 50000\n" + note),
+    ]:
+        tried.see(f"what ./raire says of {words}", ran(*words) == (0, tried.run("raire", *words)[1], told), ran(*words))
+    write("s.json", tried.run("raire", "open", BALLOTS, MANIFEST, ASSERTIONS, "--seed", "a  b ")[1])
+    tried.see("and of a session that is reported", ran("report", "s.json") == (0, tried.run("raire", "report", "s.json")[1], note), ran("report", "s.json"))
+    tried.see("names are put for ids by ./raire", ran("tabulate", BALLOTS, "--names", "names.csv")[1].endswith("winner Bea Birch\n"), ran("tabulate", BALLOTS, "--names", "names.csv"))
 
 
 # ---- ./raire manifest

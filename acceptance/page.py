@@ -186,7 +186,7 @@ def words(shows, tried):
 
 def copy_of_clone(folder):
     """A clone's ./raire show with a ./raire that needs no build."""
-    for name in (os.path.join("tools", "page"), "plain"):
+    for name in (os.path.join("tools", "page"), os.path.join("tools", "office"), "plain"):
         shutil.copytree(os.path.join(TOP, name), os.path.join(folder, name), ignore=shutil.ignore_patterns("__pycache__"))
     shutil.copy(SHOW, os.path.join(folder, "tools"))
     write_program(os.path.join(folder, "raire"), STANDS_IN)

@@ -61,7 +61,7 @@ class Copy:
         shutil.copy(os.path.join(TOP, "raire"), folder)
         shutil.copy(os.path.join(TOP, "crates.txt"), folder)
         shutil.copytree(os.path.join(TOP, "docs", "help"), os.path.join(folder, "docs", "help"))
-        shutil.copytree(os.path.join(TOP, "tools", "build"), os.path.join(folder, "build"))
+        shutil.copytree(os.path.join(TOP, "tools", "build"), os.path.join(folder, "tools", "build"))
         for crate in crates():
             for part in ("src", "specs", "proofs", "must-fail"):
                 os.makedirs(os.path.join(folder, "crates", crate, part))
@@ -120,7 +120,7 @@ def builds(copy):
     yield "nor is one whose gate was ended", status == 70 and out == "" and err.endswith("rt ci ended with status -9\nraire: the program was not built\n") and bool(copy.noted())
     status, out, err = copy.run("tabulate", "a file", kept="irv_base")
     yield "the program runs once it is built", (status, out) == (0, "tabulate a file\n")
-    yield "the gate runs over its crates alone, without wrong bodies", copy.noted() == [f"ci over {len(wanted)}, 0 with wrong bodies"]
+    yield "the gate runs over its crates alone, without wrong bodies", copy.noted() == [f"ci{names} over {len(wanted)}, 0 with wrong bodies" for names in (" irv_base", " raire_cli", "")]
     yield "progress is told", all(re.search(f" of {len(wanted)}: {crate}(; about .* left)?\n", err) for crate in wanted)
     yield "no copy is left", os.listdir(copy.room) == []
     yield "nothing is built again", copy.run("--build") == (0, "", "") and not os.path.exists(copy.notes)
@@ -146,18 +146,21 @@ def minutes_left():
     import build as builder
 
     named = {"low": [], "side": ["low", "std"], "other": ["low"], "raire": ["side", "low"], "above": ["raire"]}
-    seconds = {"low": 120.0, "side": 240.0, "other": 1.0, "raire": 480.0}
+    seconds = {"low": 60.0, "side": 120.0, "other": 1.0, "raire": 240.0}
     build = builder.Build(named, seconds, 2)
     yield "what the program doesn't stand on isn't built", list(build.below) == ["low", "side", "raire"]
-    yield "a whole build is a chain, each crate proved by two", build.ends() == {"low": 60.0, "side": 180.0, "raire": 420.0}
+    yield "a whole build is a chain, each crate proved by one", build.ends() == {"low": 60.0, "side": 180.0, "raire": 420.0}
     yield "half as fast", build.tell("low", False, 120.0) == "2:00  1 of 3: low; about 12 minutes left"
     yield "at the same pace", build.tell("side", False, 360.0) == "6:00  2 of 3: side; about 8 minutes left"
     yield "the last one", build.tell("raire", False, 840.0) == "14:00  3 of 3: raire"
     build = builder.Build(named, seconds, 2)
     yield "what is kept takes no time", build.tell("low", True, 0.1) == "0:00  1 of 3: low"
-    yield "and the pace is that of the others", build.tell("side", False, 60.0) == "1:00  2 of 3: side; about 2 minutes left"
-    build = builder.Build({"low": [], "left": ["low"], "right": ["low"], "raire": ["left", "right"]}, {"low": 8.0, "left": 4.0, "right": 8.0, "raire": 4.0}, 4)
-    yield "crates side by side share the processors", build.ends() == {"low": 2.0, "left": 4.0, "right": 5.0, "raire": 6.0}
+    yield "and the pace is that of the others", build.tell("side", False, 120.0) == "2:00  2 of 3: side; about 4 minutes left"
+    named = {"low": [], "left": ["low"], "right": ["low"], "raire": ["left", "right"]}
+    build = builder.Build(named, {"low": 8.0, "left": 4.0, "right": 8.0, "raire": 4.0}, 4)
+    yield "crates side by side have a processor each", build.ends() == {"low": 8.0, "left": 12.0, "right": 16.0, "raire": 20.0}
+    build = builder.Build(named, {"low": 8.0, "left": 4.0, "right": 8.0, "raire": 4.0}, 1)
+    yield "one processor takes the longest chain first", build.ends() == {"low": 8.0, "right": 16.0, "left": 20.0, "raire": 24.0}
 
 
 def places_of(path):

@@ -14,6 +14,8 @@ import tempfile
 import time
 
 TOP = os.path.dirname(os.path.dirname(os.path.abspath(__file__)))
+TOOLS = [name for name in sorted(os.listdir(os.path.join(TOP, "tools"))) if os.path.isfile(os.path.join(TOP, "tools", name))]
+TAKE_OTHER_FILES = set(TOOLS) - {"boxes", "show"}  # lines of these on the pages may name files of the reader's own
 
 # Notes what it is asked for, tells crates as `rt ci` does, refuses one of them, and makes a program that refuses one word.
 STAND_IN = """#!/usr/bin/env bash
@@ -205,6 +207,8 @@ def pages_are_true():
                 os.symlink(os.path.join(TOP, name), os.path.join(folder, name))
             os.mkdir(os.path.join(folder, "made"))
             for line in re.findall(r"^    (\./(?:raire|acceptance)\S* .*)$", text, re.MULTILINE):
+                if line.split()[1] in TAKE_OTHER_FILES:
+                    continue
                 ran = subprocess.run(["bash", "-c", line], capture_output=True, cwd=folder)
                 told = b"templates are missing" in ran.stderr
                 yield f"{page}: {line}: {ran.stderr}", ran.returncode in (0, 3, 4, 5, 6, 10) or told
@@ -236,8 +240,8 @@ def options_are_told(program):
         command = page[: -len(".txt")]
         with open(os.path.join(pages, page)) as file:
             heads = [line.replace("[", "").replace("]", "").split() for line in file.read().split("\n\n")[0].splitlines()]
-        for script, *head in heads:
-            if command == "raire" or script != "./raire":
+        for _, *head in heads:
+            if command in ("raire", *TOOLS):
                 continue
             values = {"ID": "1", "N": "2", "SEED": "1"}
             words = [values.get(word, word if word == command or word.startswith("-") else "no_such_file") for word in head if word != "|"]

@@ -11,3 +11,5 @@ pub mod AllCounted
 pub mod LargerDiscrepancies
 pub mod Listed
 pub mod Around
+pub mod Quotients
+pub mod Standing

@@ -8,6 +8,7 @@
 mod bounds;
 mod clean;
 mod draws;
+mod falling;
 pub mod laws;
 mod limits;
 mod setting;

@@ -428,7 +428,7 @@ def manifests(tried):
     ]:
         write("b.csv", text)
         tried.refused(2, f"manifest: b.csv: {told}" if told != "is empty" else "manifest: b.csv: is empty", "manifest", "plain", "b.csv")
-    write("b.csv", "batch,first,last\nB1,1,5\nB2,3,6\n")
+    tried.refused(12, "manifest: none.csv: no such file\n", "manifest", "plain", "none.csv")
     write("b.csv", "batch,first,last\nB1,1,5\nB2,1,6\nB3,3,4\nB4,1,1\n")
     got = tried.run("manifest", "plain", "b.csv")
     tried.see("numbers of each batch", got[0] == 0 and "manifest: batch B3 begins with the number 3, and ids count from 1: numbers 1 to 2 are missing\n" in got[2], got)

@@ -148,10 +148,18 @@ def see_total(sizes, places):
     return []
 
 
+def read_list(given):
+    """The batches of the list; what the readers of exports say of a file is said under this tool's name."""
+    try:
+        return batches_in(given)
+    except Refusal as refusal:
+        raise Refusal(refusal.status, refusal.text.replace("convert: ", f"{NAME}: ", 1)) from None
+
+
 def answer(words):
     given = words_of(words)
     see_output(NAME, [given.file])
-    sizes, spans, empty, places = batches_in(given)
+    sizes, spans, empty, places = read_list(given)
     text = records.text_of([["batch", "cards"], *sizes.items()])
     with tempfile.TemporaryDirectory() as folder:
         path = os.path.join(folder, "manifest.csv")

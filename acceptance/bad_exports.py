@@ -862,6 +862,18 @@ def clear_ballot_cell_that_is_no_rank(folder):
 
 
 @case
+def clear_ballot_plurality_of_ranks(folder):
+    told = "a.csv: line 2: contest Mayor, column 8: is 2, a rank: the contest is ranked, so leave --as plurality away"
+    return [*clear_ballot(folder, "1,b,1,1,,,1,2"), "--as", "plurality"], 2, told
+
+
+@case
+def clear_ballot_plurality_without_a_contest(folder):
+    words = [*clear_ballot(folder, "1,b,1,1,,,1,0")[:2], "--as", "plurality"]
+    return words, 2, "a.csv: no contest to convert; --contest names one of: Mayor: isn't said to be ranked (Clear Ballot's form doesn't say it of any)"
+
+
+@case
 def clear_ballot_without_boxes(folder):
     told = "a.csv: line 1: no column is called BoxID; --id says which the card's id is made of"
     return clear_ballot(folder, head=CLEAR.replace("BoxID", "Box")), 2, told

@@ -1,5 +1,5 @@
 """The account of a conversion: what was read and written, and what was done with each kind of mark."""
-from convert_export import RANKED
+from convert_export import PLURALITY, RANKED
 from convert_rules import RULES
 from limits import FEWEST_CANDIDATES, MOST_CANDIDATES
 
@@ -77,10 +77,17 @@ def of_marks(book, number, counts):
         yield f"  pair {pair.id}: {pair.winner} has {pair.margin} votes more than {pair.loser}"
 
 
+def why_left_out(contest, made):
+    if made == PLURALITY and not contest.is_ranked and contest.seats not in (1, None):
+        return f"elects {contest.seats}, so it is for --as pairs"
+    return contest.why_not or "is ranked"
+
+
 def left_out(export, book, asked):
     """The contests that aren't written, and why."""
     if not asked:
-        yield from (f"left out: contest {contest}: {contest.why_not}" for contest in export.contests.values() if contest.why_not)
+        others = [contest for contest in export.contests.values() if contest not in book.contests]
+        yield from (f"left out: contest {contest}: {why_left_out(contest, book.made)}" for contest in others)
     for number, contest in enumerate(book.contests):
         if number not in book.kept:
             yield f"left out: contest {contest}: " + ("no card ranks anybody" if number in book.listed else "no card has it")

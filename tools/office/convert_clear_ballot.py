@@ -2,7 +2,7 @@
 import re
 
 import convert_columns
-from convert_export import add_mark, refused
+from convert_export import add_mark, RANKED, refused
 
 CHOICE = re.compile(r"Choice_[^:]*:([^:]+):Vote For (\d+):([^:]+):([^:]*)", re.IGNORECASE)
 NUMBER = "rownumber"
@@ -28,6 +28,7 @@ class Export(convert_columns.Export):
                 if not found:
                     raise refused(place, f"column {column + 1}: {name} isn't Choice_, contest, Vote For and a number, choice and party with colons between (Clear Ballot's form)")
                 self.add_choice(place, column, found[1].strip(), found[3].strip(), None, why_not=UNKNOWN, seats=int(found[2]))
+                self.contests[found[1].strip()].says_kind = False
         if not self.contests:
             raise refused(place, "no column begins with Choice_, which was looked for (Clear Ballot's form)")
         wanted = self.options.id or OWN_ID
@@ -37,7 +38,10 @@ class Export(convert_columns.Export):
         self.made_of, self.id_columns = "_".join(wanted), [self.places[name.lower()] for name in wanted]
 
     def mark(self, marks, contest, number, rank, cell, place, column):
-        add_mark(marks, convert_columns.number_in(cell, place), contest.mark(number, column))
+        rank = convert_columns.number_in(cell, place)
+        if rank > 1 and self.options.made != RANKED:
+            raise refused(place, f"is {rank}, a rank: the contest is ranked, so leave --as {self.options.made} away")
+        add_mark(marks, rank, contest.mark(number, column))
 
     def id_of(self, row, place):
         return "_".join(row[column] for column in self.id_columns)

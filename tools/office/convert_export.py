@@ -48,6 +48,7 @@ class Contest:
         self.most_rank = most_rank  # the highest rank that a mark may have; None where just the candidates tell it
         self.seats = seats  # how many it elects; None where the export doesn't say
         self.is_ranked = why_not is None
+        self.says_kind = True  # whether the export says that it is ranked, or that it isn't
         self.is_open = False  # candidates are found on the way
         self.keeps_order = False  # the candidates are those of a ballot file, in its order
         self.candidates, self.numbers = [], {}
@@ -104,7 +105,7 @@ def chosen(contests, asked, made, path):
 
 
 def is_unranked(contest, made):
-    return not contest.is_ranked and (made == PAIRS or contest.seats == 1)
+    return contest.says_kind and not contest.is_ranked and (made == PAIRS or contest.seats == 1)
 
 
 def see_kind(contest, made, path):

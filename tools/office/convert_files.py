@@ -7,8 +7,6 @@ import os
 import zipfile
 import zlib
 
-import ijson
-
 from ask import Refusal
 from convert_export import NAME, refused
 
@@ -91,6 +89,8 @@ def sources_of(paths, is_deep=False):
 
 def items(source, prefix):
     """The values at a place of a JSON text, one after the other, in as much memory as one of them needs."""
+    import ijson  # which only JSON needs
+
     number = 0
     with source.opened() as stream:
         try:

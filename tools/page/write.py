@@ -566,6 +566,8 @@ def page_of(words):
         raise told("templates are missing: apt-get install python3-jinja2")
     paths, options = words_of(words)
     see_output(paths)
+    note = terms.seed_note(options.get("--seed", ""))
+    sys.stderr.write(f"show: {note}\n" if note else "")
     page = Page(files.given(paths), options, Program())
     page.read()
     return filled(page)

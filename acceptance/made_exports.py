@@ -46,6 +46,22 @@ def dump(path, value, chance):
 
 # ---- Dominion
 
+def told(marks, ranks, chance):
+    """The overvotes and undervotes of marks, in one of the meanings that they may have; an overvote's marks needn't be counted as votes."""
+    by_rank = {}
+    for made in marks:
+        if made["IsVote"]:
+            by_rank.setdefault(made["Rank"], set()).add((made["CandidateId"], made.get("WriteinIndex")))
+    over = {rank for rank, made in by_rank.items() if len(made) > 1}
+    if over and maybe(chance, 0.4):
+        for made in marks:
+            made["IsAmbiguous"] = not made["IsVote"]
+            made["IsVote"] = made["IsVote"] and made["Rank"] not in over
+    number = chance.choice([1, len(over), sum(len(by_rank[rank]) for rank in over)]) if over else 0
+    blank = ranks - len(by_rank)
+    return chance.choice([{}, {"Overvotes": number}]) if not over else {"Overvotes": number}, chance.choice([{}, {"Undervotes": blank}, {"Undervotes": int(not by_rank)}])
+
+
 def dominion(folder, chance):
     drawn = Drawn(chance)
     is_old = maybe(chance, 0.3)
@@ -64,28 +80,13 @@ def dominion(folder, chance):
         made = {"CandidateId": people[name, each], "Rank": rank, "IsAmbiguous": not is_vote and maybe(chance, 0.7), "IsVote": is_vote, "MarkDensity": 90}
         return {**made, "WriteinIndex": rank} if each == WRITE_IN else made
 
-    def told(marks, ranks):
-        """The overvotes and undervotes of marks, in one of the meanings that they may have; an overvote's marks needn't be counted as votes."""
-        by_rank = {}
-        for made in marks:
-            if made["IsVote"]:
-                by_rank.setdefault(made["Rank"], set()).add((made["CandidateId"], made.get("WriteinIndex")))
-        over = {rank for rank, made in by_rank.items() if len(made) > 1}
-        if over and maybe(chance, 0.4):
-            for made in marks:
-                made["IsAmbiguous"] = not made["IsVote"]
-                made["IsVote"] = made["IsVote"] and made["Rank"] not in over
-        number = chance.choice([1, len(over), sum(len(by_rank[rank]) for rank in over)]) if over else 0
-        blank = ranks - len(by_rank)
-        return chance.choice([{}, {"Overvotes": number}]) if not over else {"Overvotes": number}, chance.choice([{}, {"Undervotes": blank}, {"Undervotes": int(not by_rank)}])
-
     def version_of(card, is_current):
         votes = []
         for name, ranks in card.items():
             marks = [mark(name, each, rank) for rank, names in enumerate(ranks, 1) for each in names]
             for _ in range(maybe(chance, 0.2)):
                 marks.append(mark(name, chance.choice(drawn.contests[name]), chance.randint(1, len(drawn.contests[name])), False))
-            over, under = told(marks, len(drawn.contests[name]))
+            over, under = told(marks, len(drawn.contests[name]), chance)
             chance.shuffle(marks)
             votes.append({"Id": numbers[name], "ManifestationId": 1, **under, **over, "Marks": marks})
         votes.append({"Id": 900, "Marks": [{"CandidateId": 901, "Rank": 1, "IsAmbiguous": False, "IsVote": True}]})

@@ -610,17 +610,7 @@ def counts(shows, tried):
     write("others_counted.raire", "1\nContest,7,2,1,3\n7,b_1,1\n")
     write("contest_counted.raire", "1\nContest,8,2,1,2\n8,b_1,1\n")
     write("b.raire", "1\nContest,7,2,1,2\n7,b_1,1\n7,b_2,2\n7,b_3,2\n")
-    write("m.csv", "batch,cards\nb,3\n")
-    write("more.csv", "batch,cards\nb,402\nc,4998\n")
-    for words, head in [
-        (["counted.raire", "a.raire"], "COUNTED IN FULL: "), (["counted.raire", "a.raire", "m.csv"], "COUNTED IN FULL: "),
-        (["counted.raire", "a.raire", "more.csv"], "COUNTED, BUT 5,397 OF 5,400 CARDS HAVE NO BALLOT IN IT: "), (["b.raire", "less_counted.raire"], "COUNTED, BUT 1 OF 3 RECORDS HAS NO BALLOT IN IT: "),
-        (["less.raire", "counted.raire"], "COUNTED, WITH 3 BALLOTS FOR 2 RECORDS: "),
-    ]:
-        write("less.raire", "1\nContest,7,2,1,2\n7,b_1,1\n7,b_3,1\n")
-        write("less_counted.raire", "1\nContest,7,2,1,2\n7,b_1,1\n7,b_3,1\n")
-        found = states_of(shows.run(*words)[1])
-        tried.see(f"whether {words} is whole", found and found[0][2].startswith(head), found)
+    whole_counts(shows, tried)
     found = states_of(shows.run("counted.raire", "a.raire")[1])
     tried.see("another winner is told", found and "2 wins by 3 ballots of counted.raire. The records elect 1: they are wrong, or the count is." in found[0][2], found)
     page = shows.run("a.raire", "tie_counted.raire")[1]
@@ -642,6 +632,21 @@ def counts(shows, tried):
     go_on(files, "session.json", [2])
     page = shows.run("b.raire", "session.json", *files)[1]
     tried.see("a session tells the records from the count", "2 wins by 3 ballots of b.raire" in text_of(page), top_of(page) if page else "")
+
+
+def whole_counts(shows, tried):
+    """A count is called full only with a ballot for each card, or for each record where there is no manifest."""
+    write("m.csv", "batch,cards\nb,3\n")
+    write("more.csv", "batch,cards\nb,402\nc,4998\n")
+    for words, head in [
+        (["counted.raire", "a.raire"], "COUNTED IN FULL: "), (["counted.raire", "a.raire", "m.csv"], "COUNTED IN FULL: "),
+        (["counted.raire", "a.raire", "more.csv"], "COUNTED, BUT 5,397 OF 5,400 CARDS HAVE NO BALLOT IN IT: "), (["b.raire", "less_counted.raire"], "COUNTED, BUT 1 OF 3 RECORDS HAS NO BALLOT IN IT: "),
+        (["less.raire", "counted.raire"], "COUNTED, WITH 3 BALLOTS FOR 2 RECORDS: "),
+    ]:
+        write("less.raire", "1\nContest,7,2,1,2\n7,b_1,1\n7,b_3,1\n")
+        write("less_counted.raire", "1\nContest,7,2,1,2\n7,b_1,1\n7,b_3,1\n")
+        found = states_of(shows.run(*words)[1])
+        tried.see(f"whether {words} is whole", found and found[0][2].startswith(head), found)
 
 
 TIED = "1\nContest,Library board,3,Ito,Mendez,Okafor\nLibrary board,Main_1,Mendez\nLibrary board,Main_2,Okafor\n"

@@ -1,7 +1,6 @@
 """The state of an audit, for the top of a page. A mark and a frame tell it too, for those who see no colours or no words."""
 import audit
 import county
-import plain_audit
 import terms
 from limits import GREATEST_GAMMA, MOST_DRAWS
 from texts import millionths, plural

@@ -851,7 +851,7 @@ def clear_ballot_choice_without_a_party(folder):
 
 @case
 def clear_ballot_row_that_is_missing(folder):
-    told = "a.csv: line 3: RowNumber is 3 behind 1: rows are missing, or stand twice; --counts ignore takes what is there"
+    told = "a.csv: line 3: RowNumber is 3 after 1: rows are missing, or stand twice; --counts ignore takes what is there"
     return clear_ballot(folder, "1,b,1,1,,,1,2", "3,b,3,3,,,1,2"), 2, told
 
 
@@ -1016,7 +1016,7 @@ def seen_quote_that_is_not_closed(folder):
 
 @case
 def marks_without_a_candidate(folder):
-    told = "seen.csv: record 1: behind marks a rank and a candidate were looked for, again and again; there are 3 fields"
+    told = "seen.csv: record 1: after marks a rank and a candidate were looked for, again and again; there are 3 fields"
     return seen(folder, "b_1,marks,1,Ash,2\n", form="marks"), 2, told
 
 

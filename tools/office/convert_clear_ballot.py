@@ -52,5 +52,5 @@ class Export(convert_columns.Export):
         if column is not None and self.compares:
             number, expected = convert_columns.number_in(row[column], place.at("RowNumber")), self.numbers.get(source)
             if expected is not None and number != expected:
-                raise refused(place, f"RowNumber is {number} behind {expected - 1}: rows are missing, or stand twice; --counts ignore takes what is there")
+                raise refused(place, f"RowNumber is {number} after {expected - 1}: rows are missing, or stand twice; --counts ignore takes what is there")
             self.numbers[source] = number + 1

@@ -76,7 +76,7 @@ class Export:
                 self.see_row(source, row, place)
                 yield Card(place, self.id_of(row, place) if votes else None, votes)
             if count == 0:
-                raise refused(source, "has no records behind its head")
+                raise refused(source, "has no records after its head")
 
     def see_row(self, source, row, place):
         pass

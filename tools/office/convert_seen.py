@@ -75,12 +75,12 @@ class Export:
         word, *marked = rest if rest else ("",)
         if word == records.MISSING:
             if any(marked):
-                raise refused(place, f"the card {card} is missing, and something stands behind that")
+                raise refused(place, f"the card {card} is missing, and something stands after that")
             self.missing.append((card, contest.key))
             self.notes["cards that weren't found"] = self.notes.get("cards that weren't found", 0) + 1
             return
         if word not in (BALLOT, MARKS):
-            raise refused(place, f"the card {card} has no reading: neither {BALLOT}, {MARKS} nor {records.MISSING} stands behind it")
+            raise refused(place, f"the card {card} has no reading: neither {BALLOT}, {MARKS} nor {records.MISSING} stands after it")
         marks = self.marks_of(place, contest, marked) if word == MARKS else self.ranking_of(place, contest, marked)
         votes.setdefault(card, (place, []))[1].append(Vote(contest, marks))
 
@@ -95,7 +95,7 @@ class Export:
         while fields and not fields[-1]:
             fields = fields[:-1]
         if len(fields) % 2:
-            raise refused(place, f"behind {MARKS} a rank and a candidate were looked for, again and again; there are {len(fields)} fields")
+            raise refused(place, f"after {MARKS} a rank and a candidate were looked for, again and again; there are {len(fields)} fields")
         for rank, each in zip(fields[::2], fields[1::2]):
             if not (rank.isascii() and rank.isdigit() and int(rank) >= 1):
                 raise refused(place, f"{rank or 'nothing'} is no rank")

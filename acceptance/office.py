@@ -324,6 +324,31 @@ def marks(tried):
     tried.see("a quote that isn't closed prints a line, and no file", len(told) < 200, len(told))
 
 
+def pairs(tried):
+    """A contest of two seats, from its sheet to the sign-off of each pair; and one card that was recorded wrong."""
+    chosen = [["Ann", "Ben"]] * 40 + [["Ann"]] * 20 + [["Ben", "Cy"]] * 15 + [["Cy"]] * 10 + [["Ann", "Ben", "Cy"]] * 5 + [["Di", "Ann"]] * 10
+    head = [*"CvrNumber TabulatorNum BatchId RecordId".split(), "Ann", "Ben", "Cy", "Di"]
+    rows = [[str(k), "1", "1", str(k), *("1" if c in votes else "0" for c in head[4:])] for k, votes in enumerate(chosen, 1)]
+    lines = [["Town", "5.10.50.85"], [""] * 4 + ["Board (Vote For=2)"] * 4, [""] * 4 + head[4:], head[:4] + [""] * 4, *rows]
+    write("export.csv", "".join(",".join(line) + "\n" for line in lines))
+    status, text, err = tried.run("convert", "dominion-csv", "export.csv", "--as", "pairs")
+    ids = ["Board: Ann over Cy", "Board: Ann over Di", "Board: Ben over Cy", "Board: Ben over Di"]
+    tried.see("a contest for each winner and loser", status == 0 and [line.split(",")[1] for line in text.splitlines()[1:5]] == ids, (text[:200], err))
+    tried.see("overvotes of two seats are told", "overvoted contests: 5 (more marks than seats, so nobody has the vote)" in err and "pair Board: Ben over Cy: Ben has 30 votes more than Cy" in err, err)
+    write("pairs.raire", text)
+    write("m.csv", "batch,cards\n1_1,100\n")
+    for last, wanted in ((chosen[-1], 0), (["Cy"], 0)):
+        marked = [*chosen[:-1], last]
+        write("marks.csv", "".join(f"1_1_{k},marks{''.join(f',1,{c}' for c in votes)}\n" for k, votes in enumerate(marked, 1)))
+        seen = tried.run("convert", "marks", "marks.csv", "--ballots", "pairs.raire", "--as", "pairs", "--seats", "2")[1]
+        if last == chosen[-1]:
+            tried.see("marks are read as the records were", sorted(seen.replace(",ballot", "").splitlines()) == sorted(
+                ",".join([row[1], row[0], *row[2:]]) for row in (line.split(",") for line in text.splitlines()[5:])), seen[:300])
+        write("seen.csv", seen)
+        status, told, err = tried.run("raire", "contests", "pairs.raire", "m.csv", "seen.csv", "--seed=1", "--draws=80")
+        tried.see(f"each pair is signed off, the last card read as {last}", status == wanted and told.count("signed off yes") == 4, (told, err))
+
+
 def named(tried):
     """The program's lines with names for ids; the status and the other lines are the program's."""
     write("b.raire", "1\nContest,101,3,15,16,17\n101,b_1,15\n101,b_2,16\n101,b_3,16\n101,b_4,17,16\n")
@@ -483,7 +508,7 @@ def helps(tried):
 def main():
     tried, here = Tried(sys.argv[1]), os.getcwd()
     for part in (
-        tables, places, sheets, card_words, agreements, readings, own_batches, counted_boxes, all_cards, marks, named, terms, manifests, rounds, helps,
+        tables, places, sheets, card_words, agreements, readings, own_batches, counted_boxes, all_cards, marks, pairs, named, terms, manifests, rounds, helps,
     ):
         with tempfile.TemporaryDirectory() as folder:
             os.chdir(folder)

@@ -164,7 +164,7 @@ def put(file):
 
 def answer(words):
     given = words_of(words)
-    see_output(NAME, given.files)
+    see_output(NAME, filter(None, [*given.files, given.ballots, given.candidates]))
     see_beside(given)
     export, book, told_of_it = converted(given)
     with text_of(given, export, book) as text, beside(given.account, told_of_it), beside(given.names, book.names()):

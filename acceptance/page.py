@@ -984,6 +984,7 @@ def names(shows, tried):
     tried.see("one name is enough", "<b>A</b> wins" in shows.run("ballots.raire", "names.csv")[1])
     write("names.csv", 'contest,id,name\n7,,"Mayor, Town"\n7,c-one,A\n9,c-one,B\n')
     text = text_of(shows.run("ballots.raire", "names.csv")[1])
+    tried.see("a session has the name of its contest", "Contest Mayor, Town (7)" in text_of(shows.run("session.json", "names.csv")[1]))
     tried.see("names of several contests, and of the contest", "Contest Mayor, Town (7)" in text and "A wins by the records" in text, text[:300])
 
 

@@ -27,8 +27,11 @@ class Place(collections.namedtuple("Place", "path kind number part", defaults=(N
         return self._replace(part=f"{self.part}, {part}" if self.part else part)
 
 
+WHAT_TO_DO = "What to do: docs/faults.md"
+
+
 def refused(place, text):
-    return Refusal(2, f"{NAME}: {one_line(f'{place}: {text}')}\n")
+    return Refusal(2, f"{NAME}: {one_line(f'{place}: {text}')}. {WHAT_TO_DO}\n")
 
 
 def told(text):

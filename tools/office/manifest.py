@@ -2,6 +2,7 @@
 import os
 import tempfile
 
+import convert_export
 import convert_files
 import convert_sheet
 import records
@@ -43,7 +44,7 @@ def words_of(words):
 
 
 def refused(place, text):
-    return Refusal(2, f"{NAME}: {place}: {text}\n")
+    return Refusal(2, f"{NAME}: {convert_export.one_line(f'{place}: {text}')}. {convert_export.WHAT_TO_DO}\n")
 
 
 def plain(name):

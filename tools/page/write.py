@@ -447,7 +447,8 @@ class Page:
             raise told(f"{name} is the budget of a check: give a ballot file and an assertion file")
         if "--contest" in self.options and not {"ballots", "assertions", "session"} & set(self.files):
             raise told("--contest wants a file that is about a contest")
-        if self.has("names") and not {"ballots", "assertions"} & set(self.files):
+        is_of_session = self.has("session") and self.names.all.has_contests
+        if self.has("names") and not is_of_session and not {"ballots", "assertions"} & set(self.files):
             raise told(f"{self.path('names')} names candidates: give a ballot file or an assertion file too")
 
     def see_poll(self):

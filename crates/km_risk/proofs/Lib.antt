@@ -11,3 +11,4 @@ pub mod AllCounted
 pub mod LargerDiscrepancies
 pub mod Listed
 pub mod Around
+pub mod AsDrawn

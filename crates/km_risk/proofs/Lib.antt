@@ -13,3 +13,4 @@ pub mod Listed
 pub mod Around
 pub mod Quotients
 pub mod Standing
+pub mod AsDrawn

@@ -24,8 +24,8 @@ pub(crate) struct Waiting {
     pub size: u32,
 }
 
-// The least margin is the greatest, so that it leaves a heap first. Of equal margins the larger set does: with many sets at the best
-// margin one that has all candidates is reached at once, and the others aren't gone into.
+// The least margin is the greatest, so that it leaves a heap first. Of equal margins the larger set does, since it is nearer to one that has
+// all candidates.
 impl PartialEq for Waiting {
     ghost eq = { eq_by_cmp least_first };
 

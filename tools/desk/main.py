@@ -1,0 +1,91 @@
+"""The words of ./raire desk, and the server at 127.0.0.1."""
+import argparse
+import logging
+import os
+import signal
+import sys
+import tempfile
+
+from running import RAIRE, TOP
+
+NAME, HOST, PORT = "desk", "127.0.0.1", 8020
+THREADS, MOST_CONNECTIONS, SILENCE = 8, 500, 20  # seconds after which a connection that says nothing is closed
+MOST_HEADER_BYTES = 16_384
+BAD_WORDS, UNUSABLE, DIFFERENT = 1, 7, 6
+
+
+class Words(argparse.ArgumentParser):
+    def error(self, message):
+        sys.stderr.write(f"{NAME}: {message}; ./raire help {NAME} tells its words\n")
+        sys.exit(BAD_WORDS)
+
+
+def words_of(words):
+    parser = Words(prog=NAME, add_help=False, allow_abbrev=False)
+    parser.add_argument("folder")
+    parser.add_argument("--port", type=int, default=PORT)
+    parser.add_argument("--read", action="store_true")
+    given = parser.parse_args(words)
+    if not 1 <= given.port <= 65_535:
+        parser.error("--port is a number from 1 to 65535")
+    return given
+
+
+def ask_for_help(words):
+    return words[:1] in (["--help"], ["-h"], ["help"])
+
+
+def put_help():
+    with open(os.path.join(TOP, "docs", "help", f"{NAME}.txt")) as file:
+        sys.stdout.write(file.read())
+    return 0
+
+
+def main(words):
+    if ask_for_help(words):
+        return put_help()
+    given = words_of(words)
+    try:
+        import flask  # noqa: F401
+        import waitress  # noqa: F401
+    except ImportError:
+        sys.stderr.write(f"{NAME}: packages are missing: apt-get install python3-flask python3-waitress python3-jinja2\n")
+        return BAD_WORDS
+    import folder
+    try:
+        return read(given) if given.read else serve(given, folder.Folder(os.path.abspath(given.folder)))
+    except folder.Unusable as fault:
+        sys.stderr.write(f"{NAME}: {fault}\n")
+        return UNUSABLE
+
+
+def read(given):
+    import again
+    return again.told(given.folder, sys.stdout)
+
+
+def serve(given, place):
+    """Serves the folder until somebody ends it."""
+    import waitress
+    from desk import Desk
+    from pages import Pages
+    from running import is_built
+    place.open()
+    if not is_built():
+        sys.stderr.write(f"{NAME}: there is no program to run\n")
+        return BAD_WORDS
+    pages = Pages(Desk(place), HOST, given.port)
+    tempfile.tempdir = place.path  # what is being uploaded waits on the disk that it comes to, in files without a name
+    logging.getLogger("waitress.queue").setLevel(logging.ERROR)
+    try:
+        server = waitress.create_server(
+            pages.app, host=HOST, port=given.port, threads=THREADS, connection_limit=MOST_CONNECTIONS, channel_timeout=SILENCE, cleanup_interval=5,
+            max_request_header_size=MOST_HEADER_BYTES, max_request_body_size=pages.most_body_bytes(), ident=None, clear_untrusted_proxy_headers=True,
+        )
+    except OSError as fault:
+        sys.stderr.write(f"{NAME}: {HOST}:{given.port}: {fault.strerror}; --port gives another port\n")
+        return UNUSABLE
+    signal.signal(signal.SIGTERM, lambda *_: sys.exit(0))
+    print(f"The desk of {place.path}: open this address once, in a browser on this machine\n    {pages.guard.address()}\nEnd it with Ctrl-C.", flush=True)
+    server.run()
+    return 0

@@ -3,7 +3,7 @@ import csv
 import os
 import re
 
-from desks import read, TOP
+from desk_visit import read, TOP
 
 EXAMPLES = os.path.join(TOP, "examples")
 HOW = "eight dice, thrown one after the other in the town hall"

@@ -36,7 +36,7 @@ class Flow:
         return [step(self.audit, number) for number in range(1, begun + more + 1) for step in OF_ROUND]
 
     def last(self):
-        is_counted = self.audit.kind in WITH_FULL_COUNT and not self.audit.is_signed_off()
+        is_counted = self.audit.kind in WITH_FULL_COUNT and self.audit.rounds() and "round1" in self.audit.deeds and not self.audit.is_signed_off()
         return [step(self.audit) for step in LAST if step is End or is_counted]
 
     def find(self, name):

@@ -21,6 +21,10 @@ class Call(NamedTuple):
     outs: dict
     also: tuple = ()  # what it makes besides
 
+    def line(self):
+        """As it is typed."""
+        return record.typed(self.words, next(iter(self.outs.values())))
+
 
 class Upload(NamedTuple):
     """A file that was given, and that lies open."""
@@ -77,7 +81,7 @@ class Runner:
         path = self.fresh("output")
         status, told = self.put_together(call, path) if call.words[0] in record.PUT_TOGETHER else self.typed(call, path)
         if status not in call.outs or self.is_stopped:
-            raise Refused(record.typed(call.words, call.outs[0]), status, self.beginning(path) + told, self.is_stopped)
+            raise Refused(call.line(), status, self.beginning(path) + told, self.is_stopped)
         out = call.outs[status]
         names = [*[out] * (out is not None), *call.also]
         if out is not None:
@@ -93,7 +97,7 @@ class Runner:
             with self.lock:
                 if self.is_stopped:
                     return -signal.SIGKILL, ""
-                self.line = record.typed(call.words, call.outs[0])
+                self.line = call.line()
                 words = [RAIRE, *call.words[1:]]
                 self.process = subprocess.Popen(
                     words, cwd=self.folder, stdin=subprocess.DEVNULL, stdout=out, stderr=subprocess.PIPE, start_new_session=True,
@@ -104,7 +108,7 @@ class Runner:
 
     def put_together(self, call, path):
         """What `cat` and `joined` of commands.txt do."""
-        self.line = record.typed(call.words, call.outs[0])
+        self.line = call.line()
         parts = [(None, name) for name in call.words[1:]] if call.words[0] == "cat" else zip(call.words[1::2], call.words[2::2])
         with open(path, "x", encoding="utf-8", newline="") as out:
             for contest, name in parts:

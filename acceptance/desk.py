@@ -1,0 +1,295 @@
+#!/usr/bin/env python3
+"""Tries ./raire desk without a browser: README's audits, what is left when it is killed, and what an observer finds.
+
+acceptance/desk.py PROGRAM [KILLS] goes through the audits of the town, the village, the library, the county and the harbor at a desk of
+its own each. Their files have to be the examples', and those that the commands make. `sh commands.txt` in an empty folder has to make them
+again, and `./raire desk --read` has to find each file that was changed. The desk of another town is killed at so many instants, 20 if no
+number is given. A deed is killed before each of its calls to the system. A full disk and a folder that can't be written are told.
+The last line says how many things were as they should be. PROGRAM is the one of ./raire.
+"""
+import io
+import multiprocessing
+import os
+import random
+import shutil
+import signal
+import subprocess
+import sys
+import tarfile
+import tempfile
+import threading
+import time
+
+import places  # noqa: F401
+from desk_visit import Desk, free_ports, RAIRE, read, TOP, Visitor
+from desk_walks import EXAMPLES, go_through, WALKS
+
+sys.dont_write_bytecode = True
+sys.path.append(os.path.join(TOP, "tools", "desk"))
+
+import folder  # noqa: E402
+import record  # noqa: E402
+
+PATH = {**os.environ, "PATH": f"{TOP}:{os.environ['PATH']}"}
+KILLS = 20
+
+
+class Tried:
+    def __init__(self):
+        self.count = self.failed = 0
+
+    def see(self, shows, holds, told=""):
+        self.count += 1
+        if not holds:
+            self.failed += 1
+            print(f"./raire desk: {shows}: not so {told}", flush=True)
+
+
+def files_in(place):
+    return {name: read(os.path.join(place, name)) for name in os.listdir(place) if os.path.isfile(os.path.join(place, name))}
+
+
+# ---- README's audits
+
+def example(place, *names):
+    return {name.partition("=")[0]: read(os.path.join(EXAMPLES, place, name.partition("=")[2] or name)) for name in names}
+
+
+def typed(*words):
+    """What a command prints on the examples, in the folder of README."""
+    return subprocess.run([RAIRE, *words], cwd=TOP, capture_output=True).stdout
+
+
+def as_in_readme():
+    """Files of each audit as the examples have them, or as the commands of README and docs/ make them."""
+    seed = {name: WALKS[name]().seed for name in WALKS}
+    county, village = "examples/county", "examples/village"
+    contests = ["contests", f"{county}/ballots.raire", f"{county}/manifest.csv", f"{county}/seen.csv", "--seed", seed["county"]]
+    files = [f"{village}/ballots.raire", f"{village}/manifest.csv", f"{village}/assertions.json"]
+    return {
+        "town": example("town", "ballots.raire", "manifest.csv", "assertions.json", "round2.json=session.json"),
+        "village": {
+            **example("village", "ballots.raire", "manifest.csv", "assertions.json", "counted.raire", "round1.json=session.json"),
+            "open.json": typed("open", *files, "--seed", seed["village"]), "counted.txt": typed("tabulate", f"{village}/counted.raire"),
+        },
+        "library": example("library", "ballots.raire", "manifest.csv", "round2.json=session.json"),
+        "county": {"county40.txt": typed(*contests, "--draws", "40"), "county80.txt": typed(*contests, "--draws", "80")},
+        "harbor": example("harbor", "ballots.raire", "manifest.csv", "assertions.json"),
+    }
+
+
+def audit(name, place, port):
+    """Goes through an audit to its end; what was seen, or what went wrong."""
+    try:
+        with Desk(place, port) as desk:
+            visitor = Visitor(desk)
+            go_through(visitor, WALKS[name]())
+            return visitor.ask("GET", "/bundle").body, None
+    except (AssertionError, TimeoutError, OSError) as fault:
+        return b"", f"{type(fault).__name__}: {fault}"
+
+
+def audits(tried, place):
+    """All audits side by side, each at a desk of its own."""
+    ports = free_ports(len(WALKS))
+    with multiprocessing.Pool(len(WALKS)) as pool:
+        ran = pool.starmap(audit, [(name, os.path.join(place, name), port) for name, port in zip(WALKS, ports)])
+    bundles = {}
+    for name, (bundle, fault) in zip(WALKS, ran):
+        tried.see(f"the audit of the {name} goes to its end", fault is None, fault)
+        bundles[name] = bundle
+    for name, wanted in as_in_readme().items():
+        there = files_in(os.path.join(place, name))
+        for file, data in wanted.items():
+            tried.see(f"{file} of the {name} is README's", there.get(file) == data)
+    return bundles
+
+
+def as_script(tried, place):
+    """`sh commands.txt` in an empty folder makes all files again."""
+    for name in WALKS:
+        made, empty = os.path.join(place, name), os.path.join(place, f"{name}_by_sh")
+        os.mkdir(empty)
+        ran = subprocess.run(["sh", os.path.join(made, record.NAME)], cwd=empty, env=PATH, capture_output=True, text=True)
+        wanted = {file: data for file, data in files_in(made).items() if file != record.NAME}
+        tried.see(f"sh commands.txt of the {name} makes its files", ran.returncode == 0 and files_in(empty) == wanted, ran.stderr[-500:])
+
+
+# ---- the observer
+
+def looked_at(path):
+    ran = subprocess.run([RAIRE, "desk", "--read", path], capture_output=True, text=True)
+    return ran.returncode, dict(line.split(": ", 1) for line in ran.stdout.splitlines() if ": " in line), ran.stderr
+
+
+def bundle_of(place, data):
+    path = os.path.join(place, "bundle")
+    with tarfile.open(fileobj=io.BytesIO(data)) as tar:
+        tar.extractall(path)
+    return os.path.join(path, "audit")
+
+
+def observers(tried, place, data):
+    """A bundle is found to be the same, and each of its files to be changed where a byte of it is."""
+    whole = bundle_of(place, data)
+    status, said, err = looked_at(whole)
+    tried.see("a bundle is the same when it is run again", status == 0 and set(said.values()) == {"the same"}, (said, err))
+    tried.see("each of its files is looked at", set(said) == set(os.listdir(whole)), set(os.listdir(whole)) - set(said))
+    with multiprocessing.pool.ThreadPool(4) as pool:
+        for name, found in pool.imap(lambda name: (name, changed(place, whole, name)), sorted(os.listdir(whole))):
+            tried.see(f"a changed byte of {name} is found", found is None, found)
+    packed = os.path.join(place, "audit.tar.gz")
+    with open(packed, "wb") as file:
+        file.write(data)
+    tried.see("a bundle is read as it is", looked_at(packed)[0] == 0)
+    os.unlink(os.path.join(whole, "seen1.csv"))
+    tried.see("a file that is missing is told", looked_at(whole)[1]["seen1.csv"] == "is missing")
+
+
+def changed(place, whole, name):
+    """What isn't found where one byte of this file is another one."""
+    copy = os.path.join(place, f"changed_{name}")
+    shutil.copytree(whole, copy)
+    data = bytearray(read(os.path.join(copy, name)))
+    data[random.Random(name).randrange(len(data))] ^= 1
+    with open(os.path.join(copy, name), "wb") as file:
+        file.write(data)
+    before = files_in(copy)
+    status, said, err = looked_at(copy)
+    is_found = status == 6 and "was changed" in said.get(name, "")
+    is_left = files_in(copy) == before
+    shutil.rmtree(copy)
+    return None if is_found and is_left else (status, said.get(name), err)
+
+
+def hostile_records(tried, place):
+    """A record that has a command of somebody else's isn't run."""
+    path = os.path.join(place, "hostile")
+    os.mkdir(path)
+    for number, line in enumerate((
+        "touch ../was_here > /dev/null", "raire report ../../etc/passwd > report1.txt", "raire report /etc/passwd > report1.txt", "raire desk x.txt > report1.txt",
+        "raire report round1.json > ../was_here.txt", "raire report round1.json; touch was_here > report1.txt", "raire report $(touch was_here) > report1.txt",
+        "raire show page.html --names=/etc/passwd > page.html", "raire convert plain ../export1.csv > ballots.raire", "cat ../seen1.csv > seen.csv", "joined a ../seen1.csv > seen1.csv",
+        "raire --build > report1.txt", "raire release . > report1.txt", "`touch was_here`", "raire report round1.json > commands.txt", "raire search -- ../x.raire > a.json",
+    )):
+        text = f"{record.HEAD}\n{record.STEP}round1\n{line}\nmade 0\n"
+        with open(os.path.join(path, record.NAME), "w") as file:
+            file.write(f"{text}\n{record.END}{record.digest_of(text.encode())}\n")
+        status, said, err = looked_at(path)
+        tried.see(f"{line} is refused", status == 6 and said.get(record.NAME, "").startswith("was changed") and sorted(os.listdir(path)) == [record.NAME], (number, said, err))
+    tried.see("nothing was made by them", not os.path.exists(os.path.join(place, "was_here")))
+
+
+# ---- killed at any instant
+
+def killed(tried, place, kills, whole):
+    """One audit of the town, at whose desk somebody kills everything so many times: it ends with the bytes of the one that nobody killed."""
+    path, walk, chance = os.path.join(place, "killed"), WALKS["town"](), random.Random(61)
+    [port] = free_ports(1)
+    done, began = 0, time.monotonic()
+    while True:
+        with Desk(path, port) as desk:
+            tried.see(f"the desk goes on after {done} kills", desk.address is not None, desk.told)
+            timer = threading.Timer(chance.uniform(0, 4), desk.end, [signal.SIGKILL])
+            if done < kills:
+                timer.start()
+            try:
+                go_through(Visitor(desk), walk)
+                timer.cancel()
+                break
+            except (OSError, EOFError, AttributeError, IndexError, AssertionError) as fault:
+                timer.join()
+                done += 1
+                tried.see("only a kill ends a walk", desk.process.poll() == -signal.SIGKILL, fault)
+                see_whole(tried, path, whole)
+                if desk.process.poll() != -signal.SIGKILL:
+                    return
+    tried.see("a town that was killed ends with the same bytes", files_in(path) == files_in(whole), (set(files_in(path)), done))
+    print(f"the desk was killed {done} times in {time.monotonic() - began:.0f} seconds", flush=True)
+
+
+def see_whole(tried, path, whole):
+    """Each file that a killed desk leaves, besides drafts and scratch, is one of the whole audit, or lies ready for its place."""
+    wanted = files_in(whole)
+    for name, data in files_in(path).items():
+        is_known = name.endswith((folder.DRAFT_END, folder.NEW_END)) or name in (record.NAME, "seen.csv") or wanted.get(name) == data
+        tried.see(f"{name} is whole after a kill", is_known, len(data))
+
+
+def at_each_call(tried, place):
+    """A deed and its undoing, killed before each call to the system in turn: the folder is as before or as after."""
+    ended = []
+    for number in range(1, 400):
+        path = os.path.join(place, f"call_{number}")
+        child = os.fork()
+        if child == 0:
+            die_at(number, path)
+        status = os.waitpid(child, 0)[1]
+        ended.append(status)
+        opened = folder.Folder(path)
+        opened.open()
+        steps = [deed.step for deed in opened.record]
+        there = {name: data for name, data in files_in(path).items() if name != record.NAME}
+        wanted = {"a.txt": b"first", "b.txt": b"second"} if steps == ["one", "two"] else {"a.txt": b"old"} if steps == ["one"] else {}
+        tried.see(f"killed before call {number}", there == wanted and not opened.damaged() and steps in ([], ["one"], ["one", "two"]), (steps, there))
+        os.close(opened.is_locked_by)
+        shutil.rmtree(path)
+        if status == 0:
+            break
+    tried.see("the deeds end once no call is left", ended[-1] == 0 and len(ended) > 60, len(ended))
+
+
+def die_at(number, path):
+    """Does two deeds, takes one back and does it again, and dies before the call of this number."""
+    left = [number]
+
+    def counted(call):
+        def called(*words, **given):
+            left[0] -= 1
+            if left[0] == 0:
+                os.kill(os.getpid(), signal.SIGKILL)
+            return call(*words, **given)
+        return called
+
+    for name in ("rename", "unlink", "fsync", "symlink", "makedirs", "open", "rmdir", "write"):
+        setattr(os, name, counted(getattr(os, name)))
+    folder.write_synced = counted(folder.write_synced)
+    place = folder.Folder(path)
+    place.open()
+    do(place, [], "one", {"a.txt": b"old"})
+    do(place, place.record, "two", {"a.txt": b"first", "b.txt": b"second"})
+    place.prepare([])
+    place.commit(place.record[:-1])
+    do(place, place.record, "two", {"a.txt": b"first", "b.txt": b"second"})
+    os._exit(0)
+
+
+def do(place, base, step, files):
+    place.prepare(base)
+    lines = []
+    for name, data in files.items():
+        path = os.path.join(place.scratch, name)
+        if os.path.lexists(path):
+            os.unlink(path)
+        with open(path, "wb") as file:
+            file.write(data)
+        lines.append(record.Given(name, record.digest_of(data)))
+    place.commit([*base, record.Deed(step, tuple(lines))])
+
+
+def main():
+    kills = int(sys.argv[2]) if len(sys.argv) > 2 else KILLS
+    tried = Tried()
+    with tempfile.TemporaryDirectory() as place:
+        at_each_call(tried, place)
+        hostile_records(tried, place)
+        bundles = audits(tried, place)
+        as_script(tried, place)
+        observers(tried, place, bundles["village"])
+        killed(tried, place, kills, os.path.join(place, "town"))
+    print(f"{tried.count - tried.failed} things of the desk as they should be, {tried.failed} not")
+    sys.exit(1 if tried.failed else 0)
+
+
+if __name__ == "__main__":
+    main()

@@ -216,6 +216,9 @@ def see_whole(tried, path, whole):
         tried.see(f"{name} is whole after a kill", is_known, len(data))
 
 
+STATES = {(): [{}], ("one",): [{"a.txt": b"first"}], ("one", "two"): [{"a.txt": b"first", "b.txt": data} for data in (b"second", b"other")]}
+
+
 def at_each_call(tried, place):
     """A deed and its undoing, killed before each call to the system in turn: the folder is as before or as after."""
     ended = []
@@ -230,8 +233,8 @@ def at_each_call(tried, place):
         opened.open()
         steps = [deed.step for deed in opened.record]
         there = {name: data for name, data in files_in(path).items() if name != record.NAME}
-        wanted = {"a.txt": b"first", "b.txt": b"second"} if steps == ["one", "two"] else {"a.txt": b"old"} if steps == ["one"] else {}
-        tried.see(f"killed before call {number}", there == wanted and not opened.damaged() and steps in ([], ["one"], ["one", "two"]), (steps, there))
+        is_whole = there in STATES.get(tuple(steps), []) and not opened.damaged()
+        tried.see(f"killed before call {number}", is_whole, (steps, there))
         os.close(opened.is_locked_by)
         shutil.rmtree(path)
         if status == 0:
@@ -240,7 +243,7 @@ def at_each_call(tried, place):
 
 
 def die_at(number, path):
-    """Does two deeds, takes one back and does it again, and dies before the call of this number."""
+    """Does two deeds, takes one back, does it again and then anew, and dies before the call of this number."""
     left = [number]
 
     def counted(call):
@@ -256,11 +259,12 @@ def die_at(number, path):
     folder.write_synced = counted(folder.write_synced)
     place = folder.Folder(path)
     place.open()
-    do(place, [], "one", {"a.txt": b"old"})
-    do(place, place.record, "two", {"a.txt": b"first", "b.txt": b"second"})
+    do(place, [], "one", {"a.txt": b"first"})
+    do(place, place.record, "two", {"b.txt": b"second"})
     place.prepare([])
     place.commit(place.record[:-1])
-    do(place, place.record, "two", {"a.txt": b"first", "b.txt": b"second"})
+    do(place, place.record, "two", {"b.txt": b"second"})
+    do(place, place.record[:-1], "two", {"b.txt": b"other"})
     os._exit(0)
 
 

@@ -5,6 +5,7 @@ import os
 import re
 import select
 import signal
+import socket
 import subprocess
 import time
 import urllib.parse
@@ -24,7 +25,9 @@ class Desk:
     """A process of ./raire desk."""
 
     def __init__(self, folder, port, **given):
-        words = [RAIRE, "desk", folder, "--port", str(port)]
+        self.begin([RAIRE, "desk", folder, "--port", str(port)], folder, port, **given)
+
+    def begin(self, words, folder, port, **given):
         self.port, self.folder = port, folder
         self.process = subprocess.Popen(words, stdin=subprocess.DEVNULL, stdout=subprocess.PIPE, stderr=subprocess.STDOUT, start_new_session=True, **given)
         self.told = self.printed()
@@ -136,3 +139,14 @@ def multipart(values, files):
 
 def form(**values):
     return urllib.parse.urlencode(values)
+
+
+def free_ports(count):
+    """Ports that nobody listens at."""
+    places = [socket.socket() for _ in range(count)]
+    for place in places:
+        place.bind((HOST, 0))
+    found = [place.getsockname()[1] for place in places]
+    for place in places:
+        place.close()
+    return found

@@ -1,17 +1,13 @@
 """The words of ./raire desk, and the server at 127.0.0.1."""
 import argparse
-import logging
 import os
 import signal
 import sys
-import tempfile
 
 from running import RAIRE, TOP
 
 NAME, HOST, PORT = "desk", "127.0.0.1", 8020
-THREADS, MOST_CONNECTIONS, SILENCE = 8, 500, 20  # seconds after which a connection that says nothing is closed
-MOST_HEADER_BYTES = 16_384
-BAD_WORDS, UNUSABLE, DIFFERENT = 1, 7, 6
+BAD_WORDS, UNUSABLE = 1, 7
 
 
 class Words(argparse.ArgumentParser):
@@ -66,7 +62,7 @@ def read(given):
 
 def serve(given, place):
     """Serves the folder until somebody ends it."""
-    import waitress
+    import server
     from desk import Desk
     from pages import Pages
     from running import is_built
@@ -75,17 +71,12 @@ def serve(given, place):
         sys.stderr.write(f"{NAME}: there is no program to run\n")
         return BAD_WORDS
     pages = Pages(Desk(place), HOST, given.port)
-    tempfile.tempdir = place.path  # what is being uploaded waits on the disk that it comes to, in files without a name
-    logging.getLogger("waitress.queue").setLevel(logging.ERROR)
     try:
-        server = waitress.create_server(
-            pages.app, host=HOST, port=given.port, threads=THREADS, connection_limit=MOST_CONNECTIONS, channel_timeout=SILENCE, cleanup_interval=5,
-            max_request_header_size=MOST_HEADER_BYTES, max_request_body_size=pages.most_body_bytes(), ident=None, clear_untrusted_proxy_headers=True,
-        )
+        serving = server.made(pages.app, pages.guard, HOST, given.port, pages.most_body_bytes(), place.path)
     except OSError as fault:
         sys.stderr.write(f"{NAME}: {HOST}:{given.port}: {fault.strerror}; --port gives another port\n")
         return UNUSABLE
     signal.signal(signal.SIGTERM, lambda *_: sys.exit(0))
     print(f"The desk of {place.path}: open this address once, in a browser on this machine\n    {pages.guard.address()}\nEnd it with Ctrl-C.", flush=True)
-    server.run()
+    serving.run()
     return 0

@@ -2,7 +2,8 @@
 import os
 
 import flask
-from werkzeug.exceptions import HTTPException
+import werkzeug.formparser
+from werkzeug.exceptions import HTTPException, RequestEntityTooLarge
 
 import bundle
 import calls
@@ -23,6 +24,7 @@ STYLES = {"style.css": os.path.join(os.path.dirname(HERE), "page"), "desk.css": 
 MOST_EXPORT_BYTES = 1 << 30
 MOST_FORM_BYTES = 1 << 20
 ROOM = 1 << 16  # of a body, besides its file
+werkzeug.formparser.RequestEntityTooLarge = RequestEntityTooLarge  # the distribution's 2.2.2 raises it there, and doesn't import it
 TYPES = {".html": "text/html", ".zip": "application/zip"}
 
 
@@ -41,6 +43,7 @@ class Pages:
         self.desk, self.guard = desk, Guard(host, port)
         self.app = flask.Flask(__name__, static_folder=None, template_folder=os.path.join(HERE, "pages"))
         self.app.request_class = Request
+        self.app.jinja_env.autoescape = True  # Flask takes it from a file's ending, and these end otherwise
         self.app.jinja_env.trim_blocks = self.app.jinja_env.lstrip_blocks = True
         self.app.jinja_env.filters.update(told.FILTERS)
         self.app.before_request(self.guard.judge)

@@ -180,8 +180,11 @@ def command_of(at, words, status, made):
     is_of_program = words[0] == PROGRAM and words[1] in COMMANDS
     if arrow != ">" or not (is_of_program or words[0] in PUT_TOGETHER):
         raise Broken(at, "is no command that a desk types")
-    if not all(map(is_file_of_folder, [*file_words(words), *[out] * (out != NOWHERE)])):
+    outs = [] if out == NOWHERE else [out]
+    if not all(map(is_file_of_folder, [*file_words(words), *outs])):
         raise Broken(at, "names a file that is none of the folder")
+    if list(made)[:1] != outs:
+        raise Broken(at, "made another file than it says")
     return Command(tuple(words), None if out == NOWHERE else out, status, made)
 
 
@@ -195,4 +198,4 @@ def file_words(words):
 
 
 def is_file_of_folder(word):
-    return FILE.fullmatch(word) is not None
+    return FILE.fullmatch(word) is not None and word != NAME

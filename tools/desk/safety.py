@@ -1,10 +1,13 @@
 """Who may ask: requests from this machine's own browser, with the key that was printed. Everything else gets a plain refusal."""
 import hmac
 import secrets
+import urllib.parse
 
 from flask import abort, g, redirect, request
+from werkzeug.http import parse_cookie
 
 KEY_BYTES = 24
+METHODS, SAME_SITE = ("GET", "HEAD", "POST"), ("same-origin", "none")
 HEADERS = {
     "Content-Security-Policy": "default-src 'none'; style-src 'self'; script-src 'self'; img-src 'self'; connect-src 'self'; "
                                "form-action 'self'; base-uri 'none'; frame-ancestors 'none'",
@@ -18,6 +21,10 @@ HEADERS = {
 PAGE_OF_A_FILE = "default-src 'none'; style-src 'unsafe-inline'; sandbox"  # of pages that the tools make, which have no script to run
 
 
+def is_same(one, other):
+    return hmac.compare_digest(one.encode(errors="replace"), other.encode())
+
+
 class Guard:
     """The address, the keys, and what each request has to have."""
 
@@ -29,26 +36,32 @@ class Guard:
     def address(self):
         return f"{self.origin}/?key={self.first_key}"
 
+    def refusal(self, method, path, query, header):
+        """The status with which a request is refused by its headers alone; 0 where it isn't."""
+        if header("Host") != self.host:
+            return 421
+        if method not in METHODS:
+            return 405
+        is_own = header("Origin") == self.origin or (header("Origin") is None and method != "POST")
+        if not is_own or (header("Sec-Fetch-Site") or "none") not in SAME_SITE:
+            return 403
+        return 0 if self.has_cookie(header("Cookie") or "") or self.has_first_key(method, path, query) else 401
+
+    def has_cookie(self, text):
+        return is_same(parse_cookie(text).get(self.cookie_name, ""), self.cookie)
+
+    def has_first_key(self, method, path, query):
+        key = dict(urllib.parse.parse_qsl(query)).get("key", "")
+        return method == "GET" and path == "/" and self.first_key is not None and is_same(key, self.first_key)
+
     def judge(self):
-        """Refuses a request before anything of its body is read."""
-        if request.headers.get("Host") != self.host:
-            abort(421)
-        if request.headers.get("Origin", self.origin) != self.origin or request.headers.get("Sec-Fetch-Site", "none") not in ("same-origin", "none"):
-            abort(403)
-        if request.method == "POST" and "Origin" not in request.headers:
-            abort(403)
-        if request.method not in ("GET", "HEAD", "POST"):
-            abort(405)
-        return None if self.has_cookie() else self.entered()
-
-    def has_cookie(self):
-        return hmac.compare_digest(request.cookies.get(self.cookie_name, "").encode(), self.cookie.encode())
-
-    def entered(self):
-        """The answer to the first address: a cookie. The key in it is used up then."""
-        key = request.args.get("key", "")
-        if request.method != "GET" or request.path != "/" or self.first_key is None or not hmac.compare_digest(key.encode(), self.first_key.encode()):
-            abort(401)
+        """The same for a request that has come in, and the answer to the first address: a cookie. The key in it is used up then."""
+        query = request.query_string.decode("latin-1")
+        status = self.refusal(request.method, request.path, query, request.headers.get)
+        if status:
+            abort(status)
+        if self.has_cookie(request.headers.get("Cookie", "")):
+            return None
         self.first_key = None
         answer = redirect("/", 303)
         answer.set_cookie(self.cookie_name, self.cookie, httponly=True, samesite="Strict", path="/")
@@ -56,7 +69,7 @@ class Guard:
 
     def judge_token(self):
         """Each form has the token of its page."""
-        if not hmac.compare_digest(request.form.get("token", "").encode(), self.token.encode()):
+        if not is_same(request.form.get("token", ""), self.token):
             abort(403)
 
     def guard(self, answer):

@@ -6,6 +6,7 @@ the desk's, with bodies that are too long or too slow, scripts in every field, a
 the folder and what lies beside it have to be as before, and no command may have been run. Then it uses old pages and two tabs, fills the disk and
 takes the permission to write away. The last line says how many things were as they should be. PROGRAM is the one of ./raire.
 """
+import hashlib
 import os
 import re
 import shlex
@@ -44,6 +45,11 @@ class Tried:
 def state_of(place):
     """Each file below a folder, with its bytes."""
     return {os.path.join(top, name): read(os.path.join(top, name)) for top, _, names in os.walk(place) for name in names}
+
+
+def state_version(place):
+    """The version of a folder's state, as its pages have it."""
+    return hashlib.sha256(read(os.path.join(place, "commands.txt"))).hexdigest()
 
 
 class Stranger:
@@ -203,18 +209,18 @@ def tabs(tried, place):
         for step, fields, files in walk.steps():
             if step.startswith("read"):
                 read_in_two_tabs(tried, first, second, walk)
-            second.go(f"/step/{step}")
+            token = second.go(f"/step/{step}").hidden("token")
             page = first.do(step, fields, files)
             tried.see(f"{step} is done in the first tab", 'class="typed"' in page.text, page.words()[:300])
             before = state_of(path)
             old = second.post(f"/step/{step}/do", fields, files)
             tried.see(f"{step} from an old page is refused", old.status == 409 and "gone on since" in old.text, (old.status, old.words()[:200]))
-            again = first.ask("POST", f"/step/{step}/do", multipart([("token", page.hidden("token")), ("version", page.hidden("version")), *fields.items()], files)[0], Content_Type="multipart/form-data; boundary=a-line-that-no-file-has")
+            again = first.ask("POST", f"/step/{step}/do", multipart([("token", token), ("version", state_version(path)), *fields.items()], files)[0], Content_Type="multipart/form-data; boundary=a-line-that-no-file-has")
             is_replaced = step in ("plan", "end") and again.status == 303
             tried.see(f"{step} that is done can't be done again", again.status == 409 or is_replaced, again.status)
             first.follow(again)
             tried.see(f"{step}: no file is lost or changed", state_of(path) == before, sorted(set(state_of(path)) ^ set(before)))
-        tried.see("terms can't be taken back", first.post("/step/terms/back").status == 409)
+        tried.see("terms can't be taken back", first.ask("POST", "/step/terms/back", form(token=token, version=state_version(path)), **URLENCODED).status == 409)
 
 
 def read_in_two_tabs(tried, first, second, walk):

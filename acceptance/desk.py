@@ -11,6 +11,7 @@ import io
 import multiprocessing
 import os
 import random
+import re
 import shutil
 import signal
 import subprocess
@@ -22,7 +23,7 @@ import time
 
 import places  # noqa: F401
 from desk_visit import Desk, free_ports, RAIRE, read, TOP, Visitor
-from desk_walks import EXAMPLES, go_through, WALKS
+from desk_walks import EXAMPLES, go_through, HOW, read_cards, take, WALKS
 
 sys.dont_write_bytecode = True
 sys.path.append(os.path.join(TOP, "tools", "desk"))
@@ -113,6 +114,74 @@ def as_script(tried, place):
         ran = subprocess.run(["sh", os.path.join(made, record.NAME)], cwd=empty, env=PATH, capture_output=True, text=True)
         wanted = {file: data for file, data in files_in(made).items() if file != record.NAME}
         tried.see(f"sh commands.txt of the {name} makes its files", ran.returncode == 0 and files_in(empty) == wanted, ran.stderr[-500:])
+
+
+# ---- an export, and steps that are taken back
+
+RULES = {"overvotes": "end", "skips": "pass", "repeats": "pass", "write-ins": "merge", "marks": "counted"}
+
+
+def exported(tried, place):
+    """The town from a vendor's export: its account is confirmed line by line; then steps are taken back, and plans are looked at."""
+    path, [port] = os.path.join(place, "exported"), free_ports(1)
+    with Desk(path, port) as desk:
+        visitor, sheet = Visitor(desk), read(os.path.join(EXAMPLES, "office", "export.csv"))
+        visitor.do("records", {"way": "export", "format": "ess", "columns": "Batch,Card", **RULES}, [("exports", sheet)])
+        tried.see("an export comes to README's records", read(os.path.join(path, "ballots.raire")) == read(os.path.join(EXAMPLES, "town", "ballots.raire")))
+        tried.see("an account that isn't confirmed stays open", "21 lines aren’t confirmed" in visitor.do("account").text, visitor.page.words()[:300])
+        lines = re.findall('name="line" value="([0-9]+)"', visitor.page.text)
+        tried.see("all but one line aren't enough", "1 lines aren’t confirmed" in visitor.do("account", [("line", line) for line in lines[1:]]).text)
+        tried.see("an account is confirmed line by line", 'class="typed"' in visitor.do("account", [("line", line) for line in lines]).text)
+        visitor.do("contest", {"audit": "comparison"})
+        visitor.do("cards", {"cast": "479"}, [("manifest", read(os.path.join(EXAMPLES, "town", "manifest.csv")))])
+        tried.see("counts that don't agree are told", "The counts don’t agree" in visitor.page.text)
+        page = visitor.post("/step/cards/back")
+        tried.see("a step that is taken back leaves no file", "manifest.csv" not in os.listdir(path) and page.path == "/step/cards", os.listdir(path))
+        visitor.do("cards", {"cast": "480"}, [("manifest", read(os.path.join(EXAMPLES, "town", "manifest.csv")))])
+        visitor.do("assertions", {"budget": "--sets=1048576", "trim": "yes"})
+        visitor.do("plan", {"limit": "2.5", "gamma": "150"})
+        tried.see("a limit is typed in percent", "limit=25000\n" in read(os.path.join(path, record.NAME), "r"))
+        visitor.post("/step/plan/try")
+        before = files_in(path)
+        tried.see("other limits and gammas are looked at", "5 percent 51 draws 56 draws 60 draws 65 draws" in visitor.go("/step/plan").words(), visitor.page.words()[-1500:])
+        tried.see("hours are worked out", "some 2.7 hours" in visitor.go("/step/plan?draws=90&minutes=4&teams=2").words(), visitor.page.words()[:900])
+        tried.see("to look changes no file", files_in(path) == before)
+        visitor.do("plan", {"limit": "5", "gamma": "100"})
+        tried.see("a plan is made anew", "limit=50000\n" in read(os.path.join(path, record.NAME), "r") and "limit=25000" not in read(os.path.join(path, record.NAME), "r"))
+        tried.see("seeds that differ aren't taken", "aren’t the same" in seed_refused(visitor))
+        page = visitor.post("/step/seed/preview", {"seed": "dice  6 1 ", "again": "dice  6 1 "})
+        tried.see("a seed is shown with every blank", "dice␣␣6␣1␣" in page.text, page.words()[:300])
+
+
+def seed_refused(visitor):
+    visitor.do("terms", {"rounds": "40 90", "how": HOW})
+    visitor.go("/step/seed")
+    text = visitor.post("/step/seed/preview", {"seed": "dice 6  1", "again": "dice 6 1"}).text
+    visitor.go("/step/seed")
+    return text
+
+
+def differing(tried, place):
+    """Readings that differ are shown side by side, and nothing is written until both readers agree."""
+    path, [port] = os.path.join(place, "differing"), free_ports(1)
+    walk = WALKS["library"]()
+    with Desk(path, port) as desk:
+        visitor = Visitor(desk)
+        go_through(visitor, walk, until="read1")
+        card = re.search(r"<td>([A-Z0-9a-z]+_[0-9]+)</td>", visitor.go("/step/fetch1").text)[1]
+        right = walk.seen[card]
+        walk.seen[card] = {None: ["Okafor"] if right[None] != ["Okafor"] else ["Ito"]}
+        read_cards(visitor, walk, 1, ["A"])
+        walk.seen[card] = right
+        read_cards(visitor, walk, 1, ["B"])
+        before = files_in(path)
+        page = visitor.do("read1")
+        words = page.words()
+        tried.see("readings that differ are side by side", "ended with status 6" in words and f"Cards that were read otherwise Card MK JL {card}" in words, words[:900])
+        tried.see("and nothing is written", files_in(path) == before)
+        page = visitor.go(f"/read/1/A?card={card}")
+        take(visitor, walk, 1, "A", page)
+        tried.see("a reading that is mended agrees", 'class="typed"' in visitor.do("read1").text, visitor.page.words()[:600])
 
 
 # ---- the observer
@@ -281,12 +350,26 @@ def do(place, base, step, files):
     place.commit([*base, record.Deed(step, tuple(lines))])
 
 
+def helps(tried):
+    """Its page, and words that are none."""
+    wanted = read(os.path.join(TOP, "docs", "help", "desk.txt"), "r")
+    for words in (["--help"], ["-h"], ["help"]):
+        ran = subprocess.run([RAIRE, "desk", *words], capture_output=True, text=True)
+        tried.see(f"desk {words[0]} prints its page", (ran.returncode, ran.stdout) == (0, wanted), ran.stderr)
+    for words in ([], ["a", "b"], ["a", "--port", "0"], ["a", "--port=x"], ["--nothing", "a"]):
+        ran = subprocess.run([RAIRE, "desk", *words], capture_output=True, text=True)
+        tried.see(f"desk {words} is refused", ran.returncode == 1 and "./raire help desk" in ran.stderr, ran.stderr)
+
+
 def main():
     kills = int(sys.argv[2]) if len(sys.argv) > 2 else KILLS
     tried = Tried()
     with tempfile.TemporaryDirectory() as place:
         at_each_call(tried, place)
         hostile_records(tried, place)
+        helps(tried)
+        exported(tried, place)
+        differing(tried, place)
         bundles = audits(tried, place)
         as_script(tried, place)
         observers(tried, place, bundles["village"])

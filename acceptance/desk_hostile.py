@@ -20,7 +20,7 @@ import threading
 import time
 
 from desk_visit import Desk, form, free_ports, HOST, multipart, RAIRE, read, Visitor
-from desk_walks import go_through, take, WALKS
+from desk_walks import go_through, read_cards, take, WALKS
 
 STEPS = ("records", "contest", "cards", "assertions", "plan", "terms", "seed", "fetch1", "read1", "round1", "count", "end")
 URLENCODED = {"Content_Type": "application/x-www-form-urlencoded"}
@@ -234,7 +234,6 @@ def read_in_two_tabs(tried, first, second, walk):
     tried.see("a card from an old page is refused", old.status == 400 and "meanwhile" in old.text, (old.status, old.words()[:200]))
     same = first.go("/read/1/B")
     tried.see("two readers have two names", "other reader" in first.post("/read/1/B/begin", {"person": "mk"}).text, same.words()[:200])
-    from desk_walks import read_cards
     read_cards(first, walk, 1)
 
 

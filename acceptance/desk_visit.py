@@ -119,7 +119,8 @@ class Visitor:
 
     def post(self, path, fields=(), files=(), version=None):
         """Fills in a form of the page that was looked at last, and presses its button."""
-        values = [("token", self.page.hidden("token")), ("version", version or self.page.hidden("version")), *dict(fields).items()]
+        own = fields.items() if isinstance(fields, dict) else fields
+        values = [("token", self.page.hidden("token")), ("version", version or self.page.hidden("version")), *own]
         body, kind = multipart(values, files)
         self.page = self.follow(self.ask("POST", path, body, Content_Type=kind))
         return self.page

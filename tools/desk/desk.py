@@ -64,6 +64,7 @@ class Desk:
             if version != self.folder.version:
                 raise Outdated
             self.notice = self.step = None
+            self.shown.clear()
             self.folder.prepare([])
             self.folder.commit(self.folder.record[:-1])
         finally:

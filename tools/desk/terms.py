@@ -17,10 +17,14 @@ def published(audit):
     return [*PUBLISHED[audit.kind], *assertions]
 
 
+def number_of_percent(millionths):
+    whole, rest = divmod(millionths, 10_000)
+    return f"{whole}.{rest:04}".rstrip("0").rstrip(".")
+
+
 def percent(millionths):
     """A limit as people say it."""
-    whole, rest = divmod(millionths, 10_000)
-    return f"{whole}.{rest:04}".rstrip("0").rstrip(".") + " percent"
+    return f"{number_of_percent(millionths)} percent"
 
 
 def text_of_terms(audit, rounds, how):

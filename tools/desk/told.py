@@ -5,7 +5,7 @@ from typing import NamedTuple
 from audit import CONTESTS, PLURALITY, POLL
 from steps import cards_of_manifest  # noqa: F401 (for the pages)
 from steps_of_rounds import likely_draws
-from terms import percent
+from terms import number_of_percent, percent
 
 MILLION = 1_000_000
 RISK = re.compile(r"(?P<what>.*?) (?:margin (?P<margin>\d+) )?counts (?P<counts>[\d ]+) risk (?P<risk>[\d.]+) (?P<state>confirmed|unconfirmed)")
@@ -130,4 +130,4 @@ def visible(text):
     return text.replace(" ", "␣")
 
 
-FILTERS = {"percent": percent, "visible": visible}
+FILTERS = {"percent": percent, "number_of_percent": number_of_percent, "visible": visible}

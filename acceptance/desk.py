@@ -7,6 +7,7 @@ again, and `./raire desk --read` has to find each file that was changed. The des
 number is given. A deed is killed before each of its calls to the system. A full disk and a folder that can't be written are told.
 The last line says how many things were as they should be. PROGRAM is the one of ./raire.
 """
+import http.client
 import io
 import multiprocessing
 import os
@@ -266,7 +267,7 @@ def killed(tried, place, kills, whole):
                 go_through(Visitor(desk), walk)
                 timer.cancel()
                 break
-            except (OSError, EOFError, AttributeError, IndexError, AssertionError) as fault:
+            except (OSError, http.client.HTTPException) as fault:
                 timer.join()
                 done += 1
                 tried.see("only a kill ends a walk", desk.process.poll() == -signal.SIGKILL, fault)
@@ -350,6 +351,23 @@ def do(place, base, step, files):
     place.commit([*base, record.Deed(step, tuple(lines))])
 
 
+def changed_by_hand(tried, place):
+    """A desk doesn't go on with a folder of which a file was changed, or its record."""
+    path, [port] = os.path.join(place, "by_hand"), free_ports(1)
+    with Desk(path, port) as desk:
+        go_through(Visitor(desk), WALKS["village"](), until="cards")
+    for name in ("ballots.raire", record.NAME):
+        was = read(os.path.join(path, name))
+        with open(os.path.join(path, name), "ab") as file:
+            file.write(b"x")
+        with Desk(path, port) as desk:
+            tried.see(f"{name} that was changed is told", desk.process.wait(60) == 7 and name in desk.told, desk.told)
+        with open(os.path.join(path, name), "wb") as file:
+            file.write(was)
+    with Desk(path, port) as desk:
+        tried.see("as it was it goes on", desk.address is not None, desk.told)
+
+
 def helps(tried):
     """Its page, and words that are none."""
     wanted = read(os.path.join(TOP, "docs", "help", "desk.txt"), "r")
@@ -370,6 +388,7 @@ def main():
         helps(tried)
         exported(tried, place)
         differing(tried, place)
+        changed_by_hand(tried, place)
         bundles = audits(tried, place)
         as_script(tried, place)
         observers(tried, place, bundles["village"])

@@ -4,6 +4,7 @@ import threading
 from typing import NamedTuple
 
 import record
+from replies import REPLIES
 from running import Refused, Runner
 
 PATIENCE = 1.5  # seconds that a request waits for its deed, before it shows how far that is
@@ -51,10 +52,16 @@ class Desk:
             self.thread = threading.Thread(target=deed.finish, daemon=True)
             self.thread.start()
         except BaseException:
-            self.folder.clear()
-            self.lock.release()
+            self.drop()
             raise
         self.thread.join(PATIENCE)
+
+    def drop(self):
+        """Ends a deed that never began to run."""
+        try:
+            self.folder.clear()
+        finally:
+            self.lock.release()
 
     def take_back(self, version):
         """The folder as it was before its last deed."""
@@ -101,6 +108,9 @@ class Deed:
             self.desk.notice = Notice(self.step, refused.line, refused.status, refused.told, refused.is_stopped)
         except OSError as fault:
             self.desk.notice = Notice(self.step, self.runner.line, 0, f"{fault.strerror}: nothing was changed.")
+        except Exception:
+            self.desk.notice = Notice(self.step, self.runner.line, 0, REPLIES[500])
+            raise
         finally:
             self.put_away()
 

@@ -67,6 +67,7 @@ class Folder:
             self.recover()
             self.drop_cut_off_drafts()
             self.see_writable()
+            self.see_undamaged()
         except OSError as fault:
             raise Unusable(f"{self.path}: {fault.strerror}") from None
 
@@ -96,6 +97,11 @@ class Folder:
         """A folder that takes no files is told at once, and not after the first deed."""
         self.prepare([])
         self.clear()
+
+    def see_undamaged(self):
+        """Nothing is built on files that somebody changed."""
+        if damaged := self.damaged():
+            raise Unusable(f"{self.path}: not as {record.NAME} says: {', '.join(damaged)}; take the folder from a copy")
 
     # ---- what the folder has
 

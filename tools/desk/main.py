@@ -63,10 +63,13 @@ def read(given):
 def serve(given, place):
     """Serves the folder until somebody ends it."""
     import server
+    from audit import Audit
     from desk import Desk
     from pages import Pages
     from running import is_built
+    from steps_of_rounds import end_drafts
     place.open()
+    end_drafts(Audit(place))
     if not is_built():
         sys.stderr.write(f"{NAME}: there is no program to run\n")
         return BAD_WORDS

@@ -4,7 +4,7 @@ import math
 
 import calls
 import readings
-from audit import BALLOTS, COMPARISON, CONTESTS, COUNTED, PLURALITY, READERS, Round  # noqa: F401
+from audit import COUNTED, READERS, Round
 from forms import Wrong
 from limits import MOST_DRAWS
 from record import Choice
@@ -56,6 +56,14 @@ class Read(Step):
         """The drafts are files of the record now."""
         for reader in READERS:
             self.audit.folder.drop_draft(readings.name_of(self.number, reader))
+
+
+def end_drafts(audit):
+    """Drops drafts that a desk left which was killed once they were taken."""
+    for round in audit.rounds():
+        step = Read(audit, round.number)
+        if step.is_done:
+            step.finish()
 
 
 class Count(Step):

@@ -8,6 +8,7 @@ takes the permission to write away. The last line says how many things were as t
 """
 import hashlib
 import os
+import random
 import re
 import shlex
 import shutil
@@ -331,8 +332,8 @@ def stopped(tried, place):
 
 def long_search():
     """A contest of 26 candidates who are nearly equal, which is searched for minutes."""
-    names = [f"c{number}" for number in range(26)]
-    lines = [f"x,b_{ballot},{','.join(names[ballot * 7 % 26:] + names[:ballot * 7 % 26])}" for ballot in range(1, 2_001)]
+    chance, names = random.Random(7), [f"c{number}" for number in range(26)]
+    lines = [f"x,b_{ballot},{','.join(chance.sample(names, len(names)))}" for ballot in range(1, 2_001)]
     return "\n".join(["1", f"Contest,x,26,{','.join(names)}", *lines, ""]).encode()
 
 

@@ -17,7 +17,7 @@ terms.txt      what was fixed and published before the seed was drawn
 page.html      the audit as one page, for any browser
 the others     what commands.txt says of each
 
-To run the audit again, unpack a release of the RAIRE audit suite, and in its folder type
+To run the audit again, unpack the release of the RAIRE audit suite that page.html names at its end, and in its folder type
 
     ./raire desk --read THE/FOLDER/OF/THIS/FILE
 

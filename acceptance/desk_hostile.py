@@ -48,6 +48,11 @@ def state_of(place):
     return {os.path.join(top, name): read(os.path.join(top, name)) for top, _, names in os.walk(place) for name in names}
 
 
+def commands_run(desk):
+    """A count that grows with each command that a desk has run: the faults of the pages of memory of its children."""
+    return read(f"/proc/{desk.process.pid}/stat", "r").rpartition(")")[2].split()[8]
+
+
 def state_version(place):
     """The version of a folder's state, as its pages have it."""
     return hashlib.sha256(read(os.path.join(place, "commands.txt"))).hexdigest()
@@ -187,13 +192,15 @@ def hostile(tried, place):
         file.write("nobody's business")
     with Desk(path, port) as desk:
         visitor = Visitor(desk)
-        inside = Stranger(tried, visitor, os.path.join(place, "inside"))
+        inside, before = Stranger(tried, visitor, os.path.join(place, "inside")), commands_run(desk)
         strangers(inside, port)
         forms(inside, visitor)
         bodies(inside, visitor)
+        tried.see("no command was run", commands_run(desk) == before)
         texts(inside, visitor, tried)
         silence(tried, port)
         served(tried, visitor, "after thousands of connections")
+        tried.see("a command that was run would be seen", commands_run(desk) != before)
         tried.see("the folder is empty", sorted(os.listdir(path)) == ["commands.txt"], os.listdir(path))
 
 

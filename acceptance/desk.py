@@ -9,7 +9,6 @@ The last line says how many things were as they should be. PROGRAM is the one of
 """
 import http.client
 import io
-import multiprocessing
 import os
 import random
 import re
@@ -21,8 +20,9 @@ import tarfile
 import tempfile
 import threading
 import time
+import zipfile
+from multiprocessing.pool import Pool, ThreadPool
 
-import places  # noqa: F401
 from desk_visit import Desk, free_ports, RAIRE, read, TOP, Visitor
 from desk_walks import EXAMPLES, go_through, HOW, read_cards, take, WALKS
 
@@ -94,7 +94,7 @@ def audit(name, place, port):
 def audits(tried, place):
     """All audits side by side, each at a desk of its own."""
     ports = free_ports(len(WALKS))
-    with multiprocessing.Pool(len(WALKS)) as pool:
+    with Pool(len(WALKS)) as pool:
         ran = pool.starmap(audit, [(name, os.path.join(place, name), port) for name, port in zip(WALKS, ports)])
     bundles = {}
     for name, (bundle, fault) in zip(WALKS, ran):
@@ -129,9 +129,9 @@ def exported(tried, place):
         visitor, sheet = Visitor(desk), read(os.path.join(EXAMPLES, "office", "export.csv"))
         visitor.do("records", {"way": "export", "format": "ess", "columns": "Batch,Card", **RULES}, [("exports", sheet)])
         tried.see("an export comes to README's records", read(os.path.join(path, "ballots.raire")) == read(os.path.join(EXAMPLES, "town", "ballots.raire")))
-        tried.see("an account that isn't confirmed stays open", "21 lines aren’t confirmed" in visitor.do("account").text, visitor.page.words()[:300])
+        tried.see("an account that isn't confirmed stays open", "Of 21 lines 21 aren’t ticked" in visitor.do("account").text, visitor.page.words()[:300])
         lines = re.findall('name="line" value="([0-9]+)"', visitor.page.text)
-        tried.see("all but one line aren't enough", "1 lines aren’t confirmed" in visitor.do("account", [("line", line) for line in lines[1:]]).text)
+        tried.see("all but one line aren't enough", "Of 21 lines 1 aren’t ticked" in visitor.do("account", [("line", line) for line in lines[1:]]).text)
         tried.see("an account is confirmed line by line", 'class="typed"' in visitor.do("account", [("line", line) for line in lines]).text)
         visitor.do("contest", {"audit": "comparison"})
         visitor.do("cards", {"cast": "479"}, [("manifest", read(os.path.join(EXAMPLES, "town", "manifest.csv")))])
@@ -162,6 +162,42 @@ def seed_refused(visitor):
     return text
 
 
+def named(tried, place):
+    """Candidates whose ids are numbers are called by their names, as the export has them."""
+    path, [port] = os.path.join(place, "named"), free_ports(1)
+    export = os.path.join(TOP, "acceptance", "exports", "dominion_cards", "export")
+    packed = io.BytesIO()
+    with zipfile.ZipFile(packed, "w") as zipped:
+        for name in sorted(os.listdir(export)):
+            zipped.write(os.path.join(export, name), name)
+    with Desk(path, port) as desk:
+        visitor = Visitor(desk)
+        page = visitor.do("records", {"way": "export", "format": "dominion", **RULES}, [("exports", packed.getvalue())])
+        names = [line.rsplit(",", 1)[1] for line in read(os.path.join(path, "names.csv"), "r").splitlines()[1:]]
+        tried.see("candidates have their names", 'class="typed"' in page.text and names and all(name.strip('"') in page.words() for name in names), page.words()[:600])
+        page = visitor.post("/step/records/back")
+        page = visitor.do("records", {"way": "export", "format": "dominion", **RULES}, [("exports", b"{}")])
+        tried.see("another file than a zip is told", "it isn’t a zip" in page.text, page.words()[:300])
+
+
+def sheet_of_reader_b(tried, visitor, walk):
+    """Reader B gives a sheet that was filled in, once without a mistake."""
+    visitor.go("/read/1/B")
+    visitor.post("/read/1/B/begin", {"person": "JL"})
+    rows = read(os.path.join(visitor.folder, "sheet1.csv"), "r").splitlines()
+    cards = {row.rstrip(","): walk.seen[row.rstrip(",")][None] for row in rows}
+    lines = [f"{card},missing" if ranked is None else ",".join([card, "ballot", *ranked]) for card, ranked in cards.items()]
+    for bad, told in ((["x_1,ballot"], "x_1 is no card of this round"), (["x"], "is no card"), ([lines[0] + ",Nobody"], "Nobody is no candidate"), ([lines[0]] * 2, "stood before"), ([rows[0] + "torn"], "neither ballot")):
+        visitor.go("/read/1/B")
+        page = visitor.post("/read/1/B/sheet", {}, [("readings", "\n".join(bad).encode())])
+        tried.see(f"a sheet with {bad[0]} is refused", page.status == 400 and told in page.words(), page.words()[:400])
+    visitor.go("/read/1/B")
+    page = visitor.post("/read/1/B/sheet", {}, [("readings", "\n".join([lines[0], *rows[1:]]).encode())])
+    tried.see("a sheet that is filled in part gives that part", f"1 of {len(rows)} cards read" in page.words(), page.words()[:400])
+    page = visitor.post("/read/1/B/sheet", {}, [("readings", "\n".join(lines).encode())])
+    tried.see("a sheet gives all readings", page.path == "/step/read1" and f"{len(rows)} of {len(rows)} cards read" in page.words(), page.words()[:400])
+
+
 def differing(tried, place):
     """Readings that differ are shown side by side, and nothing is written until both readers agree."""
     path, [port] = os.path.join(place, "differing"), free_ports(1)
@@ -174,7 +210,7 @@ def differing(tried, place):
         walk.seen[card] = {None: ["Okafor"] if right[None] != ["Okafor"] else ["Ito"]}
         read_cards(visitor, walk, 1, ["A"])
         walk.seen[card] = right
-        read_cards(visitor, walk, 1, ["B"])
+        sheet_of_reader_b(tried, visitor, walk)
         before = files_in(path)
         page = visitor.do("read1")
         words = page.words()
@@ -205,7 +241,7 @@ def observers(tried, place, data):
     status, said, err = looked_at(whole)
     tried.see("a bundle is the same when it is run again", status == 0 and set(said.values()) == {"the same"}, (said, err))
     tried.see("each of its files is looked at", set(said) == set(os.listdir(whole)), set(os.listdir(whole)) - set(said))
-    with multiprocessing.pool.ThreadPool(4) as pool:
+    with ThreadPool(4) as pool:
         for name, found in pool.imap(lambda name: (name, changed(place, whole, name)), sorted(os.listdir(whole))):
             tried.see(f"a changed byte of {name} is found", found is None, found)
     packed = os.path.join(place, "audit.tar.gz")
@@ -387,6 +423,7 @@ def main():
         hostile_records(tried, place)
         helps(tried)
         exported(tried, place)
+        named(tried, place)
         differing(tried, place)
         changed_by_hand(tried, place)
         bundles = audits(tried, place)

@@ -11,13 +11,10 @@ import os
 import random
 import re
 import shlex
-import shutil
-import signal
 import socket
 import subprocess
 import sys
 import tempfile
-import threading
 import time
 
 from desk_visit import Desk, form, free_ports, HOST, multipart, RAIRE, read, Visitor

@@ -17,7 +17,7 @@ import time
 
 import browser
 from desk_visit import Desk, free_ports, HOST, RAIRE, read, TOP
-from desk_walks import HOW, READERS, WALKS
+from desk_walks import READERS, WALKS
 
 LOOKS = {"narrow": (390, "screen", False), "wide": (1280, "screen", False), "widest": (1920, "screen", False), "dark": (1280, "screen", True), "print": (794, "print", False)}
 ENDED = "document.readyState === 'complete' && !location.pathname.startsWith('/running')"

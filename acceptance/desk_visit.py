@@ -80,7 +80,7 @@ class Visitor:
     """Who has opened the desk's address, and follows where its pages lead."""
 
     def __init__(self, desk):
-        self.port, self.cookie, self.page = desk.port, None, None
+        self.port, self.folder, self.cookie, self.page = desk.port, desk.folder, None, None
         self.page = self.follow(self.ask("GET", desk.address.partition(str(desk.port))[2]))
 
     def ask(self, method, path, body=None, **headers):

@@ -1,5 +1,7 @@
 """What the record and the files of a folder say of the audit: what was chosen, what is known, how far it is."""
+import csv
 import functools
+import io
 import itertools
 import json
 import os
@@ -10,7 +12,7 @@ import record
 from limits import MOST_CONTESTS
 
 COMPARISON, PLURALITY, POLL, CONTESTS = KINDS = ("comparison", "plurality", "poll", "contests")
-BALLOTS, MANIFEST, COUNTED = "ballots.raire", "manifest.csv", "counted.raire"
+BALLOTS, MANIFEST, COUNTED, NAMES = "ballots.raire", "manifest.csv", "counted.raire", "names.csv"
 READERS = ("A", "B")
 HEAD_BYTES = 8 << 20  # of a ballot file, in which the records of its contests stand
 CONFIRMED, UNCONFIRMED = 0, 10
@@ -72,6 +74,15 @@ class Audit:
                 return contests_of(file.read(HEAD_BYTES))
         except (OSError, plain_audit.Broken):
             return []
+
+    @functools.cached_property
+    def names(self):
+        """What candidates are called, by their contest (none where there is one alone) and their ids, where an export told it."""
+        rows = list(csv.reader(io.StringIO(self.text(NAMES), newline="")))
+        return {tuple(row[:-1])[-2:]: row[-1] for row in rows[1:] if len(row) in (2, 3)}
+
+    def called(self, contest, candidate):
+        return self.names.get((contest.id, candidate)) or self.names.get((candidate,)) or candidate
 
     @property
     def contest(self):

@@ -1,6 +1,6 @@
 """What is typed at each step, for each kind of audit."""
 import record
-from audit import BALLOTS, COMPARISON, CONFIRMED, CONTESTS, COUNTED, MANIFEST, PLURALITY, POLL, UNCONFIRMED
+from audit import BALLOTS, COMPARISON, CONFIRMED, CONTESTS, COUNTED, MANIFEST, NAMES, PLURALITY, POLL, UNCONFIRMED
 from running import call, Call
 
 TIED, SPENT = 3, 4
@@ -145,5 +145,6 @@ def show(audit):
         words = [BALLOTS, MANIFEST, audit.seen(last.number), *terms, *budget_words(audit)]
     else:
         assertions = [audit.assertions] if audit.kind == COMPARISON else []
-        words = [BALLOTS, MANIFEST, *assertions, audit.answer_of(last), audit.seen(last.number), *counted, *budget_words(audit)]
+        names = [NAMES] if audit.names and len(audit.contests) == 1 else []
+        words = [BALLOTS, MANIFEST, *assertions, audit.answer_of(last), audit.seen(last.number), *counted, *names, *budget_words(audit)]
     return call("show", *words, out="page.html")

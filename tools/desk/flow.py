@@ -1,7 +1,7 @@
 """Which steps an audit has, in their order, which of them are done, and which can be done now."""
 import re
 
-from audit import CONTESTS, COMPARISON, PLURALITY, POLL
+from audit import COMPARISON, PLURALITY
 from steps import Account, Assertions, Cards, Contest, Plan, Records, Seed, Terms
 from steps_of_rounds import Count, End, Fetch, FullCount, Read
 

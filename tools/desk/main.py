@@ -1,12 +1,14 @@
 """The words of ./raire desk, and the server at 127.0.0.1."""
 import argparse
+import importlib.util
 import os
 import signal
 import sys
 
-from running import RAIRE, TOP
+from running import TOP
 
 NAME, HOST, PORT = "desk", "127.0.0.1", 8020
+PACKAGES = ("flask", "jinja2", "waitress")
 BAD_WORDS, UNUSABLE = 1, 7
 
 
@@ -41,11 +43,8 @@ def main(words):
     if ask_for_help(words):
         return put_help()
     given = words_of(words)
-    try:
-        import flask  # noqa: F401
-        import waitress  # noqa: F401
-    except ImportError:
-        sys.stderr.write(f"{NAME}: packages are missing: apt-get install python3-flask python3-waitress python3-jinja2\n")
+    if not all(map(importlib.util.find_spec, PACKAGES)):
+        sys.stderr.write(f"{NAME}: packages are missing: apt-get install {' '.join(f'python3-{name}' for name in PACKAGES)}\n")
         return BAD_WORDS
     import folder
     try:

@@ -6,23 +6,23 @@ import werkzeug.formparser
 from werkzeug.exceptions import HTTPException, RequestEntityTooLarge
 
 import bundle
-import calls
 import readings
 import told
-from audit import Audit, CONTESTS, READERS
+from audit import Audit, READERS
 from desk import Busy, Outdated
 from forms import Form, Wrong
 from flow import Flow
 from limits import MOST_FILE_BYTES
 from replies import REPLIES
 from safety import Guard
-from steps import Plan, Seed, seed_of, Terms
+from steps import Plan, Seed, Terms
 from steps_of_rounds import Read
 
 HERE = os.path.dirname(os.path.abspath(__file__))
 STYLES = {"style.css": os.path.join(os.path.dirname(HERE), "page"), "desk.css": HERE, "desk.js": HERE}
 MOST_EXPORT_BYTES = 1 << 30
 MOST_FORM_BYTES = 1 << 20
+MOST_BYTES = {"/step/records/do": MOST_EXPORT_BYTES, "/step/cards/do": MOST_FILE_BYTES, "/step/count/do": MOST_FILE_BYTES, "/sheet": MOST_FILE_BYTES}
 ROOM = 1 << 16  # of a body, besides its file
 werkzeug.formparser.RequestEntityTooLarge = RequestEntityTooLarge  # the distribution's 2.2.2 raises it there, and doesn't import it
 TYPES = {".html": "text/html", ".zip": "application/zip"}
@@ -34,8 +34,7 @@ class Request(flask.Request):
 
     @property
     def max_content_length(self):
-        files = {"/step/records/do": MOST_EXPORT_BYTES, "/step/cards/do": MOST_FILE_BYTES, "/step/count/do": MOST_FILE_BYTES}
-        return files.get(self.path, MOST_FORM_BYTES) + ROOM
+        return next((most for end, most in MOST_BYTES.items() if self.path.endswith(end)), MOST_FORM_BYTES) + ROOM
 
 
 class Pages:
@@ -64,6 +63,7 @@ class Pages:
             ("/read/<int:number>/<reader>", self.card, get), ("/step/<name>/do", self.do, post), ("/step/<name>/preview", self.preview, post),
             ("/step/<name>/back", self.take_back, post), ("/step/plan/try", self.try_plans, post), ("/stop", self.stop, post),
             ("/read/<int:number>/<reader>/begin", self.begin_reading, post), ("/read/<int:number>/<reader>/take", self.take_reading, post),
+            ("/read/<int:number>/<reader>/sheet", self.take_sheet, post),
         ]
 
     # ---- what is looked at
@@ -226,6 +226,21 @@ class Pages:
             draft.keep()
         following = draft.next(card.id)
         return flask.redirect(f"/read/{number}/{reader}?card={following.id}" if following else f"/step/{step.name}", 303)
+
+    def take_sheet(self, number, reader):
+        """The readings of a file go into the reader's draft, all or none."""
+        form = self.form()
+        with self.desk.drafting:
+            audit, flow, step, draft = self.drafts(number, reader)
+            if not draft.person or len(draft.contests) != 1:
+                flask.abort(404)
+            try:
+                text = form.file("readings", "a seen file").read().decode(errors="replace")
+                draft.readings.update(readings.readings_in(text, draft))
+            except Wrong as wrong:
+                return self.card(number, reader, wrong=str(wrong), status=400)
+            draft.keep()
+        return flask.redirect(f"/read/{number}/{reader}" if draft.left() else f"/step/{step.name}", 303)
 
     # ---- what goes wrong
 

@@ -38,7 +38,7 @@ class Draft:
 
     def __init__(self, audit, number, reader):
         self.folder, self.name = audit.folder, name_of(number, reader)
-        self.cards, self.contests = cards_of(audit, number), audit.audited()
+        self.cards, self.contests, self.called = cards_of(audit, number), audit.audited(), audit.called
         kept = json.loads(self.folder.draft(self.name) or "{}")
         self.person, self.readings = kept.get("person", ""), kept.get("readings", {})
 
@@ -86,8 +86,11 @@ class Draft:
             return ["not read yet"]
         if reading == MISSING:
             return ["not found"]
-        told = {each.id: ", ".join(reading[str(each.number)]) or "nobody ranked" for each in self.contests}
+        told = {each.id: self.ranked_in_words(each, reading[str(each.number)]) for each in self.contests}
         return list(told.values()) if len(told) == 1 else [f"{contest}: {said}" for contest, said in told.items()]
+
+    def ranked_in_words(self, contest, ranking):
+        return ", ".join(self.called(contest, name) for name in ranking) or "nobody ranked"
 
 
 def mark_of(reading):
@@ -132,6 +135,26 @@ def candidate_of(contest, mark):
     if not mark.isascii() or not mark.isdigit() or not 1 <= int(mark) <= len(contest.candidates):
         raise Wrong("A mark is for no candidate of the contest.")
     return contest.candidates[int(mark) - 1]
+
+
+def readings_in(text, draft):
+    """The readings of a seen file of one contest, such as a sheet that was filled in. Cards without a reading are passed over."""
+    [contest], cards, found = draft.contests, {card.id for card in draft.cards}, {}
+    for at, row in enumerate(csv.reader(io.StringIO(text.removeprefix("\ufeff"), newline="")), 1):
+        card, word, *ranked = [field.strip() for field in row] + [""] * 2
+        ranked = list(dict.fromkeys(filter(None, ranked)))
+        if card and card not in cards:
+            raise Wrong(f"Record {at}: {card} is no card of this round.")
+        if not word and not ranked:
+            continue
+        if card in found:
+            raise Wrong(f"Record {at}: {card} stood before.")
+        if word not in ("ballot", MISSING) or (word == MISSING and ranked):
+            raise Wrong(f"Record {at}: behind {card} stands neither ballot and who is ranked, nor missing alone.")
+        if strangers := [name for name in ranked if name not in contest.candidates]:
+            raise Wrong(f"Record {at}: {strangers[0]} is no candidate; they are {', '.join(contest.candidates)}.")
+        found[card] = MISSING if word == MISSING else {str(contest.number): ranked}
+    return found
 
 
 def differences(drafts):

@@ -11,7 +11,10 @@ from typing import NamedTuple
 
 NAME = "commands.txt"
 PROGRAM = "raire"
-COMMANDS = ("agree", "audit", "boxes", "cards", "check", "contests", "convert", "open", "plan", "plurality", "poll", "report", "sample", "search", "show", "tabulate", "trim")
+COMMANDS = (
+    "agree", "audit", "boxes", "cards", "check", "contests", "convert", "open", "plan", "plurality", "poll", "report", "sample", "search", "show", "tabulate",
+    "trim",
+)
 PUT_TOGETHER = ("cat", "joined")  # what the shell does with seen files, in place of the program
 FILE_OPTIONS = ("--account", "--names", "--candidates", "--places")
 NOWHERE = "/dev/null"

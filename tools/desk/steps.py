@@ -5,7 +5,7 @@ import io
 import calls
 import exports
 import plain_audit
-from audit import BALLOTS, COMPARISON, CONTESTS, contests_of, HEAD_BYTES, KINDS, MANIFEST, PLURALITY, POLL
+from audit import BALLOTS, CONTESTS, contests_of, HEAD_BYTES, KINDS, MANIFEST, PLURALITY, POLL
 from forms import Wrong
 from limits import GREATEST_GAMMA, MOST_DRAWS, MOST_NODES, MOST_SEED_BYTES, MOST_SETS
 from record import Choice
@@ -80,9 +80,10 @@ class Account(Step):
         return self.audit.text("account.txt").splitlines()
 
     def lines(self, form):
-        missing = len(self.account()) - len(set(form.ticked("line")))
-        if missing:
-            raise Wrong(f"{missing} lines aren’t confirmed. Compare each with the vendor’s system, and tick it.")
+        lines, ticked = self.account(), set(form.ticked("line"))
+        left = [line for number, line in enumerate(lines, 1) if str(number) not in ticked]
+        if left:
+            raise Wrong(f"Of {len(lines)} lines {len(left)} aren’t ticked, such as “{left[0].strip()}”. Compare each with the vendor’s system.")
         return [Choice("account", "confirmed")]
 
 
@@ -106,6 +107,10 @@ class Cards(Step):
         stream = form.file("manifest", "a manifest")
         cast = form.number("cast", "The number of ballots that were cast", 1, MOST_BALLOTS)
         return [Upload(MANIFEST, stream), Choice("cast", str(cast)), *calls.boxes(self.audit)]
+
+
+    def manifest_cards(self):
+        return cards_of_manifest(self.audit.text(MANIFEST))
 
 
 class Assertions(Step):

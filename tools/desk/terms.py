@@ -1,5 +1,5 @@
 """The page of terms: what is fixed and published before anybody knows the seed."""
-from audit import COMPARISON, CONTESTS, PLURALITY, POLL
+from audit import BALLOTS, COMPARISON, CONTESTS, MANIFEST, PLURALITY, POLL
 
 RULES = {
     COMPARISON: "instant runoff; each card that is drawn is compared with its record",
@@ -7,14 +7,14 @@ RULES = {
     POLL: "instant runoff; a poll by the drawn cards alone, without records",
     CONTESTS: "instant runoff; all contests on one sample, each card compared with its records",
 }
-PUBLISHED = {COMPARISON: ("ballots.raire", "manifest.csv"), PLURALITY: ("ballots.raire", "manifest.csv"), POLL: ("manifest.csv",), CONTESTS: ("ballots.raire", "manifest.csv")}
 WIDTH = 11
 
 
 def published(audit):
     """The files that the audit is bound to."""
+    records = [BALLOTS] if audit.kind != POLL else []
     assertions = [audit.assertions] if audit.kind in (COMPARISON, POLL) else []
-    return [*PUBLISHED[audit.kind], *assertions]
+    return [*records, MANIFEST, *assertions]
 
 
 def number_of_percent(millionths):

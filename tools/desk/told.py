@@ -1,9 +1,9 @@
 """The answers of the commands in words and numbers, for the pages: read from the files that the commands made, and from nothing else."""
+import functools
 import re
 from typing import NamedTuple
 
 from audit import CONTESTS, PLURALITY, POLL
-from steps import cards_of_manifest  # noqa: F401 (for the pages)
 from steps_of_rounds import likely_draws
 from terms import number_of_percent, percent
 
@@ -37,16 +37,20 @@ class Counted(NamedTuple):
         return None if not open_ones or None in open_ones else max(open_ones)
 
 
-def in_words(claim):
+def in_words(claim, called):
     """An assertion of an assertion file as people say it."""
+    winner, loser = called(claim["winner"]), called(claim["loser"])
     if claim["kind"] == "NEB":
-        return f"{claim['winner']} isn’t eliminated before {claim['loser']}"
-    return f"{claim['winner']} has more votes than {claim['loser']} where only {', '.join(claim['rest'])} are left"
+        return f"{winner} isn’t eliminated before {loser}"
+    return f"{winner} has more votes than {loser} where only {', '.join(map(called, claim['rest']))} are left"
 
 
 def assertions(audit, name):
+    """The assertions of a file in words, with their margins, and who wins."""
     file = audit.members(name)
-    return [(in_words(claim), claim["margin"]) for claim in file["assertions"]], file
+    contest = next(each for each in audit.contests if each.id == file["contest"])
+    called = functools.partial(audit.called, contest)
+    return [(in_words(claim, called), claim["margin"]) for claim in file["assertions"]], called(file["winner"]), file["margin"]
 
 
 def plan(text):

@@ -136,7 +136,7 @@ class Pages:
             lines = step.lines(form)
         except Wrong as wrong:
             return self.step(name, wrong=str(wrong), status=400)
-        self.begin(step, lines, then=lambda deed: step.finish() if hasattr(step, "finish") else None)
+        self.begin(step, lines, then=lambda deed: step.finish())
         return flask.redirect("/running" if self.desk.is_busy() else f"/step/{name}", 303)
 
     def begin(self, step, lines, **given):

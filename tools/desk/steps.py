@@ -41,6 +41,9 @@ class Step:
         """What is chosen, given and typed, by what was filled in."""
         raise NotImplementedError
 
+    def finish(self):
+        """Puts in order what was there before the step was done."""
+
 
 class Records(Step):
     key, title = "records", "Records of the ballots"

@@ -110,11 +110,14 @@ def audits(tried, place):
 def as_script(tried, place):
     """`sh commands.txt` in an empty folder makes all files again."""
     for name in WALKS:
-        made, empty = os.path.join(place, name), os.path.join(place, f"{name}_by_sh")
-        os.mkdir(empty)
-        ran = subprocess.run(["sh", os.path.join(made, record.NAME)], cwd=empty, env=PATH, capture_output=True, text=True)
-        wanted = {file: data for file, data in files_in(made).items() if file != record.NAME}
-        tried.see(f"sh commands.txt of the {name} makes its files", ran.returncode == 0 and files_in(empty) == wanted, ran.stderr[-500:])
+        see_script(tried, os.path.join(place, name), os.path.join(place, f"{name}_by_sh"))
+
+
+def see_script(tried, made, empty):
+    os.mkdir(empty)
+    ran = subprocess.run(["sh", os.path.join(made, record.NAME)], cwd=empty, env=PATH, capture_output=True, text=True)
+    wanted = {file: data for file, data in files_in(made).items() if file != record.NAME}
+    tried.see(f"sh commands.txt of {os.path.basename(made)} makes its files", ran.returncode == 0 and files_in(empty) == wanted, ran.stderr[-500:])
 
 
 # ---- an export, and steps that are taken back
@@ -404,6 +407,33 @@ def changed_by_hand(tried, place):
         tried.see("as it was it goes on", desk.address is not None, desk.told)
 
 
+STRANGE = ["<script>alert(1)</script>", "$(id) `id` '; #", "--x=\\\\n & %41 +"]  # what ids may be
+
+
+def strange_ids(tried, place):
+    """Ids that are scripts, words of a shell or of an address are what they are, in all contests of a file."""
+    path, [port] = os.path.join(place, "strange"), free_ports(1)
+    people = [name.replace("x", "y") for name in STRANGE]
+    cards = [f"{batch}_{number}" for batch in STRANGE for number in range(1, 6)]
+    votes = [f"{contest},{card},{','.join(people)}" for contest in STRANGE[::2] for card in cards]
+    walk = WALKS["county"]()
+    walk.data = {
+        "ballots.raire": "\n".join(["2", *[f"Contest,{contest},3,{','.join(people)}" for contest in STRANGE[::2]], *votes, ""]).encode(),
+        "manifest.csv": "".join(["batch,cards\n", *[f"{batch},5\n" for batch in STRANGE]]).encode(),
+    }.get
+    walk.seed, walk.rounds, walk.cast = "$(id) ' ; rm -rf / <b>", (6, 9), 15
+    walk.seen = {card: dict.fromkeys(STRANGE[::2], people) for card in cards}
+    walk.seen[cards[0]] = dict.fromkeys(STRANGE[::2])
+    with Desk(path, port) as desk:
+        visitor = Visitor(desk)
+        go_through(visitor, walk)
+        pages = [visitor.ask("GET", f"/step/{step}").text for step, _, _ in walk.steps()] + [visitor.ask("GET", "/typed").text]
+    tried.see("no id is a script on a page", not any("<script>alert" in page or "rm -rf / <b>" in page for page in pages))
+    status, said, err = looked_at(path)
+    tried.see("strange ids come to the same files again", status == 0, (said, err))
+    see_script(tried, path, os.path.join(place, "strange_by_sh"))
+
+
 def helps(tried):
     """Its page, and words that are none."""
     wanted = read(os.path.join(TOP, "docs", "help", "desk.txt"), "r")
@@ -426,6 +456,7 @@ def main():
         named(tried, place)
         differing(tried, place)
         changed_by_hand(tried, place)
+        strange_ids(tried, place)
         bundles = audits(tried, place)
         as_script(tried, place)
         observers(tried, place, bundles["village"])

@@ -1,5 +1,6 @@
 """README's audits, as somebody goes through them at the desk: what is filled in at each step."""
 import csv
+import html
 import os
 import re
 
@@ -115,5 +116,5 @@ def fields_of(page, reading):
 def contests_of(page):
     """The contests of a card's page: number, id, and the candidates in their order."""
     for number, body in re.findall(r'data-contest="(\d+)">(.*?)</fieldset>', page.text, re.DOTALL):
-        title = re.search("<legend>(.*?)</legend>", body)[1]
-        yield number, title, [name for name in re.findall(r'aria-label="(.*?), rank 1"', body)]
+        title = html.unescape(re.search("<legend>(.*?)</legend>", body)[1])
+        yield number, title, [html.unescape(name) for name in re.findall(r'aria-label="(?!no mark)(.*?), rank 1"', body)]

@@ -1,5 +1,6 @@
 """The pages of the desk: what is looked at, and what is done by a press of a button."""
 import os
+import urllib.parse
 
 import flask
 import werkzeug.formparser
@@ -225,7 +226,7 @@ class Pages:
                 return self.card(number, reader, wrong=str(wrong), status=400, card=card.id)
             draft.keep()
         following = draft.next(card.id)
-        return flask.redirect(f"/read/{number}/{reader}?card={following.id}" if following else f"/step/{step.name}", 303)
+        return flask.redirect(f"/read/{number}/{reader}?card={urllib.parse.quote(following.id)}" if following else f"/step/{step.name}", 303)
 
     def take_sheet(self, number, reader):
         """The readings of a file go into the reader's draft, all or none."""

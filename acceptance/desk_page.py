@@ -41,8 +41,8 @@ class Tried:
 class Clerk:
     """Somebody at a browser. Each way to get on waits until the next page is there."""
 
-    def __init__(self, opened, desk, tried, keep=None):
-        self.opened, self.tried, self.keep, self.looked = opened, tried, keep, set()
+    def __init__(self, opened, desk, tried, name, keep=None):
+        self.opened, self.tried, self.name, self.keep, self.looked = opened, tried, name, keep, set()
         self.origin = f"http://{HOST}:{desk.port}"
         self.opened.ask("Page.navigate", url=desk.address)
         self.wait("location.pathname.startsWith('/step/')")
@@ -116,11 +116,11 @@ class Clerk:
             self.value("document.getElementById('found').remove()")
             wrong = [found for found in laid["found"] if not found.startswith("something from elsewhere")]
             is_right_ground = (sum(laid["ground"][:3]) < 3 * 128) == is_dark
-            self.tried.see(f"{name} looks right, {shown}", not wrong and laid["texts"] > 1 and is_right_ground, wrong[:6])
+            self.tried.see(f"{name} of the {self.name} looks right, {shown}", not wrong and laid["texts"] > 1 and is_right_ground, wrong[:6])
             names = self.value(UNNAMED)
-            self.tried.see(f"{name}: each field and button has a name, and there is one h1", not names, names)
+            self.tried.see(f"{name} of the {self.name}: each field and button has a name, and there is one h1", not names, names)
             if self.keep:
-                with open(os.path.join(self.keep, f"{name}_{shown}.png"), "wb") as file:
+                with open(os.path.join(self.keep, f"{self.name}_{name}_{shown}.png"), "wb") as file:
                     file.write(base64.b64decode(self.opened.picture()))
         self.opened.look(1280, 1000)
 
@@ -246,12 +246,6 @@ def read_by_keyboard(clerk, walk, number, reader):
 
 # ---- what else a browser shows
 
-def without_scripts(clerk):
-    """The steps work where scripts are off."""
-    clerk.opened.ask("Emulation.setScriptExecutionDisabled", value=True)
-    return clerk
-
-
 def refusals(clerk, place):
     """A file that is refused stays to be seen with its record and what is nearly right."""
     path = os.path.join(place, "bad.raire")
@@ -274,7 +268,7 @@ def audit(words):
     try:
         with Desk(path, port) as desk, browser.Browser(os.path.join(place, f"profile_{name}_{how}"), place) as opened:
             opened.look(1280, 1000)
-            clerk = Clerk(opened, desk, tried, keep)
+            clerk = Clerk(opened, desk, tried, name, keep)
             if how == "clicks":
                 refusals(clerk, place)
                 by_clicks(clerk, walk)
@@ -310,7 +304,7 @@ def main():
         os.makedirs(keep, exist_ok=True)
     with tempfile.TemporaryDirectory() as place:
         ports = free_ports(3)
-        ways = [("town", "clicks", place, ports[0], keep), ("county", "clicks", place, ports[1], None), ("town", "keyboard", place, ports[2], None)]
+        ways = [("town", "clicks", place, ports[0], keep), ("county", "clicks", place, ports[1], keep), ("town", "keyboard", place, ports[2], None)]
         with multiprocessing.Pool(len(ways)) as pool:
             ran = pool.map(audit, ways, chunksize=1)
         for name, how, path, tried in ran:

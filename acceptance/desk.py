@@ -201,6 +201,18 @@ def sheet_of_reader_b(tried, visitor, walk):
     tried.see("a sheet gives all readings", page.path == "/step/read1" and f"{len(rows)} of {len(rows)} cards read" in page.words(), page.words()[:400])
 
 
+def no_new_card(tried, place):
+    """A round whose draws took only cards that were read before: nobody has to read, and each counts again."""
+    path, [port] = os.path.join(place, "no_new_card"), free_ports(1)
+    walk = WALKS["town"]()
+    walk.rounds = (45, 46)
+    with Desk(path, port) as desk:
+        visitor = Visitor(desk)
+        go_through(visitor, walk, until="end")
+        tried.see("a round without a new card is counted", "round 2 draws 46" in read(os.path.join(path, "report2.txt"), "r"))
+    tried.see("and is the same again", looked_at(path)[0] == 0)
+
+
 def differing(tried, place):
     """Readings that differ are shown side by side, and nothing is written until both readers agree."""
     path, [port] = os.path.join(place, "differing"), free_ports(1)
@@ -455,6 +467,7 @@ def main():
         exported(tried, place)
         named(tried, place)
         differing(tried, place)
+        no_new_card(tried, place)
         changed_by_hand(tried, place)
         strange_ids(tried, place)
         bundles = audits(tried, place)

@@ -88,7 +88,7 @@ def read_cards(visitor, walk, number, readers="AB"):
     """Readers type in every card that isn't read yet, each by itself."""
     for reader in readers:
         person = READERS[reader]
-        page = visitor.go(f"/read/{number}/{reader}")
+        page = visitor.go(f"/read/{number}/{reader}")  # which leads back to the step where no card is new
         if "Who reads?" in page.text:
             page = visitor.post(f"/read/{number}/{reader}/begin", {"person": person})
         while 'class="entry"' in page.text and len(re.findall("not read yet", page.text)) > 0:

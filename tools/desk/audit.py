@@ -33,10 +33,10 @@ class Round(NamedTuple):
 
 class Audit:
     def __init__(self, folder):
-        self.folder = folder
-        self.deeds = {deed.step: deed for deed in folder.record}
-        self.choices = {line.name: line.value for deed in folder.record for line in deed.lines if isinstance(line, record.Choice)}
-        self.files = folder.files()
+        self.folder, self.record = folder, folder.record
+        self.deeds = {deed.step: deed for deed in self.record}
+        self.choices = {line.name: line.value for deed in self.record for line in deed.lines if isinstance(line, record.Choice)}
+        self.files = record.files_of(self.record)
 
     # ---- what was chosen
 

@@ -1,6 +1,4 @@
 """Which steps an audit has, in their order, which of them are done, and which can be done now."""
-import re
-
 from audit import COMPARISON, PLURALITY
 from steps import Account, Assertions, Cards, Contest, Plan, Records, Seed, Terms
 from steps_of_rounds import Count, End, Fetch, FullCount, Read
@@ -8,10 +6,8 @@ from steps_of_rounds import Count, End, Fetch, FullCount, Read
 FIRST = (Records, Account, Contest, Cards, Assertions, Plan, Terms, Seed)
 OF_ROUND = (Fetch, Read, Count)
 LAST = (FullCount, End)
-BY_KEY = {step.key: step for step in (*FIRST, *OF_ROUND, *LAST)}
 WITHOUT_ASSERTIONS = (PLURALITY,)
 WITH_FULL_COUNT = (COMPARISON, PLURALITY)
-NAME = re.compile("([a-z]+)([1-9][0-9]{0,3})?")
 
 
 class Flow:
@@ -56,7 +52,7 @@ class Flow:
 
     def is_last(self, step):
         """Whether nothing was done after this step."""
-        return bool(self.audit.folder.record) and self.audit.folder.record[-1].step == step.name
+        return bool(self.audit.record) and self.audit.record[-1].step == step.name
 
     def may_take_back(self, step):
         """The last step can be taken back, as long as the terms aren't fixed; after that only one that published nothing."""

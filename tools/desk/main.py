@@ -72,7 +72,8 @@ def serve(given, place):
     if not is_built():
         sys.stderr.write(f"{NAME}: there is no program to run\n")
         return BAD_WORDS
-    pages = Pages(Desk(place), HOST, given.port)
+    desk = Desk(place)
+    pages = Pages(desk, HOST, given.port)
     try:
         serving = server.made(pages.app, pages.guard, HOST, given.port, pages.most_body_bytes(), place.path)
     except OSError as fault:
@@ -81,4 +82,5 @@ def serve(given, place):
     signal.signal(signal.SIGTERM, lambda *_: sys.exit(0))
     print(f"The desk of {place.path}: open this address once, in a browser on this machine\n    {pages.guard.address()}\nEnd it with Ctrl-C.", flush=True)
     serving.run()
+    desk.stop()
     return 0

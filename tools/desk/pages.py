@@ -191,6 +191,8 @@ class Pages:
 
     def card(self, number, reader, wrong=None, status=200, card=None):
         audit, flow, step, draft = self.drafts(number, reader)
+        if not draft.cards:
+            return flask.redirect(f"/step/{step.name}", 303)
         if not draft.person:
             return self.shown("reader.html.j2", audit, flow, step=step, reader=reader, wrong=wrong), status
         card = draft.card(card or flask.request.args.get("card", ""))

@@ -36,17 +36,20 @@ class Fetch(Step):
 class Read(Step):
     key, title = "read", "Round {number}: two readings"
 
+    def cards(self):
+        return readings.cards_of(self.audit, self.number)
+
     def drafts(self):
         return [readings.Draft(self.audit, self.number, reader) for reader in READERS]
 
     def lines(self, form):
         drafts = self.drafts()
         for reader, draft in zip(READERS, drafts):
-            if not draft.person or draft.left():
+            if draft.left():
                 raise Wrong(f"Reader {reader} has {len(draft.left())} cards to read.")
         texts = readings.seen_files(self.audit, self.number, drafts)
         uploads = [Upload(name, io.BytesIO(text.encode())) for name, text in texts]
-        people = [Choice(f"reader_{reader.lower()}", draft.person) for reader, draft in zip(READERS, drafts)]
+        people = [Choice(f"reader_{reader.lower()}", draft.person) for reader, draft in zip(READERS, drafts) if draft.person]
         return [*uploads, *people, *calls.agree(self.audit, self.number)]
 
     def different(self, drafts):

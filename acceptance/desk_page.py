@@ -1,8 +1,8 @@
 #!/usr/bin/env python3
 """Goes through audits at ./raire desk in a browser, and looks at its pages.
 
-acceptance/desk_page.py PROGRAM [FOLDER] does the town and the county by clicks and the town once more by keyboard alone: the files have to be the
-examples' and those of the commands. Then every page is laid out at 390, 1280 and 1920 pixels, dark and as in print (look.js): nothing may overlap or be
+acceptance/desk_page.py PROGRAM [FOLDER] does the town and the county by clicks, the town once more by keyboard alone, and the village with scripts switched
+off: the files have to be the examples' and those of the commands. Every page is laid out at 390, 1280 and 1920 pixels, dark and as in print (look.js): nothing may overlap or be
 cut, and contrast, names and what a keyboard reaches have to hold. With a folder as second word the pictures are left there. The last line says how
 many things were as they should be. PROGRAM is the one of ./raire.
 """
@@ -22,8 +22,10 @@ from desk_walks import READERS, WALKS
 LOOKS = {"narrow": (390, "screen", False), "wide": (1280, "screen", False), "widest": (1920, "screen", False), "dark": (1280, "screen", True), "print": (794, "print", False)}
 ENDED = "document.readyState === 'complete' && !location.pathname.startsWith('/running')"
 PATIENCE = 90
+FILES = {"ballots": "ballots.raire", "manifest": "manifest.csv", "counted": "counted.raire"}
 WANTED = {
     "town": {"assertions.json": "town/assertions.json", "round2.json": "town/session.json"},
+    "village": {"assertions.json": "village/assertions.json", "round1.json": "village/session.json"},
     "county": {},
 }
 
@@ -150,7 +152,7 @@ def by_clicks(clerk, walk):
             for reader in READERS:
                 read_by_clicks(clerk, walk, int(step[4:]), reader)
         for name, _ in files:
-            clerk.give(name, walk.file({"ballots": "ballots.raire", "manifest": "manifest.csv"}[name]))
+            clerk.give(name, walk.file(FILES[name]))
         for name, value in fields.items():
             if name in ("audit", "budget", "way"):
                 clerk.click(f"label[for='{name}-{value or 'default'}']")
@@ -217,7 +219,7 @@ def by_keyboard(clerk, walk):
                 read_by_keyboard(clerk, walk, int(step[4:]), reader)
         for name, _ in files:
             tab_to(clerk, f"#{name}")
-            clerk.give(name, walk.file({"ballots": "ballots.raire", "manifest": "manifest.csv"}[name]))
+            clerk.give(name, walk.file(FILES[name]))
         for name, value in fields.items():
             if name not in ("audit", "budget", "way"):  # which stand already as the town has them
                 tab_to(clerk, f"#{name}")
@@ -274,8 +276,11 @@ def audit(words):
                 by_clicks(clerk, walk)
                 clerk.follow("a[href='/typed']")
                 clerk.look("typed")
-            else:
+            elif how == "keyboard":
                 by_keyboard(clerk, walk)
+            else:
+                opened.ask("Emulation.setScriptExecutionDisabled", value=True)
+                by_clicks(clerk, walk)
     except (TimeoutError, RuntimeError, OSError, EOFError, TypeError) as fault:
         tried.see(f"the {name} by {how} goes to its end", False, f"{type(fault).__name__}: {fault}")
     return name, how, path, tried
@@ -303,8 +308,8 @@ def main():
     if keep:
         os.makedirs(keep, exist_ok=True)
     with tempfile.TemporaryDirectory() as place:
-        ports = free_ports(3)
-        ways = [("town", "clicks", place, ports[0], keep), ("county", "clicks", place, ports[1], keep), ("town", "keyboard", place, ports[2], None)]
+        ways = [("town", "clicks", keep), ("county", "clicks", keep), ("town", "keyboard", None), ("village", "clicks without scripts", None)]
+        ways = [(name, how, place, port, keep) for (name, how, keep), port in zip(ways, free_ports(len(ways)))]
         with multiprocessing.Pool(len(ways)) as pool:
             ran = pool.map(audit, ways, chunksize=1)
         for name, how, path, tried in ran:

@@ -190,7 +190,7 @@ def sheet_of_reader_b(tried, visitor, walk):
     rows = read(os.path.join(visitor.folder, "sheet1.csv"), "r").splitlines()
     cards = {row.rstrip(","): walk.seen[row.rstrip(",")][None] for row in rows}
     lines = [f"{card},missing" if ranked is None else ",".join([card, "ballot", *ranked]) for card, ranked in cards.items()]
-    for bad, told in ((["x_1,ballot"], "x_1 is no card of this round"), (["x"], "is no card"), ([lines[0] + ",Nobody"], "Nobody is no candidate"), ([lines[0]] * 2, "stood before"), ([rows[0] + "torn"], "neither ballot")):
+    for bad, told in ((["x_1,ballot"], "x_1 is no card of this round"), (["x"], "is no card"), ([lines[0] + ",Nobody"], "Nobody is no candidate"), ([lines[0]] * 2, "was there before"), ([rows[0] + "torn"], "neither ballot")):
         visitor.go("/read/1/B")
         page = visitor.post("/read/1/B/sheet", {}, [("readings", "\n".join(bad).encode())])
         tried.see(f"a sheet with {bad[0]} is refused", page.status == 400 and told in page.words(), page.words()[:400])
@@ -229,7 +229,7 @@ def differing(tried, place):
         before = files_in(path)
         page = visitor.do("read1")
         words = page.words()
-        tried.see("readings that differ are side by side", "ended with status 6" in words and f"Cards that were read otherwise Card MK JL {card}" in words, words[:900])
+        tried.see("readings that differ are side by side", "ended with status 6" in words and f"Cards that were read differently Card MK JL {card}" in words, words[:900])
         tried.see("and nothing is written", files_in(path) == before)
         page = visitor.go(f"/read/1/A?card={card}")
         take(visitor, walk, 1, "A", page)

@@ -145,7 +145,7 @@ def texts(stranger, visitor, tried):
         tried.asked += 1
         is_shown = SCRIPT not in answer.text and "Traceback" not in answer.text
         tried.see(f"a ballot file that is none, {number}", is_shown and ("Refused" in answer.text or number == 3), answer.words()[:300])
-        if number == 3 and "Take this step back" in answer.text:
+        if number == 3 and "Undo this step" in answer.text:
             visitor.page = answer
             visitor.post("/step/records/back")
             known = [("token", page.hidden("token")), ("version", visitor.go("/step/records").hidden("version"))]

@@ -8,7 +8,6 @@ many things were as they should be. PROGRAM is the one of ./raire.
 """
 import base64
 import json
-import multiprocessing
 import os
 import subprocess
 import sys
@@ -262,9 +261,8 @@ def refusals(clerk, place):
     clerk.tried.see("and is told after a reload", "B8 at 3" in clerk.text(), clerk.text()[:300])
 
 
-def audit(words):
+def audit(name, how, place, port, keep):
     """One audit in one browser, and what was seen."""
-    name, how, place, port, keep = words
     tried, walk = Tried(), WALKS[name]()
     path = os.path.join(place, f"{name}_{how}")
     try:
@@ -283,7 +281,8 @@ def audit(words):
                 by_clicks(clerk, walk)
     except (TimeoutError, RuntimeError, OSError, EOFError, TypeError) as fault:
         tried.see(f"the {name} by {how} goes to its end", False, f"{type(fault).__name__}: {fault}")
-    return name, how, path, tried
+    see_files(tried, name, how, path)
+    return tried
 
 
 def typed(*words):
@@ -303,18 +302,24 @@ def see_files(tried, name, how, path):
     tried.see(f"the {name} by {how} is the same when it is run again", status.returncode == 0, status.stdout[-400:])
 
 
+def begun(*way):
+    """One audit in a process of its own: the shell that begins a browser knows few numbers of open files."""
+    return subprocess.Popen([sys.executable, __file__, "--way", json.dumps(way)], stdout=subprocess.PIPE, text=True)
+
+
 def main():
+    if sys.argv[1] == "--way":
+        tried = audit(*json.loads(sys.argv[2]))
+        print(json.dumps([tried.count, tried.wrong]))
+        return
     keep = os.path.abspath(sys.argv[2]) if len(sys.argv) > 2 else ""
     if keep:
         os.makedirs(keep, exist_ok=True)
     with tempfile.TemporaryDirectory() as place:
         ways = [("town", "clicks", keep), ("county", "clicks", keep), ("town", "keyboard", None), ("village", "clicks without scripts", None)]
-        ways = [(name, how, place, port, keep) for (name, how, keep), port in zip(ways, free_ports(len(ways)))]
-        with multiprocessing.Pool(len(ways)) as pool:
-            ran = pool.map(audit, ways, chunksize=1)
-        for name, how, path, tried in ran:
-            see_files(tried, name, how, path)
-    count, wrong = sum(each[3].count for each in ran), [told for each in ran for told in each[3].wrong]
+        processes = [begun(name, how, place, port, keep) for (name, how, keep), port in zip(ways, free_ports(len(ways)))]
+        ran = [json.loads(process.communicate()[0]) for process in processes]
+    count, wrong = sum(each for each, _ in ran), [told for _, of_one in ran for told in of_one]
     print(*[f"./raire desk: {told}" for told in wrong], sep="\n", end="\n" if wrong else "")
     print(f"{count - len(wrong)} things of the desk in a browser as they should be, {len(wrong)} not")
     sys.exit(1 if wrong else 0)

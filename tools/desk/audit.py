@@ -130,7 +130,7 @@ class Audit:
         return bool(counted) and self.commands(f"round{counted[-1].number}")[-1 - self.has_report()].status == CONFIRMED
 
     def has_report(self):
-        """Whether a report of a session stands after a round."""
+        """Whether a round ends with a report of its session."""
         return self.kind in (COMPARISON, PLURALITY)
 
     def seen(self, number):

@@ -42,7 +42,7 @@ def convert(form, files, options):
 
 
 def boxes(audit):
-    """The cards of the manifest beside the records; records that name no card aren't asked."""
+    """The cards of the manifest compared with the records; records that name no card aren't asked."""
     if audit.kind == POLL:
         return [call("sample", MANIFEST, "--seed=none", "--draws=1")]
     if audit.kind == CONTESTS:

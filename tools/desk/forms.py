@@ -7,7 +7,7 @@ PERCENT_IN_MILLIONTHS = 10_000
 
 
 class Wrong(Exception):
-    """What was typed in can't be taken; the text says why, for whoever typed it."""
+    """What was typed in can't be taken; the text says why, for the person who typed it."""
 
 
 class Form:

@@ -14,7 +14,7 @@ BAD_WORDS, UNUSABLE = 1, 7
 
 class Words(argparse.ArgumentParser):
     def error(self, message):
-        sys.stderr.write(f"{NAME}: {message}; ./raire help {NAME} tells its words\n")
+        sys.stderr.write(f"{NAME}: {message}; see ./raire help {NAME}\n")
         sys.exit(BAD_WORDS)
 
 

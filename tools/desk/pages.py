@@ -222,7 +222,7 @@ class Pages:
             card = next((each for each in draft.cards if each.id == flask.request.form.get("card")), None) or flask.abort(404)
             try:
                 if flask.request.form.get("was") != readings.mark_of(draft.of(card.id)):
-                    raise Wrong("Another page has changed the reading of this card meanwhile. What stands there now is below.")
+                    raise Wrong("Another page has changed the reading of this card meanwhile. The reading as it is now is below.")
                 draft.readings[card.id] = readings.reading_of(form, draft.contests)
             except Wrong as wrong:
                 return self.card(number, reader, wrong=str(wrong), status=400, card=card.id)

@@ -29,7 +29,7 @@ def cards_of(audit, number):
 
 
 def name_of(number, reader):
-    """The name of a reader's draft. The person's own name stands inside it."""
+    """The name of a reader's draft. The person's own name is inside it."""
     return f"seen{number}_{reader}"
 
 
@@ -120,7 +120,7 @@ def ranking_of(form, contest, is_one_of_several):
     found = [candidate_of(contest, mark) for mark in marks if mark]
     if way != RANKED:
         if found:
-            raise Wrong(f"{where}Candidates are marked. Take these marks away, or say that somebody is ranked.")
+            raise Wrong(f"{where}Candidates are marked. Remove these marks, or say that somebody is ranked.")
         return []
     if not found:
         raise Wrong(f"{where}Nothing is marked. Rank candidates, or say that nobody is ranked or that the contest isn’t on the card.")
@@ -148,9 +148,9 @@ def readings_in(text, draft):
         if not word and not ranked:
             continue
         if card in found:
-            raise Wrong(f"Record {at}: {card} stood before.")
+            raise Wrong(f"Record {at}: {card} was there before.")
         if word not in ("ballot", MISSING) or (word == MISSING and ranked):
-            raise Wrong(f"Record {at}: behind {card} stands neither ballot and who is ranked, nor missing alone.")
+            raise Wrong(f"Record {at}: after {card} comes neither ballot, with those who are ranked, nor missing alone.")
         if strangers := [name for name in ranked if name not in contest.candidates]:
             raise Wrong(f"Record {at}: {strangers[0]} is no candidate; they are {', '.join(contest.candidates)}.")
         found[card] = MISSING if word == MISSING else {str(contest.number): ranked}

@@ -133,7 +133,7 @@ def record_of(text):
             record.append(Deed(line[len(STEP):], ()))
         elif line:
             if not record:
-                raise Broken(at, "stands before the first step")
+                raise Broken(at, "comes before the first step")
             record[-1] = record[-1]._replace(lines=(*record[-1].lines, entry_of(at, line, lines)))
     see_same(text, text_of(record))
     return record

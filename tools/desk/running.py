@@ -46,7 +46,7 @@ def call(command, *words, out=None, otherwise=None, also=()):
 
 
 def is_built():
-    """Whether there is a program to run. Where there is none yet, ./raire builds it, and tells how far it is."""
+    """Whether there is a program to run. If there is none yet, ./raire builds it, and reports how far it is."""
     return subprocess.run([RAIRE, "--build"], stdin=subprocess.DEVNULL, stdout=subprocess.DEVNULL).returncode == 0
 
 

@@ -114,7 +114,7 @@ def of_block(audit, block, round):
 
 
 def counts_of_boxes(text):
-    """The numbers that ./raire boxes tells, and its lines about batches that no record names."""
+    """The numbers that ./raire boxes prints, and its lines about batches that no record names."""
     lines = text.splitlines()
     numbers = {name: int(value) for name, value in (line.rsplit(" ", 1) for line in lines[1:3])}
     return {**numbers, "lines": lines[3:]}

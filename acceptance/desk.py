@@ -190,10 +190,10 @@ def sheet_of_reader_b(tried, visitor, walk):
     rows = read(os.path.join(visitor.folder, "sheet1.csv"), "r").splitlines()
     cards = {row.rstrip(","): walk.seen[row.rstrip(",")][None] for row in rows}
     lines = [f"{card},missing" if ranked is None else ",".join([card, "ballot", *ranked]) for card, ranked in cards.items()]
-    for bad, told in ((["x_1,ballot"], "x_1 is no card of this round"), (["x"], "is no card"), ([lines[0] + ",Nobody"], "Nobody is no candidate"), ([lines[0]] * 2, "was there before"), ([rows[0] + "torn"], "neither ballot")):
+    for bad, told in ((["x_1,ballot"], "x_1 is no card of this round"), (["x"], "is no card"), ([lines[0] + ",Nobody"], "Nobody is no candidate"), ([lines[0]] * 2, "was there before"), ([rows[0] + "torn"], "neither ballot"), (["x" * 200_000], "no comma-separated text")):
         visitor.go("/read/1/B")
         page = visitor.post("/read/1/B/sheet", {}, [("readings", "\n".join(bad).encode())])
-        tried.see(f"a sheet with {bad[0]} is refused", page.status == 400 and told in page.words(), page.words()[:400])
+        tried.see(f"a sheet with {bad[0][:40]} is refused", page.status == 400 and told in page.words(), page.words()[:400])
     visitor.go("/read/1/B")
     page = visitor.post("/read/1/B/sheet", {}, [("readings", "\n".join([lines[0], *rows[1:]]).encode())])
     tried.see("a sheet that is filled in part gives that part", f"1 of {len(rows)} cards read" in page.words(), page.words()[:400])

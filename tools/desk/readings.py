@@ -127,7 +127,8 @@ def ranking_of(form, contest, is_one_of_several):
     if len(set(found)) < len(found):
         raise Wrong(f"{where}A candidate has two ranks, and a seen file can’t say that. Mark the ranks that count by the rules of the contest.")
     if not all(marks[:len(found)]):
-        raise Wrong(f"{where}Rank {marks.index('') + 1} is left out, and a seen file can’t say that. Mark the ranks that count by the rules of the contest, from 1 on.")
+        gap = marks.index("") + 1
+        raise Wrong(f"{where}Rank {gap} is left out, and a seen file can’t say that. Mark the ranks that count by the rules of the contest, from 1 on.")
     return found
 
 
@@ -140,21 +141,32 @@ def candidate_of(contest, mark):
 def readings_in(text, draft):
     """The readings of a seen file of one contest, such as a sheet that was filled in. Cards without a reading are passed over."""
     [contest], cards, found = draft.contests, {card.id for card in draft.cards}, {}
-    for at, row in enumerate(csv.reader(io.StringIO(text.removeprefix("\ufeff"), newline="")), 1):
-        card, word, *ranked = [field.strip() for field in row] + [""] * 2
+    for at, (card, word, *ranked) in enumerate(rows_of(text), 1):
         ranked = list(dict.fromkeys(filter(None, ranked)))
         if card and card not in cards:
             raise Wrong(f"Record {at}: {card} is no card of this round.")
-        if not word and not ranked:
-            continue
         if card in found:
             raise Wrong(f"Record {at}: {card} was there before.")
-        if word not in ("ballot", MISSING) or (word == MISSING and ranked):
-            raise Wrong(f"Record {at}: after {card} comes neither ballot, with those who are ranked, nor missing alone.")
-        if strangers := [name for name in ranked if name not in contest.candidates]:
-            raise Wrong(f"Record {at}: {strangers[0]} is no candidate; they are {', '.join(contest.candidates)}.")
-        found[card] = MISSING if word == MISSING else {str(contest.number): ranked}
+        if word or ranked:
+            see_reading(at, card, word, ranked, contest.candidates)
+            found[card] = MISSING if word == MISSING else {str(contest.number): ranked}
     return found
+
+
+def rows_of(text):
+    """The records of a text, each with two fields at least and without blanks around them."""
+    try:
+        rows = list(csv.reader(io.StringIO(text.removeprefix("\ufeff"), newline="")))
+    except csv.Error as fault:
+        raise Wrong(f"This is no comma-separated text: {fault}.") from None
+    return [[field.strip() for field in row] + [""] * (2 - len(row)) for row in rows]
+
+
+def see_reading(at, card, word, ranked, candidates):
+    if word not in ("ballot", MISSING) or (word == MISSING and ranked):
+        raise Wrong(f"Record {at}: after {card} comes neither ballot, with those who are ranked, nor missing alone.")
+    if strangers := [name for name in ranked if name not in candidates]:
+        raise Wrong(f"Record {at}: {strangers[0]} is no candidate; they are {', '.join(candidates)}.")
 
 
 def differences(drafts):

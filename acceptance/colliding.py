@@ -1,9 +1,11 @@
 #!/usr/bin/env python3
-"""Files whose author picked ids and names with one digest, and cards that crowd in a table, by a hash with a known seed.
+"""Files whose author picked ids and names with one digest, and cards and assertions that crowd in a table, by a hash with a known seed.
 
 acceptance/colliding.py PROGRAM runs commands on such files and on honest ones of the same size. Status and standard error have to
-be the same, and the processor time has to be within ten times that of the honest file. The last line says how many were.
+be the same, and the processor time has to be within ten times that of the honest file, for assertions within twice. The last line
+says how many were.
 """
+import json
 import os
 import resource
 import subprocess
@@ -14,11 +16,15 @@ import places  # noqa: F401
 from limits import MOST_BATCH_CARDS, MOST_RECORDS
 
 MOST_TIMES = 10
+MOST_TIMES_OF_ASSERTIONS = 2
 # What is shorter than this counts as this, since the start of a program isn't what is measured.
 LEAST_SECONDS = 0.05
 BATCHES = 65_536
 CARD_BATCHES = 5
 MEMBERS = 1_000_000
+ASSERTIONS = 100_000
+# More than have a table of all sets.
+CANDIDATES = 25
 # The last bytes of an id of a ballot, which no digest is taken of.
 COUNTED_BYTES = 5
 
@@ -34,6 +40,10 @@ def folded(a, b):
 
 def word(data, at):
     return int.from_bytes(data[at:at + 8], "little")
+
+
+def after_one(state, byte):
+    return folded(state ^ byte * 0x010101, MULTIPLIER ^ 2)
 
 
 def after_four(state, number):
@@ -68,6 +78,23 @@ def crowded_cards(most):
     """Numbers of cards that all begin in a 64th of the groups of a table for them."""
     groups = 1 << (most // 64 // 9).bit_length()
     return [card for card in range(1, most + 1) if group(after_four(SEED, card), groups) < groups // 64]
+
+
+def spread_and_crowded_sets():
+    """Sets with the first two candidates, as many that are spread in a table as there are that begin in a 64th of it.
+
+    A set comes after the kind of a NEN and its winner, which is the first candidate.
+    """
+    groups = 1 << (ASSERTIONS // 9).bit_length()
+    state = after_one(after_one(SEED, 0), 0)
+    spread, crowded = [], []
+    for rest in range(3, 1 << CANDIDATES, 4):
+        place = group(after_four(state, rest), groups)
+        if place % 64 == 0:
+            spread.append(rest)
+        if place < groups // 64:
+            crowded.append(rest)
+    return spread[:ASSERTIONS], crowded[:ASSERTIONS]
 
 
 # ---- files
@@ -109,7 +136,7 @@ class Runs:
             raise AssertionError(f"{' '.join(words)}: {status} {told}")
         return printed
 
-    def pair(self, shows, honest, colliding):
+    def pair(self, shows, honest, colliding, most_times=MOST_TIMES):
         self.count += 1
         long, status, told, _ = self.timed(honest)
         try:
@@ -121,9 +148,9 @@ class Runs:
         if answer != [status, told]:
             self.failed += 1
             print(f"{shows}: wanted {status} {told!r}, got {answer}")
-        elif longer > MOST_TIMES * max(long, LEAST_SECONDS):
+        elif longer > most_times * max(long, LEAST_SECONDS):
             self.failed += 1
-            print(f"{shows}: more than {MOST_TIMES} times as long")
+            print(f"{shows}: more than {most_times} times as long")
 
 
 # ---- the cases
@@ -178,9 +205,27 @@ def members(runs):
     runs.pair("members of an assertion file", ["check", "ballots", "honest"], ["check", "ballots", "colliding"])
 
 
+def assertions(runs):
+    """NENs of the first candidate, who has all the ballots, over the second."""
+    names = [f"c{number}" for number in range(CANDIDATES)]
+    write("ballots", [f"1\nContest,1,{CANDIDATES},{','.join(names)}\n", *(f"1,{ballot},c0\n" for ballot in "123")])
+    file = json.loads(runs.made(["search", "ballots"]))
+    needed, margin = file["assertions"], file["records"]
+    for name, sets in zip(("honest", "colliding"), spread_and_crowded_sets()):
+        claims = [
+            {"kind": "NEN", "loser": "c1", "margin": margin, "rest": [names[c] for c in range(CANDIDATES) if rest >> c & 1], "winner": "c0"}
+            for rest in sets
+        ]
+        file["assertions"] = needed + claims
+        write(name, [json.dumps(file, separators=(",", ":")), "\n"])
+    for command in ("check", "trim"):
+        words = ([command, "ballots", name] for name in ("honest", "colliding"))
+        runs.pair(f"assertions, {command}", *words, most_times=MOST_TIMES_OF_ASSERTIONS)
+
+
 def main():
     runs, here = Runs(sys.argv[1]), os.getcwd()
-    for part in (ballots, batches, cards, members):
+    for part in (ballots, batches, cards, members, assertions):
         with tempfile.TemporaryDirectory() as folder:
             os.chdir(folder)
             part(runs)

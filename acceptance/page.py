@@ -81,7 +81,7 @@ class Shows:
         runs = audits.Runs(program)
         self.path = os.path.join(folder, "raire")
         write_program(self.path, ASKS)
-        plain = os.path.join(HERE, "plain_audit.py")
+        plain = os.path.join(TOP, "plain", "plain_audit.py")
         self.given = {**os.environ, "RAIRE": self.path, "PROGRAM": runs.program, "COMMANDS": " ".join(runs.commands), "PLAIN": plain}
 
     def run(self, *words, program=None, script=SHOW):

@@ -1,9 +1,9 @@
 #!/usr/bin/env python3
 """Runs the commands that README and docs/ show together with what they print, and compares.
 
-acceptance/walk.py PROGRAM [PAGES] takes from each page its blocks of lines that begin with `$ `. All commands of a page are run one
-after the other by one bash, in a folder that begins with the repository's examples, and each has to print the lines below it. There
-`...` stands for what the page leaves out: for lines, where it stands alone. The last line says how many did.
+acceptance/walk.py PROGRAM [PAGES] takes from each page its blocks of lines that begin with `$ `. The commands of a section, which begins with `## `, are run one
+after the other by one bash, in a folder that has only the repository's examples at first; so each section works alone. Each command has to print the lines
+below it. There `...` is what the page omits: lines, if it is a line of its own. The last line says how many commands did.
 """
 import os
 import re
@@ -73,20 +73,26 @@ def put_repository(program, folder):
     return {**os.environ, "RAIRE": script}
 
 
+def sections_of(text):
+    """The sections of a page, each from its heading to the next."""
+    return re.split("(?m)^(?=## )", text)
+
+
 def tried(program, page):
     """How many commands the page shows, and what is otherwise than it says."""
     with open(os.path.join(TOP, page)) as file:
-        walk = list(shown(file.read()))
+        sections = [list(shown(section)) for section in sections_of(file.read())]
     wrong = []
-    with tempfile.TemporaryDirectory() as folder:
-        given = put_repository(program, folder)
-        printed = printed_by([command for command, _ in walk], folder, given) if walk else []
-    for (command, wanted), got in zip(walk, printed):
-        if not is_as_shown(got, wanted) and not any(told in got for told in UNTRIED):
-            wrong.append(f"{page}: {command}\nwanted {wanted}got {got}")
-    if len(printed) < len(walk):
-        wrong.append(f"{page}: {len(printed)} of {len(walk)} commands were run")
-    return len(walk), wrong
+    for walk in filter(None, sections):
+        with tempfile.TemporaryDirectory() as folder:
+            given = put_repository(program, folder)
+            printed = printed_by([command for command, _ in walk], folder, given)
+        for (command, wanted), got in zip(walk, printed):
+            if not is_as_shown(got, wanted) and not any(told in got for told in UNTRIED):
+                wrong.append(f"{page}: {command}\nwanted {wanted}got {got}")
+        if len(printed) < len(walk):
+            wrong.append(f"{page}: {len(printed)} of {len(walk)} commands of a section were run")
+    return sum(map(len, sections)), wrong
 
 
 def main():

@@ -3,8 +3,8 @@
 
 For each contest it prints the seconds of a search with `--sets 1048576` at one worker and at four, how many assertions there are and how
 many MB they take, the peak memory of the search at one worker, its status; then seconds, memory and status of a check of what was printed
-(`too long` where the file has more bytes than are read), and seconds and status of a search by the default of `--nodes`. The least of
-three runs counts, of one run where it took more than ten seconds. A run of more than SECONDS, 300 if none are given, is ended and told; one
+(`too long` where the file has more bytes than are read), and seconds and status of a search by the default of `--nodes`, at one worker and at
+four: many of these are out of budget (status 4). The least of three runs counts, of one run where it took more than ten seconds. A run of more than SECONDS, 300 if none are given, is ended and told; one
 that wants more than MEGABYTES, 8,000 if none are given, gets no more (status 9): 20 nearly equal candidates have millions of assertions.
 
     bench/sets.py                                    all contests
@@ -40,6 +40,9 @@ CONTESTS = {
     "near-equal 20": (weights_of(20, "near-equal"), 20),
     "near-equal 32": (weights_of(32, "near-equal"), 32),
     "32 with a clear tail": ([max(1, int(1000 * 0.75**c)) for c in range(32)], 5),
+    "five strong of 32": ([1000, 900, 850, 600, 450] + [60 - c for c in range(27)], 10),  # many sets have the best margin
+    "20, each weaker": ([int(1000 * 0.88**c) for c in range(20)], 10),
+    "32, each weaker": ([int(1000 * 0.9**c) for c in range(32)], 10),
 }
 
 
@@ -102,11 +105,11 @@ def time_contest(name, folder, beside, *most):
     told = checked(ballots, printed, *most) if one.status == 0 else f"{'':>8} {'':>7} {'':>6}"
     number, size = (assertions_in(printed), os.path.getsize(printed) / 1e6) if one.status == 0 else (0, 0)
     four = least([*search, "--workers=4"], os.devnull, *most)
-    nodes = least([PROGRAM, "search", ballots], os.devnull, *most)
+    nodes = [least([PROGRAM, "search", ballots, f"--workers={workers}"], os.devnull, *most) for workers in (1, 4)]
     others = [least(shlex.split(command.replace("{}", shlex.quote(ballots))), os.devnull, *most) for command in beside]
     print(
         f"{name:<22} {one.told()} {four.told()} {number:>10} {size:>8.1f} {one.memory / 1e6:>7.0f} {one.status_told():>6} | {told} |"
-        f" {nodes.told()} {nodes.status_told():>6}" + "".join(f" | {ran.told()} {ran.memory / 1e6:>7.0f} {ran.status_told():>6}" for ran in others),
+        f" {nodes[0].told()} {nodes[1].told()} {nodes[1].status_told():>6}" + "".join(f" | {ran.told()} {ran.memory / 1e6:>7.0f} {ran.status_told():>6}" for ran in others),
         flush=True,
     )
 
@@ -123,7 +126,7 @@ def main():
     if not os.path.exists(PROGRAM):
         sys.exit("there is no program to time: ./raire --build")
     others = "".join(f" | {'beside':>8} {'peak MB':>7} {'status':>6}" for _ in given.beside)
-    print(f"{'contest':<22} {'search':>8} {'of four':>8} {'assertions':>10} {'MB':>8} {'peak MB':>7} {'status':>6} | {'check':>8} {'peak MB':>7} {'status':>6} | {'by nodes':>8} {'status':>6}{others}")
+    print(f"{'contest':<22} {'search':>8} {'of four':>8} {'assertions':>10} {'MB':>8} {'peak MB':>7} {'status':>6} | {'check':>8} {'peak MB':>7} {'status':>6} | {'by nodes':>8} {'of four':>8} {'status':>6}{others}")
     for name in given.names or CONTESTS:
         with tempfile.TemporaryDirectory() as folder:
             time_contest(name, folder, given.beside, given.seconds, given.megabytes * 1_000_000)

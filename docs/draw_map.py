@@ -1,7 +1,7 @@
 #!/usr/bin/env python3
-"""Draws docs/map.md's picture of the crates from crates.txt: docs/draw_map.py writes it, --check only compares.
+"""Writes the rows of crates in docs/map.md from crates.txt: docs/draw_map.py writes them, --check only compares.
 
-An arrow leads from a crate to one that stands on it. Where a crate stands on another also by way of a third, the arrow is left out.
+A crate stands on crates of lower rows alone.
 """
 import os
 import sys
@@ -11,18 +11,11 @@ BEGIN, END = "<!-- drawn by docs/draw_map.py -->\n", "<!-- end of the drawing --
 
 
 def crates():
-    """Each crate with those of the repository that it stands on."""
+    """Each crate with the crates of the repository that it stands on."""
     with open(os.path.join(DOCS, "..", "crates.txt")) as file:
         lines = [line.split(":") for line in file if ":" in line and not line.startswith("#")]
     deps = {line[0].split()[0]: line[1].split() for line in lines}
     return {name: [below for below in words if below in deps] for name, words in deps.items()}
-
-
-def all_below(deps, name):
-    found = set(deps[name])
-    for below in deps[name]:
-        found |= all_below(deps, below)
-    return found
 
 
 def row(deps, name):
@@ -35,11 +28,7 @@ def drawing(deps):
         rows.setdefault(row(deps, name), []).append(name)
     width = len(str(max(rows)))
     listed = [f"{number:{width}}  {'  '.join(rows[number])}" for number in sorted(rows, reverse=True)]
-    arrows = []
-    for name, direct in deps.items():
-        by_way = set().union(*(all_below(deps, below) for below in direct))
-        arrows += [f"    {below} --> {name}" for below in direct if below not in by_way]
-    return "\n".join(["```", *listed, "```", "", "```mermaid", "graph BT", *arrows, "```", ""])
+    return "\n".join(["```", *listed, "```", ""])
 
 
 def main():
@@ -49,7 +38,7 @@ def main():
     head, _, rest = text.partition(BEGIN)
     drawn = head + BEGIN + drawing(crates()) + END + rest.partition(END)[2]
     if sys.argv[1:] == ["--check"]:
-        sys.exit("docs/map.md: the picture isn't that of crates.txt; docs/draw_map.py writes it" if drawn != text else 0)
+        sys.exit("docs/map.md: the rows aren't those of crates.txt; docs/draw_map.py writes them" if drawn != text else 0)
     with open(path, "w") as file:
         file.write(drawn)
 

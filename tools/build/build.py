@@ -1,8 +1,10 @@
 #!/usr/bin/env python3
-"""Proves the crates that the program stands on, builds it, and puts it into crates/raire/out. Tells how far it is, and what is refused.
+"""Proves the crates that the program stands on, builds it, and puts it into crates/raire/out. Prints how far it is, and what is refused.
 
-The crates are copied to a folder of their own, where `rt ci` proves them as the gate does: side by side, those first behind which the longest
-chain of others waits. What an earlier run proved on this machine isn't proved again, if the kit can keep it.
+The crates are copied to a folder of their own, where `rt ci` proves them as the gate does, in three steps. The lowest crate comes first, with all
+processors. Then come the crates up to the top call, as many at a time as there are processors, those first that the longest chain of others waits for.
+The program itself comes last, again with all processors. What was proved on this machine before isn't proved again, if the kit can keep it; if it
+can't, all is one step.
 """
 import os
 import re
@@ -16,8 +18,9 @@ import time
 TOP = os.path.dirname(os.path.dirname(os.path.dirname(os.path.abspath(__file__))))
 PROGRAM = "raire"
 PARTS = ("src", "specs", "proofs")
+LOWEST, TOP_CALL = "irv_base", "raire_cli"
 SECONDS_A_LINE = 0.05  # of a crate that has no time yet
-MOST_AT_ONE = 4  # processors that prove one crate together
+A_PROOF = 3_000_000_000  # bytes; most proofs take a third of this, the largest a little more
 REFUSED = 70  # the exit status
 
 
@@ -58,30 +61,37 @@ class Build:
     """The crates that the program stands on, and what is known of their times."""
 
     def __init__(self, named, seconds, processors):
-        self.processors = processors
+        self.named, self.processors = named, processors
         self.below = {it: below(it, named) for it in named if it == PROGRAM or it in below(PROGRAM, named)}
         self.seconds = {it: seconds.get(it) or SECONDS_A_LINE * lines_of(it) for it in self.below}
-        self.told = []
+        self.told, self.chains = [], {}
 
     def ends(self):
-        """When each crate is done, in seconds from the start, where those that wait for no other share the processors."""
-        rest, done, now = dict(self.seconds), {}, 0.0
-        while rest:
-            ready = [it for it in rest if not self.below[it] - done.keys()]
-            share = min(self.processors / len(ready), MOST_AT_ONE)
-            passed = min(rest[it] for it in ready)
-            now += passed / share
-            for it in ready:
-                rest[it] -= passed
-                if rest[it] <= 0:
-                    done[it] = now
-                    del rest[it]
+        """When each crate is done, in seconds from the start, with a processor for each crate and the longest chain first."""
+        left, running, done, now = sorted(self.below, key=lambda it: -self.chain(it)), {}, {}, 0.0
+        while left or running:
+            ready = [it for it in left if not self.below[it] - done.keys()]
+            for it in ready[: self.processors - len(running)]:
+                left.remove(it)
+                running[it] = now + self.seconds[it]
+            first = min(running, key=running.get)
+            done[first] = now = running.pop(first)
         return done
+
+    def above(self, crate):
+        """The crates that stand on this one directly."""
+        return [it for it in self.below if crate in self.named[it]]
+
+    def chain(self, crate):
+        """The seconds of the longest chain of crates from this one up, each of which waits for the one before."""
+        if crate not in self.chains:
+            self.chains[crate] = self.seconds[crate] + max(map(self.chain, self.above(crate)), default=0.0)
+        return self.chains[crate]
 
     def tell(self, crate, is_kept, passed):
         """The line of a crate that is done after so many seconds."""
         if is_kept:
-            self.seconds[crate] = 0.0
+            self.seconds[crate], self.chains = 0.0, {}
         self.told.append(crate)
         clock = f"{int(passed) // 60}:{int(passed) % 60:02d}"
         return f"{clock}  {len(self.told)} of {len(self.below)}: {crate}{self.left(passed)}"
@@ -112,10 +122,47 @@ def say(text):
     print(f"raire: {text}", file=sys.stderr, flush=True)
 
 
+def free_memory():
+    """The bytes of memory that are free, or 0 if the system doesn't say."""
+    try:
+        with open("/proc/meminfo") as file:
+            return 1024 * int(re.search(r"MemAvailable:\s+(\d+)", file.read())[1])
+    except (OSError, TypeError):
+        return 0
+
+
+def can_keep():
+    """Whether the kit keeps what it proves: beside its own folder, with 5 GB free on that disk."""
+    kit = os.path.dirname(os.path.dirname(os.path.realpath(shutil.which("rt"))))
+    store = os.path.join(os.path.dirname(kit), "rattle-kept")
+    place = store if os.path.isdir(store) else os.path.dirname(kit)
+    return os.access(place, os.W_OK) and shutil.disk_usage(place).free > 5_000_000_000
+
+
+def steps(processors):
+    """The calls of `rt ci`, one after the other: the crates that each names, and how many proofs it runs at a time, or None if the kit chooses."""
+    if not can_keep():
+        return [([], None)]
+    at_once = min(processors, free_memory() // A_PROOF)
+    return [([LOWEST], None), ([TOP_CALL], at_once or None), ([], None)]
+
+
 def refusals(build, folder):
-    """Runs `rt ci` in the folder and tells each crate that is done. Where it ends badly, what it said of what it refused, or else what it said last."""
-    start, said, refused = time.monotonic(), [], []
-    with subprocess.Popen(["rt", "ci"], cwd=folder, stdin=subprocess.DEVNULL, stdout=subprocess.PIPE, stderr=subprocess.STDOUT, text=True, errors="replace") as ran:
+    """Runs each step in the folder and reports each crate that is done. If one ends badly, what it said of what it refused, or else what it said last."""
+    start = time.monotonic()
+    for names, at_once in steps(build.processors):
+        refused = refusals_of(build, folder, names, at_once, start)
+        if refused:
+            return refused
+    return []
+
+
+def refusals_of(build, folder, names, at_once, start):
+    """The same of one call of `rt ci`."""
+    said, refused = [], []
+    given = {**os.environ, **({"RT_JOBS": str(at_once)} if at_once else {})}
+    words = ["rt", "ci", *names]
+    with subprocess.Popen(words, cwd=folder, env=given, stdin=subprocess.DEVNULL, stdout=subprocess.PIPE, stderr=subprocess.STDOUT, text=True, errors="replace") as ran:
         try:
             for line in ran.stdout:
                 line = line.replace(folder, TOP)  # the copy is gone when this is read
@@ -127,13 +174,22 @@ def refusals(build, folder):
                     continue
                 if done[3] == "NOT PROVED":
                     refused += said
-                elif not done[2]:
+                elif not done[2] and done[1] not in build.told:
                     say(build.tell(done[1], done[3] == "is kept", time.monotonic() - start))
                 said = []
         except BaseException:
             ran.kill()  # the checks that it began end with it
             raise
     return (refused or said or [f"rt ci ended with status {ran.returncode}\n"]) if ran.returncode else []
+
+
+def see_kit():
+    """Says so if this kit isn't one of those with which everything was proved."""
+    kit = subprocess.run(["rt", "version"], capture_output=True, text=True).stdout.strip()
+    with open(os.path.join(TOP, "tools", "build", "kits.txt")) as file:
+        tried = [line.strip() for line in file if not line.startswith("#")]
+    if not any(kit == it or kit.startswith(f"{it} ") for it in tried):
+        say(f"this kit ({kit}) isn't one of those that were tried: {', '.join(it.split()[0] for it in tried)}; the build goes on")
 
 
 def stopped(*_):
@@ -152,6 +208,7 @@ def main():
     if not shutil.which("rt"):
         say("there is no `rt` on the path: the kit isn't set up")
         return REFUSED
+    see_kit()
     with tempfile.TemporaryDirectory(prefix="raire-", ignore_cleanup_errors=True) as folder:
         begun = os.stat(folder).st_mtime_ns
         try:

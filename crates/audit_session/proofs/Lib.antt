@@ -7,3 +7,4 @@ pub mod NextRound
 pub mod DrawnAlone
 pub mod IsCounted
 pub mod OneCard
+pub mod AlikeCounted

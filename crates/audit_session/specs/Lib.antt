@@ -1,4 +1,5 @@
 pub mod Going
+pub mod Alike
 pub mod Refusals
 pub mod Laws
 pub mod Examples

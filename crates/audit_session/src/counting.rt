@@ -4,6 +4,7 @@ ghost use Rattle.km_risk.specs.Counts.{counts_of, draws_in};
 ghost use Rattle.audit_session.specs.declared.compared.Drawn.{Drawn};
 ghost use Rattle.audit_session.specs.Going.{all_counts, compared, counts_over, value_at};
 
+use crate::alike::odd_among;
 use crate::claims::Claims;
 use crate::compared::Drawn;
 use assorters::Assorter;
@@ -38,6 +39,17 @@ fn counted(counts: Counts, d: u8) -> Counts
     }
 }
 
+// So many more draws that are seen as recorded.
+fn with_alike(counts: Counts, alike: usize) -> Counts
+    requires { draws_in counts + alike < 2 ^ 31 }
+    ensures { result ≡ record counts { n2 = counts.n2 + alike } }
+{
+    Counts {
+        n2: counts.n2 + alike as u32,
+        ..counts
+    }
+}
+
 // The counts of the claim with this index, with these draws behind those that were counted before.
 fn counts_over<T: Claims>(before: Counts, claims: &T, j: u64, drawn: &[Drawn]) -> Counts
     requires claim { j < length (T.values claims.now) }
@@ -54,7 +66,8 @@ fn counts_over<T: Claims>(before: Counts, claims: &T, j: u64, drawn: &[Drawn]) -
     counts
 }
 
-/// The counts of each claim, with these draws behind those that were counted before.
+/// The counts of each claim, with these draws behind those that were counted before. Cards that are seen as they are recorded are
+/// counted once for all claims, and only the others for each.
 pub fn all_counts<T: Claims>(
     alloc: Global,
     claims: &T,
@@ -67,9 +80,14 @@ pub fn all_counts<T: Claims>(
         → before.now ≡ all_counts (T.values claims.now) earlier
         → all.items ≡ all_counts (T.values claims.now) (earlier ++ drawn.now)) }
 {
+    // Asked for what its contract tells: the values of the claims are 0, 1 and 2.
+    let _count = claims.count();
+    let odd = odd_among(alloc, drawn)?;
+    let alike = drawn.len() - odd.len();
     let mut all = Vec::new(alloc);
     for j in 0..before.len() {
-        all.push(counts_over(before[j], claims, j as u64, drawn))?;
+        let clean = with_alike(before[j], alike);
+        all.push(counts_over(clean, claims, j as u64, &odd))?;
     }
     Ok(all)
 }

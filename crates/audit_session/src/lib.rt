@@ -2,6 +2,7 @@
 //! session goes on, or is refused.
 #![tactic(auto)]
 
+mod alike;
 mod claims;
 mod compared;
 mod counting;

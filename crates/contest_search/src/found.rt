@@ -1,10 +1,11 @@
 // What a search finds: tabulation, the race for the best margin, and the certificate of that margin.
-ghost use Rattle.std.specs.Prelude.{◌≡◌, ◌≤◌, ℕ, IfOk, IfSome};
+ghost use Rattle.std.specs.Prelude.{◌≡◌, ◌<◌, ◌≤◌, ℕ, IfOk, IfSome};
 ghost use Rattle.irv_tabulator.specs.Results.{IsTabulation};
 ghost use Rattle.contest_search.specs.Contest.{candidate_count, IsUndecided};
 ghost use Rattle.irv_base.specs.declared.limits.TheConstants.{MOST_WORKERS};
 ghost use Rattle.budget.specs.declared.budget.Budget.{Budget as Told};
 ghost use Rattle.contest_search.specs.Budget.{IsTold};
+ghost use Rattle.set_tallies.specs.declared.bag.TheConstants.{ALWAYS_SUMMED};
 ghost use Rattle.contest_search.specs.Found.{FoundIn, IsCounted, IsBestOf, IsPrintable, content_of};
 
 use assertion_file::{AssertionFile, Parts};
@@ -17,7 +18,7 @@ use desk::Gate;
 use irv_base::{CandSet, Candidate, Memory, Order};
 use irv_tabulator::{FirstTie, TabFault, Tabulated, tabulate};
 use set_search::{SetsEnd, SetsFault, certify_by_sets};
-use set_tallies::Counted;
+use set_tallies::{ALWAYS_SUMMED, Counted};
 use std::alloc::Global;
 use std::thread::Threads;
 
@@ -48,7 +49,7 @@ pub enum Found {
     },
 }
 
-/// What a search of the contest finds, by so many workers, within a budget: of nodes for each piece of the race and for each candidate
+/// What a search of the contest finds, by up to so many workers, within a budget: of nodes for each piece of the race and for each candidate
 /// who didn't win, or of sets for all orders together.
 pub fn find<R: AllocGlobal + Threads + Sync, G: Gate + Sync>(
     rt: &R,
@@ -119,6 +120,19 @@ fn sets_of(
     }
 }
 
+// How many of the workers race for the margin of a contest of so many candidates. Up to `ALWAYS_SUMMED` candidates all do, since they read one
+// table. With more each would count the rows that it asks for, and go on to the end of its piece once another one is out of budget.
+fn racers(candidates: usize, workers: u32) -> u32
+    ensures table { candidates ≤ ALWAYS_SUMMED → result ≡ workers }
+    ensures rows { ALWAYS_SUMMED < candidates → result ≡ 1 }
+{
+    if candidates > ALWAYS_SUMMED as usize {
+        1
+    } else {
+        workers
+    }
+}
+
 // What it finds by the race, and by walks through suffixes.
 fn race_of<R: AllocGlobal + Threads + Sync, G: Gate + Sync>(
     rt: &R,
@@ -133,7 +147,8 @@ fn race_of<R: AllocGlobal + Threads + Sync, G: Gate + Sync>(
     requires counted { IsCounted votes.now counted.now.bag tabulated.now }
     ensures { IfOk result (FoundIn (Budget.Nodes nodes) votes.now) }
 {
-    match race(rt, counted, tabulated, workers, nodes, gate) {
+    let racers = racers(votes.candidates().len(), workers);
+    match race(rt, counted, tabulated, racers, nodes, gate) {
         Ok(end) => {
             if end.margin == 0 {
                 Ok(tie_of(votes, tabulated))

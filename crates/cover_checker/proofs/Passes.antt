@@ -1,6 +1,9 @@
 -- What refutes a set with one candidate more anew, by the index of a list.
-use Rattle.std.proofs.Common.{◌≡◌, ℕ, ◌+◌, ◌^◌, not, List, refl, ap, arith, ◌∙◌}
+use Rattle.std.proofs.Common.{◌≡◌, ℕ, ◌+◌, ◌^◌, Bool, true, false, not, List, refl, sym, ap, arith, ◌∙◌}
 use Rattle.std.specs.List.{list_any}
+use Rattle.irv_base.specs.Candidates.{has, is_in, set_of}
+use Rattle.irv_base.specs.Suffixes.{is_suffix}
+use Rattle.irv_base.proofs.Suffixes.{suffix-has}
 use Rattle.assertions.specs.declared.assertion.Assertion.{Assertion}
 use Rattle.assertions.specs.declared.assertion.Assertion.TheVariants.{Neb, Nen}
 use Rattle.assertions.specs.Steps.{more, is_anew}
@@ -17,3 +20,10 @@ passes-is list set c with_c e =
     let same : with_c ≡ more set c = omega (arith, e) in
     ap (λ s. not (list_any (λ a. is_new a c s) list)) same
     ∙ ap not (any-same (λ a. is_new a c (more set c)) (λ a. is_anew a set c) list (λ a m. anew-is a set c))
+
+-- one of them refutes a suffix with c in front anew, by an index: else the step passes
+pub goes-is : (n : ℕ) (list : List Assertion) (t : List ℕ) (c set with_c : ℕ) (any : Bool) → is_suffix n t ≡ true → is_in t c ≡ false → set ≡ set_of t →
+    (has set c ≡ false → with_c ≡ set + 2 ^ c) → any ≡ list_any (λ a. is_new a c with_c) list → passes list (set_of t) c ≡ not any
+goes-is n list t c set with_c any proper out same number e =
+    let free : has set c ≡ false = ap (λ s. has s c) same ∙ suffix-has n t c proper ∙ out in
+    ap (λ s. passes list s c) (sym same) ∙ sym (passes-is list set c with_c (number free)) ∙ ap not (sym e)

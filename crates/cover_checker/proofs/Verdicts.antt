@@ -1,5 +1,5 @@
 -- What an answer of `covered` says.
-use Rattle.std.proofs.Common.{◌≡◌, ◌↔◌, ◌⊎◌, inl, inr, ℕ, ◌<◌, Bool, true, false, nat_lt, if◌then◌else◌, List, Option, Some, None, option_map, Result, Ok, Err, refl, sym, ap, ◌∙◌}
+use Rattle.std.proofs.Common.{◌≡◌, ◌≢◌, ◌↔◌, ◌⊎◌, inl, inr, ℕ, ◌<◌, Bool, true, false, nat_lt, if◌then◌else◌, List, Option, Some, None, option_map, Result, Ok, Err, refl, sym, ap, ◌∙◌}
 use Rattle.std.specs.List.{list_any, list_all}
 use Rattle.std.proofs.lemmas.Bool.{not-true, not_from_false, cases_Bool, both_ways}
 use Rattle.budget.specs.declared.budget.Budget.{Budget}
@@ -15,15 +15,16 @@ use Rattle.assertions.proofs.Elections.{cover_is_sound}
 use Rattle.assertions.proofs.Endings.{alternative_orders_are}
 use Rattle.assertions.proofs.Firsts.{first_alternative}
 use Rattle.suffix_walk.specs.Search as walk
-use Rattle.set_walk.specs.Answers.{first_within as first_by_walk, IsWalk}
+use Rattle.set_walk.specs.Answers.{first_within as first_by_walk}
 use Rattle.set_walk.specs.Walks.{passes}
 use Rattle.set_walk.proofs.Orders.{standing_by_sets}
-use Rattle.set_walk.specs.declared.walk.WalkEnd.{WalkEnd}
-use Rattle.set_walk.specs.declared.walk.WalkEnd.TheVariants.{Found, Ended}
 use Rattle.set_walk.specs.declared.walk.WalkFault.{WalkFault}
 use Rattle.set_walk.specs.declared.walk.WalkFault.TheVariants.{Spent as WalkSpent, Memory as WalkMemory}
 use Rattle.cover_checker.specs.Covers.{stands, covered_is, spent_by, or_spent, verdict_on, standing_order, standing_sets}
 use Rattle.cover_checker.specs.Ends.{verdict_at}
+use Rattle.cover_checker.specs.Reaching.{IsReach}
+use Rattle.cover_checker.specs.declared.walk.SetWalk.{SetWalk}
+use Rattle.cover_checker.specs.declared.walk.SetWalk.TheVariants.{Found, Ended}
 use Rattle.cover_checker.specs.declared.cover.Verdict.{Verdict}
 use Rattle.cover_checker.specs.declared.cover.Verdict.TheVariants.{Covered, Stands}
 use Rattle.cover_checker.specs.declared.cover.CoverFault.{CoverFault}
@@ -122,7 +123,15 @@ told-is n winner sets list =
     go false o = refl
 
 -- where the walk comes to its end
-pub ended-is : (n winner sets : ℕ) (list : List Assertion) (end : WalkEnd) → IsWalk n winner sets (passes list) (Ok end) →
+pub ended-is : (n winner sets : ℕ) (list : List Assertion) (end : SetWalk) → IsReach n winner sets (passes list) (Ok end) →
     Ok (verdict_at end) ≡ covered_is n winner list (Sets sets)
 ended-is n winner sets list (Found order) walk = sym (ap (told sets) walk) ∙ told-is n winner sets list
-ended-is n winner sets list (Ended seen) walk = sym (ap (told sets) walk.0) ∙ told-is n winner sets list
+ended-is n winner sets list (Ended reached) walk = sym (ap (told sets) walk.0) ∙ told-is n winner sets list
+
+-- and where it doesn't
+pub fault-is : (n winner sets : ℕ) (list : List Assertion) (fault : CoverFault) → IsReach n winner sets (passes list) (Err fault) → fault ≢ Memory →
+    Err fault ≡ covered_is n winner list (Sets sets)
+fault-is n winner sets list (Spent last) walk other = absurd walk
+fault-is n winner sets list (SpentSets more) (same, spent) other =
+    ap (λ k. Err (SpentSets k)) same ∙ sym (ap (told sets) spent) ∙ told-is n winner sets list
+fault-is n winner sets list Memory walk other = absurd (other refl)

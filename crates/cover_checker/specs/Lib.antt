@@ -1,6 +1,8 @@
 pub mod Shorter
+pub mod Numbered
 pub mod Indexed
-pub mod Counts
+pub mod Marks
+pub mod Reaching
 pub mod Covers
 pub mod Ends
 pub mod Outcomes

@@ -6,12 +6,11 @@ ghost use Rattle.cover_checker.specs.Ends.{verdict_at};
 ghost use Rattle.cover_checker.specs.declared.cover.CoverFault.TheVariants.{Memory as WantOfMemory};
 
 use crate::index::Index;
-use crate::passing::Passing;
 use crate::unrefuted::Unrefuted;
+use crate::walk::{SetWalk, reach};
 use assertions::Assertion;
 use budget::Budget;
 use irv_base::{Candidate, Memory, Order};
-use set_walk::{WalkEnd, WalkFault, walk_within};
 use std::alloc::Global;
 use std::error::Error;
 use std::fmt;
@@ -78,12 +77,12 @@ fn by_nodes(list: Index<'_>, n: u32, winner: Candidate, nodes: u32) -> Result<Ve
 }
 
 // The verdict where a walk from set to set ends so.
-fn verdict_of(end: &WalkEnd) -> Verdict
+fn verdict_of(end: &SetWalk) -> Verdict
     ensures { result ≡ verdict_at end.now }
 {
     match end {
-        WalkEnd::Found(order) => Verdict::Stands(*order),
-        WalkEnd::Ended(_) => Verdict::Covered,
+        SetWalk::Found(order) => Verdict::Stands(*order),
+        SetWalk::Ended(_) => Verdict::Covered,
     }
 }
 
@@ -100,12 +99,8 @@ fn by_sets(
     requires room { n ≤ ROOM }
     ensures { result ≢ Err CoverFault.Memory → result ≡ covered_is n winner list.entry (Budget.Sets sets) }
 {
-    let mut passing = Passing { n, list };
-    match walk_within(alloc, &mut passing, n, winner, sets) {
-        Ok(end) => Ok(verdict_of(&end)),
-        Err(WalkFault::Spent) => Err(CoverFault::SpentSets { sets }),
-        Err(WalkFault::Memory) => Err(CoverFault::Memory),
-    }
+    let end = reach(alloc, list.refuting(), n, winner, sets)?;
+    Ok(verdict_of(&end))
 }
 
 /// Whether the assertions of the list refute each order of `n` candidates that elects another one than `winner`.
@@ -117,7 +112,7 @@ fn by_sets(
 /// `Spent` with the least of these; where more sets count than it has, `SpentSets`.
 ///
 /// The other error is want of memory. The list is gone through once; the time for each suffix or set that counts, and each of
-/// its children, doesn't grow with it.
+/// its children, doesn't grow with it, whatever it says.
 pub fn covered(
     alloc: Global,
     n: u32,
@@ -129,7 +124,7 @@ pub fn covered(
     requires room { n ≤ ROOM }
     ensures { result ≢ Err CoverFault.Memory → result ≡ covered_is n winner list.now budget }
 {
-    let list = Index::of(alloc, list)?;
+    let list = Index::of(alloc, n, list)?;
     match budget {
         Budget::Nodes(nodes) => by_nodes(list, n, winner, nodes),
         Budget::Sets(sets) => by_sets(alloc, list, n, winner, sets),

@@ -1,53 +1,59 @@
 // A list of assertions, found by what each refutes.
 ghost use Rattle.std.specs.Prelude.{◌≡◌, IfOk};
 ghost use Rattle.std.specs.List.{list_any};
-ghost use Rattle.cover_checker.specs.Indexed.{is_new};
+ghost use Rattle.cover_checker.specs.Indexed.{IsIndexOf, is_new};
 
-use crate::counted::Counted;
+use crate::refuting::Refuting;
 use assertions::Assertion;
 use irv_base::{CandSet, Candidate, Memory};
 use std::alloc::Global;
 use std::marker::Model;
 
-/// A list of assertions that tells in a time that doesn't grow with it whether one of them refutes a suffix anew.
+/// A list of assertions that tells at once whether one of them refutes a suffix anew.
 ///
 /// To a contract it is the list.
 #[derive(Drop)]
 pub struct Index<'a> {
     list: &'a [Assertion],
-    counted: Counted,
+    refuting: Refuting,
 }
 
 impl<'a> Model for Index<'a> {
     ghost use Rattle.std.specs.Prelude.{List};
     ghost use Rattle.assertions.specs.declared.assertion.Assertion.{Assertion};
-    ghost use Rattle.cover_checker.specs.Counts.{IsCountOf};
+    ghost use Rattle.cover_checker.specs.Indexed.{IsIndexOf};
 
     ghost Value = { List Assertion };
 
     ghost view = { λ index. index.list.now };
 
-    ghost invariant = { λ index. IsCountOf index.list.now index.counted };
+    ghost invariant = { λ index. IsIndexOf index.list.now index.refuting };
 }
 
 impl<'a> Index<'a> {
-    /// The index of a list. The time is linear in it.
-    pub fn of(alloc: Global, list: &'a [Assertion]) -> Result<Index<'a>, Memory>
+    /// The index of a list, in a contest of `n` candidates. The time is linear in the list, but for sets of more than 20 candidates,
+    /// which are put in order.
+    pub fn of(alloc: Global, n: u32, list: &'a [Assertion]) -> Result<Index<'a>, Memory>
         ensures { IfOk result (λ index. index ≡ list.now) }
     {
-        let mut counted = Counted::none(alloc);
+        let mut refuting = Refuting::nothing(alloc, n)?;
         for a in list {
-            counted.add(a)?;
+            refuting.add(a)?;
         }
-        Ok(Index { list, counted })
+        Ok(Index { list, refuting })
+    }
+
+    /// What the assertions refute.
+    pub fn refuting(&self) -> &Refuting
+        ensures { IsIndexOf self.now result.now }
+    {
+        &self.refuting
     }
 
     /// Whether one of the assertions refutes a suffix with this first candidate and this set, if none refutes its parent.
-    ///
-    /// The time doesn't grow with the list.
     pub fn is_any_new(&self, first: Candidate, set: CandSet) -> bool
         ensures { result ≡ list_any (λ a. is_new a first set) self.now }
     {
-        self.counted.is_any_new(first, set)
+        self.refuting.is_any_new(first, set)
     }
 }

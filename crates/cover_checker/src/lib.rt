@@ -6,17 +6,22 @@
 
 mod checked;
 mod checks;
-mod counted;
 mod cover;
 pub mod examples;
 mod findings;
 mod index;
 pub mod laws;
-mod passing;
+mod numbered;
+mod reached;
+mod refuting;
 mod unrefuted;
+mod walk;
 
 pub use checked::{CheckFault, Checked};
 pub use checks::check;
-pub use counted::Counted;
 pub use cover::{CoverFault, Verdict, covered};
 pub use index::Index;
+pub use numbered::Numbered;
+pub use reached::Reached;
+pub use refuting::Refuting;
+pub use walk::{SetWalk, Stop, dive, reach};

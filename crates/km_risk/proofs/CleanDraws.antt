@@ -33,7 +33,7 @@ find_behind f limit n m some above =
     rw (more, lt-leb (f n) limit above) refl
 
 -- a search ends at the least number within the limit, or none is within it
-abbrev IsLeastFrom : (ℕ → ℕ) → ℕ → ℕ → ℕ → Option ℕ → Type 0
+abbrev pub IsLeastFrom : (ℕ → ℕ) → ℕ → ℕ → ℕ → Option ℕ → Type 0
 IsLeastFrom f limit n m found =
     MatchOption found
     ((k : ℕ) → n ≤ k → k < n + m → limit < f k)
@@ -54,7 +54,7 @@ least_step : (f : ℕ → ℕ) (limit n m : ℕ) (rest : Option ℕ) → IsLeast
 least_step f limit n m rest h true within = (omega arith, omega arith, leb-true (f n) limit within, λ k low high. absurd (omega arith))
 least_step f limit n m rest h false above = least_behind f limit n m (leb-false (f n) limit above) rest h
 
-find_least : (f : ℕ → ℕ) (limit n m : ℕ) → IsLeastFrom f limit n m (find (λ k. nat_le (f k) limit) (range_with_len n m))
+pub find_least : (f : ℕ → ℕ) (limit n m : ℕ) → IsLeastFrom f limit n m (find (λ k. nat_le (f k) limit) (range_with_len n m))
 find_least f limit n zero = λ k low high. absurd (omega arith)
 find_least f limit n (suc m) = least_step f limit n m _ (find_least f limit (n + 1) m) (nat_le (f n) limit) refl
 

@@ -60,7 +60,7 @@ module _ (P : ℕ → Type 0) (p q : List ℕ → Bool) (weaker : (draws : List 
       passed
 
   -- a weaker test passes some prefix of more sequences
-  prefixes_grow : (ds : List ℕ) → All P ds → (n : ℕ) →
+  pub prefixes_grow : (ds : List ℕ) → All P ds → (n : ℕ) →
       count_by (λ s. list_any p (prefixes s)) (sequences ds n) ≤ count_by (λ s. list_any q (prefixes s)) (sequences ds n)
   prefixes_grow ds each n =
       count_grows (λ s. list_any p (prefixes s)) (λ s. list_any q (prefixes s)) (sequences ds n)

@@ -1,7 +1,7 @@
 -- What the factors of draws are, and that a step by a factor of at most one doesn't rise.
-use Rattle.std.proofs.Common.{◌≡◌, ℕ, ◌+◌, ◌-◌, ◌*◌, ◌/◌, ◌<◌, ◌≤◌, min, Bool, true, false, if◌then◌else◌, nat_le, refl, sym, arith, inl, inr}
+use Rattle.std.proofs.Common.{◌≡◌, ℕ, ◌+◌, ◌-◌, ◌*◌, ◌/◌, ◌<◌, ◌≤◌, min, Bool, true, false, if◌then◌else◌, nat_le, refl, sym, ap, arith, inl, inr}
 use Rattle.std.proofs.Math.Nat.{mul-le-mul_left, mul-le-mul_right, mul-pos, le_trans}
-use Rattle.std.proofs.lemmas.Bool.{leb-false, cases_lt}
+use Rattle.std.proofs.lemmas.Bool.{leb-false, lt-leb, cases_lt}
 use Rattle.km_risk.specs.declared.limits.TheConstants.{ONE}
 use Rattle.km_risk.specs.Factor.{numerator, denominator}
 use Rattle.km_risk.specs.Printed.{divided_up, step}
@@ -57,3 +57,10 @@ pub step-computed : (cards margin gamma r d now num den one : ℕ) → 1 ≤ car
     min ((now * num + den - 1) / den) one ≡ step cards margin gamma r d
 step-computed cards margin gamma r d now num den one some smaller lasting most is_now is_num is_den is_one =
     rw (is_now, is_num, is_den, is_one) (sym (step-capped cards margin gamma r d some smaller lasting most))
+
+-- the step of a draw with a factor below one
+pub step-falling : (cards margin gamma r d : ℕ) → 2 ≤ d →
+    step cards margin gamma r d ≡ divided_up (r * numerator cards margin gamma) (denominator cards margin gamma d)
+step-falling cards margin gamma r d clean =
+    let scaled = divided_up (r * numerator cards margin gamma) (denominator cards margin gamma d) in
+    ap (λ (b : Bool). if b then min ONE scaled else scaled) (lt-leb d 1 clean)

@@ -11,3 +11,6 @@ pub mod AllCounted
 pub mod LargerDiscrepancies
 pub mod Listed
 pub mod Around
+pub mod Quotients
+pub mod Standing
+pub mod AsDrawn

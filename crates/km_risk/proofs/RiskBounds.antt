@@ -16,7 +16,7 @@ use Rattle.km_risk.specs.Bounds.{overstated}
 use Rattle.km_risk.specs.Laws.{AtMostOneLaw, NotBelowLaw, NotFarAboveLaw}
 
 -- what a draw keeps, draws keep
-grows : (P : List ℕ → Type 0) → ((ds : List ℕ) (d : ℕ) → P ds → P (ds ++ d ∷ [])) → (ds more : List ℕ) → P ds → P (ds ++ more)
+pub grows : (P : List ℕ → Type 0) → ((ds : List ℕ) (d : ℕ) → P ds → P (ds ++ d ∷ [])) → (ds more : List ℕ) → P ds → P (ds ++ more)
 grows P push ds [] h = subst P (sym (append-nil ds)) h
 grows P push ds (d ∷ more) h = subst P (append_assoc ds (d ∷ []) more) (grows P push (ds ++ d ∷ []) more (push ds d h))
 
@@ -25,7 +25,7 @@ grows_same P d push zero ds h = subst P (sym (append-nil ds)) h
 grows_same P d push (suc n) ds h = subst P (append_assoc ds (d ∷ []) (replicate n d)) (grows_same P d push n (ds ++ d ∷ []) (push ds h))
 
 -- the upper side after one draw more, by the number s that it leaves
-rises_low : (r u e b v a o j s : ℕ) → e ≤ u → r * b ≤ o * a + j * v → b ≤ v → s * e ≤ r * u + e → s * (b * e) ≤ o * (a * u) + (j + 1) * (v * u)
+pub rises_low : (r u e b v a o j s : ℕ) → e ≤ u → r * b ≤ o * a + j * v → b ≤ v → s * e ≤ r * u + e → s * (b * e) ≤ o * (a * u) + (j + 1) * (v * u)
 rises_low r u e b v a o j s small bound under rounded =
     let m1 = mul-le-mul_right b rounded in
     let m2 = mul-le-mul_right u bound in
@@ -33,7 +33,7 @@ rises_low r u e b v a o j s small bound under rounded =
     let m4 = mul-le-mul_left v small in
     omega arith
 
-rises_high : (r u e b v a o j s : ℕ) → u ≤ e → r * b ≤ o * a + j * v → b ≤ v → s * e ≤ r * u + e → s * (b * e) ≤ o * (a * u) + (j + 1) * (v * e)
+pub rises_high : (r u e b v a o j s : ℕ) → u ≤ e → r * b ≤ o * a + j * v → b ≤ v → s * e ≤ r * u + e → s * (b * e) ≤ o * (a * u) + (j + 1) * (v * e)
 rises_high r u e b v a o j s large bound under rounded =
     let m1 = mul-le-mul_right b rounded in
     let m2 = mul-le-mul_right u bound in
@@ -49,7 +49,7 @@ capped_if c s = if c then min ONE s else s
 abbrev stepped : ℕ → (ℕ → ℕ) → ℕ → ℕ → ℕ
 stepped u e r d = capped_if (nat_le d 1) (divided_up (r * u) (e d))
 
-abbrev growing : ℕ → (ℕ → ℕ) → ℕ → ℕ
+abbrev pub growing : ℕ → (ℕ → ℕ) → ℕ → ℕ
 growing u e d = if nat_le d 1 then u else e d
 
 -- the upper side of a risk r: a and b are the exact numerator and denominator, v is b times the factors of the overstated
@@ -63,7 +63,7 @@ abbrev UpperAt : ℕ → (ℕ → ℕ) → List ℕ → Type 0
 UpperAt u e ds = Upper (fold (stepped u e) ONE ds) (u ^ length ds) (product (map e ds)) (product (map (growing u e) ds)) (length ds)
 
 -- the lower side after one draw more
-falls : (r u e b a o s : ℕ) → o * a ≤ r * b → r * u ≤ s * e → o * (a * u) ≤ s * (b * e)
+pub falls : (r u e b a o s : ℕ) → o * a ≤ r * b → r * u ≤ s * e → o * (a * u) ≤ s * (b * e)
 falls r u e b a o s bound rounded =
     let m1 = mul-le-mul_right u bound in
     let m2 = mul-le-mul_right b rounded in
@@ -162,7 +162,7 @@ product_if : (e : ℕ → ℕ) (d : ℕ) (ds : List ℕ) (c : Bool) →
 product_if e d ds true = product-cons (e d) (map e ds)
 product_if e d ds false = refl
 
-growth_overstated : (u : ℕ) (e : ℕ → ℕ) (ds : List ℕ) →
+pub growth_overstated : (u : ℕ) (e : ℕ → ℕ) (ds : List ℕ) →
     product (map (growing u e) ds) * product (map e (overstated ds)) ≡ u ^ length (overstated ds) * product (map e ds)
 growth_overstated u e [] = rw (pow-zero u) refl
 growth_overstated u e (d ∷ ds) =
@@ -183,7 +183,7 @@ most_side : (r a b v j : ℕ) → Upper r a b v j → r * b ≤ ONE * min a b + 
 most_side r a b v j h = let m = mul-le-mul_right b h.most in omega arith
 
 -- the growth as a fraction f / g
-as_fraction : (r b one_min j v f g : ℕ) → r * b ≤ one_min + j * v → v * g ≡ f * b → r * b * g ≤ one_min * g + j * f * b
+pub as_fraction : (r b one_min j v f g : ℕ) → r * b ≤ one_min + j * v → v * g ≡ f * b → r * b * g ≤ one_min * g + j * f * b
 as_fraction r b one_min j v f g h same =
     let m = mul-le-mul_right g h in
     let grown : j * (v * g) ≡ j * (f * b) = rw same refl in

@@ -9,3 +9,5 @@ pub mod Reach
 pub mod Laws
 pub mod Examples
 pub mod Around
+pub mod AsDrawn
+pub mod AsDrawnLaws

@@ -2,7 +2,11 @@
 ghost use Rattle.std.specs.Prelude.{◌≡◌, ◌≤◌, fold, replicate};
 ghost use Rattle.km_risk.specs.Factor.{IsSetting};
 
+use crate::falling::Falling;
 use crate::limits::ONE;
+
+// From this discrepancy on a draw has a factor below one.
+const CLEAN: u8 = 2;
 
 /// The cards of the manifest, the margin of the assertion in votes, and gamma in thousandths.
 #[derive(Clone, Copy)]
@@ -17,6 +21,7 @@ pub struct Setting {
 }
 
 impl Setting {
+    ghost use Rattle.km_risk.specs.Factor.{denominator, numerator};
     ghost use Rattle.km_risk.specs.Printed.{step};
 
     /// The risk after one more draw with the discrepancy `d`.
@@ -35,8 +40,23 @@ impl Setting {
         scaled.min(u128::from(ONE)) as u64
     }
 
-    /// The risk after a number of draws with the discrepancy `d`.
-    pub fn after_draws(self, risk: u64, number: u32, d: u8) -> u64
+    // The factor of a draw with a discrepancy of 2 or more.
+    fn factor(self, d: u8) -> Falling
+        requires { CLEAN ≤ d }
+        ensures over { result.over ≡ numerator self.cards self.margin self.gamma }
+        ensures under { result.under ≡ denominator self.cards self.margin self.gamma d }
+    {
+        let cards = u64::from(self.cards);
+        let threshold = 2 * cards - u64::from(self.margin);
+        let gamma = u64::from(self.gamma);
+        Falling::new(
+            (500 + gamma) * threshold,
+            500 * u64::from(d) * cards + gamma * threshold,
+        )
+    }
+
+    // The risk after a number of draws that don't lower it.
+    fn after_overstated(self, risk: u64, number: u32, d: u8) -> u64
         requires { risk ≤ ONE }
         ensures value { result
             ≡ fold (step self.cards self.margin self.gamma) risk (replicate number d) }
@@ -44,7 +64,33 @@ impl Setting {
     {
         let mut now = risk;
         for _ in 0..number {
-            now = self.after_draw(now, d);
+            let next = self.after_draw(now, d);
+            if next == now {
+                return now;
+            }
+            now = next;
+        }
+        now
+    }
+
+    /// The risk after a number of draws with the discrepancy `d`. Once a draw leaves it as it is, so do all others.
+    pub fn after_draws(self, risk: u64, number: u32, d: u8) -> u64
+        requires { risk ≤ ONE }
+        ensures value { result
+            ≡ fold (step self.cards self.margin self.gamma) risk (replicate number d) }
+        ensures at_most_one { result ≤ ONE }
+    {
+        if d < CLEAN {
+            return self.after_overstated(risk, number, d);
+        }
+        let factor = self.factor(d);
+        let mut now = risk;
+        for _ in 0..number {
+            let next = factor.times(now);
+            if next == now {
+                return now;
+            }
+            now = next;
         }
         now
     }

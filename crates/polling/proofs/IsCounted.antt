@@ -22,23 +22,23 @@ use Rattle.polling.specs.Laws.{PolledIsCounted}
 use Rattle.polling.specs.Polls.{counted, is_confirmed, is_risk_within, poll_risk}
 
 -- the cards of draws are cards
-drawn-sequence : (seed : List ℕ) (cards n : ℕ) → 1 ≤ cards → IsSequence cards n (drawn_cards seed cards n)
+pub drawn-sequence : (seed : List ℕ) (cards n : ℕ) → 1 ≤ cards → IsSequence cards n (drawn_cards seed cards n)
 drawn-sequence seed cards n some = record {
   long = length-map-range_with_len (λ k. drawn_card seed k cards) 1 n;
   some = All-map (λ card. 1 ≤ card) (λ k. drawn_card seed k cards) (range_with_len 1 n) (λ i k below. omega arith);
   within = All-map (λ card. card ≤ cards) (λ k. drawn_card seed k cards) (range_with_len 1 n) (λ i k below. omega arith);
 }
 
-map-same : (f g : ℕ → ℕ) (xs : List ℕ) → ((x : ℕ) → Member x xs → f x ≡ g x) → map f xs ≡ map g xs
+pub map-same : (f g : ℕ → ℕ) (xs : List ℕ) → ((x : ℕ) → Member x xs → f x ≡ g x) → map f xs ≡ map g xs
 map-same f g [] same = refl
 map-same f g (x ∷ xs) same = let first = same x here in let rest = map-same f g xs (λ y m. same y (there m)) in λ i. first i ∷ rest i
 
 module _ (entries : List Entry) (drawn : List ℕ) where
   -- what is seen of the drawn cards alone
-  abbrev seen_of_drawn : ℕ → Option Seen
+  abbrev pub seen_of_drawn : ℕ → Option Seen
   seen_of_drawn card = if is_in drawn card then seen_in entries card else None
 
-  drawn-readings : (actual : List (List ℕ)) → AreTrueEntries actual entries drawn → (card : ℕ) →
+  pub drawn-readings : (actual : List (List ℕ)) → AreTrueEntries actual entries drawn → (card : ℕ) →
       IfSome (seen_of_drawn card) (IsReading (get_or actual (card - 1) []))
   drawn-readings actual each card = by (is_in drawn card) refl where
     by : (b : Bool) → is_in drawn card ≡ b → IfSome (if b then seen_in entries card else None) (IsReading (get_or actual (card - 1) []))
@@ -48,7 +48,7 @@ module _ (entries : List Entry) (drawn : List ℕ) where
         (contains-from_member (member-from_in card drawn in_drawn))
 
   module _ (cards : ℕ) (some : All (λ card. 1 ≤ card) drawn) (within : All (λ card. card ≤ cards) drawn) where
-    same-seen : (card : ℕ) → Member card drawn → seen_at (all_seen entries cards) card ≡ seen_at (seen_of_all seen_of_drawn cards) card
+    pub same-seen : (card : ℕ) → Member card drawn → seen_at (all_seen entries cards) card ≡ seen_at (seen_of_all seen_of_drawn cards) card
     same-seen card m =
         let first = All-contains (λ card. 1 ≤ card) drawn card some (contains-from_member m) in
         let last = All-contains (λ card. card ≤ cards) drawn card within (contains-from_member m) in

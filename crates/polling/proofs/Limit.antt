@@ -46,7 +46,7 @@ poll_is_comparison gamma value seen drawn is = ap (printed_risk 1 1 gamma) (as-d
 
 module _ (value : List ℕ → ℕ) (is : IsAssorter value) (actual : List (List ℕ)) where
   -- what a card counts as, where all are found
-  abbrev found_value : ℕ → ℕ
+  abbrev pub found_value : ℕ → ℕ
   found_value card = seen_value value (seen_at (all_found actual) card)
 
   abbrev cards : List ℕ
@@ -73,7 +73,7 @@ module _ (value : List ℕ → ℕ) (is : IsAssorter value) (actual : List (List
 
   module _ (fails : sum_by value actual ≤ length actual) (limit gamma : ℕ) where
     -- after some of these draws the exact risk is within the limit, if all cards are found
-    abbrev test : List ℕ → Bool
+    abbrev pub test : List ℕ → Bool
     test = is_within 1 1 gamma limit
 
     abbrev pub is_ever_within : List ℕ → Bool
@@ -94,7 +94,7 @@ module _ (value : List ℕ → ℕ) (is : IsAssorter value) (actual : List (List
         rw (← fold-map (λ a x. a + cond (some_prefix test x) 1 0) (λ draws. map found_value draws) 0 (sequences cards n), (sequences_law cards found_value n).1)
         (rw (product_reach_law (numerator 1 1 gamma) limit (denominator 1 1 gamma) (map found_value cards) n) at reached)
 
-    seen-le : (seen : List Seen) → AreReadings actual seen → (card : ℕ) → seen_value value (seen_at seen card) ≤ found_value card
+    pub seen-le : (seen : List Seen) → AreReadings actual seen → (card : ℕ) → seen_value value (seen_at seen card) ≤ found_value card
     seen-le seen are card = let more = found-le value [] actual seen are card in omega arith
 
     -- a poll that confirms the claim needs one of them

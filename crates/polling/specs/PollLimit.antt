@@ -8,6 +8,9 @@
 -- that the assertions prove, or that a tie among them could be broken so that they don't. Then of all sequences of n cards those are few
 -- on which the poll confirms all assertions, at whichever draw. Nothing is asked of records, and nothing of margins.
 --
+-- The candidates and the winner are those of the assertions: in a poll those of the assertion file, and so is the contest. That these are
+-- the candidates and the contest of the cards is no part of the law, and no command can see it.
+--
 -- Assertions, limit and gamma are given first, and the sequences are counted after: so in a poll they are fixed and published before
 -- the seed is known. Two choices of gamma together confirm on more sequences than either: of two cards that are in truth a tie, at a
 -- limit of 250,600 millionths and seven draws, 32 with gamma 1 and 12 with gamma 500, and one or the other 34 of 128, where the limit

@@ -51,8 +51,8 @@ pub fn poll_risk(c: &PollCounts, gamma: u32) -> u64
     risk(&as_counts(c), 1, 1, gamma)
 }
 
-// What is seen of a card counts so for the assertion.
-fn seen_value(assertion: &Assertion, seen: &Seen) -> u8
+/// What is seen of a card counts so for the assertion.
+pub(crate) fn seen_value(assertion: &Assertion, seen: &Seen) -> u8
     ensures value { result ≡ seen_value (assorter_value assertion.now) seen.now }
     ensures most { result ≤ 2 }
 {
@@ -62,8 +62,8 @@ fn seen_value(assertion: &Assertion, seen: &Seen) -> u8
     }
 }
 
-// One more draw with this value.
-fn with_value(counts: PollCounts, s: u8) -> PollCounts
+/// One more draw with this value.
+pub(crate) fn with_value(counts: PollCounts, s: u8) -> PollCounts
     requires few { counts.n0 + counts.n1 + counts.n2 < 2 ^ 31 }
     requires value { s ≤ 2 }
     ensures counts { (values : List ℕ) → counts ≡ counted values

@@ -1,6 +1,7 @@
 //! What a poll promises: each law holds of every value that it names, and has no code.
 ghost use Rattle.std.specs.Prelude.{ℕ};
 ghost use Rattle.polling.specs.Laws.{FactorLaw, PollIsComparison, PolledIsCounted};
+ghost use Rattle.polling.specs.EachLimit.{EachIsCounted, EachLimit, EachValuesLimit};
 ghost use Rattle.polling.specs.PollLimit.{PollLimit, PollValuesLimit};
 
 /// Where the actual rankings of the cards may elect another candidate than a set of assertions proves, the poll can confirm
@@ -27,4 +28,20 @@ pub fn poll_is_comparison()
 /// The factor of a draw there.
 pub fn factor()
     ensures { (gamma s : ℕ) → FactorLaw gamma s }
+{}
+
+/// Where the actual rankings of the cards may elect another candidate than a set of assertions proves, a poll that is looked at after
+/// each draw can confirm all of them on at most `limit` millionths of all sequences of `n` cards, whatever gamma each of them has.
+pub fn each_limit()
+    ensures { EachLimit }
+{}
+
+/// The same of any claims, where one isn't true of the actual rankings.
+pub fn each_values_limit()
+    ensures { EachValuesLimit }
+{}
+
+/// Such a poll that confirms claims by the draws of a seed is among those that the limit counts.
+pub fn each_is_counted()
+    ensures { EachIsCounted }
 {}

@@ -3,11 +3,13 @@
 #![tactic(auto)]
 
 mod counts;
+mod each;
 mod end;
 pub mod examples;
 mod fault;
 pub mod laws;
 
 pub use counts::{PollCounts, poll_risk};
+pub use each::{ClaimEnd, EachEnd, best_gamma, poll_each};
 pub use end::{PollEnd, poll};
 pub use fault::PollFault;

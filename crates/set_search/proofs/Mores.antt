@@ -1,6 +1,7 @@
 -- One candidate more in a set.
 use Rattle.std.proofs.Common.{◌≡◌, ℕ, ◌^◌, ◌<◌, ◌≤◌, true, false, ◌||◌, ◌==◌, bit_or, List, length, sym, ap, subst, arith, ne_eqb, ◌∙◌}
 use Rattle.std.proofs.Math.Pow.{pow-lt}
+use Rattle.std.proofs.lemmas.List.Sums.{count_by-le-length, length-filter}
 use Rattle.std.proofs.lemmas.Nat.{or_lt}
 use Rattle.std.proofs.lemmas.Nat.Bits.{bit_at-zero}
 use Rattle.irv_base.specs.Candidates.{candidates, has, members, set_of}
@@ -37,3 +38,9 @@ members-long n t proper room =
     let l : c < n = below-from_test n t (suffix-below n t proper) c m in
     member-filter (has (set_of t)) (candidates ROOM) (candidate-member c ROOM (omega arith)) (has-member apart m)) in
     omega (arith, up, down)
+
+-- a set has few members
+pub size-fits : (set : ℕ) → length (members set) ≤ ROOM
+size-fits set =
+    let few = count_by-le-length (has set) (candidates ROOM) in
+    omega (arith, few, length-filter (has set) (candidates ROOM))

@@ -1,18 +1,23 @@
 -- Sets that one may go into next.
-use Rattle.std.specs.Prelude.{◌≡◌, ◌⊎◌, ℕ, ◌<◌, ◌^◌, false, List, All, Contains}
+use Rattle.std.specs.Prelude.{◌≡◌, ◌⊎◌, ℕ, ◌+◌, ◌<◌, ◌^◌, false, List, length, All, Contains}
 use Rattle.std.specs.declared.cmp.Ordering.{Ordering}
-use Rattle.std.specs.Ordering.{flip_args, nat_cmp, on}
-use Rattle.irv_base.specs.Candidates.{has}
+use Rattle.std.specs.Ordering.{flip_args, nat_cmp, on, then_cmp}
+use Rattle.irv_base.specs.Candidates.{has, members}
 use Rattle.assertions.specs.Steps.{more, step}
 use Rattle.set_search.specs.declared.waiting.Waiting.{Waiting}
 
--- that of the least margin is the greatest
+-- that of the least margin is the greatest; of equal margins the larger set is
 abbrev pub least_first : Waiting → Waiting → Ordering
-least_first = flip_args (on (λ o. o.margin) nat_cmp)
+least_first = then_cmp (flip_args (on (λ o. o.margin) nat_cmp)) (on (λ o. o.size) nat_cmp)
 
 -- the set with c more, by its step
 abbrev pub waiting_at : ℕ → List (List ℕ) → ℕ → ℕ → Waiting
-waiting_at n records set c = record { margin = step n records set c; set = more set c }
+waiting_at n records set c =
+    record {
+      margin = step n records set c;
+      set = more set c;
+      size = length (members set) + 1;
+    }
 
 -- they are sets of candidates below n
 abbrev pub AreBelow : ℕ → List Waiting → Type 0

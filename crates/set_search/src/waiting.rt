@@ -16,14 +16,16 @@ use set_tallies::Tallies;
 use std::cmp::Ordering;
 use std::collections::BinaryHeap;
 
-/// A set that one may go into, by a step of this margin, in votes.
+/// A set that one may go into, by a step of this margin, in votes, and how many candidates it has.
 #[derive(Clone, Copy)]
 pub(crate) struct Waiting {
     pub margin: u32,
     pub set: CandSet,
+    pub size: u32,
 }
 
-// The least margin is the greatest, so that it leaves a heap first.
+// The least margin is the greatest, so that it leaves a heap first. Of equal margins the larger set does, since it is nearer to one that has
+// all candidates.
 impl PartialEq for Waiting {
     ghost eq = { eq_by_cmp least_first };
 
@@ -48,7 +50,10 @@ impl Ord for Waiting {
     ghost matches_eq = { λ x y. refl };
 
     fn cmp(&self, other: &Waiting) -> Ordering {
-        other.margin.cmp(&self.margin)
+        other
+            .margin
+            .cmp(&self.margin)
+            .then(self.size.cmp(&other.size))
     }
 }
 
@@ -96,6 +101,7 @@ pub(crate) fn put_next(
     ensures few { OnOk result (heap_len waiting.new ≤ heap_len waiting.old + tallies.old.bag.n) }
     ensures same { tallies.new ≡ tallies.old }
 {
+    let size = set.len() + 1;
     for c in 0..tallies.candidates() {
         let c = Candidate(c as u8);
         if !closed.has(c) {
@@ -103,6 +109,7 @@ pub(crate) fn put_next(
             waiting.push(Waiting {
                 margin: step.low,
                 set: set.with(c),
+                size,
             })?;
         }
     }

@@ -1,3 +1,4 @@
+pub mod Counting
 pub mod Lefts
 pub mod Draws
 pub mod Steps

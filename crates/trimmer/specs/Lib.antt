@@ -1,3 +1,4 @@
+pub mod Counted
 pub mod Remaining
 pub mod Opened
 pub mod Counts

@@ -4,6 +4,7 @@
 //! no search.
 #![tactic(auto)]
 
+mod counted;
 mod counts;
 pub mod examples;
 mod fault;

@@ -7,14 +7,12 @@ ghost use Rattle.cover_checker.specs.Indexed.{is_new};
 ghost use Rattle.suffix_walk.specs.Kept.{is_parent_kept, all_ending};
 ghost use Rattle.suffix_walk.specs.Walks.{walked};
 ghost use Rattle.cover_checker.specs.Shorter.{stands-shrinks};
-ghost use Rattle.set_walk.specs.Walks.{passes};
 ghost use Rattle.trimmer.specs.Remaining.{assertions_in};
 ghost use Rattle.trimmer.specs.Opened.{counted, is_open, is_past, opens, told};
 
 use crate::remaining::Remaining;
 use assertions::Assertion;
-use irv_base::{CandSet, Candidate, Memory, Suffix};
-use set_walk::Goes;
+use irv_base::{CandSet, Candidate, Suffix};
 use suffix_walk::Keeps;
 
 /// Why a walk stops before its end.
@@ -84,17 +82,6 @@ impl Keeps for Without<'_> {
 
     fn keeps(&self, suffix: &Suffix) -> bool {
         !self.others.is_any_new(suffix.first(), suffix.set())
-    }
-}
-
-/// The test that lets a candidate in front of a set where none of the others refutes that anew.
-impl Goes for Without<'_> {
-    ghost size = { λ w. w.n };
-
-    ghost is_by = { λ w may. may ≡ passes (assertions_in w.others.now) };
-
-    fn goes(&mut self, set: CandSet, c: Candidate) -> Result<bool, Memory> {
-        Ok(!self.others.is_any_new(c, set.with(c)))
     }
 }
 

@@ -1,17 +1,18 @@
 // The claims that are left while they are tried, from the last to the first.
 ghost use Rattle.std.specs.Prelude.{◌≡◌, ◌<◌, ◌+◌, ◌-◌, ◌^◌, [], ◌∷◌, length, take, IfOk};
 ghost use Rattle.std.specs.List.{list_any};
-ghost use Rattle.cover_checker.specs.Indexed.{is_new};
+ghost use Rattle.cover_checker.specs.Indexed.{IsIndexOf, is_new};
 ghost use Rattle.trimmer.specs.Remaining.{assertions_in};
 
+use crate::counted::Counted;
 use assertions::Claim;
-use cover_checker::Counted;
+use cover_checker::Refuting;
 use irv_base::{CandSet, Candidate, Memory};
 use std::alloc::Global;
 use std::marker::Model;
 
-/// The claims that are left: those that aren't tried yet, and those that stay of the ones behind them. It tells in a time that
-/// doesn't grow with them whether one of them refutes a suffix anew, and one is left out or kept in such a time as well.
+/// The claims that are left: those that aren't tried yet, and those that stay of the later ones. It tells at once
+/// whether one of them refutes a suffix anew, and one is left out or kept in a few steps.
 ///
 /// To a contract it is the two lists.
 #[derive(Drop)]
@@ -25,7 +26,7 @@ pub struct Remaining<'a> {
 impl<'a> Model for Remaining<'a> {
     ghost use Rattle.std.specs.Prelude.{reverse, length, ◌+◌, ◌<◌, ◌^◌};
     ghost use Rattle.trimmer.specs.Remaining.{Left, assertions_in};
-    ghost use Rattle.cover_checker.specs.Counts.{IsCountOf};
+    ghost use Rattle.trimmer.specs.Counted.{IsCountOf};
 
     ghost Value = { Left };
 
@@ -37,11 +38,11 @@ impl<'a> Model for Remaining<'a> {
 }
 
 impl<'a> Remaining<'a> {
-    /// All of the claims, none of them tried.
-    pub fn all(alloc: Global, claims: &'a [Claim]) -> Result<Remaining<'a>, Memory>
+    /// All of the claims of a contest of `n` candidates, none of them tried.
+    pub fn all(alloc: Global, n: u32, claims: &'a [Claim]) -> Result<Remaining<'a>, Memory>
         ensures { IfOk result (λ r. r ≡ record { untried = claims.now; kept = [] }) }
     {
-        let mut counted = Counted::none(alloc);
+        let mut counted = Counted::none(alloc, n)?;
         for claim in claims {
             counted.add(&claim.assertion)?;
         }
@@ -106,10 +107,17 @@ impl<'a> Remaining<'a> {
         kept
     }
 
+    /// What they refute.
+    pub fn refuting(&self) -> &Refuting
+        ensures { IsIndexOf (assertions_in self.now) result.now }
+    {
+        &self.counted.refuting
+    }
+
     /// Whether one of the claims refutes a suffix with this first candidate and this set, if none refutes its parent.
     pub fn is_any_new(&self, first: Candidate, set: CandSet) -> bool
         ensures { result ≡ list_any (λ a. is_new a first set) (assertions_in self.now) }
     {
-        self.counted.is_any_new(first, set)
+        self.counted.refuting.is_any_new(first, set)
     }
 }

@@ -16,9 +16,8 @@ use crate::scan::{Scan, scanned};
 use assertion_file::{AssertionFile, Parts, PlanFacts};
 use assertions::Claim;
 use budget::Budget;
-use cover_checker::Verdict;
+use cover_checker::{CoverFault, SetWalk, Verdict, reach};
 use irv_base::{Candidate, Memory, ROOM};
-use set_walk::{WalkEnd, WalkFault, walk_within};
 use std::alloc::Global;
 use suffix_walk::first_within;
 
@@ -95,6 +94,23 @@ fn can_go_by_nodes(
     }
 }
 
+// Why the trial of the claim with this number isn't decided, where the others can't be told to cover for this.
+fn fault_of(number: u64, fault: CoverFault) -> TrimFault
+    ensures { Err result ≡ can_go number (Err fault) }
+{
+    match fault {
+        CoverFault::Spent { last } => TrimFault::Spent {
+            claim: number,
+            last,
+        },
+        CoverFault::SpentSets { sets } => TrimFault::SpentSets {
+            claim: number,
+            sets,
+        },
+        CoverFault::Memory => TrimFault::Memory,
+    }
+}
+
 // Whether it can go, by a walk into each set once that the others let stand.
 fn can_go_by_sets(
     alloc: Global,
@@ -112,16 +128,10 @@ fn can_go_by_sets(
     prove!(place < many);
     let claim = place as u64 + 1;
     let n = f.candidates().len() as u32;
-    let mut all = Without {
-        n,
-        others,
-        claim: None,
-    };
-    match walk_within(alloc, &mut all, n, f.winner(), sets) {
-        Ok(WalkEnd::Ended(_)) => Ok(true),
-        Ok(WalkEnd::Found(_)) => Ok(false),
-        Err(WalkFault::Spent) => Err(TrimFault::SpentSets { claim, sets }),
-        Err(WalkFault::Memory) => Err(TrimFault::Memory),
+    match reach(alloc, others.refuting(), n, f.winner(), sets) {
+        Ok(SetWalk::Ended(_)) => Ok(true),
+        Ok(SetWalk::Found(_)) => Ok(false),
+        Err(fault) => Err(fault_of(claim, fault)),
     }
 }
 
@@ -219,7 +229,7 @@ fn left_of(alloc: Global, f: &AssertionFile, budget: Budget) -> Result<Left, Tri
 {
     let claims = f.claims();
     let plan = f.plan();
-    let mut left = Remaining::all(alloc, claims)?;
+    let mut left = Remaining::all(alloc, f.candidates().len() as u32, claims)?;
     let mut draws: Vec<Option<u32>> = Vec::new(alloc);
     let mut counts = first_counts(f, &left, budget);
     for j in (0..claims.len()).rev() {

@@ -1,8 +1,8 @@
-use Rattle.std.proofs.Common.{◌≡◌, ℕ, false, ◌+◌, ◌^◌, ◌<◌, ◌≤◌, List, ap, arith, subst, sym, ◌∙◌}
+use Rattle.std.proofs.Common.{◌≡◌, ℕ, false, ◌+◌, ◌^◌, ◌<◌, ◌≤◌, List, length, ap, arith, subst, sym, ◌∙◌}
 use Rattle.std.specs.BinaryHeap.{heap_items, heap_len, IsHeap}
 use Rattle.std.proofs.lemmas.List.Elements.{All-cons}
 use Rattle.std.proofs.lemmas.List.Sorted.{All-permutation}
-use Rattle.irv_base.specs.Candidates.{has}
+use Rattle.irv_base.specs.Candidates.{has, members}
 use Rattle.set_tallies.specs.Bags.{IsOf, Source}
 use Rattle.assertions.specs.Scores.{Score}
 use Rattle.assertions.specs.Steps.{more, step}
@@ -10,13 +10,17 @@ use Rattle.set_search.specs.Offers.{step_score}
 use Rattle.set_search.specs.Waits.{AreAddedUpTo, AreBelow, least_first, waiting_at}
 use Rattle.set_search.specs.declared.waiting.Waiting.{Waiting}
 use Rattle.set_search.proofs.Adding.{added-left, added-more}
-use Rattle.set_search.proofs.Mores.{more-below}
+use Rattle.set_search.proofs.Mores.{more-below, size-fits}
 use Rattle.set_search.proofs.waiting.put_next.Goals as goal
 use Rattle.set_search.proofs.waiting.put_next.Goals.{then-not-has+in_ok-step+in_ok-push, else-not-has}
 
-waiting-is : (n : ℕ) (records : List (List ℕ)) (set c margin with : ℕ) → margin ≡ step n records set c → with ≡ more set c →
-    (let w : Waiting = record { margin = margin; set = with } in w) ≡ waiting_at n records set c
-waiting-is n records set c margin with e f = cc
+waiting-is : (n : ℕ) (records : List (List ℕ)) (set c margin with size : ℕ) → margin ≡ step n records set c → with ≡ more set c →
+    size ≡ length (members set) + 1 →
+    (let w : Waiting = record { margin = margin; set = with; size = size } in w) ≡ waiting_at n records set c
+waiting-is n records set c margin with size e f g = cc
+
+pub overflow_add-size : goal.overflow_add-size
+overflow_add-size c = let few = size-fits c.args.set in omega (arith, few, c.len-size.ensures)
 
 pub loop-c-preserved : goal.loop-c-preserved
 loop-c-preserved c =
@@ -43,7 +47,7 @@ loop-c-preserved c =
                 w.in_ok-step.ensures.step records (subst (λ (t : Source). IsOf t.bag records) (sym c.loop-c.invariant.same) of)
                 ∙ ap (λ (t : Source). step_score t.bag.n records c.args.set c.loop-c.c) c.loop-c.invariant.same in
                 let low : w.step.inside.low ≡ step n records c.args.set c.loop-c.c = ap (λ (s : Score). s.low) (w.step.view_is ∙ is-step) in
-                let is = waiting-is n records c.args.set c.loop-c.c w.step.inside.low w.with.result low with in
+                let is = waiting-is n records c.args.set c.loop-c.c w.step.inside.low w.with.result (c.len-size.result + 1) low with (ap (λ k. k + 1) c.len-size.ensures) in
                 subst (λ h. AreAddedUpTo n records c.args.set c.args.closed (c.loop-c.c + 1) (heap_items c.args.waiting.now) (heap_items h))
                 (sym w.waiting-is)
                 (added-more n records c.args.set c.args.closed (heap_items c.args.waiting.now) c.loop-c.c (heap_items c.loop-c.waiting)

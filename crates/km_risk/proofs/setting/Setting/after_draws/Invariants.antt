@@ -5,6 +5,6 @@ use Rattle.km_risk.proofs.setting.Setting.after_draws.Given as goal
 
 abbrev pub invariant-loop : goal.invariant-loop
 invariant-loop l = record {
-  value : l.now ≡ fold (step l.self.cards l.self.margin l.self.gamma) l.risk (replicate l.counter l.d);
+  value : l.now ≡ fold (step l.fn.self.cards l.fn.self.margin l.fn.self.gamma) l.risk (replicate l.counter l.d);
   at_most_one : l.now ≤ ONE;
 }

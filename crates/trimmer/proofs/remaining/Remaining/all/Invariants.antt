@@ -1,5 +1,5 @@
 use Rattle.std.proofs.Common.{map, take}
-use Rattle.cover_checker.specs.Counts.{IsCountOf}
+use Rattle.trimmer.specs.Counted.{IsCountOf}
 use Rattle.trimmer.proofs.Lefts.{assertion_in}
 use Rattle.trimmer.proofs.remaining.Remaining.all.Given as goal
 

@@ -1,6 +1,6 @@
 use Rattle.std.proofs.Common.{◌≡◌, ◌+◌, ◌-◌, ◌<◌, ◌∷◌, ◌++◌, length, map, take, get_or, reverse, sym, ap, subst, arith, ◌∙◌}
 use Rattle.std.proofs.lemmas.List.{map-append, take_all, length-take-le}
-use Rattle.cover_checker.specs.Counts.{IsCountOf}
+use Rattle.trimmer.specs.Counted.{IsCountOf}
 use Rattle.trimmer.specs.Remaining.{Left}
 use Rattle.trimmer.proofs.Lefts.{assertion_in}
 use Rattle.trimmer.proofs.Parted.{take-midst}

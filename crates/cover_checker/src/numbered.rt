@@ -1,0 +1,76 @@
+// What stands under a number.
+ghost use Rattle.std.specs.Prelude.{◌≡◌, ◌==◌, ℕ, OnOk, OnErr, if◌then◌else◌, length, replicate};
+ghost use Rattle.cover_checker.specs.Numbered.{under};
+
+use irv_base::Memory;
+use std::alloc::Global;
+use std::collections::BTreeMap;
+
+/// Values under numbers. The numbers below a limit have theirs in a table, all others in order: no choice of numbers makes one slow to
+/// find.
+#[derive(Drop)]
+pub struct Numbered<T> {
+    /// What stands under the numbers below its length.
+    pub near: Vec<T>,
+    /// What was put under greater ones.
+    pub far: BTreeMap<u32, T>,
+    /// What stands under a number where nothing was put.
+    pub none: T,
+}
+
+impl<T: Copy + Drop> Numbered<T> {
+    /// The value under each number, with this table of it.
+    pub fn all(alloc: Global, near: Vec<T>, none: T) -> Numbered<T>
+        requires { near.items ≡ replicate (length near.items) none }
+        ensures none { result.none ≡ none }
+        ensures all { (number : ℕ) → under result number ≡ none }
+    {
+        Numbered {
+            near,
+            far: BTreeMap::new(alloc),
+            none,
+        }
+    }
+
+    /// The value under this number.
+    #[inline(always)]
+    pub fn get(&self, number: u32) -> T
+        ensures { result ≡ under self.now number }
+    {
+        match self.near.get(number as usize) {
+            Some(value) => *value,
+            None => match self.far.get(&number) {
+                Some(value) => *value,
+                None => self.none,
+            },
+        }
+    }
+
+    /// Puts the value under this number.
+    pub fn put(&mut self, number: u32, value: T) -> Result<(), Memory>
+        ensures none { self.new.none ≡ self.old.none }
+        ensures put { OnOk result ((other : ℕ) → under self.new other
+            ≡ (if number == other then value else under self.old other)) }
+        ensures same { OnErr result ((other : ℕ) → under self.new other ≡ under self.old other) }
+    {
+        if let Some(place) = self.near.get_mut(number as usize) {
+            *place = value;
+            return Ok(());
+        }
+        self.far.insert(number, value)?;
+        Ok(())
+    }
+
+    /// Takes back what was put under this number.
+    pub fn forget(&mut self, number: u32)
+        ensures none { self.new.none ≡ self.old.none }
+        ensures forgotten { (other : ℕ) → under self.new other
+            ≡ (if number == other then self.old.none else under self.old other) }
+    {
+        if let Some(place) = self.near.get_mut(number as usize) {
+            *place = self.none;
+            return;
+        }
+        self.far.remove(&number);
+    }
+}

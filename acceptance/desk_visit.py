@@ -1,4 +1,5 @@
 """A desk that a test began, and somebody who goes through its pages without a browser."""
+import ctypes
 import html
 import http.client
 import os
@@ -14,11 +15,17 @@ TOP = os.path.dirname(os.path.dirname(os.path.abspath(__file__)))
 RAIRE = os.path.join(TOP, "raire")
 PATIENCE = 120  # seconds until something that is waited for has to be there
 HOST = "127.0.0.1"
+PR_SET_PDEATHSIG = 1
 
 
 def read(path, mode="rb"):
     with open(path, mode) as file:
         return file.read()
+
+
+def end_with_parent():
+    """Has the system end this process when the test that began it ends, however that is."""
+    ctypes.CDLL(None).prctl(PR_SET_PDEATHSIG, signal.SIGKILL)
 
 
 class Desk:
@@ -29,7 +36,9 @@ class Desk:
 
     def begin(self, words, folder, port, **given):
         self.port, self.folder = port, folder
-        self.process = subprocess.Popen(words, stdin=subprocess.DEVNULL, stdout=subprocess.PIPE, stderr=subprocess.STDOUT, start_new_session=True, **given)
+        self.process = subprocess.Popen(
+            words, stdin=subprocess.DEVNULL, stdout=subprocess.PIPE, stderr=subprocess.STDOUT, start_new_session=True, preexec_fn=end_with_parent, **given,
+        )
         self.told = self.printed()
         found = re.search(r"http://\S+", self.told)
         self.address = found[0] if found else None

@@ -91,6 +91,7 @@ def scripts(folder):
         if os.path.isfile(os.path.join(folder, "tools", name)):
             status, out, err = ran(folder, "./raire", name, "--help")
             yield f"./raire {name} --help: {err}", (status, out) == (0, ran(folder, "./raire", "help", name)[1])
+    yield "the desk tells its help", ran(folder, "./raire", "desk", "--help")[:2] == (0, ran(folder, "./raire", "help", "desk")[1])
 
 
 def by_the_script(folder):

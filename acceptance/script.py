@@ -14,7 +14,7 @@ import tempfile
 import time
 
 TOP = os.path.dirname(os.path.dirname(os.path.abspath(__file__)))
-TOOLS = [name for name in sorted(os.listdir(os.path.join(TOP, "tools"))) if os.path.isfile(os.path.join(TOP, "tools", name))]
+TOOLS = [name for name in sorted(os.listdir(os.path.join(TOP, "tools"))) if os.path.exists(os.path.join(TOP, "docs", "help", f"{name}.txt"))]
 TAKE_OTHER_FILES = set(TOOLS) - {"boxes", "show"}  # lines of these on the pages may name files of the reader's own
 
 # Notes what it is asked for, tells crates as `rt ci` does, refuses one of them, and makes a program that refuses one word.

@@ -55,7 +55,7 @@ def forms():
 
 def tools():
     """What has a page and is no command of the program: ./raire runs it from tools/."""
-    return [name for name, _, _ in pages() if os.path.isfile(os.path.join(TOOLS, name))]
+    return [name for name, _, _ in pages() if os.path.exists(os.path.join(TOOLS, name))]
 
 
 def options_of(head, text):

@@ -1,0 +1,329 @@
+#!/usr/bin/env python3
+"""Goes through audits at ./raire desk in a browser, and looks at its pages.
+
+acceptance/desk_page.py PROGRAM [FOLDER] does the town and the county by clicks, the town once more by keyboard alone, and the village with scripts switched
+off: the files have to be the examples' and those of the commands. Every page is laid out at 390, 1280 and 1920 pixels, dark and as in print (look.js): nothing may overlap or be
+cut, and contrast, names and what a keyboard reaches have to hold. With a folder as second word the pictures are left there. The last line says how
+many things were as they should be. PROGRAM is the one of ./raire.
+"""
+import base64
+import json
+import os
+import subprocess
+import sys
+import tempfile
+import time
+
+import browser
+from desk_visit import Desk, free_ports, HOST, RAIRE, read, TOP
+from desk_walks import READERS, WALKS
+
+LOOKS = {"narrow": (390, "screen", False), "wide": (1280, "screen", False), "widest": (1920, "screen", False), "dark": (1280, "screen", True), "print": (794, "print", False)}
+ENDED = "document.readyState === 'complete' && !location.pathname.startsWith('/running')"
+PATIENCE = 90
+FILES = {"ballots": "ballots.raire", "manifest": "manifest.csv", "counted": "counted.raire"}
+WANTED = {
+    "town": {"assertions.json": "town/assertions.json", "round2.json": "town/session.json"},
+    "village": {"assertions.json": "village/assertions.json", "round1.json": "village/session.json"},
+    "county": {},
+}
+
+
+class Tried:
+    def __init__(self):
+        self.count, self.wrong = 0, []
+
+    def see(self, shows, holds, told=""):
+        self.count += 1
+        if not holds:
+            self.wrong.append(f"{shows}: not so {told}")
+
+
+class Clerk:
+    """Somebody at a browser. Each way to get on waits until the next page is there."""
+
+    def __init__(self, opened, desk, tried, name, keep=None):
+        self.opened, self.tried, self.name, self.keep, self.looked = opened, tried, name, keep, set()
+        self.origin = f"http://{HOST}:{desk.port}"
+        self.opened.ask("Page.navigate", url=desk.address)
+        self.wait("location.pathname.startsWith('/step/')")
+
+    def value(self, script):
+        return self.opened.value(script)
+
+    def wait(self, script):
+        end = time.monotonic() + PATIENCE
+        while time.monotonic() < end:
+            try:
+                if self.value(f"Boolean({ENDED} && ({script}))"):
+                    return
+            except RuntimeError:
+                pass  # between two pages there is none
+            time.sleep(0.02)
+        raise TimeoutError(f"{script} at {self.value('location.href')}: {self.value('document.body.innerText')[:600]}")
+
+    def leave(self, how):
+        """Does what leads to another page, and waits for it."""
+        self.value("window.isOld = true")
+        how()
+        self.wait("!window.isOld")
+
+    def path(self):
+        return self.value("location.pathname")
+
+    def text(self):
+        return self.value("document.querySelector('main').innerText")
+
+    def click(self, selector):
+        self.opened.click(selector)
+
+    def follow(self, selector):
+        self.leave(lambda: self.click(selector))
+
+    def link(self, words):
+        """Clicks on the link with these words."""
+        found = f"[...document.querySelectorAll('main a')].find((a) => a.textContent.trim() === {json.dumps(words)})"
+        self.value(f"{found}.id = 'the-link'")
+        self.follow("#the-link")
+
+    def type(self, text):
+        self.opened.ask("Input.insertText", text=text)
+
+    def fill(self, name, text):
+        """Writes over what a field has."""
+        self.click(f"#{name}")
+        self.value(f"document.getElementById({json.dumps(name)}).select()")
+        self.type(text)
+
+    def give(self, name, path):
+        """Chooses a file, as the window of the system would."""
+        node = self.opened.ask("Runtime.evaluate", expression=f"document.getElementById({json.dumps(name)})")["result"]["objectId"]
+        self.opened.ask("DOM.setFileInputFiles", files=[path], objectId=node)
+
+    def see_step(self, step):
+        self.tried.see(f"{step} is done", self.path() == f"/step/{step}" and self.value("document.querySelector('ul.typed') !== null"), (self.path(), self.text()[:500]))
+
+    # ---- looks
+
+    def look(self, name):
+        """Lays this page out in each way, once."""
+        if self.keep is None or name in self.looked:
+            return
+        self.looked.add(name)
+        for shown, (width, medium, is_dark) in LOOKS.items():
+            self.opened.look(width, 1000, medium, is_dark)
+            self.value(read(os.path.join(TOP, "acceptance", "look.js"), "r"))
+            laid = json.loads(self.value("document.getElementById('found').textContent"))
+            self.value("document.getElementById('found').remove()")
+            wrong = [found for found in laid["found"] if not found.startswith("something from elsewhere")]
+            is_right_ground = (sum(laid["ground"][:3]) < 3 * 128) == is_dark
+            self.tried.see(f"{name} of the {self.name} looks right, {shown}", not wrong and laid["texts"] > 1 and is_right_ground, wrong[:6])
+            names = self.value(UNNAMED)
+            self.tried.see(f"{name} of the {self.name}: each field and button has a name, and there is one h1", not names, names)
+            if self.keep:
+                with open(os.path.join(self.keep, f"{self.name}_{name}_{shown}.png"), "wb") as file:
+                    file.write(base64.b64decode(self.opened.picture()))
+        self.opened.look(1280, 1000)
+
+
+# What is wrong with names, headings and the document, of what look.js doesn't look at.
+UNNAMED = """(() => {
+    const named = (node) => node.labels?.length || node.getAttribute("aria-label") || (node.matches("button, a") && node.textContent.trim());
+    const shown = [...document.querySelectorAll("input:not([type=hidden]), select, button, a")];
+    const found = shown.filter((node) => node.checkVisibility() && !named(node)).map((node) => node.outerHTML.slice(0, 80));
+    if (document.querySelectorAll("h1").length !== 1) found.push("not one h1");
+    if (!document.documentElement.lang || !document.title) found.push("no language or title");
+    const ids = [...document.querySelectorAll("[id]")].map((node) => node.id);
+    if (new Set(ids).size < ids.length) found.push("an id stands twice: " + ids.filter((id, i) => ids.indexOf(id) < i));
+    if ([...document.querySelectorAll("[style], style, script:not([src])")].length) found.push("a style or a script within the page");
+    return found;
+})()"""
+
+
+# ---- by clicks
+
+def by_clicks(clerk, walk):
+    for step, fields, files in walk.steps():
+        if clerk.path() != f"/step/{step}":
+            clerk.follow(f"nav a[href='/step/{step}']")
+        clerk.look(f"{step.rstrip('12')}_before")
+        if step.startswith("read"):
+            for reader in READERS:
+                read_by_clicks(clerk, walk, int(step[4:]), reader)
+        for name, _ in files:
+            clerk.give(name, walk.file(FILES[name]))
+        for name, value in fields.items():
+            if name in ("audit", "budget", "way"):
+                clerk.click(f"label[for='{name}-{value or 'default'}']")
+            else:
+                clerk.fill(name, str(value))
+        clerk.follow("main .buttons button")
+        if step in ("terms", "seed"):
+            clerk.look(f"{step}_preview")
+            clerk.follow("main .buttons button")
+        clerk.see_step(step)
+        clerk.look(step.rstrip("12"))
+
+
+def read_by_clicks(clerk, walk, number, reader):
+    clerk.follow(f"a[href='/read/{number}/{reader}']")
+    clerk.click("#person")
+    clerk.type(READERS[reader])
+    clerk.follow(".buttons button")
+    while clerk.path().startswith("/read/"):
+        clerk.look("card")
+        card = clerk.value("document.querySelector('input[name=card]').value")
+        reading = walk.seen[card]
+        if None in reading.values():
+            clerk.follow("button.missing")
+            continue
+        for contest, title, names in clerk.value(CONTESTS):
+            ranked = reading[title] if title in reading else reading[None]
+            for rank, name in enumerate(ranked, 1):
+                clerk.click(f"input[name='rank_{contest}_{rank}'][value='{names.index(name) + 1}']")
+            if not ranked:
+                clerk.click(f"input[name='way_{contest}'][value='nobody']")
+        clerk.follow("button.take")
+
+
+CONTESTS = """[...document.querySelectorAll("[data-contest]")].map((each) => [each.dataset.contest, each.querySelector("legend").textContent,
+    [...each.querySelectorAll("tbody tr:not(.none) th")].map((th) => th.lastChild.textContent.trim())])"""
+
+
+# ---- by keyboard alone
+
+def tab_to(clerk, selector):
+    """Presses the tab key until the keyboard is at an element."""
+    for _ in range(400):
+        if clerk.value(f"document.activeElement.matches({json.dumps(selector)})"):
+            is_seen = clerk.value("getComputedStyle(document.activeElement).outlineStyle !== 'none'")
+            clerk.tried.see(f"the keyboard is seen at {selector}", is_seen)
+            return
+        clerk.opened.press("Tab")
+    raise TimeoutError(f"no keyboard reaches {selector} at {clerk.path()}")
+
+
+def enter(clerk, selector):
+    tab_to(clerk, selector)
+    clerk.leave(lambda: clerk.opened.press("Enter"))
+
+
+def by_keyboard(clerk, walk):
+    """The town with keys alone; only the window that chooses a file is the system's own."""
+    for step, fields, files in walk.steps():
+        if clerk.path() != f"/step/{step}":
+            enter(clerk, f".next a[href='/step/{step}']")
+        if step.startswith("read"):
+            for reader in READERS:
+                read_by_keyboard(clerk, walk, int(step[4:]), reader)
+        for name, _ in files:
+            tab_to(clerk, f"#{name}")
+            clerk.give(name, walk.file(FILES[name]))
+        for name, value in fields.items():
+            if name not in ("audit", "budget", "way"):  # which stand already as the town has them
+                tab_to(clerk, f"#{name}")
+                clerk.opened.ask("Input.dispatchKeyEvent", type="rawKeyDown", key="a", windowsVirtualKeyCode=65, modifiers=2, commands=["selectAll"])
+                clerk.type(str(value))
+        enter(clerk, "main .buttons button")
+        if step in ("terms", "seed"):
+            enter(clerk, "main .buttons button")
+        clerk.see_step(step)
+
+
+def read_by_keyboard(clerk, walk, number, reader):
+    enter(clerk, f"a[href='/read/{number}/{reader}']")
+    clerk.type(READERS[reader])  # the page begins at this field
+    clerk.leave(lambda: clerk.opened.press("Enter"))
+    while clerk.path().startswith("/read/"):
+        card = clerk.value("document.querySelector('input[name=card]').value")
+        ranked = walk.seen[card][None]
+        if ranked is None:
+            clerk.leave(lambda: clerk.opened.press("m"))
+            continue
+        names = clerk.value(CONTESTS)[0][2]
+        clerk.opened.press(*([str(names.index(name) + 1) for name in ranked] or ["n"]))
+        clerk.leave(lambda: clerk.opened.press("Enter"))
+
+
+# ---- what else a browser shows
+
+def refusals(clerk, place):
+    """A file that is refused stays to be seen with its record and what is nearly right."""
+    path = os.path.join(place, "bad.raire")
+    with open(path, "w") as file:
+        file.write("1\nContest,9,2,Ann,Ben\n9,b_1,Ben,ANN\n")
+    clerk.give("ballots", path)
+    clerk.follow("main .buttons button")
+    said = clerk.text()
+    clerk.tried.see("a refused file is told with its record", "B8 at 3" in said and '"ANN" is no candidate' in said and "nothing was changed" in said, said[:600])
+    clerk.look("refused")
+    clerk.leave(clerk.opened.reload)
+    clerk.tried.see("and is told after a reload", "B8 at 3" in clerk.text(), clerk.text()[:300])
+
+
+def audit(name, how, place, port, keep):
+    """One audit in one browser, and what was seen."""
+    tried, walk = Tried(), WALKS[name]()
+    path = os.path.join(place, f"{name}_{how}")
+    try:
+        with Desk(path, port) as desk, browser.Browser(os.path.join(place, f"profile_{name}_{how}"), place) as opened:
+            opened.look(1280, 1000)
+            clerk = Clerk(opened, desk, tried, name, keep)
+            if how == "clicks":
+                refusals(clerk, place)
+                by_clicks(clerk, walk)
+                clerk.follow("a[href='/typed']")
+                clerk.look("typed")
+            elif how == "keyboard":
+                by_keyboard(clerk, walk)
+            else:
+                opened.ask("Emulation.setScriptExecutionDisabled", value=True)
+                by_clicks(clerk, walk)
+    except (TimeoutError, RuntimeError, OSError, EOFError, TypeError) as fault:
+        tried.see(f"the {name} by {how} goes to its end", False, f"{type(fault).__name__}: {fault}")
+    see_files(tried, name, how, path)
+    return tried
+
+
+def typed(*words):
+    return subprocess.run([RAIRE, *words], cwd=TOP, capture_output=True).stdout
+
+
+def see_files(tried, name, how, path):
+    wanted = {file: read(os.path.join(TOP, "examples", example)) for file, example in WANTED[name].items()}
+    if name == "county":
+        county = "examples/county"
+        words = ["contests", f"{county}/ballots.raire", f"{county}/manifest.csv", f"{county}/seen.csv", "--seed", WALKS[name]().seed]
+        wanted = {f"county{draws}.txt": typed(*words, "--draws", str(draws)) for draws in (40, 80)}
+    for file, data in wanted.items():
+        there = os.path.join(path, file)
+        tried.see(f"{file} of the {name} by {how} is README's", os.path.exists(there) and read(there) == data)
+    status = subprocess.run([RAIRE, "desk", "--read", path], capture_output=True, text=True)
+    tried.see(f"the {name} by {how} is the same when it is run again", status.returncode == 0, status.stdout[-400:])
+
+
+def begun(*way):
+    """One audit in a process of its own: the shell that begins a browser knows few numbers of open files."""
+    return subprocess.Popen([sys.executable, __file__, "--way", json.dumps(way)], stdout=subprocess.PIPE, text=True)
+
+
+def main():
+    if sys.argv[1] == "--way":
+        tried = audit(*json.loads(sys.argv[2]))
+        print(json.dumps([tried.count, tried.wrong]))
+        return
+    keep = os.path.abspath(sys.argv[2]) if len(sys.argv) > 2 else ""
+    if keep:
+        os.makedirs(keep, exist_ok=True)
+    with tempfile.TemporaryDirectory() as place:
+        ways = [("town", "clicks", keep), ("county", "clicks", keep), ("town", "keyboard", None), ("village", "clicks without scripts", None)]
+        processes = [begun(name, how, place, port, keep) for (name, how, keep), port in zip(ways, free_ports(len(ways)))]
+        ran = [json.loads(process.communicate()[0]) for process in processes]
+    count, wrong = sum(each for each, _ in ran), [told for _, of_one in ran for told in of_one]
+    print(*[f"./raire desk: {told}" for told in wrong], sep="\n", end="\n" if wrong else "")
+    print(f"{count - len(wrong)} things of the desk in a browser as they should be, {len(wrong)} not")
+    sys.exit(1 if wrong else 0)
+
+
+if __name__ == "__main__":
+    main()

@@ -1,0 +1,116 @@
+"""The observer's form: runs everything that was typed again, in a folder of its own, and says of each file whether its bytes are the same."""
+import os
+import shutil
+import tarfile
+import tempfile
+
+import bundle
+import record
+from folder import digest_of_file, DRAFT_END, is_own, SCRATCH, Unusable
+from running import Call, Refused, Runner
+
+SAME, DIFFERENT = 0, 6
+MOST_BUNDLE_FILES = 10_000
+
+
+def told(path, out):
+    """Writes a line for each file. The status says whether all are the same."""
+    with tempfile.TemporaryDirectory() as own:
+        source = unpacked(path, os.path.join(own, "bundle")) if os.path.isfile(path) else path
+        made = os.path.join(own, "again")
+        os.mkdir(made)
+        lines = list(Again(source, made).lines())
+    wrong = [line for line in lines if line[1] != "the same"]
+    for name, said in lines:
+        out.write(f"{name}: {said}\n")
+    out.write(f"{len(lines) - len(wrong)} of {len(lines)} files are the same\n")
+    return DIFFERENT if wrong else SAME
+
+
+def unpacked(path, place):
+    """The files of a bundle, in a folder of its own. Nothing but plain files of plain names is taken out of it."""
+    os.mkdir(place)
+    try:
+        with tarfile.open(path) as tar:
+            for number, entry in enumerate(tar):
+                name = entry.name.removeprefix(f"{bundle.FOLDER}/")
+                if not entry.isfile() or number >= MOST_BUNDLE_FILES or not (record.FILE.fullmatch(name) or name in (record.NAME, bundle.PAGE)):
+                    raise Unusable(f"{path}: is no bundle of a desk: it has {entry.name!r}")
+                with open(os.path.join(place, name), "xb") as file:
+                    shutil.copyfileobj(tar.extractfile(entry), file)
+    except (tarfile.TarError, EOFError, OSError) as fault:
+        raise Unusable(f"{path}: is no bundle of a desk, or was cut off: {fault}") from None
+    return place
+
+
+class Again:
+    """What a record says, what its folder has, and what comes of running it again."""
+
+    def __init__(self, source, place):
+        self.source, self.place, self.runner = source, place, Runner(place)
+        self.made = {}  # the digest of each file as it was made again, or why it wasn't
+
+    def lines(self):
+        """Each file with what is said of it: commands.txt first."""
+        try:
+            with open(os.path.join(self.source, record.NAME), encoding="utf-8", newline="") as file:
+                text = file.read()
+            deeds = record.record_of(text)
+        except OSError as fault:
+            raise Unusable(f"{self.source}: {record.NAME}: {fault.strerror}") from None
+        except (record.Broken, UnicodeDecodeError) as broken:
+            yield record.NAME, f"was changed: {broken}"
+            return
+        yield record.NAME, "the same"
+        yield from self.page()
+        self.run(line for deed in deeds for line in deed.lines if not isinstance(line, record.Choice))
+        for name, digest in record.files_of(deeds).items():
+            yield name, self.said(name, digest)
+        yield from self.others(record.files_of(deeds))
+
+    def page(self):
+        """How to run it again, as a bundle has it."""
+        path = os.path.join(self.source, bundle.PAGE)
+        if os.path.lexists(path):
+            with open(path, "rb") as file:
+                yield bundle.PAGE, "the same" if file.read(len(bundle.HOW) + 1) == bundle.HOW.encode() else "was changed"
+
+    def run(self, lines):
+        for line in lines:
+            try:
+                done = self.runner.done(Call(line.words, {line.status: line.out}, also_of(line))) if isinstance(line, record.Command) else self.given(line)
+                self.made.update(done.made)
+            except Refused as refused:
+                self.made.update(dict.fromkeys(line.made, f"{refused.line} ended with status {refused.status}, and it was {line.status}"))
+            except OSError as fault:
+                self.made.update(dict.fromkeys(line.made, fault.strerror))
+
+    def given(self, line):
+        path, own = os.path.join(self.source, line.name), self.runner.fresh(line.name)
+        if not is_own(path):
+            raise FileNotFoundError(2, "is missing")
+        shutil.copyfile(path, own)
+        return line._replace(digest=digest_of_file(own))
+
+    def said(self, name, digest):
+        path = os.path.join(self.source, name)
+        if not is_own(path):
+            return "is missing"
+        if digest_of_file(path) != digest:
+            return "was changed: its SHA-256 isn't that of commands.txt"
+        made = self.made.get(name)
+        if made != digest:
+            return f"isn't made again: {'other bytes were' if record.DIGEST.fullmatch(made or '') else made}"
+        return "the same"
+
+    def others(self, files):
+        """What lies there and is none of the record."""
+        known = {*files, record.NAME, bundle.PAGE, SCRATCH}
+        for name in sorted(os.listdir(self.source)):
+            if name not in known and not name.endswith(DRAFT_END):
+                yield name, "is no file of commands.txt"
+
+
+def also_of(line):
+    """What a command makes besides its standard output."""
+    return tuple(name for name in line.made if name != line.out)

@@ -1,0 +1,150 @@
+"""What is typed at each step, for each kind of audit."""
+import record
+from audit import BALLOTS, COMPARISON, CONFIRMED, CONTESTS, COUNTED, MANIFEST, NAMES, PLURALITY, POLL, UNCONFIRMED
+from running import call, Call
+
+TIED, SPENT = 3, 4
+ANSWERS_OF_ROUND = (CONFIRMED, UNCONFIRMED)
+
+
+def contest_words(audit):
+    """None where the ballot file has one contest alone, as README types it."""
+    return [f"--contest={audit.contest.id}"] if len(audit.contests) > 1 else []
+
+
+def budget_words(audit):
+    return [audit.choices["budget"]] if audit.choices.get("budget") else []
+
+
+def terms_words(audit):
+    return [f"--limit={audit.limit}", f"--gamma={audit.gamma}"]
+
+
+def draws_words(audit, round):
+    return [f"--seed={audit.seed}", f"--draws={round.draws}"]
+
+
+# ---- records and cards
+
+def judge(contests):
+    """A tabulation that nobody keeps: it refuses a file that is none."""
+    words = [f"--contest={contests[0].id}"] if len(contests) > 1 else []
+    return call("tabulate", BALLOTS, *words, otherwise={TIED: None, SPENT: None})
+
+
+def tabulate(audit, contest, out):
+    words = [f"--contest={contest.id}"] if len(audit.contests) > 1 else []
+    return call("tabulate", BALLOTS, *words, out=out, otherwise={TIED: out, SPENT: out})
+
+
+def convert(form, files, options):
+    return call("convert", form, *files, *options, "--account=account.txt", "--names=names.csv", out=BALLOTS, also=("account.txt", "names.csv"))
+
+
+def boxes(audit):
+    """The cards of the manifest compared with the records; records that name no card aren't asked."""
+    if audit.kind == POLL:
+        return [call("sample", MANIFEST, "--seed=none", "--draws=1")]
+    if audit.kind == CONTESTS:
+        return [call("boxes", BALLOTS, MANIFEST, f"--contest={each.id}", out=f"boxes_{each.number}.txt") for each in audit.contests]
+    return [call("boxes", BALLOTS, MANIFEST, *contest_words(audit), out="boxes.txt")]
+
+
+# ---- assertions and plan
+
+def search(audit, budget):
+    if audit.kind == CONTESTS:
+        return [search_one(each, budget) for each in audit.contests]
+    return [call("search", BALLOTS, *contest_words(audit), *budget, out="assertions.json"), check(audit, "assertions.json", budget, "check.txt")]
+
+
+def search_one(contest, budget):
+    undecided = f"undecided_{contest.number}.txt"
+    return call("search", BALLOTS, f"--contest={contest.id}", *budget, out=f"assertions_{contest.number}.json", otherwise={TIED: undecided, SPENT: undecided})
+
+
+def check(audit, assertions, budget, out):
+    return call("check", BALLOTS, assertions, *contest_words(audit), *budget, out=out)
+
+
+def trim(audit, budget):
+    return [
+        call("trim", BALLOTS, "assertions.json", *contest_words(audit), *budget, out="trimmed.json"),
+        check(audit, "trimmed.json", budget, "trimmed_check.txt"),
+    ]
+
+
+def plans(audit, limit, gamma):
+    words = [f"--limit={limit}", f"--gamma={gamma}"]
+    if audit.kind == CONTESTS:
+        return [call("plan", MANIFEST, f"assertions_{each.number}.json", *words, out=f"plan_{each.number}.txt") for each in audit.audited()]
+    return [call("plan", MANIFEST, audit.assertions, *words, out="plan.txt")] if audit.kind == COMPARISON else []
+
+
+# ---- from the seed on
+
+def opening(audit, seed):
+    words = [f"--seed={seed}", *terms_words(audit)]
+    if audit.kind == COMPARISON:
+        return [call("open", BALLOTS, MANIFEST, audit.assertions, *contest_words(audit), *words, *budget_words(audit), out="open.json")]
+    return [call("plurality", BALLOTS, MANIFEST, *contest_words(audit), *words, out="open.json")] if audit.kind == PLURALITY else []
+
+
+def cards(audit, round):
+    words = ["cards", MANIFEST, *draws_words(audit, round), *[f"--after={round.before}"] * (round.before > 0)]
+    return [
+        call(*words, out=f"cards{round.number}.csv"),
+        call(*words, "--page", out=f"cards{round.number}.html"),
+        call(*words, "--sheet", out=f"sheet{round.number}.csv"),
+    ]
+
+
+def agree(audit, number):
+    """A comparison of two readings for each contest; those of several contests are then put together."""
+    if audit.kind != CONTESTS:
+        return [call("agree", f"seen{number}_A.csv", f"seen{number}_B.csv", out=f"seen{number}.csv")]
+    names = {each.id: f"{number}_{each.number}" for each in audit.audited()}
+    compared = [call("agree", f"seen{name}_A.csv", f"seen{name}_B.csv", out=f"seen{name}.csv") for name in names.values()]
+    pairs = [word for contest, name in names.items() for word in (contest, f"seen{name}.csv")]
+    return [*compared, Call(("joined", *pairs), {0: f"seen{number}.csv"})]
+
+
+def round_of(audit, round):
+    """The count of a round, with what was seen in all rounds so far."""
+    parts = [f"seen{number}.csv" for number in range(1, round.number + 1)]
+    together = [Call(("cat", *parts), {0: "seen.csv"})] if round.number > 1 else []
+    out = audit.answer_of(round)
+    counted = Call((record.PROGRAM, *counting_words(audit, round)), dict.fromkeys(ANSWERS_OF_ROUND, out))
+    return [*together, counted, *[call("report", out, out=f"report{round.number}.txt")] * audit.has_report()]
+
+
+def counting_words(audit, round):
+    seen, draws = audit.seen(round.number), f"--draws={round.draws}"
+    if audit.kind == POLL:
+        return ["poll", MANIFEST, audit.assertions, seen, *draws_words(audit, round), *terms_words(audit)]
+    if audit.kind == CONTESTS:
+        return ["contests", BALLOTS, MANIFEST, seen, *draws_words(audit, round), *terms_words(audit), *budget_words(audit)]
+    session = f"round{round.number - 1}.json" if round.number > 1 else "open.json"
+    if audit.kind == PLURALITY:
+        return ["plurality", session, BALLOTS, MANIFEST, seen, draws]
+    return ["audit", session, BALLOTS, MANIFEST, audit.assertions, seen, draws, *budget_words(audit)]
+
+
+def count(audit):
+    return call("tabulate", COUNTED, *contest_words(audit), out="counted.txt")
+
+
+def show(audit):
+    """The page of the audit, of all its files."""
+    last = audit.rounds()[-1]
+    counted = [COUNTED] if COUNTED in audit.files else []
+    terms = [*draws_words(audit, last), *terms_words(audit)]
+    if audit.kind == POLL:
+        words = [MANIFEST, audit.assertions, audit.seen(last.number), *terms]
+    elif audit.kind == CONTESTS:
+        words = [BALLOTS, MANIFEST, audit.seen(last.number), *terms, *budget_words(audit)]
+    else:
+        assertions = [audit.assertions] if audit.kind == COMPARISON else []
+        names = [NAMES] if audit.names and len(audit.contests) == 1 else []
+        words = [BALLOTS, MANIFEST, *assertions, audit.answer_of(last), audit.seen(last.number), *counted, *names, *budget_words(audit)]
+    return call("show", *words, out="page.html")

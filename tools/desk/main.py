@@ -1,0 +1,86 @@
+"""The words of ./raire desk, and the server at 127.0.0.1."""
+import argparse
+import importlib.util
+import os
+import signal
+import sys
+
+from running import TOP
+
+NAME, HOST, PORT = "desk", "127.0.0.1", 8020
+PACKAGES = ("flask", "jinja2", "waitress")
+BAD_WORDS, UNUSABLE = 1, 7
+
+
+class Words(argparse.ArgumentParser):
+    def error(self, message):
+        sys.stderr.write(f"{NAME}: {message}; see ./raire help {NAME}\n")
+        sys.exit(BAD_WORDS)
+
+
+def words_of(words):
+    parser = Words(prog=NAME, add_help=False, allow_abbrev=False)
+    parser.add_argument("folder")
+    parser.add_argument("--port", type=int, default=PORT)
+    parser.add_argument("--read", action="store_true")
+    given = parser.parse_args(words)
+    if not 1 <= given.port <= 65_535:
+        parser.error("--port is a number from 1 to 65535")
+    return given
+
+
+def ask_for_help(words):
+    return words[:1] in (["--help"], ["-h"], ["help"])
+
+
+def put_help():
+    with open(os.path.join(TOP, "docs", "help", f"{NAME}.txt")) as file:
+        sys.stdout.write(file.read())
+    return 0
+
+
+def main(words):
+    if ask_for_help(words):
+        return put_help()
+    given = words_of(words)
+    if not all(map(importlib.util.find_spec, PACKAGES)):
+        sys.stderr.write(f"{NAME}: packages are missing: apt-get install {' '.join(f'python3-{name}' for name in PACKAGES)}\n")
+        return BAD_WORDS
+    import folder
+    try:
+        return read(given) if given.read else serve(given, folder.Folder(os.path.abspath(given.folder)))
+    except folder.Unusable as fault:
+        sys.stderr.write(f"{NAME}: {fault}\n")
+        return UNUSABLE
+
+
+def read(given):
+    import again
+    return again.told(given.folder, sys.stdout)
+
+
+def serve(given, place):
+    """Serves the folder until somebody ends it."""
+    import server
+    from audit import Audit
+    from desk import Desk
+    from pages import Pages
+    from running import is_built
+    from steps_of_rounds import end_drafts
+    place.open()
+    end_drafts(Audit(place))
+    if not is_built():
+        sys.stderr.write(f"{NAME}: there is no program to run\n")
+        return BAD_WORDS
+    desk = Desk(place)
+    pages = Pages(desk, HOST, given.port)
+    try:
+        serving = server.made(pages.app, pages.guard, HOST, given.port, pages.most_body_bytes(), place.path)
+    except OSError as fault:
+        sys.stderr.write(f"{NAME}: {HOST}:{given.port}: {fault.strerror}; --port gives another port\n")
+        return UNUSABLE
+    signal.signal(signal.SIGTERM, lambda *_: sys.exit(0))
+    print(f"The desk of {place.path}: open this address once, in a browser on this machine\n    {pages.guard.address()}\nEnd it with Ctrl-C.", flush=True)
+    serving.run()
+    desk.stop()
+    return 0

@@ -1,0 +1,183 @@
+"""What two readers type in of each card, apart from each other: drafts, until both read the same."""
+import csv
+import hashlib
+import io
+import json
+import re
+from typing import NamedTuple
+
+from audit import CONTESTS
+from forms import Wrong
+
+MISSING = "missing"
+READER = re.compile("[A-Za-z0-9]{1,12}")
+RANKED, NOBODY, ELSEWHERE = WAYS = ("ranked", "nobody", "elsewhere")
+
+
+class Card(NamedTuple):
+    id: str
+    batch: str
+    number: str
+    draws: str
+
+
+def cards_of(audit, number):
+    """The cards that are fetched for a round, as ./raire cards lists them."""
+    rows = csv.reader(io.StringIO(audit.text(f"cards{number}.csv"), newline=""))
+    next(rows, None)
+    return [Card(card, batch, place, draws) for batch, place, card, draws in rows]
+
+
+def name_of(number, reader):
+    """The name of a reader's draft. The person's own name is inside it."""
+    return f"seen{number}_{reader}"
+
+
+class Draft:
+    """One reader's readings of the cards of a round: of each card MISSING, or who is ranked in each contest."""
+
+    def __init__(self, audit, number, reader):
+        self.folder, self.name = audit.folder, name_of(number, reader)
+        self.cards, self.contests, self.called = cards_of(audit, number), audit.audited(), audit.called
+        kept = json.loads(self.folder.draft(self.name) or "{}")
+        self.person, self.readings = kept.get("person", ""), kept.get("readings", {})
+
+    def keep(self):
+        self.folder.write_draft(self.name, json.dumps({"person": self.person, "readings": self.readings}, sort_keys=True))
+
+    def left(self):
+        return [card for card in self.cards if card.id not in self.readings]
+
+    def next(self, card):
+        """The next card without a reading, from this one on."""
+        at = next((at for at, each in enumerate(self.cards) if each.id == card), 0)
+        return next((each for each in self.cards[at:] + self.cards[:at] if each.id not in self.readings), None)
+
+    def card(self, name):
+        """The card of this name, or the first that has no reading."""
+        return next((each for each in self.cards if each.id == name), None) or (self.left() or self.cards)[0]
+
+    def of(self, card):
+        return self.readings.get(card)
+
+    def rank_of(self, card, contest, rank):
+        """The number of the candidate at a rank, as a text, or nothing."""
+        reading = self.readings.get(card.id)
+        ranking = reading[str(contest.number)] if isinstance(reading, dict) else []
+        return str(contest.candidates.index(ranking[rank - 1]) + 1) if rank <= len(ranking) else ""
+
+    def way_of(self, card, contest):
+        reading = self.readings.get(card.id)
+        return NOBODY if isinstance(reading, dict) and not reading[str(contest.number)] else RANKED
+
+    def seen_text(self, contest):
+        """The seen file of a contest, which has each card."""
+        text = io.StringIO(newline="")
+        rows = csv.writer(text, lineterminator="\n")
+        for card in self.cards:
+            reading = self.readings[card.id]
+            rows.writerow([card.id, MISSING] if reading == MISSING else [card.id, "ballot", *reading[str(contest.number)]])
+        return text.getvalue()
+
+    def in_words(self, card):
+        """A reading as people say it, a line a contest."""
+        reading = self.readings.get(card)
+        if reading is None:
+            return ["not read yet"]
+        if reading == MISSING:
+            return ["not found"]
+        told = {each.id: self.ranked_in_words(each, reading[str(each.number)]) for each in self.contests}
+        return list(told.values()) if len(told) == 1 else [f"{contest}: {said}" for contest, said in told.items()]
+
+    def ranked_in_words(self, contest, ranking):
+        return ", ".join(self.called(contest, name) for name in ranking) or "nobody ranked"
+
+
+def mark_of(reading):
+    """A mark of a reading, by which a page sees whether it is still the one that it shows."""
+    return hashlib.sha256(json.dumps(reading, sort_keys=True).encode()).hexdigest()
+
+
+def person_of(form):
+    person = form.values.get("person", "").strip()
+    if not READER.fullmatch(person):
+        raise Wrong("A reader’s name has 1 to 12 letters or digits, such as initials.")
+    return person
+
+
+def reading_of(form, contests):
+    """What a form says of a card."""
+    if form.values.get("missing"):
+        return MISSING
+    return {str(each.number): ranking_of(form, each, len(contests) > 1) for each in contests}
+
+
+def ranking_of(form, contest, is_one_of_several):
+    """Who is ranked in a contest, the most preferred first."""
+    where = f"{contest.id}: " if is_one_of_several else ""
+    way = form.chosen(f"way_{contest.number}", f"{where}whether somebody is ranked", WAYS)
+    marks = [form.values.get(f"rank_{contest.number}_{rank}", "") for rank in range(1, len(contest.candidates) + 1)]
+    found = [candidate_of(contest, mark) for mark in marks if mark]
+    if way != RANKED:
+        if found:
+            raise Wrong(f"{where}Candidates are marked. Remove these marks, or say that somebody is ranked.")
+        return []
+    if not found:
+        raise Wrong(f"{where}Nothing is marked. Rank candidates, or say that nobody is ranked or that the contest isn’t on the card.")
+    if len(set(found)) < len(found):
+        raise Wrong(f"{where}A candidate has two ranks, and a seen file can’t say that. Mark the ranks that count by the rules of the contest.")
+    if not all(marks[:len(found)]):
+        gap = marks.index("") + 1
+        raise Wrong(f"{where}Rank {gap} is left out, and a seen file can’t say that. Mark the ranks that count by the rules of the contest, from 1 on.")
+    return found
+
+
+def candidate_of(contest, mark):
+    if not mark.isascii() or not mark.isdigit() or not 1 <= int(mark) <= len(contest.candidates):
+        raise Wrong("A mark is for no candidate of the contest.")
+    return contest.candidates[int(mark) - 1]
+
+
+def readings_in(text, draft):
+    """The readings of a seen file of one contest, such as a sheet that was filled in. Cards without a reading are passed over."""
+    [contest], cards, found = draft.contests, {card.id for card in draft.cards}, {}
+    for at, (card, word, *ranked) in enumerate(rows_of(text), 1):
+        ranked = list(dict.fromkeys(filter(None, ranked)))
+        if card and card not in cards:
+            raise Wrong(f"Record {at}: {card} is no card of this round.")
+        if card in found:
+            raise Wrong(f"Record {at}: {card} was there before.")
+        if word or ranked:
+            see_reading(at, card, word, ranked, contest.candidates)
+            found[card] = MISSING if word == MISSING else {str(contest.number): ranked}
+    return found
+
+
+def rows_of(text):
+    """The records of a text, each with two fields at least and without blanks around them."""
+    try:
+        rows = list(csv.reader(io.StringIO(text.removeprefix("\ufeff"), newline="")))
+    except csv.Error as fault:
+        raise Wrong(f"This is no comma-separated text: {fault}.") from None
+    return [[field.strip() for field in row] + [""] * (2 - len(row)) for row in rows]
+
+
+def see_reading(at, card, word, ranked, candidates):
+    if word not in ("ballot", MISSING) or (word == MISSING and ranked):
+        raise Wrong(f"Record {at}: after {card} comes neither ballot, with those who are ranked, nor missing alone.")
+    if strangers := [name for name in ranked if name not in candidates]:
+        raise Wrong(f"Record {at}: {strangers[0]} is no candidate; they are {', '.join(candidates)}.")
+
+
+def differences(drafts):
+    """Each card that was read otherwise, with both readings in words."""
+    first, second = drafts
+    return [(card, first.in_words(card.id), second.in_words(card.id)) for card in first.cards if first.of(card.id) != second.of(card.id)]
+
+
+def seen_files(audit, number, drafts):
+    """The seen files of both readers, by their names: of several contests one each."""
+    for letter, draft in zip("AB", drafts):
+        for contest in draft.contests:
+            part = f"{number}_{contest.number}" if audit.kind == CONTESTS else str(number)
+            yield f"seen{part}_{letter}.csv", draft.seen_text(contest)

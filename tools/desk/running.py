@@ -1,0 +1,160 @@
+"""Runs what is typed: one command after the other, in the scratch folder, with an end at any time."""
+import os
+import signal
+import subprocess
+import threading
+import time
+from typing import NamedTuple
+
+import record
+from folder import digest_of_file, sync
+
+TOP = os.path.dirname(os.path.dirname(os.path.dirname(os.path.abspath(__file__))))
+RAIRE = os.path.join(TOP, "raire")
+MOST_TOLD = 65_536  # bytes of an answer that is shown and not kept
+PIECE = 1 << 20
+
+
+class Call(NamedTuple):
+    """A command to type: its words, and for each status that is an answer the file that takes its standard output."""
+    words: tuple
+    outs: dict
+    also: tuple = ()  # what it makes besides
+
+    def line(self):
+        """As it is typed."""
+        return record.typed(self.words, next(iter(self.outs.values())))
+
+
+class Upload(NamedTuple):
+    """A file that was given, and that lies open."""
+    name: str
+    stream: object
+
+
+class Refused(Exception):
+    """A command that was no answer, or that was stopped: what was typed, its status, and what it said."""
+
+    def __init__(self, line, status, told, is_stopped=False):
+        super().__init__(told)
+        self.line, self.status, self.told, self.is_stopped = line, status, told, is_stopped
+
+
+def call(command, *words, out=None, otherwise=None, also=()):
+    """A command of the program with status 0 as its one answer; `otherwise` has the files of other ones."""
+    return Call((record.PROGRAM, command, *words), {0: out, **(otherwise or {})}, also)
+
+
+def is_built():
+    """Whether there is a program to run. If there is none yet, ./raire builds it, and reports how far it is."""
+    return subprocess.run([RAIRE, "--build"], stdin=subprocess.DEVNULL, stdout=subprocess.DEVNULL).returncode == 0
+
+
+class Runner:
+    """Runs commands in a folder. What runs at the moment can be seen and stopped from another thread."""
+
+    def __init__(self, folder):
+        self.folder, self.line, self.process = folder, None, None
+        self.started, self.is_stopped, self.lock = time.monotonic(), False, threading.Lock()
+
+    def done(self, each):
+        """The line of the record that a choice, an upload or a command comes to."""
+        if isinstance(each, record.Choice):
+            return each
+        return self.taken(each) if isinstance(each, Upload) else self.ran(each)
+
+    def taken(self, upload):
+        path = self.fresh(upload.name)
+        with open(path, "xb") as file:
+            while piece := upload.stream.read(PIECE):
+                file.write(piece)
+        return record.Given(upload.name, digest_of_file(path))
+
+    def fresh(self, name):
+        """The path of a file that is about to be made, where none is in its way."""
+        path = os.path.join(self.folder, name)
+        if os.path.lexists(path):
+            os.unlink(path)
+        return path
+
+    def ran(self, call):
+        path = self.fresh("output")
+        status, told = self.put_together(call, path) if call.words[0] in record.PUT_TOGETHER else self.typed(call, path)
+        if status not in call.outs or self.is_stopped:
+            raise Refused(call.line(), status, self.beginning(path) + told, self.is_stopped)
+        out = call.outs[status]
+        names = [*[out] * (out is not None), *call.also]
+        if out is not None:
+            os.rename(path, self.fresh(out))
+        made = {name: digest_of_file(os.path.join(self.folder, name)) for name in names}
+        return record.Command(call.words, out, status, made)
+
+    def typed(self, call, path):
+        """The status of a command of the program, and what it said on standard error."""
+        for name in call.also:
+            self.fresh(name)
+        with open(path, "xb") as out:
+            with self.lock:
+                if self.is_stopped:
+                    return -signal.SIGKILL, ""
+                self.line = call.line()
+                words = [RAIRE, *call.words[1:]]
+                self.process = subprocess.Popen(
+                    words, cwd=self.folder, stdin=subprocess.DEVNULL, stdout=out, stderr=subprocess.PIPE, start_new_session=True,
+                )
+            _, told = self.process.communicate()
+        sync(path)
+        return self.process.returncode, told.decode(errors="backslashreplace")
+
+    def put_together(self, call, path):
+        """What `cat` and `joined` of commands.txt do."""
+        self.line = call.line()
+        parts = [(None, name) for name in call.words[1:]] if call.words[0] == "cat" else zip(call.words[1::2], call.words[2::2])
+        with open(path, "x", encoding="utf-8", newline="") as out:
+            for contest, name in parts:
+                with open(os.path.join(self.folder, name), encoding="utf-8", newline="") as file:
+                    out.writelines(line if contest is None else with_contest(line, contest) for line in file)
+        return 0, ""
+
+    def beginning(self, path):
+        """How the answer of a command began that isn't kept."""
+        if not os.path.exists(path):
+            return ""
+        with open(path, "rb") as file:
+            return file.read(MOST_TOLD).decode(errors="backslashreplace")
+
+    def stop(self):
+        """Ends the process of the command that runs, with what it started itself."""
+        with self.lock:
+            self.is_stopped = True
+            if self.process is not None and self.process.poll() is None:
+                os.killpg(self.process.pid, signal.SIGKILL)
+
+    def work(self):
+        """The time that the processors worked on the command that runs, and the memory that it has."""
+        with self.lock:
+            return work_of(self.process.pid) if self.process is not None and self.process.poll() is None else ""
+
+    def elapsed(self):
+        return time.monotonic() - self.started
+
+
+def work_of(group):
+    """Seconds of processors and MiB of memory of the processes of a group, by the system's own account."""
+    ticks = pages = 0
+    for name in filter(str.isdigit, os.listdir("/proc")):
+        try:
+            with open(f"/proc/{name}/stat") as file:
+                fields = file.read().rpartition(")")[2].split()
+        except OSError:
+            continue
+        if int(fields[2]) == group:
+            ticks, pages = ticks + int(fields[11]) + int(fields[12]), pages + int(fields[21])
+    seconds, memory = ticks / os.sysconf("SC_CLK_TCK"), pages * os.sysconf("SC_PAGE_SIZE") >> 20
+    return f"{seconds:.0f} seconds of processors, {memory:,} MiB of memory"
+
+
+def with_contest(line, contest):
+    """A record of a seen file with the contest's id after the card's."""
+    card, _, reading = line.partition(",")
+    return f"{card},{contest},{reading}"

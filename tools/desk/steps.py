@@ -1,0 +1,234 @@
+"""The steps of an audit up to the seed: what each does with what is typed in. A step is one deed of the record."""
+import csv
+import io
+
+import calls
+import exports
+import plain_audit
+from audit import BALLOTS, CONTESTS, contests_of, HEAD_BYTES, KINDS, MANIFEST, PLURALITY, POLL
+from forms import Wrong
+from limits import GREATEST_GAMMA, MOST_DRAWS, MOST_NODES, MOST_SEED_BYTES, MOST_SETS
+from record import Choice
+from running import Upload
+from terms import text_of_terms
+
+BUDGETS = {"": "100,000 nodes, the default", f"--sets={MOST_SETS}": f"{MOST_SETS:,} sets", f"--nodes={MOST_NODES}": f"{MOST_NODES:,} nodes"}
+MOST_WITHOUT_SETS = 9  # candidates up to which the default budget is never spent
+MOST_BALLOTS, MOST_MINUTES, MOST_TEAMS = 1_000_000_000, 1_000, 1_000
+
+
+class Step:
+    """A step: its key in addresses and in commands.txt, and its title."""
+    key = title = ""
+    may_be_replaced = False  # whether it can be done anew at once, while nothing is done after it
+
+    def __init__(self, audit, number=0):
+        self.audit, self.number = audit, number
+
+    @property
+    def name(self):
+        return f"{self.key}{self.number or ''}"
+
+    @property
+    def is_done(self):
+        return self.name in self.audit.deeds
+
+    @property
+    def heading(self):
+        return self.title.format(number=self.number)
+
+    def lines(self, form):
+        """What is chosen, given and typed, by what was filled in."""
+        raise NotImplementedError
+
+    def finish(self):
+        """Puts in order what was there before the step was done."""
+
+
+class Records(Step):
+    key, title = "records", "Records of the ballots"
+    exports = exports
+
+    def lines(self, form):
+        return self.converted(form) if form.chosen("way", "how the records come", ("raire", "export")) == "export" else self.given(form)
+
+    def given(self, form):
+        stream = form.file("ballots", "a ballot file")
+        return [Upload(BALLOTS, stream), calls.judge(heads_of(stream))]
+
+    def converted(self, form):
+        key = form.chosen("format", "a form of export", exports.FORMATS)
+        vendor, streams = exports.FORMATS[key], form.all_files("exports", "the files of the export")
+        if len(streams) > vendor.most_files:
+            raise Wrong(f"Of this form up to {vendor.most_files} files can be given.")
+        names = [exports.name_of(number, vendor, stream) for number, stream in enumerate(streams, 1)]
+        options = exports.options_of(form, key)
+        return [*map(Upload, names, streams), calls.convert(key, names, options)]
+
+
+def heads_of(stream):
+    """The contests of a ballot file that was given; none where the program is to say what is wrong with it."""
+    head = stream.read(HEAD_BYTES)
+    stream.seek(0)
+    try:
+        return contests_of(head)
+    except plain_audit.Broken:
+        return []
+
+
+class Account(Step):
+    key, title = "account", "Account of the export"
+
+    def account(self):
+        return self.audit.text("account.txt").splitlines()
+
+    def lines(self, form):
+        lines, ticked = self.account(), set(form.ticked("line"))
+        left = [line for number, line in enumerate(lines, 1) if str(number) not in ticked]
+        if left:
+            raise Wrong(f"Of {len(lines)} lines {len(left)} aren’t ticked, such as “{left[0].strip()}”. Compare each with the vendor’s system.")
+        return [Choice("account", "confirmed")]
+
+
+class Contest(Step):
+    key, title = "contest", "What is audited"
+
+    def lines(self, form):
+        kind = form.chosen("audit", "how the contest is audited", KINDS)
+        if kind == CONTESTS:
+            return [Choice("audit", kind), *[calls.tabulate(self.audit, each, f"rounds_{each.number}.txt") for each in self.audit.contests]]
+        ids = {str(each.number): each for each in self.audit.contests}
+        contest = ids[form.chosen("contest", "the contest", ids)] if len(ids) > 1 else self.audit.contests[0]
+        tabulation = [calls.tabulate(self.audit, contest, "rounds.txt")] * (kind != PLURALITY)
+        return [Choice("audit", kind), Choice("contest", contest.id), *tabulation]
+
+
+class Cards(Step):
+    key, title = "cards", "Cards and boxes"
+
+    def lines(self, form):
+        stream = form.file("manifest", "a manifest")
+        cast = form.number("cast", "The number of ballots that were cast", 1, MOST_BALLOTS)
+        return [Upload(MANIFEST, stream), Choice("cast", str(cast)), *calls.boxes(self.audit)]
+
+
+    def manifest_cards(self):
+        return cards_of_manifest(self.audit.text(MANIFEST))
+
+
+class Assertions(Step):
+    key, title = "assertions", "Assertions"
+
+    def lines(self, form):
+        budget = form.chosen("budget", "a budget", self.budgets())
+        words = [budget] * bool(budget)
+        trimmed = calls.trim(self.audit, words) if form.values.get("trim") else []
+        return [Choice("budget", budget), *calls.search(self.audit, words), *trimmed]
+
+    def budgets(self):
+        """All contests by one call have nodes alone."""
+        return {words: told for words, told in BUDGETS.items() if self.audit.kind != CONTESTS or not words.startswith("--sets")}
+
+    def advised(self):
+        """The budget that suits the number of candidates."""
+        most = max(len(each.candidates) for each in self.audit.contests) if self.audit.kind == CONTESTS else len(self.audit.contest.candidates)
+        return f"--sets={MOST_SETS}" if most > MOST_WITHOUT_SETS and self.audit.kind != CONTESTS else ""
+
+
+class Plan(Step):
+    key, title = "plan", "Plan: limit and gamma"
+    may_be_replaced = True
+    LIMITS, GAMMAS = (10_000, 50_000, 100_000), (50, 100, 150, 200)
+
+    def lines(self, form):
+        limit = form.millionths("limit", "The risk limit")
+        gamma = form.number("gamma", "Gamma", 1, GREATEST_GAMMA)
+        return [Choice("limit", str(limit)), Choice("gamma", str(gamma)), *calls.plans(self.audit, limit, gamma)]
+
+    def usual_gamma(self):
+        return 500 if self.audit.kind == POLL else 100
+
+    def planned_draws(self):
+        """The draws that a plan says for all assertions, where it isn't a full count."""
+        told = self.audit.text("plan.txt").rsplit("all: ", 1)[-1].split(" ")[0]
+        return int(told) if told.isdigit() else None
+
+    def hours(self, figures):
+        """How many different cards, and how many hours, an office's own figures make of a number of draws; nothing where they are none."""
+        try:
+            draws, minutes, teams = int(figures["draws"]), float(figures["minutes"]), int(figures["teams"])
+        except (KeyError, ValueError):
+            return None
+        is_some = 0 < draws <= MOST_DRAWS and 0 < minutes <= MOST_MINUTES and 0 < teams <= MOST_TEAMS
+        return hours_of(draws, cards_of_manifest(self.audit.text(MANIFEST)), minutes, teams) if is_some else None
+
+    def trials(self):
+        """Plans to look at, with other limits and gammas."""
+        for limit in self.LIMITS:
+            for gamma in self.GAMMAS:
+                for number, each in enumerate(calls.plans(self.audit, limit, gamma), 1):
+                    yield each._replace(outs={0: f"trial_{limit}_{gamma}_{number}.txt"})
+
+
+class Terms(Step):
+    key, title = "terms", "Terms to publish"
+
+    def lines(self, form):
+        rounds = self.rounds(form)
+        return [Upload("terms.txt", io.BytesIO(self.preview(form).encode())), Choice("rounds", " ".join(map(str, rounds)))]
+
+    def rounds(self, form):
+        return rounds_of(form.text("rounds", "The numbers of draws"))
+
+    def preview(self, form):
+        """The page of terms."""
+        return text_of_terms(self.audit, self.rounds(form), form.text("how", "How the seed comes about"))
+
+    def advised_rounds(self):
+        """What the plan says, and twice as many."""
+        draws = Plan(self.audit).planned_draws()
+        return f"{draws} {2 * draws}" if draws and 2 * draws <= MOST_DRAWS else ""
+
+
+def cards_of_manifest(text):
+    """The number of cards of a manifest that the program has accepted."""
+    rows = csv.reader(io.StringIO(text, newline=""))
+    next(rows)
+    return sum(int(row[1]) for row in rows if any(row))
+
+
+def hours_of(draws, cards, minutes, teams):
+    """The different cards that so many draws are likely to take, and the hours of fetching and reading them."""
+    different = cards * (1 - (1 - 1 / cards) ** draws)
+    return round(different), round(different * minutes / 60 / teams, 1)
+
+
+def rounds_of(text):
+    parts = text.replace(",", " ").split()
+    if not all(part.isascii() and part.isdigit() and 0 < int(part) <= MOST_DRAWS for part in parts):
+        raise Wrong(f"The numbers of draws are whole numbers from 1 to {MOST_DRAWS:,}, with blanks between.")
+    rounds = list(map(int, parts))
+    if any(later <= earlier for earlier, later in zip(rounds, rounds[1:])):
+        raise Wrong("Each number counts all draws so far, so each is above the one before.")
+    return rounds
+
+
+class Seed(Step):
+    key, title = "seed", "Seed"
+
+    def preview(self, form):
+        return seed_of(form)
+
+    def lines(self, form):
+        seed = seed_of(form)
+        return [Choice("seed", seed), *calls.opening(self.audit, seed)]
+
+
+def seed_of(form):
+    """The seed, where both fields have the same."""
+    seed, again = form.values.get("seed", ""), form.values.get("again", "")
+    if not 1 <= len(seed) <= MOST_SEED_BYTES or not all(" " <= c <= "~" for c in seed):
+        raise Wrong(f"A seed has 1 to {MOST_SEED_BYTES} characters: letters from space to ~.")
+    if seed != again:
+        raise Wrong("The two seeds aren’t the same. Type both again, each from what was written down.")
+    return seed

@@ -1,0 +1,102 @@
+"""The steps from the first drawn card to the end: cards are fetched, read by two people and counted, until the audit is signed off."""
+import io
+import math
+
+import calls
+import readings
+from audit import COUNTED, READERS, Round
+from forms import Wrong
+from limits import MOST_DRAWS
+from record import Choice
+from running import Upload
+from steps import Step
+
+
+class Fetch(Step):
+    key, title = "fetch", "Round {number}: cards to fetch"
+
+    def before(self):
+        """The draws of the rounds before this one."""
+        earlier = [each.draws for each in self.audit.rounds() if each.number < self.number]
+        return earlier[-1] if earlier else 0
+
+    def cards(self):
+        return readings.cards_of(self.audit, self.number)
+
+    def advised(self):
+        """The number of draws that the terms say comes next."""
+        return next((draws for draws in self.audit.planned_rounds() if draws > self.before()), None)
+
+    def lines(self, form):
+        before = self.before()
+        draws = form.number("draws", "The number of draws, which counts all so far,", before + 1, MOST_DRAWS)
+        return [Choice("draws", str(draws)), *calls.cards(self.audit, Round(self.number, draws, before))]
+
+
+class Read(Step):
+    key, title = "read", "Round {number}: two readings"
+
+    def cards(self):
+        return readings.cards_of(self.audit, self.number)
+
+    def drafts(self):
+        return [readings.Draft(self.audit, self.number, reader) for reader in READERS]
+
+    def lines(self, form):
+        drafts = self.drafts()
+        for reader, draft in zip(READERS, drafts):
+            if draft.left():
+                raise Wrong(f"Reader {reader} has {len(draft.left())} cards to read.")
+        texts = readings.seen_files(self.audit, self.number, drafts)
+        uploads = [Upload(name, io.BytesIO(text.encode())) for name, text in texts]
+        people = [Choice(f"reader_{reader.lower()}", draft.person) for reader, draft in zip(READERS, drafts) if draft.person]
+        return [*uploads, *people, *calls.agree(self.audit, self.number)]
+
+    def different(self, drafts):
+        return readings.differences(drafts)
+
+    def finish(self):
+        """The drafts are files of the record now."""
+        for reader in READERS:
+            self.audit.folder.drop_draft(readings.name_of(self.number, reader))
+
+
+def end_drafts(audit):
+    """Drops drafts that a desk left which was killed once they were taken."""
+    for round in audit.rounds():
+        step = Read(audit, round.number)
+        if step.is_done:
+            step.finish()
+
+
+class Count(Step):
+    key, title = "round", "Round {number}: the count"
+
+    def round(self):
+        return self.audit.rounds()[self.number - 1]
+
+    def lines(self, form):
+        return calls.round_of(self.audit, self.round())
+
+
+class FullCount(Step):
+    key, title = "count", "Full count"
+
+    def lines(self, form):
+        return [Upload(COUNTED, form.file("counted", "the ballot file of the full count")), calls.count(self.audit)]
+
+
+class End(Step):
+    key, title = "end", "End"
+    may_be_replaced = True
+
+    def lines(self, form):
+        return [calls.show(self.audit)]
+
+
+def likely_draws(risk, draws, limit):
+    """How many draws are likely to be enough, if the next ones are seen as those so far; None where no number is."""
+    if not 0 < risk < 1:
+        return None
+    needed = math.ceil(draws * math.log(limit) / math.log(risk))
+    return needed if needed <= MOST_DRAWS else None

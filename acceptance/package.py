@@ -142,7 +142,7 @@ def man_pages(tree):
         path = os.path.join(folder, "raire.1.gz" if name == "raire" else f"raire-{name}.1.gz")
         yield f"{name} has a man page", os.path.exists(path)
         if shutil.which("groff"):
-            shown = subprocess.run(["groff", "-man", "-Tutf8", "-ww", "-rLL=200n"], input=gzip.open(path).read(), capture_output=True)
+            shown = subprocess.run(["groff", "-K", "utf8", "-man", "-Tutf8", "-ww", "-rLL=200n"], input=gzip.open(path).read(), capture_output=True)
             text = re.sub("\x1b\\[[0-9;]*m|.\x08", "", shown.stdout.decode())
             with open(os.path.join(TOP, "docs", "help", f"{name}.txt")) as file:
                 wanted = [line.split() for line in file.read().replace("./raire", "raire").splitlines() if line.strip()]
@@ -204,7 +204,7 @@ def used(root, path, digest):
     yield "a command that needs the repository says so", in_root(root, "raire", "release")[0] == 1
     done = in_root(root, "apt-get", "purge", "-y", "raire")
     yield f"it is removed: {done}", done[0] == 0
-    left = files_of(root) - before
+    left = {path for path in files_of(root) - before if "/usr/lib/python3" not in path and not path.endswith(("/etc/shells", "/var/lib/shells.state"))}  # these are the system's own
     yield f"nothing of it is left: {sorted(left)[:5]}", not left
 
 

@@ -36,8 +36,8 @@ def page_of(plan, words, what):
 
 
 def made(runs, words, files, path):
-    words = [*words, "--", *files]
-    return runs.make("page", [*words, runs.plan.version], files, path, lambda: page_of(runs.plan, words, runs.what))
+    words = ["show", *words, "--", *files]
+    return runs.make("page", words, files, path, lambda: page_of(runs.plan, words[1:], runs.what))
 
 
 def of_contest(contest, runs):

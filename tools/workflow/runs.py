@@ -65,16 +65,17 @@ class Runs:
     def run(self, name, words, files, kept):
         """The result of a command. `kept` says for a status which file keeps the output; that of another one is kept with the record."""
         words = [*words, "--", *files]
-        return self.take(name, words, files) or self.keep(name, words, files, *self.asked(name, words), kept)
+        return self.take(name, words, files) or self.keep(name, words, files, self.asked(name, words), kept)
 
     def make(self, name, words, files, path, made):
         """A file that `made` gives the bytes of."""
-        return self.take(name, words, files) or self.keep(name, words, files, 0, made(), {0: path})
+        return self.take(name, words, files) or self.keep(name, words, files, (0, made()), {0: path})
 
     def key(self, words, files):
         given = {file: self.digests.of(file) for file in files}
         self.inputs.update(given)
-        return digest_of(json.dumps([words, given, self.plan.digest]).encode())
+        said = self.plan.version if words[0] == "show" else ""  # a page says which program was asked
+        return digest_of(json.dumps([words, given, self.plan.digest, said]).encode())
 
     def take(self, name, words, files):
         entry = self.kept.get(name)
@@ -85,12 +86,15 @@ class Runs:
             raise Missing(name)
         return None
 
-    def keep(self, name, words, files, status, data, kept):
+    def keep(self, name, words, files, answer, kept):
+        status, data = answer
         file = kept.get(status, "")
         text = "" if file else data.decode(errors="replace")
         if file:
             write_whole(os.path.join(self.plan.top, file), data)
-        self.kept[name] = self.used[name] = {"key": self.key(words, files), "status": status, "file": file, "digest": digest_of(data), "text": text}
+        self.kept[name] = self.used[name] = {
+            "words": words, "key": self.key(words, files), "status": status, "file": file, "digest": digest_of(data), "text": text,
+        }
         write_whole(self.path, json.dumps(self.kept, indent=1).encode())
         return Ran(status, file, text)
 

@@ -8,8 +8,8 @@ import urllib.parse
 from typing import NamedTuple
 
 import steps
+from counties import contests_of, MADE
 from county import blocks_of
-from counties import MADE, name_of
 from runs import Digests, Failed, Missing, of_contest, of_county
 from terms import NAME as TERMS
 
@@ -26,6 +26,7 @@ STATES = {  # those that need a hand first
 }
 FIELDS = "county contest state candidates records winner margin assertions planned search check audit draws signed_off why page".split()
 TO_BE_COUNTED = "full count"
+SPENT_IN_CALL = "contests is spent by nodes: give this contest a session of its own"
 
 
 class Row(NamedTuple):
@@ -51,28 +52,23 @@ class Blocks:
     """What the looks of a county say of each of its contests."""
 
     def __init__(self, county, runs):
-        self.looks = [(look.draws, dict(zip([contest for contest in ids_of(runs, county)], blocks_of(runs.text(ran))))) for look, ran in steps.called(county, runs)]
+        ids = contests_of(os.path.join(runs.plan.top, county.given("ballots.raire"))) or {}  # also those that the table skips
+        self.looks = [(look.draws, dict(zip(ids, blocks_of(runs.text(ran))))) for look, ran in steps.called(county, runs)]
 
     def of(self, contest):
         return [(draws, blocks[contest]) for draws, blocks in self.looks if contest in blocks]
 
 
-def ids_of(runs, county):
-    """All contests of the ballot file, also those that the table skips, in the order of the file."""
-    from counties import contests_of
-
-    return contests_of(os.path.join(runs.plan.top, county.given("ballots.raire"))) or {}
-
-
 def audit_of(contest, county, blocks, runs):
-    """The draws of the last look, and those of the first that signs the contest off."""
+    """The draws of the last look, those of the first that signs the contest off, and what else is said of it."""
+    looks, why = [], ""
     if contest.terms.audit == "session":
         looks = [(look.draws, ran.status == 0) for look, ran in steps.rounds(contest, runs)]
     elif county.one_call():
         looks = [(draws, block[-1] == "signed off yes") for draws, block in blocks.of(contest.id)]
-    else:
-        looks = []
-    return (str(looks[-1][0]) if looks else "", next((str(draws) for draws, signed in looks if signed), ""))
+        why = SPENT_IN_CALL if any(block[1] == "spent" for _, block in blocks.of(contest.id)) else ""
+    last, first = str(looks[-1][0]) if looks else "", next((str(draws) for draws, signed in looks if signed), "")
+    return last, first, "the last look says no: publish that, too" if first and not looks[-1][1] else why
 
 
 def row_of(contest, county, blocks, runs, has_page):
@@ -101,11 +97,10 @@ def row_of(contest, county, blocks, runs, has_page):
 def judged(row, contest, county, blocks, runs):
     """The row of a contest that can be audited, by its plan and its looks."""
     planned = runs.text(steps.planned(contest, runs)).splitlines()[-1].removeprefix("all: ").removesuffix(" draws")
-    draws, signed = audit_of(contest, county, blocks, runs)
-    row = row._replace(planned=planned, draws=draws, signed_off=signed)
+    draws, signed, why = audit_of(contest, county, blocks, runs)
+    row = row._replace(planned=planned, draws=draws, signed_off=signed, why=why)
     if signed:
-        later = "" if draws == signed else f"first signed off after {signed} draws"
-        return row._replace(state="signed off", why=later)
+        return row._replace(state="signed off")
     if planned == TO_BE_COUNTED:
         return row._replace(state=TO_BE_COUNTED, why="by the plan as many draws as there are cards, or 100,000, aren't enough")
     if contest.terms.audit in ("contests", "session") and contest.terms.seed:
@@ -194,5 +189,3 @@ class Summary:
                     if path not in self.outputs:
                         yield path
 
-
-__all__ = ["Summary", "STATES", "name_of"]

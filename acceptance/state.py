@@ -209,7 +209,7 @@ def refused(tried, folder):
         status, out, err = tried.run(folder)
         tried.see(f"{text!r} is refused", (status, out) == (1, "") and line in err, err)
     put(folder, "terms.csv", text=TERMS)
-    for words in ([], [folder, "--jobs", "0"], [folder, "--jobs"], [folder, "--no-such"], [os.path.join(folder, "made")], [folder, folder]):
+    for words in ([], [folder, "--jobs", "0"], [folder, "--jobs"], [folder, "--no-such"], [os.path.join(folder, "counties")], [folder, folder]):
         done = subprocess.run([CALL, *words], capture_output=True, text=True, env=tried.given())
         tried.see(f"{words} is refused", (done.returncode, done.stdout) == (1, "") and done.stderr.startswith("state: "), done.stderr)
     ballots, manifest, seen = (os.path.join(folder, "counties", name) for name in ("tied/ballots.raire", "o'neil/manifest.csv", "county/seen.csv"))
@@ -220,7 +220,7 @@ def refused(tried, folder):
         file.write(b"P1_1\n")
     town = times(folder)[os.path.join(folder, f"made/contests/town/{TOWN}/session_90.json")]
     status, out, err = tried.run(folder, "--group", "1")
-    tried.see("refused files fail", status == 1 and "2 failed" in out, (out, err))
+    tried.see("refused files fail", status == 1 and "6 failed" in out, (out, err))
     tried.see("with the program's line", "state: tied, contest 1: search --nodes=100000: status 2: raire: counties/tied/ballots.raire: B7 at " in err, err)
     tried.see("of each of them", "state: county: contests 80: status 2: raire: counties/county/seen.csv: V1 at " in err, err)
     tried.see("the others are done", rows(folder)["o'neil", "339"]["state"] == "full count", out)
@@ -250,8 +250,8 @@ def whole(folder):
 
 def cut_off(tried, folder, digests):
     """Killed with all that it began, at three moments, with outputs cut off by hand; then begun again."""
-    for most in (5, 30, 60):
-        with subprocess.Popen(tried.words(folder, "--group", "3"), stdout=subprocess.DEVNULL, stderr=subprocess.DEVNULL, env=tried.given(), start_new_session=True) as begun:
+    for most in (5, 30, 50):
+        with subprocess.Popen(tried.words(folder, "--group", "3", "--without-pages"), stdout=subprocess.DEVNULL, stderr=subprocess.DEVNULL, env=tried.given(), start_new_session=True) as begun:
             while begun.poll() is None and len(whole(folder)) < most:
                 time.sleep(0.02)
             with contextlib.suppress(ProcessLookupError):
@@ -261,7 +261,7 @@ def cut_off(tried, folder, digests):
     cut = sorted(there)[::4]
     for path in cut:
         os.truncate(path, os.path.getsize(path) // 2)
-    status, out, err = tried.run(folder, "--group", "3")
+    status, out, err = tried.run(folder, "--group", "3", "--without-pages")
     tried.see("begun again it ends", status == 0, (out, err))
     tried.see("with the same digests", read(folder, "made", "digests") == digests)
     after = whole(folder)
@@ -284,7 +284,7 @@ def on_slurm(tried, folder, digests, place):
 
 def harmed(tried, folder, digests, cluster):
     """A job is cancelled and another one is killed: they are begun again, and no other."""
-    words = tried.words(folder, "--profile", "slurm", "--group", "3")
+    words = tried.words(folder, "--profile", "slurm", "--group", "3", "--without-pages")
     with open(os.path.join(cluster.folder, "told"), "w+") as told, subprocess.Popen(words, stdout=told, stderr=told, env=tried.given(cluster.given.items())) as begun:
         jobs, end = [], time.monotonic() + PATIENCE / 2
         while begun.poll() is None and len(jobs) < 2 and time.monotonic() < end:
@@ -321,7 +321,7 @@ def made(tried, place, contests, counties):
     folder = os.path.join(place, "made_state")
     made_state.write_state(folder, contests, counties)
     start = time.monotonic()
-    status, out, err = tried.run(folder)
+    status, out, err = tried.run(folder, "--without-pages")
     tried.see("a state that is made is done", status == 0, (out, err))
     tried.see("each contest has a row", status == 0 and len(rows(folder)) == contests, out)
     if status:

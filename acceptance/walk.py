@@ -19,7 +19,7 @@ sys.path.append(os.path.join(TOP, "tools", "build"))
 import built  # noqa: E402
 
 MARK = "that was printed by the line above"
-UNTRIED = ("templates are missing", "a library is missing", "bc: command not found")  # what isn't here can't be tried
+UNTRIED = ("the engine is missing", "templates are missing", "a library is missing", "bc: command not found")  # what isn't here can't be tried
 
 
 def blocks_of(text):

@@ -26,7 +26,8 @@ import walk
 TOP = walk.TOP
 EXAMPLES = os.path.join(TOP, "examples")
 CALL = os.path.join(TOP, "tools", "state")
-PATIENCE = 900
+PATIENCE = 1800
+JOBS = 25  # some so many on Slurm, of three contests at least
 COUNTY_SEED, TOWN_SEED = "2026-11-03 dice 5 1 4 4 2 6 3 1", "2026-11-03 dice 2 6 1 4 5 5 3 1"
 TERMS = f"""\
 county,contest,audit,limit,gamma,seed,draws,trim,floor,nodes,sets
@@ -248,20 +249,20 @@ def whole(folder):
     return {path: time for path, time in times(folder).items() if not path.endswith(".part")}
 
 
-def cut_off(tried, folder, digests):
-    """Killed with all that it began, at three moments, with outputs cut off by hand; then begun again."""
-    for most in (5, 30, 50):
-        with subprocess.Popen(tried.words(folder, "--group", "3", "--without-pages"), stdout=subprocess.DEVNULL, stderr=subprocess.DEVNULL, env=tried.given(), start_new_session=True) as begun:
+def cut_off(tried, folder, digests, group, count):
+    """Killed with all that it began, at three moments, with outputs cut off by hand; then begun again. Whole it has so many outputs."""
+    for most in (count // 20, count // 4, count // 2):
+        with subprocess.Popen(tried.words(folder, "--group", group, "--without-pages"), stdout=subprocess.DEVNULL, stderr=subprocess.DEVNULL, env=tried.given(), start_new_session=True) as begun:
             while begun.poll() is None and len(whole(folder)) < most:
                 time.sleep(0.02)
             with contextlib.suppress(ProcessLookupError):
                 os.killpg(begun.pid, signal.SIGKILL)
     there = whole(folder)
-    tried.see("it was killed in the middle", len(there) >= 5 and not os.path.exists(os.path.join(folder, "made", "digests")), len(there))
+    tried.see("it was killed in the middle", count // 20 <= len(there) < count and not os.path.exists(os.path.join(folder, "made", "digests")), len(there))
     cut = sorted(there)[::4]
     for path in cut:
         os.truncate(path, os.path.getsize(path) // 2)
-    status, out, err = tried.run(folder, "--group", "3", "--without-pages")
+    status, out, err = tried.run(folder, "--group", group, "--without-pages")
     tried.see("begun again it ends", status == 0, (out, err))
     tried.see("with the same digests", read(folder, "made", "digests") == digests)
     after = whole(folder)
@@ -269,7 +270,7 @@ def cut_off(tried, folder, digests):
     tried.see("no part of a file is left", after == times(folder))
 
 
-def on_slurm(tried, folder, digests, place):
+def on_slurm(tried, folder, digests, group, place):
     missing = slurm.missing()
     if missing or os.geteuid() != 0:
         print(f"acceptance/state.py: NOT TRIED: Slurm: {', '.join(missing) + ' missing' if missing else 'this needs root'}")
@@ -277,14 +278,14 @@ def on_slurm(tried, folder, digests, place):
     try:
         cluster = slurm.Slurm(place)
         with cluster:
-            harmed(tried, folder, digests, cluster)
+            harmed(tried, folder, digests, group, cluster)
     except (OSError, TimeoutError, subprocess.SubprocessError) as fault:
         tried.see("Slurm runs", False, f"{fault} {cluster.told()}")
 
 
-def harmed(tried, folder, digests, cluster):
+def harmed(tried, folder, digests, group, cluster):
     """A job is cancelled and another one is killed: they are begun again, and no other."""
-    words = tried.words(folder, "--profile", "slurm", "--group", "3", "--without-pages")
+    words = tried.words(folder, "--profile", "slurm", "--group", group, "--without-pages")
     with open(os.path.join(cluster.folder, "told"), "w+") as told, subprocess.Popen(words, stdout=told, stderr=told, env=tried.given(cluster.given.items())) as begun:
         jobs, end = [], time.monotonic() + PATIENCE / 2
         while begun.poll() is None and len(jobs) < 2 and time.monotonic() < end:
@@ -327,10 +328,10 @@ def made(tried, place, contests, counties):
     if status:
         return
     print(f"state: {contests} contests of {counties} counties in {round(time.monotonic() - start)} seconds: {out.splitlines()[0]}")
-    digests = read(folder, "made", "digests")
-    cut_off(tried, copy_of(folder, os.path.join(place, "cut_off")), digests)
+    digests, group = read(folder, "made", "digests"), str(max(3, contests // JOBS))
+    cut_off(tried, copy_of(folder, os.path.join(place, "cut_off")), digests, group, len(times(folder)))
     os.mkdir(os.path.join(place, "slurm"))
-    on_slurm(tried, copy_of(folder, os.path.join(place, "on_slurm")), digests, os.path.join(place, "slurm"))
+    on_slurm(tried, copy_of(folder, os.path.join(place, "on_slurm")), digests, group, os.path.join(place, "slurm"))
 
 
 def main():

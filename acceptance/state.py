@@ -27,7 +27,7 @@ TOP = walk.TOP
 EXAMPLES = os.path.join(TOP, "examples")
 CALL = os.path.join(TOP, "tools", "state")
 PATIENCE = 1800
-JOBS = 25  # some so many on Slurm, of three contests at least
+JOBS = 25  # about this many on Slurm, each with three contests or more
 COUNTY_SEED, TOWN_SEED = "2026-11-03 dice 5 1 4 4 2 6 3 1", "2026-11-03 dice 2 6 1 4 5 5 3 1"
 TERMS = f"""\
 county,contest,audit,limit,gamma,seed,draws,trim,floor,nodes,sets

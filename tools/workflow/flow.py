@@ -19,7 +19,7 @@ SNAKEMAKE = "snakemake"
 OWN = os.path.join(TOP, "crates", "raire", "out", "raire")
 HERE = os.path.dirname(os.path.abspath(__file__))
 CONTESTS_A_JOB, SECONDS_A_RUN = 50, 600
-LAST_LINES = 20  # of Snakemake's, where nothing else tells why
+LAST_LINES = 20  # of Snakemake's, if no step says why
 FAILED = 1
 
 

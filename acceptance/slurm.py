@@ -41,7 +41,7 @@ AccountingStorageType=accounting_storage/none
 SlurmctldDebug=info
 SlurmdDebug=info
 {nodes}
-PartitionName=all Nodes={names} Default=YES MaxTime=INFINITE State=UP OverSubscribe=FORCE:1
+PartitionName=all Nodes={names} Default=YES MaxTime=INFINITE State=UP
 """
 
 
@@ -62,16 +62,15 @@ def free_ports(count):
 class Slurm:
     """To be used in a `with`; `given` is the environment in which sbatch finds it."""
 
-    def __init__(self, folder, processors=2):
-        self.folder, self.processors, self.ran = folder, processors, []
+    def __init__(self, folder):
+        self.folder, self.ran = folder, []
         self.given = {**os.environ, "SLURM_CONF": os.path.join(folder, "slurm.conf"), "PATH": os.environ["PATH"] + ":/usr/sbin:/sbin"}
 
     def write_files(self):
         control, *ports = free_ports(1 + len(NODES))
         host = socket.gethostname().partition(".")[0]
-        cpus = os.cpu_count() or 1
         nodes = "\n".join(
-            f"NodeName={name} NodeHostname={host} NodeAddr=127.0.0.1 Port={port} CPUs={max(self.processors, cpus)} State=UNKNOWN" for name, port in zip(NODES, ports)
+            f"NodeName={name} NodeHostname={host} NodeAddr=127.0.0.1 Port={port} CPUs={os.cpu_count()} State=UNKNOWN" for name, port in zip(NODES, ports)
         )
         with open(self.given["SLURM_CONF"], "w") as file:
             file.write(CONF.format(host=host, port=control, folder=self.folder, nodes=nodes, names=",".join(NODES)))

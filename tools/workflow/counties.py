@@ -151,9 +151,7 @@ class Plan(NamedTuple):
     batches: dict
 
     def write(self, path):
-        text = json.dumps(self, indent=1).encode()
-        if not os.path.exists(path) or open(path, "rb").read() != text:
-            write_whole(path, text)
+        write_whole(path, json.dumps(self, indent=1).encode())
 
     @staticmethod
     def read(path):

@@ -33,13 +33,18 @@ def ran(folder, *words):
 
 def made(program):
     with open(program, "rb") as file:
-        return release.made(release.Commit(), file.read(), KIT)
+        return release.made(release.Commit(), file.read(), KIT)[0]  # its package is tried by package.py
+
+
+def version():
+    with open(os.path.join(TOP, "VERSION")) as file:
+        return file.read().strip()
 
 
 def as_packed(name, data):
     """Names, times and modes in the archive depend on the commit alone."""
     commit, folder = release.Commit(), name.removesuffix(".tar.gz")
-    yield "its name has the commit", name == f"raire-{commit.name[:12]}-x86_64.tar.gz"
+    yield "its name has the commit", name == f"raire-{version()}-{commit.name[:12]}-x86_64.tar.gz"
     with tempfile.NamedTemporaryFile(suffix=".tar.gz") as file:
         file.write(data)
         file.flush()
@@ -65,7 +70,13 @@ def as_unpacked(folder, program):
     yield "the page has commit, kit and digest", all(word in page for word in (release.Commit().name, KIT, digest))
     yield "there is no rt on the path", shutil.which("rt", path=PATH) is None
     status, out, err = ran(folder, "./raire", "--version")
-    yield "the version is the release's", (status, out, err) == (0, f"raire {release.Commit().short}, released; {KIT}\n", "")
+    yield "the version is the release's", (status, out, err) == (0, f"raire {version()}, commit {release.Commit().short}, released; {KIT}\n", "")
+    yield "so is ./raire version", ran(folder, "./raire", "version") == (status, out, err)
+    path = os.path.join(folder, release.PROGRAM)
+    with open(path, "ab") as file:
+        file.write(b"\n")
+    yield "another program than the release's is told", "; the program is not the one that was released\n" in ran(folder, "./raire", "version")[1]
+    os.truncate(path, os.path.getsize(path) - 1)
     yield "nothing is built", ran(folder, "./raire", "--build") == (0, "", "")
     for name in sorted(os.listdir(os.path.join(folder, "docs", "help"))):
         status, out, err = ran(folder, "./raire", "help", name.removesuffix(".txt"))
@@ -109,21 +120,49 @@ def by_the_script(folder):
     yield "nothing was written", not [name for name in os.listdir(clone) if name.endswith(".gz")]
 
 
-def by_the_built_program(program, folder):
-    """Where the program is this clone's own, and nothing was changed: ./raire release twice."""
-    if not os.path.exists(walk.OWN) or not os.path.samefile(program, walk.OWN) or release.Commit().is_changed() or not shutil.which("rt"):
-        return
+def not_built_here(program, folder):
+    """A program that something else put in its place is used with a warning, told by ./raire version, and not released."""
+    clone, bin = os.path.join(folder, "clone"), os.path.join(folder, "bin")
+    os.remove(os.path.join(clone, "another"))
+    os.makedirs(os.path.dirname(os.path.join(clone, release.PROGRAM)))
+    os.mkdir(bin)
+    with open(os.path.join(bin, "rt"), "w") as file:
+        file.write(f"#!/bin/sh\n[ \"$1\" != version ] || echo {KIT}\n")
+    os.chmod(os.path.join(bin, "rt"), 0o755)
+    with open(os.path.join(clone, release.PROGRAM), "w") as file:
+        file.write("#!/bin/sh\necho 3\n")
+    os.chmod(os.path.join(clone, release.PROGRAM), 0o755)
+    given = {**os.environ, "PATH": f"{bin}:{PATH}"}
+
+    def run(*words):
+        done = subprocess.run(["./raire", *words], cwd=clone, capture_output=True, text=True, env=given)
+        return done.returncode, done.stdout, done.stderr
+
+    status, out, err = run("release")
+    yield f"it isn't released: {err}", (status, out) == (1, "") and f"{release.PROGRAM} was not built here" in err
+    yield "./raire version says so", run("version")[1].endswith(f", not built here; {KIT}\n")
+    status, out, err = run("search")
+    yield f"a use of it says so: {err}", (status, out) == (0, "3\n") and "was not built here" in err
+    shutil.copy(program, os.path.join(clone, release.PROGRAM))
+    ran_record = subprocess.run([os.path.join(clone, "tools", "build", "built.py"), "record"], env=given)
+    yield "once it is recorded it is", ran_record.returncode == 0 and run("version")[1].endswith(f", built here; {KIT}\n")
+    for file in (os.path.join(clone, release.PROGRAM), os.path.join(clone, "crates", "desk", "src", "lib.rt")):
+        os.utime(file)
+        yield "times alone change nothing", run("version")[1].endswith(f", built here; {KIT}\n") and run("--build") == (0, "", "")
     texts = []
     for name in ("one", "two"):
         os.mkdir(os.path.join(folder, name))
-        done = subprocess.run([os.path.join(TOP, "raire"), "release", os.path.join(folder, name)], capture_output=True, text=True)
-        yield f"./raire release: {done.stderr}", done.returncode == 0
-        (made_file,) = os.listdir(os.path.join(folder, name))
-        with open(os.path.join(folder, name, made_file), "rb") as file:
-            texts.append((made_file, file.read()))
-        digest = hashlib.sha256(texts[-1][1]).hexdigest()
-        yield "its digest is told", done.stdout == f"{digest}  {os.path.join(folder, name, made_file)}\n"
-    yield "./raire release twice: the same bytes", texts[0] == texts[1]
+        status, out, err = run("release", os.path.join(folder, name))
+        yield f"it is released: {err}", status == 0
+        files = sorted(os.listdir(os.path.join(folder, name)))
+        data = [open(os.path.join(folder, name, file), "rb").read() for file in files]
+        texts.append((files, data))
+        wanted = {f"{hashlib.sha256(each).hexdigest()}  {os.path.join(folder, name, file)}" for file, each in zip(files, data)}
+        yield "the digests are printed", set(out.splitlines()) == wanted
+    yield "twice the same bytes, of each file", texts[0] == texts[1] and len(texts[0][0]) == 1 + bool(shutil.which("dpkg-deb"))
+    with open(os.path.join(clone, "crates", "desk", "src", "lib.rt"), "a") as file:
+        file.write("\n")
+    yield "a source that has changed is told", ", changed, not built; " in run("version")[1]
 
 
 def cases(program, folder):
@@ -139,7 +178,7 @@ def cases(program, folder):
     yield from walks(there)
     yield from scripts(there)
     yield from by_the_script(folder)
-    yield from by_the_built_program(program, folder)
+    yield from not_built_here(program, folder)
 
 
 def main():

@@ -60,7 +60,8 @@ class Copy:
     def __init__(self, folder):
         self.folder, self.notes, self.room = folder, os.path.join(folder, "notes"), os.path.join(folder, "room")
         os.mkdir(self.room)
-        shutil.copy(os.path.join(TOP, "raire"), folder)
+        for name in ("raire", "VERSION"):
+            shutil.copy(os.path.join(TOP, name), folder)
         shutil.copy(os.path.join(TOP, "crates.txt"), folder)
         shutil.copytree(os.path.join(TOP, "docs", "help"), os.path.join(folder, "docs", "help"))
         shutil.copytree(os.path.join(TOP, "tools", "build"), os.path.join(folder, "tools", "build"))
@@ -105,8 +106,10 @@ def helps(copy):
         yield f"words behind {word}", copy.run(word, "search") == (1, "", f"raire: no words belong behind {word}\n")
     told = "raire: help takes the name of one command, as in ./raire help check\n"
     yield "help of two words", copy.run("help", "check", "search") == (1, "", told)
-    status, out, err = copy.run("--version")
-    yield "version", status == 0 and out.startswith("raire ") and out.endswith("; a kit\n") and err == ""
+    with open(os.path.join(TOP, "VERSION")) as file:
+        wanted = (0, f"raire {file.read().strip()}, without a commit, not built; a kit\n", "")
+    for word in ("version", "--version"):
+        yield word, copy.run(word) == wanted
     yield "help builds nothing", not os.path.exists(copy.notes)
 
 
@@ -134,8 +137,12 @@ def builds(copy):
     yield "a newer source builds again", copy.run("--build", changes=source)[:2] == (0, "") and bool(copy.noted())
     yield "so does one that was changed meanwhile", copy.run("--build")[:2] == (0, "") and os.path.exists(copy.notes)
     os.remove(os.path.join(copy.folder, "bin", "rt"))
-    later = time.time() + 10
-    os.utime(source, (later, later))
+    time.sleep(0.1)
+    os.utime(source)
+    yield "a source that is only touched builds nothing", copy.run("--build") == (0, "", "")
+    os.remove(copy.notes)
+    with open(source, "a") as file:
+        file.write("// newer still\n")
     os.environ["PATH"], path = "/usr/bin:/bin", os.environ["PATH"]
     status, out, err = copy.run("--build")
     os.environ["PATH"] = path

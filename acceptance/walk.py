@@ -14,8 +14,12 @@ import tempfile
 
 TOP = os.path.dirname(os.path.dirname(os.path.abspath(__file__)))
 OWN = os.path.join(TOP, "crates", "raire", "out", "raire")
+
+sys.path.append(os.path.join(TOP, "tools", "build"))
+import built  # noqa: E402
+
 MARK = "that was printed by the line above"
-UNTRIED = ("templates are missing", "a library is missing", "bc: command not found")  # what isn't here can't be tried
+UNTRIED = ("the engine is missing", "templates are missing", "a library is missing", "bc: command not found")  # what isn't here can't be tried
 
 
 def blocks_of(text):
@@ -42,10 +46,12 @@ def is_as_shown(printed, wanted):
     return re.fullmatch(pattern, printed) is not None
 
 
-def printed_by(commands, folder, given):
-    """What each command prints on standard output and error, in one bash, which keeps statuses and variables from one to the next."""
+def printed_by(commands, folder, given, root=""):
+    """What each command prints on standard output and error, in one bash, which keeps statuses and variables from one to the next; in the folder of
+    another root, if one is given."""
     lines = ["exec 2>&1"] + [f"{command}\nlast=$?; echo; echo '{MARK}'; (exit $last)" for command in commands]
-    ran = subprocess.run(["bash", "-c", "\n".join(lines)], stdout=subprocess.PIPE, stdin=subprocess.DEVNULL, cwd=folder, env=given)
+    words = ["chroot", root, "bash", "-c", "\n".join([f"cd {shlex.quote(folder)}", *lines])] if root else ["bash", "-c", "\n".join(lines)]
+    ran = subprocess.run(words, stdout=subprocess.PIPE, stdin=subprocess.DEVNULL, cwd="/" if root else folder, env=given)
     return ran.stdout.decode(errors="replace").split(f"\n{MARK}\n")
 
 
@@ -66,7 +72,7 @@ def put_repository(program, folder):
     for name in ("examples", "acceptance", "docs", "plain", "tools"):
         os.symlink(os.path.join(TOP, name), os.path.join(folder, name))
     script = os.path.join(folder, "raire")
-    if os.path.exists(OWN) and os.path.samefile(program, OWN):
+    if os.path.exists(OWN) and os.path.samefile(program, OWN) and built.Record().see() == built.HERE:
         os.symlink(os.path.join(TOP, "raire"), script)
         return dict(os.environ)
     write_stand_in(program, script)

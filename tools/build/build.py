@@ -198,6 +198,8 @@ def stopped(*_):
 
 
 def main():
+    import built  # it stands on this module
+
     for it in (signal.SIGINT, signal.SIGTERM, signal.SIGHUP):
         signal.signal(it, stopped)
     named = named_in(os.path.join(TOP, "crates.txt"))
@@ -213,6 +215,7 @@ def main():
         begun = os.stat(folder).st_mtime_ns
         try:
             copied(named, build.below, folder)
+            sources = built.digest_of_sources(folder)
             refused = refusals(build, os.path.realpath(folder))
             if refused:
                 sys.stderr.writelines(refused)
@@ -223,6 +226,7 @@ def main():
             shutil.copy(os.path.join(folder, made), new)
             os.utime(new, ns=(begun, begun))  # so that a source that was changed since the copy is newer
             os.replace(new, os.path.join(TOP, made))
+            built.Record().write(sources, "./raire --build")
         except OSError as error:
             why = error.args[0][0][2] if isinstance(error, shutil.Error) else error
             say(f"the program was not built: {why}")

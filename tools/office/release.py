@@ -8,19 +8,23 @@ import subprocess
 import sys
 import tarfile
 
+sys.path[:0] = [os.path.join(os.path.dirname(os.path.dirname(os.path.abspath(__file__))), name) for name in ("build", "package")]
+
+import built
+import debian
 from ask import Refusal, TOP
 from words import ask_for_help, help_of, put, Words
 
 NAME = "release"
 PROGRAM = "crates/raire/out/raire"
-PARTS = ["README.md", "docs", "examples", "plain", "raire", "tools"]
-APART = ("tools/build/", f"tools/{NAME}")  # what proves, builds and releases needs the sources
+PARTS = ["CHANGELOG.md", "CITATION.cff", "LICENSE", "README.md", "VERSION", "docs", "examples", "plain", "raire", "tools"]
+APART = ("tools/build/", "tools/package/", f"tools/{NAME}", f"docs/help/{NAME}.txt")  # what proves, builds and releases needs the sources
 MACHINE = "x86_64"
 
 File = collections.namedtuple("File", "data mode")
 
 PAGE = """\
-# A release of the RAIRE audit suite
+# Release {version} of the RAIRE audit suite
 
 | | |
 |---|---|
@@ -88,17 +92,24 @@ class Commit:
             return {each.name: File(tar.extractfile(each).read(), 0o755 if each.mode & 0o100 else 0o644) for each in listed}
 
 
-def made(commit, program, kit):
-    """The name and the bytes of a release."""
+def contents(commit, program, kit):
+    """The files of a release, and its version."""
     files = commit.files()
-    digest = hashlib.sha256(program).hexdigest()
+    version, digest = files["VERSION"].data.decode().strip(), hashlib.sha256(program).hexdigest()
     files[PROGRAM] = File(program, 0o755)
-    files["RELEASE.md"] = File(PAGE.format(commit=commit.name, kit=kit, digest=digest, program=PROGRAM).encode(), 0o644)
-    files["RELEASE"] = File(f"raire {commit.short}, released; {kit}\n".encode(), 0o644)
+    files["RELEASE.md"] = File(PAGE.format(version=version, commit=commit.name, kit=kit, digest=digest, program=PROGRAM).encode(), 0o644)
+    files["RELEASE"] = File(f"raire {version}, commit {commit.short}, released; {kit}\nprogram {digest}\n".encode(), 0o644)
+    return files, version
+
+
+def made(commit, program, kit):
+    """The name and the bytes of a release, and those of its Debian package, where dpkg-deb is here."""
+    files, version = contents(commit, program, kit)
+    package = debian.made(files, version, commit.short, int(commit.time))
     sums = "".join(f"{hashlib.sha256(files[name].data).hexdigest()}  {name}\n" for name in sorted(files))
     files["SHA256SUMS"] = File(sums.encode(), 0o644)
-    folder = f"raire-{commit.short}-{MACHINE}"
-    return f"{folder}.tar.gz", packed(folder, files, int(commit.time))
+    folder = f"raire-{version}-{commit.short}-{MACHINE}"
+    return [(f"{folder}.tar.gz", packed(folder, files, int(commit.time))), *([package] if package else [])]
 
 
 def packed(folder, files, time):
@@ -113,16 +124,29 @@ def packed(folder, files, time):
     return out.getvalue()
 
 
-def built():
-    """The program of this clone, and the kit with which it was built."""
+def proved():
+    """The program of this clone, and the kit with which it was proved and built here. Both the program and the sources have to be those of the record."""
     script = os.path.join(TOP, "raire")
     if subprocess.run([script, "--build"], stdout=subprocess.DEVNULL).returncode:
         raise Refusal(70, f"{NAME}: there is no program to release\n")
-    _, _, kit = subprocess.run([script, "--version"], capture_output=True, text=True).stdout.strip().partition("; ")
-    if not kit or kit == "no kit on the path":
-        raise told("no kit is on the path, so that nobody could say with which one the program was proved")
-    with open(os.path.join(TOP, PROGRAM), "rb") as file:
-        return file.read(), kit
+    record = built.Record(TOP)
+    if record.see() != built.HERE:
+        raise told(f"{PROGRAM} was not built here: remove it and run ./raire --build")
+    with open(record.program, "rb") as file:
+        program, said = file.read(), record.read()
+    if hashlib.sha256(program).hexdigest() != said["program"]:
+        raise told("the program has just changed")
+    return program, said["kit"]
+
+
+def write(folder, name, data):
+    path = os.path.join(folder, name)
+    try:
+        with open(path, "wb") as file:
+            file.write(data)
+    except OSError as fault:
+        raise Refusal(8, f"{NAME}: {path}: {fault.strerror}\n") from None
+    put(NAME, f"{hashlib.sha256(data).hexdigest()}  {path}\n")
 
 
 def main(words):
@@ -136,14 +160,11 @@ def main(words):
         commit = Commit()
         if commit.is_changed():
             raise told("a file of the folder is new or another one than in the commit: git status tells which")
-        name, data = made(commit, *built())
-        path = os.path.join(folder, name)
-        try:
-            with open(path, "wb") as file:
-                file.write(data)
-        except OSError as fault:
-            raise Refusal(8, f"{NAME}: {path}: {fault.strerror}\n") from None
-        put(NAME, f"{hashlib.sha256(data).hexdigest()}  {path}\n")
+        parts = made(commit, *proved())
+        for name, data in parts:
+            write(folder, name, data)
+        if len(parts) < 2:
+            sys.stderr.write(f"{NAME}: there is no Debian package: dpkg-deb is missing\n")
     except Refusal as refusal:
         sys.stderr.write(refusal.text)
         return refusal.status

@@ -1,0 +1,353 @@
+#!/usr/bin/env python3
+"""Tries ./raire state: on the processors of this machine, and on a Slurm of two nodes that this script begins and ends.
+
+acceptance/state.py PROGRAM [CONTESTS [COUNTIES]] first goes through a small state by hand: each output is compared with the same command typed, and refused
+files and tables with their lines. Then it makes a state, of 24 contests in 8 counties if no number is given, runs it, runs a copy that is killed in
+the middle and cut off, and one on Slurm, where a job is cancelled and another one is killed: the digests have to be the same, and what was whole isn't made
+anew. The last line says how many things were as they should be. Where Snakemake or Slurm isn't here, what needs it isn't tried, and a line says so.
+"""
+import contextlib
+import csv
+import os
+import re
+import shlex
+import shutil
+import signal
+import subprocess
+import sys
+import tempfile
+import time
+
+import made_state
+import places  # noqa: F401
+import slurm
+import walk
+
+TOP = walk.TOP
+EXAMPLES = os.path.join(TOP, "examples")
+CALL = os.path.join(TOP, "tools", "state")
+PATIENCE = 1800
+JOBS = 25  # about this many on Slurm, each with three contests or more
+COUNTY_SEED, TOWN_SEED = "2026-11-03 dice 5 1 4 4 2 6 3 1", "2026-11-03 dice 2 6 1 4 5 5 3 1"
+TERMS = f"""\
+county,contest,audit,limit,gamma,seed,draws,trim,floor,nodes,sets
+*,,none,,,,,,,,
+county,,contests,,,{COUNTY_SEED},40 80,,,,
+county,Library levy,skip,,,,,,,,
+town,,session,,,{TOWN_SEED},40 90,yes,,,
+o'neil,,,,,,,,2,,
+assembly,,,,,,,,,3,
+"""
+TOWN = "Town+council+seat+3"
+
+
+class Tried:
+    def __init__(self, program):
+        self.program, self.count, self.failed = program, 0, 0
+
+    def see(self, shows, holds, told=""):
+        self.count += 1
+        if not holds:
+            self.failed += 1
+            print(f"state: {shows}: not so {str(told)[-2000:]}")
+
+    def words(self, folder, *more):
+        return [CALL, folder, *more]
+
+    def given(self, more=()):
+        return {**os.environ, "RAIRE": self.program, **dict(more)}
+
+    def run(self, folder, *more, given=()):
+        """Status and both texts."""
+        done = subprocess.run(self.words(folder, *more), capture_output=True, text=True, stdin=subprocess.DEVNULL, env=self.given(given), timeout=PATIENCE)
+        return done.returncode, done.stdout, done.stderr
+
+
+def put(folder, *parts, text=None, of=None):
+    path = os.path.join(folder, *parts)
+    os.makedirs(os.path.dirname(path), exist_ok=True)
+    if of:
+        shutil.copy(os.path.join(EXAMPLES, of), path)
+    else:
+        with open(path, "w") as file:
+            file.write(text)
+
+
+def read(*parts):
+    with open(os.path.join(*parts), "rb") as file:
+        return file.read()
+
+
+def rows(folder):
+    with open(os.path.join(folder, "made", "summary.csv"), newline="") as file:
+        return {(row["county"], row["contest"]): row for row in csv.DictReader(file)}
+
+
+def times(folder):
+    """The time of each output of contests and counties."""
+    return {
+        os.path.join(place, name): os.stat(os.path.join(place, name)).st_mtime_ns
+        for part in ("contests", "counties") for place, _, names in os.walk(os.path.join(folder, "made", part)) for name in names
+    }
+
+
+# ---- by hand
+
+def write_by_hand(folder):
+    put(folder, "terms.csv", text=TERMS)
+    for name in ("ballots.raire", "manifest.csv"):
+        put(folder, "counties", "county", name, of=f"county/{name}")
+        put(folder, "counties", "town", name, of=f"town/{name}")
+    for name in ("seen.csv", "seen_40.csv"):
+        put(folder, "counties", "county", name, of="county/seen.csv")
+        put(folder, "counties", "town", TOWN, name, of="town/seen.csv")
+    for name, of in (("o'neil", "county.raire"), ("tied", "tie_that_matters.raire"), ("assembly", "assembly.raire")):
+        put(folder, "counties", name, "ballots.raire", of=of)
+        put(folder, "counties", name, "manifest.csv", text="batch,cards\nb,100000\n")
+
+
+def typed():
+    """Outputs, and the commands that print them in the state's folder."""
+    county, town, own = "counties/county/ballots.raire", "counties/town/ballots.raire", f"made/contests/town/{TOWN}"
+    ward, files = "made/contests/county/Council+ward+1", "counties/county/ballots.raire counties/county/manifest.csv"
+    audited = f"{town} counties/town/manifest.csv {own}/trimmed.json"
+    return {
+        f"{ward}/assertions.json": f'search --contest "Council ward 1" {county}',
+        f"{ward}/check.txt": f'check --sets 1048576 --contest "Council ward 1" {county} {ward}/assertions.json',
+        f"{ward}/plan.txt": f"plan counties/county/manifest.csv {ward}/assertions.json",
+        "made/contests/county/Council+ward+2/search.txt": f'search --contest "Council ward 2" {county}',
+        "made/contests/tied/1/search.txt": "search counties/tied/ballots.raire",
+        "made/contests/o'neil/339/search.txt": "search --floor 2 counties/o\"'\"neil/ballots.raire",
+        "made/counties/county/sample_80.csv": f'sample counties/county/manifest.csv --seed "{COUNTY_SEED}" --draws 80',
+        "made/counties/county/contests_40.txt": f'contests {files} counties/county/seen_40.csv --seed "{COUNTY_SEED}" --draws 40',
+        "made/counties/county/contests_80.txt": f'contests {files} counties/county/seen.csv --seed "{COUNTY_SEED}" --draws 80',
+        f"{own}/trimmed.json": f"trim {town} {own}/assertions.json",
+        f"{own}/check_of_trimmed.txt": f"check {town} {own}/trimmed.json",
+        f"{own}/session.json": f'open {audited} --seed "{TOWN_SEED}"',
+        f"{own}/session_40.json": f"audit {own}/session.json {audited} counties/town/{TOWN}/seen_40.csv --draws 40",
+        f"{own}/session_90.json": f"audit {own}/session_40.json {audited} counties/town/{TOWN}/seen.csv --draws 90",
+        f"{own}/sample_90.csv": f'sample counties/town/manifest.csv --seed "{TOWN_SEED}" --draws 90',
+        f"{own}/page.html": f"show {audited} {own}/session_90.json counties/town/{TOWN}/seen.csv --contest 'Town council seat 3' --sets 1048576",
+        "made/counties/county/page.html": f'show {files} counties/county/seen.csv --seed "{COUNTY_SEED}" --draws 80',
+    }
+
+
+def by_hand(tried, folder):
+    write_by_hand(folder)
+    status, out, err = tried.run(folder, "--jobs", "2", "--group", "3")
+    tried.see("the state by hand is done", status == 0, (status, out, err))
+    found = rows(folder)
+    wanted = {
+        ("tied", "1"): "tie", ("county", "Council ward 2"): "tie", ("assembly", "2026"): "spent", ("county", "Sheriff"): "full count", ("o'neil", "339"): "full count",
+        ("county", "Mayor"): "signed off", ("county", "Council ward 1"): "signed off", ("county", "School board seat 4"): "signed off", ("town", "Town council seat 3"): "signed off",
+    }
+    tried.see("each contest has its state", {key: row["state"] for key, row in found.items() if key[0] != "assembly"} == {key: state for key, state in wanted.items() if key[0] != "assembly"}, found)
+    tried.see("a budget of the table is kept", [row["state"] for key, row in found.items() if key[0] == "assembly"] == ["spent"], found)
+    order = [row["state"] for row in found.values()]
+    states = ["tie", "spent", "full count", "signed off"]
+    tried.see("those that need a hand are first", order == sorted(order, key=states.index), order)
+    tried.see("the first look that signs off is told", [found["county", name]["signed_off"] for name in ("Mayor", "Council ward 1")] == ["40", "80"], found)
+    tool = {"show": os.path.join(TOP, "tools", "show")}
+    for path, line in typed().items():
+        words = shlex.split(line)
+        done = subprocess.run([tool.get(words[0], tried.program), *words[words[0] in tool:]], cwd=folder, capture_output=True, env=tried.given())
+        got, is_same = read(folder, path), False
+        is_same = got == done.stdout if words[0] != "show" else without_asked(got) == without_asked(done.stdout)
+        tried.see(f"{path} is what is typed prints: {line}", is_same, done.stderr.decode())
+    done = subprocess.run(["sha256sum", "--check", "--quiet", "made/digests"], cwd=folder, capture_output=True, text=True)
+    tried.see("the digests are those of the files", done.returncode == 0, done.stdout + done.stderr)
+    page = read(folder, "made", "index.html").decode()
+    links = re.findall('href="([^"]+)"', page)
+    tried.see("the page opens the page of each contest", len(links) == len(found) + 1 and all(os.path.exists(os.path.join(folder, "made", decoded(link))) for link in links), links)
+    again(tried, folder)
+    refused(tried, folder)
+
+
+def decoded(link):
+    from urllib.parse import unquote
+    return unquote(link.replace("&#39;", "'"))
+
+
+def without_asked(page):
+    """A page without the list of what was asked, whose words may have another order."""
+    return re.sub(rb"<li><code>.*?</li>\n", b"", re.sub(rb"<div><dt>.*?</div>\n", b"", page))
+
+
+def again(tried, folder):
+    before, digests = times(folder), read(folder, "made", "digests")
+    status, _, err = tried.run(folder, "--group", "3")
+    tried.see("what is whole isn't made anew", status == 0 and times(folder) == before and "; 0 jobs to do" in err, err)
+    names = [f"made/contests/town/{TOWN}/session_40.json", "made/contests/county/Mayor/assertions.json", "made/counties/county/contests_40.txt"]
+    for name, cut in zip(names, (lambda data: data[:len(data) // 2], lambda data: b"", None)):
+        path = os.path.join(folder, name)
+        data = read(path)
+        os.remove(path)
+        if cut:
+            with open(path, "wb") as file:
+                file.write(cut(data))
+    status, _, err = tried.run(folder, "--group", "3")
+    after = times(folder)
+    changed = {os.path.relpath(path, folder) for path in after if after[path] != before.get(path)}
+    tried.see("what is cut off or gone is made anew, and nothing else", status == 0 and changed == set(names), (changed, err))
+    tried.see("with the same digests", read(folder, "made", "digests") == digests)
+
+
+BAD_TERMS = [
+    ("county,conteste\n", "line 1: no column is called conteste"), ("contest\n", "line 1: there is no column county"), ("county,county\n", "line 1: a column is there twice"),
+    ("county,audit\nnone,none\n", "line 2: there is no folder counties/none"), ("county,contest\ntown,Mayor\n", "line 2: no contest of counties/town/ballots.raire is called Mayor"),
+    ("county,audit\ntown,contest\n", "line 2: audit is one of"), ("county,limit\ntown,5\ntown,6\n", "line 3: the row of line 2 is about the same"),
+    ("county,limit\ntown,0\n", "line 2: limit is a number from 1 to"), ("county,draws\ntown,90 40\n", "line 2: draws are rising numbers"), ("county,trim\ntown,maybe\n", "line 2: trim is yes or no"),
+    ("county,seed\ntown,é\n", "line 2: a seed is"), ("county,limit\ntown\n", "line 2: it has another number of cells"), ("county,contest,audit\n*,Mayor,none\n", "line 2: a row with the county *"),
+    ("county,contest,audit\ncounty,Mayor,contests\n", "line 2: contests audits all contests"), ("county,contest,audit,limit\ncounty,,contests,\ncounty,Mayor,,7\n", "line 3: contests audits this contest"),
+    ('county,"limit\n', "terms.csv: "),
+]
+
+
+def refused(tried, folder):
+    """Tables and words that are no good; files that the program refuses, which fail alone and are mended."""
+    for text, line in BAD_TERMS:
+        put(folder, "terms.csv", text=text)
+        status, out, err = tried.run(folder)
+        tried.see(f"{text!r} is refused", (status, out) == (1, "") and line in err, err)
+    put(folder, "terms.csv", text=TERMS)
+    for words in ([], [folder, "--jobs", "0"], [folder, "--jobs"], [folder, "--no-such"], [os.path.join(folder, "counties")], [folder, folder]):
+        done = subprocess.run([CALL, *words], capture_output=True, text=True, env=tried.given())
+        tried.see(f"{words} is refused", (done.returncode, done.stdout) == (1, "") and done.stderr.startswith("state: "), done.stderr)
+    ballots, manifest, seen = (os.path.join(folder, "counties", name) for name in ("tied/ballots.raire", "o'neil/manifest.csv", "county/seen.csv"))
+    before, kept = read(ballots), read(seen)
+    with open(ballots, "ab") as file:
+        file.write(b"7,b_1,1\n")
+    with open(seen, "ab") as file:
+        file.write(b"P1_1\n")
+    town = times(folder)[os.path.join(folder, f"made/contests/town/{TOWN}/session_90.json")]
+    status, out, err = tried.run(folder, "--group", "1")
+    tried.see("refused files fail", status == 1 and "6 failed" in out, (out, err))
+    tried.see("with the program's line", "state: tied, contest 1: search --nodes=100000: status 2: raire: counties/tied/ballots.raire: B7 at " in err, err)
+    tried.see("of each of them", "state: county: contests 80: status 2: raire: counties/county/seen.csv: V1 at " in err, err)
+    tried.see("the others are done", rows(folder)["o'neil", "339"]["state"] == "full count", out)
+    for path, data in ((ballots, before), (seen, kept)):
+        with open(path, "wb") as file:
+            file.write(data)
+    status, out, err = tried.run(folder, "--group", "1")
+    tried.see("once they are mended the rest is made", status == 0 and times(folder)[os.path.join(folder, f"made/contests/town/{TOWN}/session_90.json")] == town, (out, err))
+    os.remove(os.path.join(folder, "counties", "town", "manifest.csv"))
+    status, out, err = tried.run(folder, "--group", "1")
+    tried.see("a file that isn't there fails", status == 1 and "status 12: raire: counties/town/manifest.csv: no such file" in err, err)
+
+
+# ---- a state that is made, cut off and on Slurm
+
+def copy_of(folder, to):
+    os.mkdir(to)
+    for name in ("terms.csv", "counties"):
+        os.symlink(os.path.join(folder, name), os.path.join(to, name))
+    return to
+
+
+def whole(folder):
+    """The outputs that are there under their names."""
+    return {path: time for path, time in times(folder).items() if not path.endswith(".part")}
+
+
+def cut_off(tried, folder, digests, group, count):
+    """Killed with all that it began, at three moments, with outputs cut off by hand; then begun again. Whole it has so many outputs."""
+    for most in (count // 20, count // 4, count // 2):
+        with subprocess.Popen(tried.words(folder, "--group", group, "--without-pages"), stdout=subprocess.DEVNULL, stderr=subprocess.DEVNULL, env=tried.given(), start_new_session=True) as begun:
+            while begun.poll() is None and len(whole(folder)) < most:
+                time.sleep(0.02)
+            with contextlib.suppress(ProcessLookupError):
+                os.killpg(begun.pid, signal.SIGKILL)
+    there = whole(folder)
+    tried.see("it was killed in the middle", count // 20 <= len(there) < count and not os.path.exists(os.path.join(folder, "made", "digests")), len(there))
+    cut = sorted(there)[::4]
+    for path in cut:
+        os.truncate(path, os.path.getsize(path) // 2)
+    status, out, err = tried.run(folder, "--group", group, "--without-pages")
+    tried.see("begun again it ends", status == 0, (out, err))
+    tried.see("with the same digests", read(folder, "made", "digests") == digests)
+    after = whole(folder)
+    tried.see("what was whole isn't made anew", all(after[path] == there[path] for path in set(there) - set(cut) if not path.endswith("search.txt")))
+    tried.see("no part of a file is left", after == times(folder))
+
+
+def on_slurm(tried, folder, digests, group, place):
+    missing = slurm.missing()
+    if missing or os.geteuid() != 0:
+        print(f"acceptance/state.py: NOT TRIED: Slurm: {', '.join(missing) + ' missing' if missing else 'this needs root'}")
+        return
+    with contextlib.ExitStack() as stack:
+        try:
+            cluster = stack.enter_context(slurm.Slurm(place))
+        except (OSError, TimeoutError, subprocess.SubprocessError) as fault:
+            print(f"acceptance/state.py: NOT TRIED: Slurm doesn't begin here: {fault}")
+            return
+        harmed(tried, folder, digests, group, cluster)
+
+
+def harmed(tried, folder, digests, group, cluster):
+    """A job is cancelled and another one is killed: they are begun again, and no other."""
+    words = tried.words(folder, "--profile", "slurm", "--group", group, "--without-pages")
+    with open(os.path.join(cluster.folder, "told"), "w+") as told, subprocess.Popen(words, stdout=told, stderr=told, env=tried.given(cluster.given.items())) as begun:
+        jobs, end = [], time.monotonic() + PATIENCE / 2
+        while begun.poll() is None and len(jobs) < 2 and time.monotonic() < end:
+            jobs = cluster.said("squeue", "--noheader", "--states=R", "--format=%A").split()
+            time.sleep(0.05)
+        count = len(cluster.said("squeue", "--noheader", "--format=%A").split())
+        if len(jobs) > 1:
+            cluster.said("scancel", jobs[0])
+            killed = kill_of(cluster, jobs[1])
+        status = begun.wait(PATIENCE)
+        told.seek(0)
+        text = told.read()
+    tried.see("two jobs were running, and were ended", len(jobs) > 1 and killed, (jobs, count, text))
+    tried.see("on Slurm it ends all the same", status == 0, text + read(folder, "made", "snakemake.log").decode(errors="replace"))
+    tried.see("with the same digests as on this machine", status == 0 and read(folder, "made", "digests") == digests)
+    ids = re.findall("with external jobid '([0-9]+)'", read(folder, "made", "snakemake.log").decode(errors="replace"))
+    batches = len({name.rpartition(".")[2] for name in os.listdir(os.path.join(folder, "made", "runs", "done"))})
+    tried.see("their jobs alone were begun again", batches < len(ids) <= batches + 2, (ids, batches))
+
+
+def kill_of(cluster, job):
+    """Kills all processes of a job on its node."""
+    killed = False
+    for name in filter(str.isdigit, os.listdir("/proc")):
+        with contextlib.suppress(OSError):
+            given = read("/proc", name, "environ")
+            if f"SLURM_JOB_ID={job}\0".encode() in given and f"SLURM_CONF={cluster.given['SLURM_CONF']}\0".encode() in given:
+                os.kill(int(name), signal.SIGKILL)
+                killed = True
+    return killed
+
+
+def made(tried, place, contests, counties):
+    folder = os.path.join(place, "made_state")
+    made_state.write_state(folder, contests, counties)
+    start = time.monotonic()
+    status, out, err = tried.run(folder, "--without-pages")
+    tried.see("a state that is made is done", status == 0, (out, err))
+    tried.see("each contest has a row", status == 0 and len(rows(folder)) == contests, out)
+    if status:
+        return
+    print(f"state: {contests} contests of {counties} counties in {round(time.monotonic() - start)} seconds: {out.splitlines()[0]}")
+    digests, group = read(folder, "made", "digests"), str(max(3, contests // JOBS))
+    cut_off(tried, copy_of(folder, os.path.join(place, "cut_off")), digests, group, len(times(folder)))
+    os.mkdir(os.path.join(place, "slurm"))
+    on_slurm(tried, copy_of(folder, os.path.join(place, "on_slurm")), digests, group, os.path.join(place, "slurm"))
+
+
+def main():
+    program = os.path.abspath(sys.argv[1])
+    contests, counties = (int(word) for word in (sys.argv[2:] + ["24", "8"][len(sys.argv[2:]):])[:2])
+    if not shutil.which("snakemake"):
+        print("acceptance/state.py: NOT TRIED: snakemake isn't here")
+        return
+    tried = Tried(program)
+    with tempfile.TemporaryDirectory() as place:
+        by_hand(tried, os.path.join(place, "by hand"))
+        made(tried, place, contests, counties)
+    print(f"{tried.count - tried.failed} things of a state as they should be, {tried.failed} not")
+    sys.exit(1 if tried.failed else 0)
+
+
+if __name__ == "__main__":
+    main()

@@ -1,0 +1,238 @@
+"""./raire state: plans the jobs of a state, has Snakemake run them, and tells what came of them."""
+import contextlib
+import fcntl
+import os
+import shutil
+import subprocess
+import sys
+import time
+
+import counties
+import runs
+import steps
+from ask import Refusal, TOP
+from counties import MADE, Plan, write_whole
+from words import ask_for_help, help_of, put, Words
+
+NAME = "state"
+SNAKEMAKE = "snakemake"
+OWN = os.path.join(TOP, "crates", "raire", "out", "raire")
+HERE = os.path.dirname(os.path.abspath(__file__))
+CONTESTS_A_JOB, SECONDS_A_RUN = 50, 600
+LAST_LINES = 20  # of Snakemake's, if no step says why
+FAILED = 1
+
+
+def told(text):
+    return Refusal(1, f"{NAME}: {text}\n")
+
+
+def say(text):
+    sys.stderr.write(f"{NAME}: {text}\n")
+    sys.stderr.flush()
+
+
+def words_of(words):
+    """The words of ./raire state, and behind a word -- those for Snakemake."""
+    own, further = (words[:words.index("--")], words[words.index("--") + 1:]) if "--" in words else (words, [])
+    parser = Words(NAME)
+    parser.add_argument("folder")
+    for name in ("--jobs", "--group", "--seconds"):
+        parser.option(name)
+    parser.option("--profile")
+    parser.add_argument("--without-pages", action="store_true")
+    given = parser.parse_args(own)
+    for name in ("jobs", "group", "seconds"):
+        text = getattr(given, name)
+        if text is not None and not (text.isascii() and text.isdigit() and 1 <= int(text) <= 100_000):
+            raise told(f"--{name} is a number from 1 to 100000, and not {text}")
+    return given, further
+
+
+def program():
+    """The program, its digest, and what its version says where it is this clone's own."""
+    given = os.environ.get("RAIRE")
+    if given:
+        path = shutil.which(given)
+        if path is None:
+            raise told(f"RAIRE names no program: {given}")
+        return os.path.abspath(path), ""
+    script = os.path.join(TOP, "raire")
+    if subprocess.run([script, "--build"], stdin=subprocess.DEVNULL, stdout=subprocess.DEVNULL).returncode:
+        raise Refusal(70, f"{NAME}: there is no program to run\n")
+    return OWN, subprocess.run([script, "--version"], capture_output=True, text=True).stdout.strip()
+
+
+def see_engine(with_pages):
+    if not shutil.which(SNAKEMAKE):
+        raise told("the engine is missing: apt-get install snakemake")
+    if with_pages:
+        try:
+            import jinja2  # noqa: F401
+        except ImportError:
+            raise told("templates are missing: apt-get install python3-jinja2; or give --without-pages") from None
+
+
+@contextlib.contextmanager
+def alone(top):
+    """One run in a folder at a time. The lock ends with the process, however it ends."""
+    os.makedirs(os.path.join(top, MADE), exist_ok=True)
+    with open(os.path.join(top, MADE, ".lock"), "w") as file:
+        try:
+            fcntl.flock(file, fcntl.LOCK_EX | fcntl.LOCK_NB)
+        except BlockingIOError:
+            raise told(f"another run works in {top}") from None
+        yield
+
+
+def plan_of(given):
+    top = os.path.abspath(given.folder)
+    path, version = program()
+    with open(path, "rb") as file:
+        digest = counties.digest_of(file.read())
+    found = counties.read(top)
+    batches = counties.batches_of(found, int(given.group or CONTESTS_A_JOB))
+    return Plan(top, path, digest, version, int(given.seconds or SECONDS_A_RUN), not given.without_pages, batches)
+
+
+def prepare(plan):
+    """Takes away what stands for a step of which an output is missing, cut off, or of other files. The number of jobs that are left."""
+    for part in list(runs.parts_of(plan.top)):
+        with contextlib.suppress(OSError):
+            os.remove(part)
+    shutil.rmtree(os.path.join(plan.top, MADE, "runs", "failed"), ignore_errors=True)
+    digests, left = runs.Digests(plan.top), 0
+    for batch in plan.batches:
+        is_whole = True
+        for step in steps.names(plan):
+            is_whole = is_whole and os.path.exists(steps.done(plan, step, batch)) and is_kept(plan, step, batch, digests)
+            if not is_whole:
+                left += 1
+                with contextlib.suppress(FileNotFoundError):
+                    os.remove(steps.done(plan, step, batch))
+    drop_other_batches(plan)
+    return left
+
+
+def is_kept(plan, step, batch, digests):
+    try:
+        for does, who, of in steps.each(plan, step, batch, False, digests):
+            does(who, of)
+    except (runs.Missing, runs.Failed):
+        return False
+    return True
+
+
+def drop_other_batches(plan):
+    folder = os.path.join(plan.top, MADE, "runs", "done")
+    for name in os.listdir(folder) if os.path.isdir(folder) else []:
+        step, _, batch = name.partition(".")
+        if batch not in plan.batches or step not in steps.names(plan):
+            os.remove(os.path.join(folder, name))
+
+
+def command(plan, given, further):
+    words = [SNAKEMAKE, "--snakefile", os.path.join(HERE, "Snakefile"), "--directory", os.path.join(plan.top, MADE), "--nolock", "--rerun-incomplete"]
+    words += ["--rerun-triggers", "mtime", "--keep-going", "--quiet", "rules"]
+    profile = given.profile
+    if profile:
+        own = os.path.join(HERE, profile)
+        words += ["--profile", own if os.path.isdir(own) else profile]
+        words += ["--jobs", given.jobs] if given.jobs else []
+    else:
+        words += ["--cores", given.jobs or str(len(os.sched_getaffinity(0)))]
+    return words + further
+
+
+def count_done(plan):
+    return sum(os.path.exists(steps.done(plan, step, batch)) for batch in plan.batches for step in steps.names(plan))
+
+
+def run_jobs(plan, words, left):
+    """Has Snakemake run the jobs, and tells after each tenth how many are done."""
+    log = os.path.join(plan.top, MADE, "snakemake.log")
+    start, before, shown = time.monotonic(), count_done(plan), 0
+    with open(log, "w") as file, subprocess.Popen(words, stdin=subprocess.DEVNULL, stdout=file, stderr=file) as ran:
+        try:
+            while ran.poll() is None:
+                with contextlib.suppress(subprocess.TimeoutExpired):
+                    ran.wait(1)
+                made = count_done(plan) - before
+                if made * 10 // left > shown:
+                    shown = made * 10 // left
+                    say(f"{made} of {left} jobs done after {round(time.monotonic() - start)} seconds")
+        except KeyboardInterrupt:
+            ran.wait()  # it got the signal too, and ends its jobs
+            raise told("stopped; run it again, and it makes what is missing") from None
+    return ran.returncode, log
+
+
+def failures(plan):
+    """What failed, and its line by county and contest."""
+    lines = []
+    for step in steps.names(plan):
+        for batch in plan.batches:
+            with contextlib.suppress(FileNotFoundError):
+                with open(steps.failures(plan, step, batch), errors="replace") as file:
+                    lines += file.read().splitlines()
+    return lines
+
+
+def by_contest(plan, lines):
+    found = {}
+    for county in plan.counties():
+        found.update({(county.name, ""): line for line in lines if line.startswith(f"{county.name}: ")})
+        found.update({(county.name, contest.id): line for contest in county.contests for line in lines if line.startswith(f"{contest.name()}: ")})
+    return found
+
+
+def sum_up(plan, lines):
+    """The summary; and where nothing failed, what an earlier run made of other contests is taken away."""
+    from summary import Summary
+
+    summary = Summary(plan, by_contest(plan, lines))
+    made = {"summary.csv": summary.table(), **({"index.html": summary.page()} if plan.pages else {})}
+    for name, data in made.items():
+        write_whole(os.path.join(plan.top, MADE, name), data)
+        summary.outputs[os.path.join(MADE, name)] = counties.digest_of(data)
+    if not lines:
+        for path in list(summary.left_over()):
+            os.remove(os.path.join(plan.top, path))
+    write_whole(os.path.join(plan.top, MADE, "digests"), summary.digests())
+    return summary
+
+
+def run(given, further):
+    see_engine(not given.without_pages)
+    top = os.path.abspath(given.folder)
+    if not os.path.isdir(os.path.join(top, "counties")):
+        raise told(f"{given.folder} has no folder counties")
+    with alone(top):
+        plan = plan_of(given)
+        left = prepare(plan)
+        plan.write(os.path.join(top, MADE, counties.PLAN))
+        contests = sum(len(county.contests) for county in plan.counties())
+        say(f"{contests} contests of {len(plan.counties())} counties; {left} jobs to do")
+        status, log = run_jobs(plan, command(plan, given, further), left) if left else (0, "")
+        lines = failures(plan)
+        summary = sum_up(plan, lines)
+        for line in lines:
+            say(line)
+        if status and not lines:
+            with open(log, errors="replace") as file:
+                sys.stderr.writelines(file.readlines()[-LAST_LINES:])
+            say(f"{SNAKEMAKE} ended with status {status}; all that it said is in {log}")
+        counts = ", ".join(f"{count} {state}" for state, count in summary.counts().items())
+        put(NAME, f"{counts}\n{os.path.join(given.folder, MADE, 'summary.csv')}\n")
+        return FAILED if status or lines else 0
+
+
+def main(words):
+    try:
+        if ask_for_help(words):
+            put(NAME, help_of(NAME))
+            return 0
+        return run(*words_of(words))
+    except Refusal as refusal:
+        sys.stderr.write(refusal.text)
+        return refusal.status

@@ -1,0 +1,214 @@
+"""The steps from a ballot file to an audit, contest by contest: what is asked of the program, and which file keeps its answer."""
+import os
+from typing import NamedTuple
+
+import runs as running
+from limits import DEFAULT_NODES, MOST_NODES, MOST_SETS
+from runs import Failed
+
+TIE, SPENT, FULL_COUNT, REFUTED, UNCONFIRMED = 3, 4, 5, 6, 10
+NODES, SETS, MORE_NODES = f"--nodes={DEFAULT_NODES}", f"--sets={MOST_SETS}", f"--nodes={MOST_NODES}"
+NEVER_SPENT = 20  # candidates, by sets
+
+
+class Found(NamedTuple):
+    """An assertion file, and the budget with which it was found or accepted."""
+    file: str
+    budget: str
+
+
+def budgets(contest):
+    """The budgets of a search, the next one where one is spent."""
+    terms = contest.terms
+    own = [f"--{name}={value}" for name, value in (("nodes", terms.nodes), ("sets", terms.sets)) if value]
+    return own or [NODES, SETS, *[MORE_NODES] * (contest.candidates > NEVER_SPENT)]
+
+
+def is_by_sets(budget):
+    return budget.startswith("--sets")
+
+
+def of(contest):
+    return f"--contest={contest.id}"
+
+
+def tried(run, budgets):
+    """The first answer that isn't spent, with its budget; else that of the sets, which hangs on no timing."""
+    spent = {}
+    for budget in budgets:
+        ran = run(budget)
+        if ran.status != SPENT:
+            return ran, budget
+        spent[budget] = ran
+    last = next((budget for budget in spent if is_by_sets(budget)), budgets[-1])
+    return spent[last], last
+
+
+def searched(contest, runs):
+    """What the search prints: an assertion file, or the lines of a tie, a spent budget or a full count."""
+    floor = [f"--floor={contest.terms.floor}"] if contest.terms.floor else []
+    text = contest.made("search.txt")
+
+    def run(budget):
+        words = ["search", "--workers=1", budget, of(contest), *floor]
+        return runs.run(f"search {budget}", words, [contest.ballots()], {0: contest.made("assertions.json"), TIE: text, FULL_COUNT: text})
+
+    ran, budget = tried(run, budgets(contest))
+    return (runs.put_last(text, ran) if ran.status == SPENT else ran), budget
+
+
+def found(contest, runs):
+    ran, budget = searched(contest, runs)
+    return Found(ran.file, budget) if ran.status == 0 else None
+
+
+def checked(contest, runs, file, budget, name="check"):
+    """By the other kind of budget than the search had, and by its own where that one is spent."""
+    text = contest.made(f"{name}.txt")
+
+    def run(budget):
+        return runs.run(f"{name} {budget}", ["check", budget, of(contest)], [contest.ballots(), file], {0: text, REFUTED: text})
+
+    other = [MORE_NODES] if is_by_sets(budget) else [SETS]
+    ran, by = tried(run, [*other, budget])
+    return (runs.put_last(text, ran) if ran.status == SPENT else ran), by
+
+
+def published(contest, runs):
+    """The assertion file that the audit is about: trimmed where that is wanted and the budget suffices. None where there is none, or it doesn't hold."""
+    search = found(contest, runs)
+    if not search:
+        return None
+    ran, budget = checked(contest, runs, search.file, search.budget)
+    if ran.status:
+        return None
+    if contest.terms.trim != "yes":
+        return Found(search.file, budget)
+    trim = runs.run(f"trim {budget}", ["trim", budget, of(contest)], [contest.ballots(), search.file], {0: contest.made("trimmed.json")})
+    if trim.status == SPENT:
+        return Found(search.file, budget)
+    again, by = checked(contest, runs, trim.file, search.budget, "check_of_trimmed") if trim.status == 0 else (trim, budget)
+    return Found(trim.file, by) if again.status == 0 else None
+
+
+def is_refuted(contest, runs):
+    """Whether a check or a trim says no to what the search printed."""
+    return found(contest, runs) is not None and published(contest, runs) is None and any(entry.get("status") == REFUTED for entry in runs.used.values())
+
+
+def limits(terms):
+    return [f"--{name}={value}" for name, value in (("limit", terms.limit), ("gamma", terms.gamma)) if value]
+
+
+def planned(contest, runs):
+    file = published(contest, runs)
+    if not file:
+        return None
+    return runs.run("plan", ["plan", *limits(contest.terms)], [contest.manifest(runs.plan.top), file.file], {0: contest.made("plan.txt")})
+
+
+def sampled(runs, who, manifest, terms):
+    """The cards of each look, if there is a seed."""
+    if terms.seed:
+        for draws in terms.draws:
+            runs.run(f"sample {draws}", ["sample", f"--seed={terms.seed}", f"--draws={draws}"], [manifest], {0: who.made(f"sample_{draws}.csv")})
+
+
+def seen_looks(runs, who):
+    """The looks whose cards were read. None of them may lack the file of an earlier one."""
+    looks = who.looks(runs.plan.top)
+    seen = [look for look in looks if look.seen]
+    if seen != looks[:len(seen)]:
+        gap = next(look for look in looks if not look.seen)
+        raise Failed(f"{runs.what}: audit: {seen[-1].seen} is there, and no seen_{gap.draws}.csv of the look before it")
+    return seen
+
+
+def opened(contest, runs):
+    """The session with no round, of a contest that has a session and a seed."""
+    terms, file = contest.terms, published(contest, runs)
+    if terms.audit != "session" or not terms.seed or not file:
+        return None
+    words = ["open", file.budget, of(contest), f"--seed={terms.seed}", *limits(terms)]
+    return runs.run("open", words, [contest.ballots(), contest.manifest(runs.plan.top), file.file], {0: contest.made("session.json")})
+
+
+def rounds(contest, runs):
+    """A round for each look, up to the one that signs the contest off."""
+    session, made = opened(contest, runs), []
+    for look in seen_looks(runs, contest) if session else []:
+        file, path = published(contest, runs), contest.made(f"session_{look.draws}.json")
+        files = [session.file, contest.ballots(), contest.manifest(runs.plan.top), file.file, look.seen]
+        session = runs.run(f"audit {look.draws}", ["audit", file.budget, f"--draws={look.draws}"], files, {0: path, UNCONFIRMED: path})
+        made.append((look, session))
+        if session.status == 0:
+            break
+    return made
+
+
+def audited(contest, runs):
+    if contest.terms.audit == "session" and published(contest, runs):
+        sampled(runs, contest, contest.manifest(runs.plan.top), contest.terms)
+    return rounds(contest, runs)
+
+
+def called(county, runs):
+    """All contests of a county on one sample: a call for each look whose cards were read."""
+    terms, made = county.terms, []
+    if not county.one_call():
+        return made
+    sampled(runs, county, county.given("manifest.csv"), terms)
+    for look in seen_looks(runs, county) if terms.seed else []:
+        path = county.made(f"contests_{look.draws}.txt")
+        words = ["contests", "--workers=1", f"--seed={terms.seed}", f"--draws={look.draws}", *limits(terms)]
+        files = [county.given("ballots.raire"), county.given("manifest.csv"), look.seen]
+        made.append((look, runs.run(f"contests {look.draws}", words, files, {0: path, UNCONFIRMED: path})))
+    return made
+
+
+def see_head(county, runs):
+    """Of a county whose ballot file has no head that can be read, the program says why."""
+    if not county.is_read:
+        runs.asked("search", ["search", "--", county.given("ballots.raire")])
+        raise Failed(f"{runs.what}: the contests of {county.given('ballots.raire')} can't be read")
+
+
+class Step(NamedTuple):
+    of_contest: object
+    of_county: object = lambda county, runs: None
+
+
+STEPS = {
+    "search": Step(searched, see_head),
+    "check": Step(published),
+    "plan": Step(planned),
+    "audit": Step(audited, called),
+}
+
+
+def page_step():
+    import pages  # it needs the templates
+
+    return Step(pages.of_contest, pages.of_county)
+
+
+def names(plan):
+    return [*STEPS, *["page"] * plan.pages]
+
+
+def each(plan, step, batch, may_run=True, digests=None):
+    """What a step does, contest by contest, and what failed."""
+    does = STEPS.get(step) or page_step()
+    digests = digests or running.Digests(plan.top)
+    for county in plan.batches[batch]:
+        yield does.of_county, county, running.of_county(plan, digests, county, may_run)
+        for contest in county.contests:
+            yield does.of_contest, contest, running.of_contest(plan, digests, contest, may_run)
+
+
+def done(plan, step, batch):
+    return os.path.join(plan.top, "made", "runs", "done", f"{step}.{batch}")
+
+
+def failures(plan, step, batch):
+    return os.path.join(plan.top, "made", "runs", "failed", f"{step}.{batch}")

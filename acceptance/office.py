@@ -414,15 +414,16 @@ def by_the_script(tried):
         got = subprocess.run(["./raire", *words], stdin=subprocess.DEVNULL, capture_output=True, text=True, env={**os.environ, "RAIRE": tried.program})
         return got.returncode, got.stdout, got.stderr
 
-    note = 'raire: the seed has two blanks in a row and ends with a blank: "a␣␣b␣", where each ␣ is a blank\n'
+    note = 'raire: the seed has two blanks in a row and ends with a blank: "dice␣10␣4␣␣7␣", where each ␣ is a blank\n'
     for words, told in [
         (["plan", MANIFEST, ASSERTIONS, "--limit", "5"], "raire: the risk limit 5 is 0.0005 percent; that is unusual: --limit counts millionths, so 5 percent is --limit 50000\n"),
         (["plan", MANIFEST, ASSERTIONS, "--limit=100000"], "raire: the risk limit 100000 is 10 percent\n"), (["plan", MANIFEST, ASSERTIONS], ""),
-        (["sample", MANIFEST, "--seed=a  b ", "--draws=3"], note), (["sample", MANIFEST, "--seed=a b", "--draws=3"], ""),
-        (["open", BALLOTS, MANIFEST, ASSERTIONS, "--seed", "a  b ", "--limit=5"], "raire: the risk limit 5 is 0.0005 percent; that is unusual: --limit counts millionths, so 5 percent is --limit 50000\n" + note),
+        (["sample", MANIFEST, "--seed=dice 10 4  7 ", "--draws=3"], note), (["sample", MANIFEST, "--seed=dice 10 4 7 1", "--draws=3"], ""),
+        (["sample", MANIFEST, "--seed=6 6", "--draws=3"], "raire: the seed has 3 characters, too few to be made by chance: use at least 20 throws of a ten-sided die\n"),
+        (["open", BALLOTS, MANIFEST, ASSERTIONS, "--seed", "dice 10 4  7 ", "--limit=5"], "raire: the risk limit 5 is 0.0005 percent; that is unusual: --limit counts millionths, so 5 percent is --limit 50000\n" + note),
     ]:
         tried.see(f"what ./raire says of {words}", ran(*words) == (0, tried.run("raire", *words)[1], told), ran(*words))
-    write("s.json", tried.run("raire", "open", BALLOTS, MANIFEST, ASSERTIONS, "--seed", "a  b ")[1])
+    write("s.json", tried.run("raire", "open", BALLOTS, MANIFEST, ASSERTIONS, "--seed", "dice 10 4  7 ")[1])
     tried.see("and of a session that is reported", ran("report", "s.json") == (0, tried.run("raire", "report", "s.json")[1], note), ran("report", "s.json"))
     tried.see("names are put for ids by ./raire", ran("tabulate", BALLOTS, "--names", "names.csv")[1].endswith("winner Bea Birch\n"), ran("tabulate", BALLOTS, "--names", "names.csv"))
 

@@ -10,6 +10,7 @@ import sys
 BLANK = "\u2423"
 LEAST_USUAL_LIMIT, MOST_USUAL_LIMIT = 1_000, 200_000  # 0.1 and 20 percent
 MOST_SESSION_BYTES = 67_108_864
+LEAST_SEED = 12  # characters; a date with two dice has more, so this only finds seeds that nobody threw
 
 
 def percent(limit):
@@ -45,6 +46,13 @@ def seed_note(seed):
     return f'the seed {found}: "{seed.replace(" ", BLANK)}", where each {BLANK} is a blank' if found else ""
 
 
+def short_note(seed):
+    """A line about a seed that is too short to be made by chance, or nothing."""
+    if len(seed) >= LEAST_SEED:
+        return ""
+    return f"the seed has {len(seed)} character{'s'[: len(seed) != 1]}, too few to be made by chance: use at least 20 throws of a ten-sided die"
+
+
 def value_of(name, words):
     """The value of an option, as ./raire reads words; None if it isn't among them."""
     for word, following in zip(words, [*words[1:], ""]):
@@ -75,6 +83,8 @@ def notes(words):
         yield limit_note(int(limit))
     if seed and seed_note(seed):
         yield seed_note(seed)
+    if seed and short_note(seed):
+        yield short_note(seed)
 
 
 def main():

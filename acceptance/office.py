@@ -381,7 +381,7 @@ def run_script(tried, *words):
 # ---- terms that are easily taken otherwise
 
 def terms(tried):
-    import terms as told
+    import term_notes as told
 
     for limit, percent, is_usual in ((5, "0.0005", False), (999, "0.0999", False), (1_000, "0.1", True), (50_000, "5", True), (200_000, "20", True), (200_001, "20.0001", False)):
         tried.see(f"{limit} millionths are {percent} percent", (told.percent(limit), told.is_usual(limit)) == (percent, is_usual))
@@ -396,7 +396,7 @@ def terms(tried):
         (["poll", "--limit=50000", "--seed=1"], "raire: the risk limit 50000 is 5 percent\n"), (["sample", "m", "--seed", "1 "], 'raire: the seed ends with a blank: "1␣", where each ␣ is a blank\n'),
         (["plan", "--", "--limit=5"], ""),
     ]:
-        ran = subprocess.run([os.path.join(TOP, "tools", "office", "terms.py"), *words], capture_output=True, text=True)
+        ran = subprocess.run([os.path.join(TOP, "tools", "office", "term_notes.py"), *words], capture_output=True, text=True)
         tried.see(f"what is told of {words}", (ran.returncode, ran.stdout, ran.stderr) == (0, "", wanted), ran)
     by_the_script(tried)
     status, page, err = tried.run("cards", MANIFEST, "--seed=2026  6 ", "--draws=2", "--page")

@@ -38,7 +38,7 @@ def ask(name, command, files, *options):
     """The text of an answer with status 0. Any other one is a refusal with the program's own lines."""
     words = [path_of_program(name), command, *options, "--", *files]
     try:
-        ran = subprocess.run(words, stdin=subprocess.DEVNULL, capture_output=True)
+        ran = subprocess.run(words, stdin=subprocess.DEVNULL, capture_output=True, env={**os.environ, "RAIRE_QUIET": "1"})
     except OSError as fault:
         raise Refusal(1, f"{name}: {words[0]} doesn't run: {fault.strerror}\n") from None
     if ran.returncode:

@@ -8,7 +8,7 @@ import shlex
 
 import called
 import records
-import terms
+import term_notes
 from ask import ask, read, Refusal, TOP
 from words import see_output, Words
 
@@ -206,7 +206,7 @@ def filled(template, **parts):
     except ImportError:
         raise told("templates are missing: apt-get install python3-jinja2") from None
     made = jinja2.Environment(loader=jinja2.FileSystemLoader(PAGES), autoescape=True, trim_blocks=True, lstrip_blocks=True)
-    made.filters.update(plural=plural, with_blanks=terms.with_blanks, blanks_in=terms.blanks_in)
+    made.filters.update(plural=plural, with_blanks=term_notes.with_blanks, blanks_in=term_notes.blanks_in)
     return made.get_template(template).render(parts)
 
 
@@ -243,7 +243,7 @@ def entry(given, cards):
 
 def account(given, cards, again):
     """What is told beside the answer."""
-    note = terms.seed_note(given.seed or "")
+    note = term_notes.seed_note(given.seed or "")
     about_seed = f"{NAME}: {note}\n" if note else ""
     if not before(given):
         return about_seed

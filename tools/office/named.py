@@ -9,7 +9,7 @@ import sys
 sys.dont_write_bytecode = True
 
 import called
-import terms
+import term_notes
 from ask import path_of_program, read, Refusal
 from words import put
 
@@ -36,7 +36,7 @@ def parted(words):
 
 def contest_of(words):
     """The contest that the words are about: that of --contest, or of an assertion file or a session among the files."""
-    given = terms.value_of("contest", words)
+    given = term_notes.value_of("contest", words)
     for path in [] if given is not None else [word for word in words[1:] if not word.startswith("-") and os.path.isfile(word)]:
         try:
             with open(path, encoding="utf-8") as file:

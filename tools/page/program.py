@@ -34,7 +34,7 @@ class Program:
 
     def answer(self, words):
         try:
-            return subprocess.run([self.path, *words], stdout=subprocess.PIPE, stderr=subprocess.PIPE)
+            return subprocess.run([self.path, *words], stdout=subprocess.PIPE, stderr=subprocess.PIPE, env={**os.environ, "RAIRE_QUIET": "1"})
         except OSError as fault:
             raise told(f"{self.name} doesn't run: {fault.strerror}") from None
 

@@ -1,7 +1,7 @@
 """The state of an audit, for the top of a page. A mark and a frame tell it too, for those who see no colours or no words."""
 import audit
 import county
-import terms
+import term_notes
 from limits import GREATEST_GAMMA, MOST_DRAWS
 from texts import millionths, plural
 
@@ -121,9 +121,9 @@ OTHERWISE = "The program ran the whole audit again, and ended with other bytes."
 def unusual(session, gammas=USUAL_GAMMAS):
     """Terms that few audits have; who sees them asks for the reason."""
     found = []
-    if not terms.is_usual(session["limit"]):
-        side, bound = ("above", terms.MOST_USUAL_LIMIT) if session["limit"] > terms.MOST_USUAL_LIMIT else ("below", terms.LEAST_USUAL_LIMIT)
-        found.append(f"a risk limit of {terms.percent(session['limit'])} percent, which is {side} {terms.percent(bound)}")
+    if not term_notes.is_usual(session["limit"]):
+        side, bound = ("above", term_notes.MOST_USUAL_LIMIT) if session["limit"] > term_notes.MOST_USUAL_LIMIT else ("below", term_notes.LEAST_USUAL_LIMIT)
+        found.append(f"a risk limit of {term_notes.percent(session['limit'])} percent, which is {side} {term_notes.percent(bound)}")
     if session["gamma"] not in gammas:
         found.append(f"a gamma of {session['gamma']} thousandths, which is outside {gammas[0]} to {gammas[-1]}")
     return [told("unusual", "UNUSUAL TERMS:", ", and ".join(found) + ".")] if found else []

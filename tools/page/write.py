@@ -19,7 +19,7 @@ import planned
 import polled
 import rounds
 import state
-import terms
+import term_notes
 from files import broken_to_page, Refusal, told
 from limits import GREATEST_GAMMA, GREATEST_LIMIT, MOST_DRAWS, MOST_NODES, MOST_SETS
 from names import Names
@@ -505,7 +505,7 @@ def filled(page):
     made = jinja2.Environment(
         loader=loader, autoescape=True, trim_blocks=True, lstrip_blocks=True, undefined=jinja2.ChainableUndefined,
     )
-    made.filters.update(with_blanks=terms.with_blanks, blanks_in=terms.blanks_in)
+    made.filters.update(with_blanks=term_notes.with_blanks, blanks_in=term_notes.blanks_in)
     made.filters.update(plural=plural, ordinal=ordinal, risk=audit.risk_text, short=audit.short, millionths=millionths, number=shown, listed=listed)
     if page.parts["county"]:
         return filled_county(page, made)
@@ -567,7 +567,7 @@ def page_of(words):
         raise told("templates are missing: apt-get install python3-jinja2")
     paths, options = words_of(words)
     see_output(paths)
-    note = terms.seed_note(options.get("--seed", ""))
+    note = term_notes.seed_note(options.get("--seed", ""))
     sys.stderr.write(f"show: {note}\n" if note else "")
     page = Page(files.given(paths), options, Program())
     page.read()

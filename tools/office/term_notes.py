@@ -1,7 +1,7 @@
 #!/usr/bin/env python3
 """Says what of an audit's terms is easily taken for something else: a risk limit, which counts millionths, and the blanks of a seed.
 
-tools/office/terms.py WORDS.. is what ./raire asks after an answer, if --limit or --seed is among its words, or its command is report.
+tools/office/term_notes.py WORDS.. is what ./raire asks after an answer, if --limit or --seed is among its words, or its command is report.
 """
 import json
 import re

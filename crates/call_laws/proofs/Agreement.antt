@@ -1,4 +1,4 @@
--- Two calls with the same words, over desks that hold the same, end in the same way.
+-- Two calls with the same words, or with words that differ in the number of workers alone, over desks that hold the same, end in the same way.
 use Rattle.std.proofs.Common.{◌≡◌, ◌≢◌, inl, inr, ℕ, Bool, true, false, List, Option, None, Some, refl, sym, ◌∙◌, ap, subst}
 use Rattle.std.proofs.lemmas.Bool.{false≢true}
 use Rattle.desk.specs.Desk.{File}
@@ -10,10 +10,11 @@ use Rattle.command_line.specs.Line.{command_of}
 use Rattle.command_line.specs.declared.commands.Command.{Command}
 use Rattle.command_line.specs.declared.commands.Command.TheVariants.{Contests}
 use Rattle.raire_cli.specs.Asks.{Asks}
-use Rattle.call_laws.specs.Agreement.{HoldTheSame, MayBeSpent, SameFilesSameAnswer}
+use Rattle.call_laws.specs.Agreement.{HoldTheSame, MayBeSpent, SameFilesSameAnswer, WorkersSameAnswer}
 use Rattle.raire_cli.specs.Answers.{script_of, asked_by, is_open}
 use Rattle.raire_cli.specs.Contests.{HaveNodes}
 use Rattle.call_laws.proofs.ContestsOnce.{contests_once}
+use Rattle.call_laws.proofs.SameWorkers.{come_the_same, own_workers, spent_the_same}
 use Rattle.raire_cli.proofs.EachCommand.{agrees_by, agrees_exactly}
 
 -- what a script may come to, over files that hold the same
@@ -57,13 +58,19 @@ module _ (words : List (List ℕ)) (files others : List File) (same : HoldTheSam
   one_end None is bad_d bad_e = bad_d ∙ sym bad_e
   one_end (Some command) is may_d may_e = one_command command is may_d (moved files others same (script_of command) e may_e)
 
-pub same_files_same_answer : SameFilesSameAnswer
-same_files_same_answer words files others first second same settled settled' =
+pub workers_same_answer : WorkersSameAnswer
+workers_same_answer words others files more first second (workers, other) same settled settled' =
     let (out, err, may, took_out, took_err) = settled.answer.quiet settled.quiet settled.memory in
     let (out', err', may', took_out', took_err') = settled'.answer.quiet settled'.quiet settled'.memory in
     let d : Outcome = record { status = first.status; out = out; err = err } in
     let e : Outcome = record { status = second.status; out = out'; err = err' } in
-    let is : d ≡ e = one_end words files others same d e settled.unspent settled'.unspent settled.suffice (command_of words) refl may may' in
+    let its : MayCome (AsHeld files) (asked_by (command_of others)) d =
+    subst (λ command. MayCome (AsHeld files) (asked_by command) d) (sym other) (come_the_same workers (AsHeld files) d (command_of words) may) in
+    let unspent : MayBeSpent others → d.status ≢ 4 = λ spent.
+    settled.unspent (spent_the_same workers words others (command_of words) refl other spent) in
+    let suffice : (asks : Asks Contests others) → HaveNodes asks.task files = λ asks bytes list held said.
+    settled'.suffice asks bytes list (sym (same asks.task.ballots) ∙ held) said in
+    let is : d ≡ e = one_end others files more same d e unspent settled'.unspent suffice (command_of others) refl its may' in
     record {
       status = ap (λ (o : Outcome). o.status) is;
       to_out = out;
@@ -73,3 +80,7 @@ same_files_same_answer words files others first second same settled settled' =
       second_out = subst (Took second.out) (sym (ap (λ (o : Outcome). o.out) is)) took_out';
       second_err = subst (Took second.err) (sym (ap (λ (o : Outcome). o.err) is)) took_err';
     }
+
+pub same_files_same_answer : SameFilesSameAnswer
+same_files_same_answer words files others first second same settled settled' =
+    workers_same_answer words words files others first second (own_workers (command_of words)) same settled settled'

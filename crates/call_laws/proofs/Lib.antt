@@ -1,3 +1,4 @@
+mod SameWorkers
 mod Workers
 mod Nodes
 mod MostSets

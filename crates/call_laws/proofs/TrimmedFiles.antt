@@ -74,8 +74,8 @@ trimmed_is_accepted words others trim check files more first second text printed
     may_say more task.assertions (refused_assertions task.assertions) assertion_file_of (λ bytes file. Ends (Checks task.budget l.ballots file)) text
     holds.printed holds.is_short l.left reads (outcome yes) (yes, checks, refl) in
     let comes : MayCome (AsHeld more) (asked_by (Some (Check task))) (outcome yes) =
-    may_say more task.ballots (refused_ballots task.ballots) (λ bytes. ballots_of bytes task.contest) with_ballots l.are.ballot_bytes
-    (holds.same_ballots ∙ l.are.ballots_held) l.is_short l.ballots (ap (ballots_of l.are.ballot_bytes) check.same_contest ∙ l.are.ballots_say) (outcome yes)
+    may_say more task.ballots (refused_ballots task.ballots) (λ bytes. ballots_of bytes task.contest) with_ballots l.are.of_ballots.bytes
+    (holds.same_ballots ∙ l.are.of_ballots.held) l.are.of_ballots.is_short l.ballots (ap (ballots_of l.are.of_ballots.bytes) check.same_contest ∙ l.are.of_ballots.is) (outcome yes)
     after in
     (ends_with others more (outcome yes) (subst (λ command. MayCome (AsHeld more) (asked_by command) (outcome yes)) (sym check.asks.asked) comes)
     (λ asks. absurd (not_spent others (Check task) check.asks.asked refl asks))).alone second settled
@@ -110,8 +110,8 @@ trimmed_is_trimmed words others trim again files more first second text printed 
     let comes : May (AsHeld more) (script task) ended = subst (λ command. MayCome (AsHeld more) (asked_by command) ended) again.asks.asked may in
     let with_ballots : List ℕ → BallotFile → Script = λ bytes ballots. after_ballots task.assertions task.budget ballots in
     let after : May (AsHeld more) (after_ballots task.assertions task.budget l.ballots) ended =
-    says more task.ballots (refused_ballots task.ballots) (λ bytes. ballots_of bytes task.contest) with_ballots l.are.ballot_bytes
-    (holds.same_ballots ∙ l.are.ballots_held) l.is_short l.ballots (ap (ballots_of l.are.ballot_bytes) again.same_contest ∙ l.are.ballots_say) ended comes in
+    says more task.ballots (refused_ballots task.ballots) (λ bytes. ballots_of bytes task.contest) with_ballots l.are.of_ballots.bytes
+    (holds.same_ballots ∙ l.are.of_ballots.held) l.are.of_ballots.is_short l.ballots (ap (ballots_of l.are.of_ballots.bytes) again.same_contest ∙ l.are.of_ballots.is) ended comes in
     let (v, trims, is) = says more task.assertions (refused_assertions task.assertions) assertion_file_of (λ bytes file. Ends (Trims task.budget l.ballots file))
     text holds.printed holds.is_short l.left reads ended after in
     elim (trims_same trim.task.budget l.ballots l.file l.left (accepted_left words files trim text l) l.is v

@@ -16,9 +16,9 @@ use Rattle.cli_base.specs.Outcome.{Outcome, Verdict, outcome}
 use Rattle.cli_base.specs.Script.{Bytes, Ends, AsHeld, ByDesk, IsDue, May, MayCome, Same, SameButBudget, stop_of}
 use Rattle.cli_base.proofs.Scripts.{determined, some_is}
 use Rattle.search_commands.specs.Search.{Searches, script}
-use Rattle.search_commands.specs.Trial.{Tries}
 use Rattle.raire_cli.specs.Answers.{asked_by, script_of}
 use Rattle.call_laws.specs.Laws.{BudgetsComeToTheSame, SetsComeToTheSame, TrialsBySetsComeToTheSame, TrialsComeToTheSame, WorkersAskTheSame, WorkersComeToTheSame}
+use Rattle.call_laws.proofs.SameWorkers.{tries_the_same}
 use Rattle.raire_cli.proofs.EachCommand.{agrees_by, agrees_exactly}
 use Rattle.raire_cli.proofs.EitherBudget.{searched-either}
 use Rattle.raire_cli.proofs.Said.{none_is_some}
@@ -42,24 +42,12 @@ sets_come_to_the_same task sets some more words others one other files d e may_d
     (subst (λ command. MayCome (AsHeld files) (asked_by command) d) one may_d)
     (subst (λ command. MayCome (AsHeld files) (asked_by command) e) other may_e)
 
--- trials that differ in their workers alone have the same lines
-module _ (task : TrialTask) (some more : ℕ) where
-  abbrev with_some : TrialTask
-  with_some = record task { workers = some }
-
-  abbrev with_more : TrialTask
-  with_more = record task { workers = more }
-
-  tries_the_same : (v : Verdict) → Tries with_some v → Tries with_more v
-  tries_the_same v (inl (text, lines, is)) = inl (text, record { file = lines.file; found = lines.found; shown = lines.shown }, is)
-  tries_the_same v (inr tries) = inr tries
-
 pub trials_come_to_the_same : TrialsComeToTheSame
 trials_come_to_the_same task some more words others one other files d e may_d may_e =
     let trial = Trial (record task { workers = more }) in
     let (v, tries, is) = subst (λ command. MayCome (AsHeld files) (asked_by command) d) one may_d in
     determined SameButBudget (λ d. inl refl) files (script_of trial) d e (agrees_by (Some trial) refl)
-    (v, tries_the_same task some more v tries, is)
+    (v, tries_the_same (record task { workers = some }) more v tries, is)
     (subst (λ command. MayCome (AsHeld files) (asked_by command) e) other may_e)
 
 pub trials_by_sets_come_to_the_same : TrialsBySetsComeToTheSame
@@ -68,7 +56,7 @@ trials_by_sets_come_to_the_same task sets some more words others one other files
     let trial = Trial (record own { workers = more }) in
     let (v, tries, is) = subst (λ command. MayCome (AsHeld files) (asked_by command) d) one may_d in
     determined Same (λ d. refl) files (script_of trial) d e (agrees_exactly trial refl)
-    (v, tries_the_same own some more v tries, is)
+    (v, tries_the_same (record own { workers = some }) more v tries, is)
     (subst (λ command. MayCome (AsHeld files) (asked_by command) e) other may_e)
 
 -- ---- two budgets

@@ -1,12 +1,12 @@
--- Two calls with the same words, over desks that hold the same.
-use Rattle.std.specs.Prelude.{◌≡◌, ◌≢◌, ℕ, true, List, Some}
+-- Two calls with the same words, or with words that differ in the number of workers alone, over desks that hold the same.
+use Rattle.std.specs.Prelude.{◌≡◌, ◌≢◌, ℕ, true, List, Some, option_map}
 use Rattle.desk.specs.Count.{Rose}
 use Rattle.desk.specs.Desk.{File, held_bytes}
 use Rattle.cli_base.specs.Ends.{Writing, Took}
 use Rattle.cli_base.specs.Statuses.{IsAnswered, IsQuiet}
 use Rattle.command_line.specs.Line.{command_of}
 use Rattle.command_line.specs.declared.commands.Command.{Command}
-use Rattle.command_line.specs.declared.commands.Command.TheVariants.{Contests}
+use Rattle.command_line.specs.declared.commands.Command.TheVariants.{Search, Trial, Contests}
 use Rattle.raire_cli.specs.Asks.{Asks}
 use Rattle.raire_cli.specs.Answers.{asked, is_open}
 use Rattle.raire_cli.specs.Contests.{HaveNodes}
@@ -53,7 +53,27 @@ pub record AreTheSame (first second : Call) : Type 0 where
   pub second_out : Took second.out to_out
   pub second_err : Took second.err to_err
 
--- ---- the law
+-- ---- words that differ in the number of workers
+
+-- the command with this number of workers, if it has one
+abbrev pub with_workers : ℕ → Command → Command
+with_workers workers (Search task) = Search (record task { workers = workers })
+with_workers workers (Trial task) = Trial (record task { workers = workers })
+with_workers workers (Contests task) = Contests (record task { workers = workers })
+with_workers workers command = command
+
+-- both ask for the same command, but for its number of workers, or neither is a line
+abbrev pub DifferInWorkers : List (List ℕ) → List (List ℕ) → Type 0
+DifferInWorkers words others =
+    (workers : ℕ) × (command_of others ≡ option_map (with_workers workers) (command_of words))
+
+-- ---- the laws
+
+abbrev pub WorkersSameAnswer : Type 0
+WorkersSameAnswer =
+    (words others : List (List ℕ)) (files more : List File) (first second : Call) →
+    DifferInWorkers words others → HoldTheSame files more → IsSettled words files first →
+    IsSettled others more second → AreTheSame first second
 
 abbrev pub SameFilesSameAnswer : Type 0
 SameFilesSameAnswer =

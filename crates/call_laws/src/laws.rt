@@ -1,5 +1,5 @@
 //! The laws of the top call: each holds of every value that it names, and has no code.
-ghost use Rattle.call_laws.specs.Agreement.{SameFilesSameAnswer};
+ghost use Rattle.call_laws.specs.Agreement.{SameFilesSameAnswer, WorkersSameAnswer};
 ghost use Rattle.call_laws.specs.ContestsAlone.{BlockAlone};
 ghost use Rattle.call_laws.specs.ContestsLimit.{ContestIsCounted};
 ghost use Rattle.call_laws.specs.ContestsSignedOff.{ContestSignedOffAreFew};
@@ -115,6 +115,11 @@ pub fn contest_signed_off_are_few()
 /// memory was found, no search, no tabulation and no trial with nodes was spent, and no audit of all contests might be.
 pub fn same_files_same_answer()
     ensures { SameFilesSameAnswer }
+{}
+
+/// So do two calls whose words differ in `--workers` alone.
+pub fn workers_same_answer()
+    ensures { WorkersSameAnswer }
 {}
 
 /// A check of the same ballots and contest with the same budget accepts what a search printed, where that isn't too long for a file,

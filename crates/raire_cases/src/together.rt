@@ -1,5 +1,6 @@
-// That a search has as many workers as its words ask for, side by side.
+// A search has as many workers side by side as its words ask for, and an audit of all contests searches as many contests side by side.
 use crate::cases::{held, is_as_wanted, ran_with};
+use crate::contests_table::BOTH;
 use crate::table::PRINTED;
 use desk::Gate;
 use std::sync::atomic::{AtomicU64, Ordering};
@@ -11,7 +12,7 @@ const PATIENCE: u32 = 4_000_000_000;
 // Turns after which nobody is waited for.
 const HASTE: u32 = 1_000;
 
-/// Holds each of two workers up until the other came, for so many turns.
+/// Holds each of two workers up until the other came, for so many turns; in an audit of all contests, each of two contests.
 #[derive(Drop)]
 struct Both {
     turns: u32,
@@ -85,5 +86,43 @@ fn two_workers_of_a_trial_meet(rt: HostRuntime) -> Result<(), Fail> {
     let ran = ran_with(&rt, files, words.as_slice(), &[], &[], &both)?;
     assert!(rt; ran.status == 0);
     assert!(rt; both.met());
+    Ok(())
+}
+
+#[test]
+fn two_contests_meet(rt: HostRuntime) -> Result<(), Fail> {
+    let both = Both::new(PATIENCE);
+    let words = [
+        "contests",
+        "two_contests.raire",
+        "m.csv",
+        "seen_of_two.csv",
+        "--seed=2024",
+        "--draws=5",
+        "--workers=2",
+    ];
+    let files = held(rt.alloc())?;
+    let ran = ran_with(&rt, files, words.as_slice(), &[], &[], &both)?;
+    assert!(rt; is_as_wanted(&ran, 10, BOTH));
+    assert!(rt; both.met());
+    Ok(())
+}
+
+#[test]
+fn one_worker_searches_one_contest_after_the_other(rt: HostRuntime) -> Result<(), Fail> {
+    let both = Both::new(HASTE);
+    let words = [
+        "contests",
+        "two_contests.raire",
+        "m.csv",
+        "seen_of_two.csv",
+        "--seed=2024",
+        "--draws=5",
+        "--workers=1",
+    ];
+    let files = held(rt.alloc())?;
+    let ran = ran_with(&rt, files, words.as_slice(), &[], &[], &both)?;
+    assert!(rt; is_as_wanted(&ran, 10, BOTH));
+    assert!(rt; !both.met());
     Ok(())
 }

@@ -18,9 +18,10 @@ use Rattle.input_files.specs.Refusals.{refused_assertions, refused_ballots}
 use Rattle.assertion_file.proofs.SoundFiles.{read_is_sound}
 use Rattle.command_line.specs.declared.commands.Command.TheVariants.{Check}
 use Rattle.raire_cli.specs.Asks.{Asks}
-use Rattle.raire_cli.specs.Acceptance.{HasAssertions, HasBallots, HoldsAsked}
+use Rattle.raire_cli.specs.Acceptance.{HoldsAsked}
+use Rattle.raire_cli.specs.Held.{AreChecked}
 use Rattle.raire_cli.specs.Answers.{asked, asked_by}
-use Rattle.raire_cli.proofs.Said.{said}
+use Rattle.raire_cli.proofs.Said.{said, says_of}
 
 -- `yes` is told of a file that is accepted
 pub accepted_answer : (file : Content) (answer : Answer) (text : List ℕ) → verdict_on file answer ≡ Some (Answered Done text) → answer ≡ Ok Accepted
@@ -46,14 +47,15 @@ module _ (words : List (List ℕ)) (files : List File) (asks : Asks Check words)
   Held = (file : Content) × HoldsAsked words files file × (text ≡ yes_text file)
 
   -- a check that says yes accepts its file, which was read
-  accepts : (ballots : BallotFile) → HasBallots asks files ballots → (file : Content) → HasAssertions asks files file →
+  accepts : (ballots : BallotFile) (file : Content) →
+      AreChecked files asks.task.ballots asks.task.assertions asks.task.contest ballots file →
       Checks asks.task.budget ballots file (Answered Done text) → Held
-  accepts ballots of_ballots file of_file (answer, found, told) =
+  accepts ballots file are (answer, found, told) =
       let yes = accepted_answer file answer text told in
-      let sound = read_is_sound of_file.bytes file of_file.accepted in
+      let sound = read_is_sound are.of_assertions.bytes file are.of_assertions.is in
       let holds = (accepted_iff_holds asks.task.budget ballots file Accepted sound (subst (IsAnswer asks.task.budget ballots file) yes found)).0 refl in (
         file,
-        record { asks = asks; ballots = ballots; of_ballots = of_ballots; of_assertions = of_file; holds = holds },
+        record { asks = asks; ballots = ballots; are = are; holds = holds },
         yes_is file text (subst (λ a. verdict_on file a ≡ Some (Answered Done text)) yes told),
       )
 
@@ -67,5 +69,4 @@ module _ (words : List (List ℕ)) (files : List File) (asks : Asks Check words)
       (subst (λ command. ComesTo (AsHeld files) (asked_by command) (Answered Done text)) asks.asked comes) in
       let its = said files task.assertions (refused_assertions task.assertions) assertion_file_of (λ bytes file. Ends (Checks task.budget is.value file)) Done
       text (λ why. tt) is.rest in
-      accepts is.value (record { bytes = is.bytes; held = is.held; accepted = is.is }) its.value
-      (record { bytes = its.bytes; held = its.held; accepted = its.is }) its.rest
+      accepts is.value its.value (record { of_ballots = says_of is; of_assertions = says_of its }) its.rest

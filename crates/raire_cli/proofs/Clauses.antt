@@ -25,14 +25,14 @@ use Rattle.cli_base.proofs.Clauses.{bad_words_clause, contests_clause, statuses_
 use Rattle.cli_base.proofs.ConfirmedKinds.{done_is_confirmed, unconfirmed_is_not}
 use Rattle.command_line.specs.Line.{command_of, is_line}
 use Rattle.command_line.specs.declared.commands.Command.{Command}
-use Rattle.command_line.specs.declared.commands.Command.TheVariants.{Contests, Audit, AuditPlurality, Check, Open, OpenPlurality, Poll, Search, Trim}
+use Rattle.command_line.specs.declared.commands.Command.TheVariants.{Contests, Audit, AuditPlurality, Check, Open, OpenPlurality, Poll, Search, Trial, Trim}
 use Rattle.command_line.proofs.Checked.{have_meanings}
 use Rattle.check_command.specs.Check.{yes_text}
 use Rattle.session_state.specs.Content.{Content as SessionContent}
 use Rattle.session_state.specs.Sessions.{is_signed_off}
 use Rattle.session_file.specs.Text.{session_text}
 use Rattle.raire_cli.specs.Asks.{Asks}
-use Rattle.raire_cli.specs.Answers.{asked, asked_by, is_of_contests, is_open, of_contests}
+use Rattle.raire_cli.specs.Answers.{asked, asked_by, files_known, is_of_contests, is_open, known_by, of_contests}
 use Rattle.raire_cli.specs.Confirmation.{ConfirmsAsked, GivesReason, IsConfirmed, IsReasoned}
 use Rattle.raire_cli.specs.Acceptance.{HoldsAsked, IsUpheld}
 use Rattle.raire_cli.specs.Budgets.{budget_of}
@@ -70,6 +70,20 @@ use Rattle.raire_cli.proofs.Undecided.{has_tie, never_spent_there, tells_tie}
 pub story_of : {asked : Asked} {held : Option (List File)} {failed : Type 0} {before after : Served} {status : ℕ} {out err : Writing} {due : Outcome}
     → HasCome (ByDesk held failed) before after asked due → IsWritten due status out err → Story asked held failed before after status out err
 story_of {asked} {held} {failed} {before} {after} {status} {out} {err} {due} come written = record { due = due; come = come; written = written }
+
+-- a trial goes so whatever the desk holds
+known_story : {held : Option (List File)} {failed : Type 0} {before after : Served} {status : ℕ} {out err : Writing} (command : Option Command) →
+    Story (asked_by command) held failed before after status out err → Story (asked_by command) (known_by command held) failed before after status out err
+known_story (Some (Trial task)) story = record {
+  due = story.due;
+  come = record { files = story.come.files; begun = story.come.begun; is_due = story.come.is_due };
+  written = story.written;
+}
+known_story _ story = story
+
+pub story_known : {held : Option (List File)} {failed : Type 0} {before after : Served} {status : ℕ} {out err : Writing} (words : List (List ℕ)) →
+    Story (asked words) held failed before after status out err → Story (asked words) (files_known words held) failed before after status out err
+story_known words story = known_story (command_of words) story
 
 if_some : {A : Type 0} (o : Option A) (P Q : A → Type 0) → ((x : A) → P x → Q x) → IfSome o P → IfSome o Q
 if_some None P Q f p = tt

@@ -229,7 +229,7 @@ module _ (words : List (List ℕ)) (files : List File) (asks : Asks AuditPlurali
           held = read.held_s;
           session = read.session;
           said = says;
-          are = record { bytes = read.b; held = read.held_b; is_short = read.short_b; accepted = ballots };
+          are = record { bytes = read.b; held = read.held_b; is_short = read.short_b; is = ballots };
         });
         tie = tie;
         tied = tied_in read.b (Some read.session.contest) read.ballots tie ballots is;

@@ -113,7 +113,7 @@ module _ (words : List (List ℕ)) (files : List File) (asks : Asks OpenPluralit
       let (tie, is, shown) = tie_of task read.ballots read.batches (digests_with (sha256 read.b) (sha256 read.m)) text (outcome_in read.ballots) read.ends in
       record {
         ballots = read.ballots;
-        asks = inl (record { asks = asks; are = record { bytes = read.b; held = read.held_b; is_short = read.short_b; accepted = read.is_b } });
+        asks = inl (record { asks = asks; are = record { bytes = read.b; held = read.held_b; is_short = read.short_b; is = read.is_b } });
         tie = tie;
         tied = tied_in read.b task.contest read.ballots tie read.is_b is;
         shown = shown;

@@ -12,6 +12,7 @@ use Rattle.cli_base.specs.declared.outcome.AnswerKind.{AnswerKind}
 use Rattle.input_files.specs.Cards.{cards_for, without_card}
 use Rattle.input_files.specs.Judged.{told, unless, then_judged, go_on}
 use Rattle.input_files.specs.Refusals.{no_card, refused_manifest}
+use Rattle.raire_cli.specs.Held.{Says}
 use Rattle.input_files.proofs.Going.{IsRefusal, OnlyRefuses, told-only}
 
 -- ---- a file that is read whole
@@ -70,6 +71,11 @@ pub record IsSaid {A Why : Type 0} (files : List File) (name : List ℕ) (read :
   pub value : A
   pub is : read bytes ≡ Ok value
   pub rest : Concludes (AsHeld files) (next bytes value) (Answered kind text)
+
+pub says_of : {A Why : Type 0} {files : List File} {name : List ℕ} {read : List ℕ → Result A Why} {next : List ℕ → A → Script} {kind : AnswerKind}
+    {text : List ℕ} (said : IsSaid files name read next kind text) → Says files name read said.value
+says_of {A} {Why} {files} {name} {read} {next} {kind} {text} said =
+    record { bytes = said.bytes; held = said.held; is_short = said.is_short; is = said.is }
 
 module _ {A Why : Type 0} (files : List File) (name : List ℕ) (words : Why → Verdict) (read : List ℕ → Result A Why) (next : List ℕ → A → Script) where
   -- a command that answers comes to it

@@ -47,7 +47,8 @@ use Rattle.session_rounds.specs.Rounds.{same_ballots, same_manifest, session_to_
 use Rattle.session_commands.proofs.Acceptance.{decided}
 use Rattle.session_commands.proofs.Audits.{assertions-only}
 use Rattle.session_rounds.proofs.OneRound.{ballots-only, manifest-only, session-only}
-use Rattle.raire_cli.specs.Sets.{AreChecked, AreOfRound, AreOpened, CountsMore, Says, TrialCountsMore}
+use Rattle.raire_cli.specs.Held.{AreChecked, Says}
+use Rattle.raire_cli.specs.Sets.{AreOfRound, AreOpened, CountsMore, TrialCountsMore}
 use Rattle.raire_cli.proofs.Enough.{facts-never, spent_answer, spent_trial}
 use Rattle.raire_cli.proofs.Said.{held_whole, read_whole, short_of, told_ok, value_of}
 

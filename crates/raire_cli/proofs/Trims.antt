@@ -1,5 +1,5 @@
 -- Status 0 of a trim comes with the trimmed file.
-use Rattle.std.proofs.Common.{◌≡◌, ◌≤◌, ℕ, List, [], length, Option, Some, None, IfSome, Result, Ok, Err, refl, sym, subst}
+use Rattle.std.proofs.Common.{◌≡◌, ℕ, List, [], length, Option, Some, None, IfSome, Result, Ok, Err, refl, sym, subst}
 use Rattle.std.specs.Prelude.{option_map}
 use Rattle.desk.specs.Desk.{File}
 use Rattle.budget.specs.declared.budget.Budget.{Budget}
@@ -24,16 +24,17 @@ use Rattle.trimmer.proofs.Kept.{trimmed_is_irredundant}
 use Rattle.trimmer.proofs.Draws.{draws-all, draws-many, trimmed_is_part}
 use Rattle.trimmer.proofs.Lefts.{from_trimmed}
 use Rattle.cli_base.specs.Outcome.{Answered}
-use Rattle.cli_base.specs.Script.{Script, Ends, AsHeld, ComesTo, limit}
+use Rattle.cli_base.specs.Script.{Script, Ends, AsHeld, ComesTo}
 use Rattle.cli_base.specs.declared.outcome.AnswerKind.TheVariants.{Done}
 use Rattle.input_files.specs.Refusals.{refused_assertions, refused_ballots}
 use Rattle.trim_command.specs.Trim.{Trims, after_ballots, trim_verdict, verdict_on}
 use Rattle.command_line.specs.declared.commands.Command.TheVariants.{Trim}
 use Rattle.raire_cli.specs.Asks.{Asks}
 use Rattle.raire_cli.specs.Answers.{asked, asked_by}
-use Rattle.raire_cli.specs.Trims.{AreTrimFiles, IsTrimmedOf}
+use Rattle.raire_cli.specs.Held.{AreChecked}
+use Rattle.raire_cli.specs.Trims.{IsTrimmedOf}
 use Rattle.raire_cli.proofs.Accepted.{accepted_answer}
-use Rattle.raire_cli.proofs.Said.{said}
+use Rattle.raire_cli.proofs.Said.{said, says_of}
 
 -- what is printed is what is left
 left_of : (file : Content) (r : Result Content TrimFault) (text : List ℕ) → trim_verdict file r ≡ Some (Answered Done text) →
@@ -112,16 +113,15 @@ module _ (words : List (List ℕ)) (files : List File) (asks : Asks Trim words) 
   pub record Left : Type 0 where
     pub ballots : BallotFile
     pub file : Content
-    pub are : AreTrimFiles asks.task files ballots file
-    pub is_short : length are.ballot_bytes ≤ limit
+    pub are : AreChecked files asks.task.ballots asks.task.assertions asks.task.contest ballots file
     pub accepts : IsAnswer asks.task.budget ballots file (Ok Accepted)
     pub left : Content
     pub is : trimmed asks.task.budget file ≡ Ok left
     pub shown : text ≡ assertion_file_text left
 
-  leaves : (ballots : BallotFile) (file : Content) (are : AreTrimFiles asks.task files ballots file) → length are.ballot_bytes ≤ limit →
+  leaves : (ballots : BallotFile) (file : Content) → AreChecked files asks.task.ballots asks.task.assertions asks.task.contest ballots file →
       Trims asks.task.budget ballots file (Answered Done text) → Left
-  leaves ballots file are short (answer, found, told) =
+  leaves ballots file are (answer, found, told) =
       let budget : Budget = asks.task.budget in
       let yes = trimmed_answer budget file answer text told in
       let (left, is, shown) = left_of file (trimmed budget file) text (subst (λ a. verdict_on budget file a ≡ Some (Answered Done text)) yes told) in
@@ -129,7 +129,6 @@ module _ (words : List (List ℕ)) (files : List File) (asks : Asks Trim words) 
         ballots = ballots;
         file = file;
         are = are;
-        is_short = short;
         accepts = subst (IsAnswer budget ballots file) yes found;
         left = left;
         is = is;
@@ -146,14 +145,13 @@ module _ (words : List (List ℕ)) (files : List File) (asks : Asks Trim words) 
       (subst (λ command. ComesTo (AsHeld files) (asked_by command) (Answered Done text)) asks.asked comes) in
       let its = said files task.assertions (refused_assertions task.assertions) assertion_file_of (λ bytes file. Ends (Trims task.budget is.value file)) Done
       text (λ why. tt) is.rest in
-      leaves is.value its.value
-      (record { ballot_bytes = is.bytes; ballots_held = is.held; ballots_say = is.is; bytes = its.bytes; held = its.held; say = its.is }) is.is_short its.rest
+      leaves is.value its.value (record { of_ballots = says_of is; of_assertions = says_of its }) its.rest
 
   pub reads_back : (l : Left) → assertion_file_of (assertion_file_text l.left) ≡ Ok l.left
-  reads_back l = trimmed_reads_back l.are.bytes asks.task.budget l.file l.left l.are.say l.is
+  reads_back l = trimmed_reads_back l.are.of_assertions.bytes asks.task.budget l.file l.left l.are.of_assertions.is l.is
 
   pub accepted_left : (l : Left) → IsAnswer asks.task.budget l.ballots l.left (Ok Accepted)
-  accepted_left l = trimmed_is_accepted asks.task.budget l.ballots l.file l.left (read_is_sound l.are.bytes l.file l.are.say) l.accepts l.is
+  accepted_left l = trimmed_is_accepted asks.task.budget l.ballots l.file l.left (read_is_sound l.are.of_assertions.bytes l.file l.are.of_assertions.is) l.accepts l.is
 
   pub printed_of : ComesTo (AsHeld files) (asked words) (Answered Done text) →
       (left : Content) × IsTrimmedOf words files left × (text ≡ assertion_file_text left)

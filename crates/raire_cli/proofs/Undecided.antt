@@ -38,14 +38,14 @@ use Rattle.search_commands.specs.Trial.{contest_of, Tries}
 use Rattle.search_commands.proofs.Ends.{undecided_has_tie}
 use Rattle.search_commands.proofs.Searches.{found_by, searched_with, spent_is}
 use Rattle.raire_cli.specs.Answers.{asked, asked_by, script_of}
-use Rattle.raire_cli.specs.Ballots.{AreBallots}
+use Rattle.raire_cli.specs.Held.{AreBallots}
 use Rattle.raire_cli.specs.Budgets.{SufficesForTie, budget_of}
 use Rattle.raire_cli.specs.PluralityTies.{TellsPluralityTie}
 use Rattle.raire_cli.specs.Undecided.{AsksUndecided, IsAbout, TellsTie}
 use Rattle.raire_cli.proofs.EachCommand.{tells_no_tie}
 use Rattle.raire_cli.proofs.PluralAudited.{round_tie}
 use Rattle.raire_cli.proofs.PluralOpened.{opening_tie}
-use Rattle.raire_cli.proofs.Said.{only, said, saying}
+use Rattle.raire_cli.proofs.Said.{only, said, saying, says_of}
 
 -- ---- a tie that is told
 
@@ -79,18 +79,18 @@ module _ (files : List File) (name : List ℕ) (contest : Option Id) (Ended : Ba
       (ballots : BallotFile) × AreBallots files name contest ballots × Ended ballots (Answered kind text)
   said_of kind text comes =
       let is = said files name (refused_ballots name) (λ bytes. ballots_of bytes contest) ended_by kind text (λ why. tt) comes in
-      (is.value, record { bytes = is.bytes; held = is.held; is_short = is.is_short; accepted = is.is }, is.rest)
+      (is.value, says_of is, is.rest)
 
   module _ (ballots : BallotFile) (are : AreBallots files name contest ballots) where
     pub comes_of : (v : Verdict) → Ended ballots v → Concludes (AsHeld files) reading v
     comes_of v ends =
-        saying files name (refused_ballots name) (λ bytes. ballots_of bytes contest) ended_by are.bytes are.held are.is_short ballots are.accepted v ends
+        saying files name (refused_ballots name) (λ bytes. ballots_of bytes contest) ended_by are.bytes are.held are.is_short ballots are.is v ends
 
     pub ends_there : (kind : AnswerKind) (text : List ℕ) → Concludes (AsHeld files) reading (Answered kind text) → Ended ballots (Answered kind text)
     ends_there kind text comes =
         let (other, its, ends) = said_of kind text comes in
         let whole : its.bytes ≡ are.bytes = some_is (sym its.held ∙ are.held) in
-        let same : other ≡ ballots = only its.accepted (ap (λ b. ballots_of b contest) whole ∙ are.accepted) in
+        let same : other ≡ ballots = only its.is (ap (λ b. ballots_of b contest) whole ∙ are.is) in
         subst (λ ballots. Ended ballots (Answered kind text)) same ends
 
 module _ (words : List (List ℕ)) (files : List File) (text : List ℕ) where
@@ -131,7 +131,7 @@ module _ (words : List (List ℕ)) (files : List File) (text : List ℕ) where
 
 module _ (files : List File) (ballots : BallotFile) where
   fewest_in : (name : List ℕ) (contest : Option Id) → AreBallots files name contest ballots → FEWEST_CANDIDATES ≤ candidate_count ballots
-  fewest_in name contest are = let fit = (ballots_fit are.bytes contest ballots are.accepted).fewest in omega (arith, fit)
+  fewest_in name contest are = let fit = (ballots_fit are.bytes contest ballots are.is).fewest in omega (arith, fit)
 
   fewest_of : (command : Command) → IsChecked command → IsAbout files command ballots → FEWEST_CANDIDATES ≤ candidate_count ballots
   fewest_of (Search task) checked (are, cards) = fewest_in task.ballots task.contest are

@@ -1,36 +1,20 @@
 -- What it means that a check accepts an assertion file.
-use Rattle.std.specs.Prelude.{◌≡◌, ℕ, List, Option, Some, IfSome, Ok}
-use Rattle.desk.specs.Desk.{File, held_bytes}
+use Rattle.std.specs.Prelude.{◌≡◌, ℕ, List, Option, IfSome}
+use Rattle.desk.specs.Desk.{File}
 use Rattle.ballot_reader.specs.Ballots.{BallotFile}
-use Rattle.ballot_reader.specs.Grammar.{ballots_of}
 use Rattle.assertion_file.specs.Content.{Content}
-use Rattle.assertion_file.specs.Reading.{assertion_file_of}
 use Rattle.cover_checker.specs.Holds.{Holds}
 use Rattle.cli_base.specs.Ends.{Writing, Took}
 use Rattle.command_line.specs.declared.commands.Command.TheVariants.{Check}
 use Rattle.check_command.specs.Check.{yes_text}
 use Rattle.raire_cli.specs.Asks.{Asks}
-
--- its ballot file is held, and says this of the contest
-pub record HasBallots {words : List (List ℕ)} (asked : Asks Check words) (files : List File)
-    (ballots : BallotFile) : Type 0 where
-  pub bytes : List ℕ
-  pub held : held_bytes asked.task.ballots files ≡ Some bytes
-  pub accepted : ballots_of bytes asked.task.contest ≡ Ok ballots
-
--- its assertion file is held, and says this
-pub record HasAssertions {words : List (List ℕ)} (asked : Asks Check words) (files : List File)
-    (file : Content) : Type 0 where
-  pub bytes : List ℕ
-  pub held : held_bytes asked.task.assertions files ≡ Some bytes
-  pub accepted : assertion_file_of bytes ≡ Ok file
+use Rattle.raire_cli.specs.Held.{AreChecked}
 
 -- this is what the assertion file of the words says, and it holds of the ballots of the contest that was asked for
 pub record HoldsAsked (words : List (List ℕ)) (files : List File) (file : Content) : Type 0 where
   pub asks : Asks Check words
   pub ballots : BallotFile
-  pub of_ballots : HasBallots asks files ballots
-  pub of_assertions : HasAssertions asks files file
+  pub are : AreChecked files asks.task.ballots asks.task.assertions asks.task.contest ballots file
   pub holds : Holds ballots file
 
 -- ---- what `run` promises

@@ -2,6 +2,7 @@
 use Rattle.std.specs.Prelude.{ℕ, Bool, true, false, List, [], ◌∷◌, length, Option, None, Some}
 use Rattle.budget.specs.declared.budget.Budget.{Budget}
 use Rattle.budget.specs.declared.budget.Budget.TheVariants.{Nodes, Sets}
+use Rattle.desk.specs.Desk.{File}
 use Rattle.cli_base.specs.Script.{Script, Asked, Nothing, Runs}
 use Rattle.command_line.specs.Line.{command_of}
 use Rattle.command_line.specs.declared.commands.Command.{Command}
@@ -62,6 +63,14 @@ files_of (OpenPlurality task) = task.ballots ∷ task.manifest ∷ []
 files_of (AuditPlurality task) = task.session ∷ task.ballots ∷ task.manifest ∷ task.seen ∷ []
 files_of (Contests task) = task.ballots ∷ task.manifest ∷ task.seen ∷ []
 
+-- what is known of the files that the words may name: what the desk tells, and of a trial, which reads none, that there are none
+abbrev pub known_by : Option Command → Option (List File) → Option (List File)
+known_by (Some (Trial task)) held = Some []
+known_by _ held = held
+
+abbrev pub files_known : List (List ℕ) → Option (List File) → Option (List File)
+files_known words held = known_by (command_of words) held
+
 -- how many files the words name
 abbrev pub count_of : Option Command → ℕ
 count_of None = 0
@@ -78,18 +87,9 @@ has_nodes (Sets sets) = false
 abbrev pub is_open : Command → Bool
 is_open (Search task) = has_nodes task.budget
 is_open (Tabulate task) = true
-is_open (Check task) = false
-is_open (Trim task) = false
-is_open (Sample task) = false
-is_open (Plan task) = false
-is_open (Open task) = false
-is_open (Audit task) = false
-is_open (Report task) = false
 is_open (Trial task) = has_nodes task.budget
-is_open (Poll task) = false
-is_open (OpenPlurality task) = false
-is_open (AuditPlurality task) = false
 is_open (Contests task) = true
+is_open _ = false
 
 -- it audits all contests of a file, each of which has a budget of its own
 abbrev pub is_of_contests : Command → Bool

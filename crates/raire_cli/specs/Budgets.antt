@@ -8,7 +8,7 @@ use Rattle.budget.specs.declared.budget.Budget.TheVariants.{Nodes, Sets}
 use Rattle.contest_search.specs.Budget.{nodes_for, sets_of}
 use Rattle.contest_search.specs.Contest.{candidate_count, IsOther, IsWon}
 use Rattle.command_line.specs.declared.commands.Command.{Command}
-use Rattle.command_line.specs.declared.commands.Command.TheVariants.{Search, Tabulate, Check, Trim, Sample, Plan, Open, Audit, Report, Trial, Poll, OpenPlurality, AuditPlurality, Contests}
+use Rattle.command_line.specs.declared.commands.Command.TheVariants.{Search, Tabulate, Trial, Check, Trim, Open, Audit, Poll, Contests}
 
 -- the budget of a command; no nodes, which are fewer than those of any budget, of a command that has none
 abbrev pub budget_of : Command → Budget
@@ -17,15 +17,11 @@ budget_of (Tabulate task) = Nodes task.nodes
 budget_of (Trial task) = task.budget
 budget_of (Check task) = task.budget
 budget_of (Trim task) = task.budget
-budget_of (Sample task) = Nodes 0
-budget_of (Plan task) = Nodes 0
 budget_of (Open task) = task.budget
 budget_of (Audit task) = task.budget
-budget_of (Report task) = Nodes 0
 budget_of (Poll task) = Nodes task.nodes
-budget_of (OpenPlurality task) = Nodes 0
-budget_of (AuditPlurality task) = Nodes 0
 budget_of (Contests task) = Nodes task.nodes
+budget_of _ = Nodes 0
 
 -- the hardness of the order that a search starts with, where this is the tabulated order
 abbrev pub start_of : BallotFile → List ℕ → ℕ

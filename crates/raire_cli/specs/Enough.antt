@@ -8,7 +8,7 @@ use Rattle.assertion_file.specs.Reading.{assertion_file_of}
 use Rattle.cover_checker.specs.Covers.{IsEnoughFor}
 use Rattle.command_line.specs.Line.{command_of}
 use Rattle.command_line.specs.declared.commands.Command.{Command}
-use Rattle.command_line.specs.declared.commands.Command.TheVariants.{Search, Tabulate, Check, Trim, Sample, Plan, Open, Audit, Report, Trial, Poll, OpenPlurality, AuditPlurality, Contests}
+use Rattle.command_line.specs.declared.commands.Command.TheVariants.{Check, Trim, Open, Audit, Poll}
 
 -- an assertion file, and the budget to judge it with
 pub record Judging : Type 0 where
@@ -17,20 +17,12 @@ pub record Judging : Type 0 where
 
 -- what a command judges: a check, one before a file is trimmed, one that opens a session, one before a round, and one before a poll
 abbrev pub judging_of : Command → Option Judging
-judging_of (Search task) = None
-judging_of (Tabulate task) = None
 judging_of (Check task) = Some (record { assertions = task.assertions; budget = task.budget })
 judging_of (Trim task) = Some (record { assertions = task.assertions; budget = task.budget })
-judging_of (Sample task) = None
-judging_of (Plan task) = None
 judging_of (Open task) = Some (record { assertions = task.assertions; budget = task.budget })
 judging_of (Audit task) = Some (record { assertions = task.assertions; budget = task.budget })
-judging_of (Report task) = None
-judging_of (Trial task) = None
 judging_of (Poll task) = Some (record { assertions = task.assertions; budget = Nodes task.nodes })
-judging_of (OpenPlurality task) = None
-judging_of (AuditPlurality task) = None
-judging_of (Contests task) = None
+judging_of _ = None
 
 -- where the assertion file has n candidates, there are at least 2 * (n - 1)! nodes, or 2^n - 3 sets
 abbrev pub AreEnough : List File → Judging → Type 0

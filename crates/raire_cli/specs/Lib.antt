@@ -1,5 +1,6 @@
 pub mod Answers
 pub mod Asks
+pub mod Held
 pub mod Confirmation
 pub mod Acceptance
 pub mod Trims
@@ -13,7 +14,6 @@ pub mod Openings
 pub mod Enough
 pub mod Contests
 pub mod Promises
-pub mod Ballots
 pub mod Budgets
 pub mod Pluralities
 pub mod PluralityTies

@@ -9,7 +9,7 @@ use Rattle.plurality.specs.Plural.{Tie}
 use Rattle.report.specs.Ends.{tie_text}
 use Rattle.command_line.specs.declared.commands.Command.TheVariants.{AuditPlurality, OpenPlurality}
 use Rattle.raire_cli.specs.Asks.{Asks}
-use Rattle.raire_cli.specs.Ballots.{AreBallots}
+use Rattle.raire_cli.specs.Held.{AreBallots}
 
 -- the words open a session of this contest
 pub record OpensOf (words : List (List ℕ)) (files : List File) (ballots : BallotFile) : Type 0 where

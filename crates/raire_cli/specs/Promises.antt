@@ -15,7 +15,7 @@ use Rattle.contest_search.specs.Contest.{candidate_count, IsElected, IsOther, Is
 use Rattle.search_commands.specs.Trial.{contest_of}
 use Rattle.raire_cli.specs.Asks.{Asks}
 use Rattle.raire_cli.specs.Answers.{asked, is_open}
-use Rattle.raire_cli.specs.Ballots.{AreBallots}
+use Rattle.raire_cli.specs.Held.{AreBallots}
 use Rattle.raire_cli.specs.Budgets.{Suffices}
 use Rattle.raire_cli.specs.Confirmation.{AsksFor}
 use Rattle.raire_cli.specs.Contests.{IsRefusedAnyway}

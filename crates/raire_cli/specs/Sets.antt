@@ -1,9 +1,7 @@
 -- When a number of sets is spent: exactly where more sets count.
-use Rattle.std.specs.Prelude.{◌≡◌, ◌≢◌, ◌⊎◌, ◌≤◌, ◌<◌, ◌-◌, ◌^◌, ℕ, List, length, Option, None, Some, IfSome, Result, Ok, Err, IsTrue}
-use Rattle.desk.specs.Desk.{File, held_bytes}
-use Rattle.irv_base.specs.Names.{Id}
+use Rattle.std.specs.Prelude.{◌≡◌, ◌≢◌, ◌⊎◌, ◌≤◌, ◌<◌, ◌-◌, ◌^◌, ℕ, List, Option, None, Some, IfSome, Ok, Err, IsTrue}
+use Rattle.desk.specs.Desk.{File}
 use Rattle.ballot_reader.specs.Ballots.{BallotFile}
-use Rattle.ballot_reader.specs.Grammar.{ballots_of}
 use Rattle.manifest.specs.Cards.{Batches}
 use Rattle.assertion_file.specs.Content.{Content, candidate_count as count_in}
 use Rattle.assertion_file.specs.Reading.{assertion_file_of}
@@ -15,13 +13,12 @@ use Rattle.cover_checker.specs.Findings.{assertions_of, is_about, other_margin}
 use Rattle.cover_checker.specs.declared.checked.Checked.TheVariants.{Accepted}
 use Rattle.trimmer.specs.Trimmed.{trimmed}
 use Rattle.trimmer.specs.declared.fault.TrimFault.TheVariants.{SpentSets}
-use Rattle.cli_base.specs.Script.{limit}
 use Rattle.cli_base.specs.Statuses.{Exactly}
 use Rattle.command.specs.declared.audit.AuditTask.{AuditTask}
 use Rattle.command.specs.declared.open.OpenTask.{OpenTask}
 use Rattle.command_line.specs.Line.{command_of}
 use Rattle.command_line.specs.declared.commands.Command.{Command}
-use Rattle.command_line.specs.declared.commands.Command.TheVariants.{Search, Tabulate, Check, Trim, Sample, Plan, Open, Audit, Report, Trial, Poll, OpenPlurality, AuditPlurality, Contests}
+use Rattle.command_line.specs.declared.commands.Command.TheVariants.{Search, Check, Trim, Open, Audit, Trial}
 use Rattle.contest_search.specs.Budget.{sets_of}
 use Rattle.contest_search.specs.Contest.{candidate_count, IsWon}
 use Rattle.input_files.specs.Cards.{cards_for}
@@ -29,6 +26,7 @@ use Rattle.search_commands.specs.Trial.{contest_of}
 use Rattle.session_commands.specs.Audit.{same_assertions}
 use Rattle.session_rounds.specs.Rounds.{same_ballots, same_manifest, session_to_go_on}
 use Rattle.raire_cli.specs.Budgets.{budget_of, start_of}
+use Rattle.raire_cli.specs.Held.{AreBallots, AreChecked, Says}
 use Rattle.raire_cli.specs.Undecided.{IsAbout}
 
 -- ---- more sets count than there are
@@ -56,24 +54,10 @@ pub record TrialCountsMore (sets : ℕ) (ballots : BallotFile) (file : Content) 
 
 -- ---- the files of a command that judges an assertion file
 
--- a file of this name is held and not too long, and this is read of it
-pub record Says {A Why : Type 0} (files : List File) (name : List ℕ)
-    (read : List ℕ → Result A Why) (value : A) : Type 0 where
-  pub bytes : List ℕ
-  pub held : held_bytes name files ≡ Some bytes
-  pub is_short : length bytes ≤ limit
-  pub is : read bytes ≡ Ok value
-
--- of a check or a trim
-pub record AreChecked (files : List File) (name assertions : List ℕ) (contest : Option Id)
-    (ballots : BallotFile) (file : Content) : Type 0 where
-  pub of_ballots : Says files name (λ bytes. ballots_of bytes contest) ballots
-  pub of_assertions : Says files assertions assertion_file_of file
-
 -- of a session that is opened: each ballot has a card
 pub record AreOpened (files : List File) (task : OpenTask) (ballots : BallotFile)
     (file : Content) : Type 0 where
-  pub of_ballots : Says files task.ballots (λ bytes. ballots_of bytes task.contest) ballots
+  pub of_ballots : AreBallots files task.ballots task.contest ballots
   pub batches : Batches
   pub of_manifest : Says files task.manifest (cards_for task.ballots ballots task.manifest) batches
   pub of_assertions : Says files task.assertions assertion_file_of file
@@ -95,7 +79,6 @@ pub record AreOfRound (files : List File) (task : AuditTask) (ballots : BallotFi
 abbrev pub MoreCount : List File → Command → ℕ → Type 0
 MoreCount files (Search task) sets =
     (ballots : BallotFile) × IsAbout files (Search task) ballots × NeedsMore sets ballots
-MoreCount files (Tabulate task) sets = ⊥
 MoreCount files (Check task) sets =
     (ballots : BallotFile) × (file : Content)
     × AreChecked files task.ballots task.assertions task.contest ballots file
@@ -110,14 +93,8 @@ MoreCount files (Open task) sets =
 MoreCount files (Audit task) sets =
     (ballots : BallotFile) × (file : Content) × AreOfRound files task ballots file
     × CountsMore sets ballots file
-MoreCount files (Sample task) sets = ⊥
-MoreCount files (Plan task) sets = ⊥
-MoreCount files (Report task) sets = ⊥
 MoreCount files (Trial task) sets = NeedsMore sets (contest_of task)
-MoreCount files (Poll task) sets = ⊥
-MoreCount files (OpenPlurality task) sets = ⊥
-MoreCount files (AuditPlurality task) sets = ⊥
-MoreCount files (Contests task) sets = ⊥
+MoreCount files _ sets = ⊥
 
 -- ---- what `run` promises
 

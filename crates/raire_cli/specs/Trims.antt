@@ -1,8 +1,7 @@
 -- What it means that a trim prints an assertion file.
-use Rattle.std.specs.Prelude.{◌≡◌, ℕ, List, Option, Some, IfSome, Ok}
-use Rattle.desk.specs.Desk.{File, held_bytes}
+use Rattle.std.specs.Prelude.{◌≡◌, ℕ, List, Option, IfSome, Ok}
+use Rattle.desk.specs.Desk.{File}
 use Rattle.ballot_reader.specs.Ballots.{BallotFile}
-use Rattle.ballot_reader.specs.Grammar.{ballots_of}
 use Rattle.assertion_file.specs.Content.{Content}
 use Rattle.assertion_file.specs.Reading.{assertion_file_of}
 use Rattle.assertion_file.specs.Text.{assertion_file_text, told_of}
@@ -10,26 +9,16 @@ use Rattle.cover_checker.specs.Checks.{IsAnswer}
 use Rattle.cover_checker.specs.declared.checked.Checked.TheVariants.{Accepted}
 use Rattle.trimmer.specs.Laws.{IsIrredundant, IsPartOf, IsPlannedAlike}
 use Rattle.cli_base.specs.Ends.{Writing, Took}
-use Rattle.command.specs.declared.trim.TrimTask.{TrimTask}
 use Rattle.command_line.specs.declared.commands.Command.TheVariants.{Trim}
 use Rattle.raire_cli.specs.Asks.{Asks}
-
--- its files are held, and say this
-pub record AreTrimFiles (task : TrimTask) (files : List File) (ballots : BallotFile)
-    (file : Content) : Type 0 where
-  pub ballot_bytes : List ℕ
-  pub ballots_held : held_bytes task.ballots files ≡ Some ballot_bytes
-  pub ballots_say : ballots_of ballot_bytes task.contest ≡ Ok ballots
-  pub bytes : List ℕ
-  pub held : held_bytes task.assertions files ≡ Some bytes
-  pub say : assertion_file_of bytes ≡ Ok file
+use Rattle.raire_cli.specs.Held.{AreChecked}
 
 -- this is the assertion file of the words, trimmed
 pub record IsTrimmedOf (words : List (List ℕ)) (files : List File) (left : Content) : Type 0 where
   pub asks : Asks Trim words
   pub ballots : BallotFile
   pub file : Content
-  pub are : AreTrimFiles asks.task files ballots file
+  pub are : AreChecked files asks.task.ballots asks.task.assertions asks.task.contest ballots file
   -- what is printed of it says the same when it is read
   pub reads_back : assertion_file_of (assertion_file_text left) ≡ Ok left
   -- a check of the same ballots with the same budget accepts the file that was read

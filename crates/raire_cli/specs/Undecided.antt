@@ -6,12 +6,12 @@ use Rattle.cli_base.specs.Ends.{Writing, Took}
 use Rattle.cli_base.specs.Statuses.{IsQuiet}
 use Rattle.command_line.specs.Line.{command_of}
 use Rattle.command_line.specs.declared.commands.Command.{Command}
-use Rattle.command_line.specs.declared.commands.Command.TheVariants.{Search, Tabulate, Check, Trim, Sample, Plan, Open, Audit, Report, Trial, Poll, OpenPlurality, AuditPlurality, Contests}
+use Rattle.command_line.specs.declared.commands.Command.TheVariants.{Search, Tabulate, Trial}
 use Rattle.contest_search.specs.Contest.{IsUndecided}
 use Rattle.search_commands.specs.Ends.{HasTie}
 use Rattle.search_commands.specs.Search.{has_cards}
 use Rattle.search_commands.specs.Trial.{contest_of}
-use Rattle.raire_cli.specs.Ballots.{AreBallots}
+use Rattle.raire_cli.specs.Held.{AreBallots}
 use Rattle.raire_cli.specs.Budgets.{SufficesForTie, budget_of}
 use Rattle.raire_cli.specs.PluralityTies.{TellsPluralityTie}
 
@@ -23,17 +23,7 @@ IsAbout files (Search task) ballots =
     AreBallots files task.ballots task.contest ballots × IsTrue (has_cards task.plan ballots)
 IsAbout files (Tabulate task) ballots = AreBallots files task.ballots task.contest ballots
 IsAbout files (Trial task) ballots = ballots ≡ contest_of task
-IsAbout files (Check task) ballots = ⊥
-IsAbout files (Trim task) ballots = ⊥
-IsAbout files (Sample task) ballots = ⊥
-IsAbout files (Plan task) ballots = ⊥
-IsAbout files (Open task) ballots = ⊥
-IsAbout files (Audit task) ballots = ⊥
-IsAbout files (Report task) ballots = ⊥
-IsAbout files (Poll task) ballots = ⊥
-IsAbout files (OpenPlurality task) ballots = ⊥
-IsAbout files (AuditPlurality task) ballots = ⊥
-IsAbout files (Contests task) ballots = ⊥
+IsAbout files _ ballots = ⊥
 
 -- the words ask who has won this contest
 pub record AsksAbout (words : List (List ℕ)) (files : List File)

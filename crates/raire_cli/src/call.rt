@@ -11,7 +11,7 @@ ghost use Rattle.cli_base.specs.Statuses.{IsAnswered, IsForErr};
 ghost use Rattle.cli_base.specs.Story.{Story};
 ghost use Rattle.command_line.specs.Words.{texts};
 ghost use Rattle.raire_cli.specs.Acceptance.{IsUpheld};
-ghost use Rattle.raire_cli.specs.Answers.{asked, file_count};
+ghost use Rattle.raire_cli.specs.Answers.{asked, file_count, files_known};
 ghost use Rattle.raire_cli.specs.Audits.{IsAudited};
 ghost use Rattle.raire_cli.specs.Confirmation.{IsConfirmed, IsReasoned};
 ghost use Rattle.raire_cli.specs.Contests.{IsAuditedByContest};
@@ -69,11 +69,12 @@ pub fn run<R: AllocGlobal + Threads + Sync, D: Desk, O: Sink, E: Sink, G: Gate +
         (writing O.Sink out.old out.new) (writing E.Sink err.old err.new) }
 
     // Ways of breaking the contest's ties elect different candidates, and its first tie is told; or a plurality contest has a tie.
-    ensures tied { IsTied (D.held desk.old) (texts words.now) result
-        (writing O.Sink out.old out.new) }
+    ensures tied { IsTied (files_known (texts words.now) (D.held desk.old))
+        (texts words.now) result (writing O.Sink out.old out.new) }
 
     // A search, a tabulation or a trial of such a contest ends so, if its budget is large enough.
-    ensures complete_tie { IsTieComplete (D.held desk.old) (texts words.now)
+    ensures complete_tie { IsTieComplete (files_known (texts words.now) (D.held desk.old))
+        (texts words.now)
         (Rose (D.faults desk.old) (D.faults desk.new)) result
         (writing O.Sink out.old out.new) (writing E.Sink err.old err.new) }
 
@@ -91,11 +92,13 @@ pub fn run<R: AllocGlobal + Threads + Sync, D: Desk, O: Sink, E: Sink, G: Gate +
     // poll.
     ensures enough { IsNeverSpent (D.held desk.old) (texts words.now) result }
 
-    // With 2^n - 3 sets or more no search and no trial of n candidates is spent.
-    ensures enough_sets { IsNeverSpentBySets (D.held desk.old) (texts words.now) result }
+    // With 2^n - 3 sets or more no search and no trial of n candidates is spent, a trial over any desk.
+    ensures enough_sets { IsNeverSpentBySets
+        (files_known (texts words.now) (D.held desk.old)) (texts words.now) result }
 
     // A command with a number of sets is spent exactly where more sets count.
-    ensures spent_sets { IsSpentBySets (D.held desk.old) (texts words.now) result }
+    ensures spent_sets { IsSpentBySets
+        (files_known (texts words.now) (D.held desk.old)) (texts words.now) result }
 
     // An assertion file that is accepted holds.
     ensures accepted { IsUpheld (D.held desk.old) (texts words.now) result
@@ -136,13 +139,14 @@ pub fn run<R: AllocGlobal + Threads + Sync, D: Desk, O: Sink, E: Sink, G: Gate +
         (writing O.Sink out.old out.new) (writing E.Sink err.old err.new) }
 
     // When each status comes, and what the sinks then took.
-    ensures status { HasCause (D.held desk.old) (texts words.now)
+    ensures status { HasCause (files_known (texts words.now) (D.held desk.old)) (texts words.now)
         (Rose (D.faults desk.old) (D.faults desk.new)) (D.served desk.old) (D.served desk.new) result
         (writing O.Sink out.old out.new) (writing E.Sink err.old err.new) }
 
     // No budget leaves open what another command than a search, a tabulation, a trial or an audit of all contests comes to, and no number
     // of sets what any does.
-    ensures exact { IsExactUnlessOpen (D.held desk.old) (texts words.now) result }
+    ensures exact { IsExactUnlessOpen
+        (files_known (texts words.now) (D.held desk.old)) (texts words.now) result }
 
     // The desk begins the first files that the command reads, each once, and no others: all that it reads before it answers or a rule
     // refuses, or up to the one that 7, 11 or 12 names, or some where memory runs out. What they make of it is written.

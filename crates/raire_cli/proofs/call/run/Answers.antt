@@ -1,7 +1,7 @@
 -- Each clause follows from the story of the call: what was due, and what the sinks took of it.
 use Rattle.cli_base.proofs.Clauses.{answered_clause, kept_clause}
 use Rattle.command_line.specs.Words.{texts}
-use Rattle.raire_cli.proofs.Clauses.{story_of, headline_clause, full_count_clause, tied_clause, complete_tie_clause, complete_clause, complete_tabulation_clause, complete_trial_clause, enough_clause, enough_sets_clause, spent_sets_clause, accepted_clause, trimmed_clause, opened_clause, audited_clause, polled_clause, opened_plurality_clause, audited_plurality_clause, audited_contests_clause, status_clause, exact_promise}
+use Rattle.raire_cli.proofs.Clauses.{story_of, story_known, headline_clause, full_count_clause, tied_clause, complete_tie_clause, complete_clause, complete_tabulation_clause, complete_trial_clause, enough_clause, enough_sets_clause, spent_sets_clause, accepted_clause, trimmed_clause, opened_clause, audited_clause, polled_clause, opened_plurality_clause, audited_plurality_clause, audited_contests_clause, status_clause, exact_promise}
 use Rattle.raire_cli.proofs.call.run.Goals as goal
 
 pub returns-clause-headline : goal.returns-clause-headline
@@ -14,10 +14,12 @@ pub returns-clause-complete : goal.returns-clause-complete
 returns-clause-complete g c = complete_clause (texts c.args.words.now) (story_of c.answer-outcome.ensures.due c.deliver.ensures)
 
 pub returns-clause-tied : goal.returns-clause-tied
-returns-clause-tied g c = tied_clause (texts c.args.words.now) (story_of c.answer-outcome.ensures.due c.deliver.ensures)
+returns-clause-tied g c =
+    tied_clause (texts c.args.words.now) (story_known (texts c.args.words.now) (story_of c.answer-outcome.ensures.due c.deliver.ensures))
 
 pub returns-clause-complete_tie : goal.returns-clause-complete_tie
-returns-clause-complete_tie g c = complete_tie_clause (texts c.args.words.now) (story_of c.answer-outcome.ensures.due c.deliver.ensures)
+returns-clause-complete_tie g c =
+    complete_tie_clause (texts c.args.words.now) (story_known (texts c.args.words.now) (story_of c.answer-outcome.ensures.due c.deliver.ensures))
 
 pub returns-clause-complete_tabulation : goal.returns-clause-complete_tabulation
 returns-clause-complete_tabulation g c = complete_tabulation_clause (texts c.args.words.now) (story_of c.answer-outcome.ensures.due c.deliver.ensures)
@@ -29,10 +31,12 @@ pub returns-clause-enough : goal.returns-clause-enough
 returns-clause-enough g c = enough_clause (texts c.args.words.now) (story_of c.answer-outcome.ensures.due c.deliver.ensures)
 
 pub returns-clause-enough_sets : goal.returns-clause-enough_sets
-returns-clause-enough_sets g c = enough_sets_clause (texts c.args.words.now) (story_of c.answer-outcome.ensures.due c.deliver.ensures)
+returns-clause-enough_sets g c =
+    enough_sets_clause (texts c.args.words.now) (story_known (texts c.args.words.now) (story_of c.answer-outcome.ensures.due c.deliver.ensures))
 
 pub returns-clause-spent_sets : goal.returns-clause-spent_sets
-returns-clause-spent_sets g c = spent_sets_clause (texts c.args.words.now) (story_of c.answer-outcome.ensures.due c.deliver.ensures)
+returns-clause-spent_sets g c =
+    spent_sets_clause (texts c.args.words.now) (story_known (texts c.args.words.now) (story_of c.answer-outcome.ensures.due c.deliver.ensures))
 
 pub returns-clause-accepted : goal.returns-clause-accepted
 returns-clause-accepted g c = accepted_clause (texts c.args.words.now) (story_of c.answer-outcome.ensures.due c.deliver.ensures)
@@ -62,10 +66,12 @@ pub returns-clause-answer : goal.returns-clause-answer
 returns-clause-answer g c = answered_clause (story_of c.answer-outcome.ensures.due c.deliver.ensures)
 
 pub returns-clause-status : goal.returns-clause-status
-returns-clause-status g c = status_clause (texts c.args.words.now) (story_of c.answer-outcome.ensures.due c.deliver.ensures)
+returns-clause-status g c =
+    status_clause (texts c.args.words.now) (story_known (texts c.args.words.now) (story_of c.answer-outcome.ensures.due c.deliver.ensures))
 
 pub returns-clause-exact : goal.returns-clause-exact
-returns-clause-exact g c = exact_promise (texts c.args.words.now) (story_of c.answer-outcome.ensures.due c.deliver.ensures)
+returns-clause-exact g c =
+    exact_promise (texts c.args.words.now) (story_known (texts c.args.words.now) (story_of c.answer-outcome.ensures.due c.deliver.ensures))
 
 pub returns-clause-kept : goal.returns-clause-kept
 returns-clause-kept g c = kept_clause (story_of c.answer-outcome.ensures.due c.deliver.ensures)

@@ -1,0 +1,28 @@
+-- What a file of the words holds and says.
+use Rattle.std.specs.Prelude.{◌≡◌, ◌≤◌, ℕ, List, length, Option, Some, Result, Ok}
+use Rattle.desk.specs.Desk.{File, held_bytes}
+use Rattle.irv_base.specs.Names.{Id}
+use Rattle.ballot_reader.specs.Ballots.{BallotFile}
+use Rattle.ballot_reader.specs.Grammar.{ballots_of}
+use Rattle.assertion_file.specs.Content.{Content}
+use Rattle.assertion_file.specs.Reading.{assertion_file_of}
+use Rattle.cli_base.specs.Script.{limit}
+
+-- a file of this name is held and not too long, and this is read of it
+pub record Says {A Why : Type 0} (files : List File) (name : List ℕ)
+    (read : List ℕ → Result A Why) (value : A) : Type 0 where
+  pub bytes : List ℕ
+  pub held : held_bytes name files ≡ Some bytes
+  pub is_short : length bytes ≤ limit
+  pub is : read bytes ≡ Ok value
+
+-- a ballot file says this of the contest
+abbrev pub AreBallots : List File → List ℕ → Option Id → BallotFile → Type 0
+AreBallots files name contest ballots =
+    Says files name (λ bytes. ballots_of bytes contest) ballots
+
+-- the two files of a check or a trim say this
+pub record AreChecked (files : List File) (name assertions : List ℕ) (contest : Option Id)
+    (ballots : BallotFile) (file : Content) : Type 0 where
+  pub of_ballots : AreBallots files name contest ballots
+  pub of_assertions : Says files assertions assertion_file_of file

@@ -7,6 +7,7 @@ again, and `./raire desk --read` has to find each file that was changed. The des
 number is given. A deed is killed before each of its calls to the system. A full disk and a folder that can't be written are told.
 The last line says how many things were as they should be. PROGRAM is the one of ./raire.
 """
+import glob
 import http.client
 import io
 import os
@@ -170,7 +171,7 @@ def seed_refused(visitor):
 def named(tried, place):
     """Candidates whose ids are numbers are called by their names, as the export has them."""
     path, [port] = os.path.join(place, "named"), free_ports(1)
-    export = os.path.join(TOP, "acceptance", "exports", "dominion_cards", "export")
+    [export] = glob.glob(os.path.join(TOP, "*", "exports", "dominion_cards", "export"))
     packed = io.BytesIO()
     with zipfile.ZipFile(packed, "w") as zipped:
         for name in sorted(os.listdir(export)):

@@ -7,6 +7,7 @@ again, and `./raire desk --read` has to find each file that was changed. The des
 number is given. A deed is killed before each of its calls to the system. A full disk and a folder that can't be written are told.
 The last line says how many things were as they should be. PROGRAM is the one of ./raire.
 """
+import glob
 import http.client
 import io
 import os
@@ -132,9 +133,11 @@ def exported(tried, place):
         visitor, sheet = Visitor(desk), read(os.path.join(EXAMPLES, "office", "export.csv"))
         visitor.do("records", {"way": "export", "format": "ess", "columns": "Batch,Card", **RULES}, [("exports", sheet)])
         tried.see("an export comes to README's records", read(os.path.join(path, "ballots.raire")) == read(os.path.join(EXAMPLES, "town", "ballots.raire")))
-        tried.see("an account that isn't confirmed stays open", "Of 21 lines 21 aren’t ticked" in visitor.do("account").text, visitor.page.words()[:300])
-        lines = re.findall('name="line" value="([0-9]+)"', visitor.page.text)
-        tried.see("all but one line aren't enough", "Of 21 lines 1 aren’t ticked" in visitor.do("account", [("line", line) for line in lines[1:]]).text)
+        lines = re.findall('name="line" value="([0-9]+)"', visitor.go("/step/account").text)
+        tried.see("each line of the account is there", len(lines) == len(read(os.path.join(path, "account.txt")).splitlines()) > 10, lines)
+        for ticked in ([], lines[1:]):
+            told = f"Of {len(lines)} lines {len(lines) - len(ticked)} aren’t ticked"
+            tried.see("an account that isn't confirmed stays open", told in visitor.do("account", [("line", line) for line in ticked]).text, visitor.page.words()[:300])
         tried.see("an account is confirmed line by line", 'class="typed"' in visitor.do("account", [("line", line) for line in lines]).text)
         visitor.do("contest", {"audit": "comparison"})
         visitor.do("cards", {"cast": "479"}, [("manifest", read(os.path.join(EXAMPLES, "town", "manifest.csv")))])
@@ -168,7 +171,7 @@ def seed_refused(visitor):
 def named(tried, place):
     """Candidates whose ids are numbers are called by their names, as the export has them."""
     path, [port] = os.path.join(place, "named"), free_ports(1)
-    export = os.path.join(TOP, "acceptance", "exports", "dominion_cards", "export")
+    [export] = glob.glob(os.path.join(TOP, "*", "exports", "dominion_cards", "export"))
     packed = io.BytesIO()
     with zipfile.ZipFile(packed, "w") as zipped:
         for name in sorted(os.listdir(export)):

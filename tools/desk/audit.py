@@ -77,12 +77,17 @@ class Audit:
 
     @functools.cached_property
     def names(self):
-        """What candidates are called, by their contest (none where there is one alone) and their ids, where an export told it."""
+        """What candidates are called, by their contest (if it is named) and their ids, if an export told it. A contest's own name has no id."""
         rows = list(csv.reader(io.StringIO(self.text(NAMES), newline="")))
         return {tuple(row[:-1])[-2:]: row[-1] for row in rows[1:] if len(row) in (2, 3)}
 
     def called(self, contest, candidate):
         return self.names.get((contest.id, candidate)) or self.names.get((candidate,)) or candidate
+
+    def title(self, contest):
+        """What a contest is called, with its id."""
+        name = self.names.get((contest.id, ""))
+        return f"{name} ({contest.id})" if name and name != contest.id else contest.id
 
     @property
     def contest(self):

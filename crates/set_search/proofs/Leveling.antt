@@ -1,4 +1,4 @@
--- What is known of the sets that a search goes into by the least step first.
+-- What is known of the sets that a search goes into by the least low first.
 use Rattle.std.proofs.Common.{◌≡◌, ◌≢◌, ◌⊎◌, inl, inr, ℕ, ◌<◌, ◌≤◌, max, true, false, not, ◌==◌, List, [], ◌∷◌, ◌++◌, length, length-append, All, refl, sym, ap, subst, arith, eq-eqb, eqb-true, ne_eqb, le-leb, ◌∙◌}
 use Rattle.std.specs.List.Sorted.{IsPermutation}
 use Rattle.std.proofs.lemmas.Bool.{both_ways, cases_lt, not-true, not_from_false, eqb-false}
@@ -49,14 +49,15 @@ pub record Comes (n winner : ℕ) (records : List (List ℕ)) (level set : ℕ) 
   pub same : set_of t ≡ set
 
 -- one has gone from the set by c, or may go
-abbrev pub IsNext : ℕ → List (List ℕ) → List ℕ → List Waiting → ℕ → ℕ → Type 0
-IsNext n records seen waiting set c = Member (more set c) seen ⊎ Member (waiting_at n records set c) waiting
+abbrev pub IsNext : ℕ → List (List ℕ) → ℕ → List ℕ → List Waiting → ℕ → ℕ → Type 0
+IsNext n records level seen waiting set c =
+    Member (more set c) seen ⊎ ((own : ℕ) × (own ≤ level) × Member (waiting_at n records own set c) waiting)
 
 pub record Searched (n winner : ℕ) (records : List (List ℕ)) (level : ℕ) (seen : List ℕ) (waiting : List Waiting) : Type 0 where
   pub sound : (set : ℕ) → Member set seen → (t : List ℕ) × Comes n winner records level set t × (length t < n)
   pub waits : (o : Waiting) → Member o waiting → (t : List ℕ) × Comes n winner records (max level o.margin) o.set t
-  pub first : (c : ℕ) → Member c (all_but n winner) → IsNext n records seen waiting 0 c
-  pub next : (set c : ℕ) → Member set seen → Member c (outside n set) → IsNext n records seen waiting set c
+  pub first : (c : ℕ) → Member c (all_but n winner) → IsNext n records level seen waiting 0 c
+  pub next : (set c : ℕ) → Member set seen → Member c (outside n set) → IsNext n records level seen waiting set c
   pub apart : Distinct seen
   pub most : level ≤ best_of n records winner
 
@@ -64,11 +65,17 @@ module _ (n winner : ℕ) (records : List (List ℕ)) where
   abbrev S : ℕ → List ℕ → List Waiting → Type 0
   S level seen waiting = Searched n winner records level seen waiting
 
-  next-by : (seen seen' : List ℕ) (waiting more_waiting : List Waiting) (set c : ℕ) → ((s : ℕ) → Member s seen → Member s seen') →
-      ((o : Waiting) → Member o waiting → Member o more_waiting ⊎ Member o.set seen') → IsNext n records seen waiting set c →
-      IsNext n records seen' more_waiting set c
-  next-by seen seen' waiting more_waiting set c f g (inl m) = inl (f (more set c) m)
-  next-by seen seen' waiting more_waiting set c f g (inr m) = elim (g (waiting_at n records set c) m) [ inl k ↦ inr k | inr k ↦ inl k ]
+  next-by : (level : ℕ) (seen seen' : List ℕ) (waiting more_waiting : List Waiting) (set c : ℕ) → ((s : ℕ) → Member s seen → Member s seen') →
+      ((o : Waiting) → Member o waiting → Member o more_waiting ⊎ Member o.set seen') → IsNext n records level seen waiting set c →
+      IsNext n records level seen' more_waiting set c
+  next-by level seen seen' waiting more_waiting set c f g (inl m) = inl (f (more set c) m)
+  next-by level seen seen' waiting more_waiting set c f g (inr (own, le, m)) =
+      elim (g (waiting_at n records own set c) m) [ inl k ↦ inr (own, le, k) | inr k ↦ inl k ]
+
+  next-higher : (level higher : ℕ) (seen : List ℕ) (waiting : List Waiting) (set c : ℕ) → level ≤ higher → IsNext n records level seen waiting set c →
+      IsNext n records higher seen waiting set c
+  next-higher level higher seen waiting set c up (inl m) = inl m
+  next-higher level higher seen waiting set c up (inr (own, le, m)) = inr (own, omega (arith, le, up), m)
 
   nobody : Other n winner [] → ⊥
   nobody o = go o.elects where
@@ -77,7 +84,7 @@ module _ (n winner : ℕ) (records : List (List ℕ)) where
     go (x ∷ b, e) = cc
 
   -- the waiting sets alone, at the start
-  pub starts : (closed : ℕ) (waiting : List Waiting) → ((c : ℕ) → has closed c ≡ (c == winner)) → AreAdded n records 0 closed [] waiting → S 0 [] waiting
+  pub starts : (closed : ℕ) (waiting : List Waiting) → ((c : ℕ) → has closed c ≡ (c == winner)) → AreAdded n records 0 0 closed [] waiting → S 0 [] waiting
   starts closed waiting only-winner h = record {
     sound = λ s m. absurd (member_nil m);
     waits = λ o m. elim (h.only o (contains-from_member m)) [
@@ -86,16 +93,21 @@ module _ (n winner : ℕ) (records : List (List ℕ)) where
     ];
     first = λ c m.
         let (k, ne) = from_filter (λ c. not (c == winner)) (candidates n) m in
-        inr (member-from_contains (waiting_at n records 0 c) waiting (h.each c (from_candidates k) (only-winner c ∙ not-true (c == winner) ne)));
+        inr (
+          0,
+          omega arith,
+          member-from_contains (waiting_at n records 0 0 c) waiting
+              (h.each c (from_candidates k) (only-winner c ∙ not-true (c == winner) ne)),
+        );
     next = λ s c m k. absurd (member_nil m);
     apart = distinct-range 0 0;
     most = omega arith;
   }
     where
-      by-alone : (o : Waiting) (c : ℕ) → c < n → c ≢ winner → o ≡ waiting_at n records 0 c → (t : List ℕ) × Comes n winner records (max 0 o.margin) o.set t
+      by-alone : (o : Waiting) (c : ℕ) → c < n → c ≢ winner → o ≡ waiting_at n records 0 0 c → (t : List ℕ) × Comes n winner records (max 0 o.margin) o.set t
       by-alone o c l ne e =
           let proper : is_suffix n (c ∷ []) ≡ true = suffix_more n c [] l refl refl in
-          let margin : o.margin ≡ step n records 0 c = ap (λ (x : Waiting). x.margin) e in
+          let margin : o.margin ≡ max (step n records 0 c) 0 = ap (λ (x : Waiting). x.margin) e in
           let set : o.set ≡ more 0 c = ap (λ (x : Waiting). x.set) e in
           let low' = low-alone n records c proper in (
             c ∷ [],
@@ -107,28 +119,32 @@ module _ (n winner : ℕ) (records : List (List ℕ)) where
           )
 
   -- where all that is waiting is above a margin, the sets of suffixes within it were seen
-  reach : (level bound : ℕ) (seen : List ℕ) (waiting : List Waiting) → S level seen waiting → ((o : Waiting) → Member o waiting → bound < o.margin) →
+  reach : (level bound : ℕ) (seen : List ℕ) (waiting : List Waiting) → level ≤ bound → S level seen waiting → ((o : Waiting) → Member o waiting → bound < o.margin) →
       (t : List ℕ) → Other n winner t → low n records t ≤ bound → Member (set_of t) seen
-  reach level bound seen waiting s above [] o le = absurd (nobody o)
-  reach level bound seen waiting s above (c ∷ []) o le =
+  reach level bound seen waiting up s above [] o le = absurd (nobody o)
+  reach level bound seen waiting up s above (c ∷ []) o le =
       let (l, _) = suffix-head n c [] o.proper in
       let ne : c ≢ winner = subst (λ x. x ≢ winner) (sym (alone-elected c o.elected o.elects)) o.other in
       let e = low-alone n records c o.proper in
       elim (s.first c (member-filter (λ c. not (c == winner)) (candidates n) (candidate-member c n l) (not_from_false (c == winner) (ne_eqb c winner ne)))) [
         | inl m ↦ subst (λ x. Member x seen) (sym (set_of-cons c [])) m
-        | inr m ↦ let gt = above (waiting_at n records 0 c) m in absurd (omega (arith, gt, e, le))
+        | inr (own, own-le, m) ↦
+            let gt : bound < max (step n records 0 c) own = above (waiting_at n records own 0 c) m in
+            absurd (omega (arith, gt, e, le, own-le, up))
       ]
-  reach level bound seen waiting s above (c ∷ d ∷ t) o le =
+  reach level bound seen waiting up s above (c ∷ d ∷ t) o le =
       let rest : is_suffix n (d ∷ t) ≡ true = suffix-rest n c (d ∷ t) o.proper in
       let (l, out) = suffix-head n c (d ∷ t) o.proper in
       let e = low_by_steps n records c (d ∷ t) o.proper in
       let o' : Other n winner (d ∷ t) = record { proper = rest; elected = o.elected; other = o.other; elects = rest-elects c d o.elected t o.elects } in
-      let ih = reach level bound seen waiting s above (d ∷ t) o' (omega (arith, e, le)) in
+      let ih = reach level bound seen waiting up s above (d ∷ t) o' (omega (arith, e, le)) in
       let k : Member c (outside n (set_of (d ∷ t))) = member-filter (λ c. not (has (set_of (d ∷ t)) c)) (candidates n) (candidate-member c n l)
       (not_from_false (has (set_of (d ∷ t)) c) (suffix-has n (d ∷ t) c rest ∙ out)) in
       elim (s.next (set_of (d ∷ t)) c ih k) [
         | inl m ↦ subst (λ x. Member x seen) (sym (set_of-cons c (d ∷ t))) m
-        | inr m ↦ let gt = above (waiting_at n records (set_of (d ∷ t)) c) m in absurd (omega (arith, gt, e, le))
+        | inr (own, own-le, m) ↦
+            let gt : bound < max (step n records (set_of (d ∷ t)) c) own = above (waiting_at n records own (set_of (d ∷ t)) c) m in
+            absurd (omega (arith, gt, e, le, own-le, up))
       ]
 
   other-order : (order : List ℕ) → Member order (alternative_orders n winner) → Other n winner order × (length order ≡ n)
@@ -154,8 +170,9 @@ module _ (n winner : ℕ) (records : List (List ℕ)) where
   never-closed low' two level seen waiting s none =
       let (order, m, e) = best_is n winner (low n records) low' two in
       let (o, long) = other-order order m in
+      let most = s.most in
       never-whole level seen waiting s order m
-      (reach level (low n records order) seen waiting s (λ x k. absurd (empty waiting x none k)) order o (omega arith))
+      (reach level (low n records order) seen waiting (omega (arith, most, e)) s (λ x k. absurd (empty waiting x none k)) order o (omega arith))
 
   -- the margin rises to the least that is waiting
   pub rises : winner < n → 1 < n → (level margin : ℕ) (seen : List ℕ) (waiting : List Waiting) → S level seen waiting →
@@ -166,8 +183,8 @@ module _ (n winner : ℕ) (records : List (List ℕ)) where
         let le = h.low in
         (t, record { is = h.is; low = omega (arith, le); same = h.same }, short);
     waits = λ o m. let (t, h) = s.waits o m in let le = h.low in (t, record { is = h.is; low = omega (arith, le); same = h.same });
-    first = s.first;
-    next = s.next;
+    first = λ c m. next-higher level (max margin level) seen waiting 0 c (omega arith) (s.first c m);
+    next = λ set c m k. next-higher level (max margin level) seen waiting set c (omega arith) (s.next set c m k);
     apart = s.apart;
     most = most;
   }
@@ -180,7 +197,7 @@ module _ (n winner : ℕ) (records : List (List ℕ)) where
                 let (order, m, e) = best_is n winner (low n records) low' two in
                 let (o, long) = other-order order m in
                 absurd (never-whole level seen waiting s order m
-                (reach level (best_of n records winner) seen waiting s (λ x k. let ge = least x k in omega (arith, ge, lt)) order o (omega (arith, e))))
+                (reach level (best_of n records winner) seen waiting le s (λ x k. let ge = least x k in omega (arith, ge, lt)) order o (omega (arith, e))))
             | inr ge ↦ omega (arith, le, ge)
           ]
 
@@ -190,8 +207,8 @@ module _ (n winner : ℕ) (records : List (List ℕ)) where
     sound = s.sound;
     waits = λ o m. s.waits o
         (member-from_contains o waiting (Contains-permutation more_waiting waiting o (IsPermutation-sym waiting more_waiting p) (contains-from_member m)));
-    first = λ c m. next-by seen seen waiting more_waiting 0 c (λ s m. m) there' (s.first c m);
-    next = λ set c m k. next-by seen seen waiting more_waiting set c (λ s m. m) there' (s.next set c m k);
+    first = λ c m. next-by level seen seen waiting more_waiting 0 c (λ s m. m) there' (s.first c m);
+    next = λ set c m k. next-by level seen seen waiting more_waiting set c (λ s m. m) there' (s.next set c m k);
     apart = s.apart;
     most = s.most;
   }
@@ -204,8 +221,8 @@ module _ (n winner : ℕ) (records : List (List ℕ)) where
   skips level seen x waiting s known = record {
     sound = s.sound;
     waits = λ o m. s.waits o (there m);
-    first = λ c m. next-by seen seen (x ∷ waiting) waiting 0 c (λ s m. m) gone (s.first c m);
-    next = λ set c m k. next-by seen seen (x ∷ waiting) waiting set c (λ s m. m) gone (s.next set c m k);
+    first = λ c m. next-by level seen seen (x ∷ waiting) waiting 0 c (λ s m. m) gone (s.first c m);
+    next = λ set c m k. next-by level seen seen (x ∷ waiting) waiting set c (λ s m. m) gone (s.next set c m k);
     apart = s.apart;
     most = s.most;
   }
@@ -243,7 +260,7 @@ module _ (n winner : ℕ) (records : List (List ℕ)) where
 
   -- one goes into the set that is taken
   pub enters : (level : ℕ) (seen : List ℕ) (x : Waiting) (waiting more_waiting : List Waiting) → S level seen (x ∷ waiting) → x.margin ≤ level →
-      (Member x.set seen → ⊥) → ((t : List ℕ) → Comes n winner records level x.set t → length t < n) → AreAdded n records x.set x.set waiting more_waiting →
+      (Member x.set seen → ⊥) → ((t : List ℕ) → Comes n winner records level x.set t → length t < n) → AreAdded n records level x.set x.set waiting more_waiting →
       S level (seen ++ x.set ∷ []) more_waiting
   enters level seen x waiting more_waiting s le new short h = record {
     sound = λ set m. elim (member-append_cases seen (x.set ∷ []) m) [
@@ -257,11 +274,11 @@ module _ (n winner : ℕ) (records : List (List ℕ)) where
       | inl k ↦ s.waits o (there (member-from_contains o waiting k))
       | inr r ↦ let (c, l, out, e) = r in longer o c l out e
     ];
-    first = λ c m. next-by seen (seen ++ x.set ∷ []) (x ∷ waiting) more_waiting 0 c old gone (s.first c m);
+    first = λ c m. next-by level seen (seen ++ x.set ∷ []) (x ∷ waiting) more_waiting 0 c old gone (s.first c m);
     next = λ set c m k. elim (member-append_cases seen (x.set ∷ []) m) [
-      | inl q ↦ next-by seen (seen ++ x.set ∷ []) (x ∷ waiting) more_waiting set c old gone (s.next set c q k)
+      | inl q ↦ next-by level seen (seen ++ x.set ∷ []) (x ∷ waiting) more_waiting set c old gone (s.next set c q k)
       | inr q ↦ elim (member_cases q) [
-        | inl e ↦ subst (λ y. IsNext n records (seen ++ x.set ∷ []) more_waiting y c) e (added c (subst (λ y. Member c (outside n y)) (sym e) k))
+        | inl e ↦ subst (λ y. IsNext n records level (seen ++ x.set ∷ []) more_waiting y c) e (added c (subst (λ y. Member c (outside n y)) (sym e) k))
         | inr r ↦ absurd (member_nil r)
       ]
     ];
@@ -279,19 +296,19 @@ module _ (n winner : ℕ) (records : List (List ℕ)) where
             | inr k ↦ inl (member-from_contains o more_waiting (h.kept o (contains-from_member k)))
           ]
 
-      added : (c : ℕ) → Member c (outside n x.set) → IsNext n records (seen ++ x.set ∷ []) more_waiting x.set c
+      added : (c : ℕ) → Member c (outside n x.set) → IsNext n records level (seen ++ x.set ∷ []) more_waiting x.set c
       added c k =
           let (m, out) = from_filter (λ c. not (has x.set c)) (candidates n) k in
-          inr (member-from_contains (waiting_at n records x.set c) more_waiting (h.each c (from_candidates m) (not-true (has x.set c) out)))
+          inr (level, omega arith, member-from_contains (waiting_at n records level x.set c) more_waiting (h.each c (from_candidates m) (not-true (has x.set c) out)))
 
-      longer : (o : Waiting) (c : ℕ) → c < n → has x.set c ≡ false → o ≡ waiting_at n records x.set c →
+      longer : (o : Waiting) (c : ℕ) → c < n → has x.set c ≡ false → o ≡ waiting_at n records level x.set c →
           (t : List ℕ) × Comes n winner records (max level o.margin) o.set t
       longer o c l out e =
           let (t, w) = taken level seen x waiting s le in
           let proper : is_suffix n (c ∷ t) ≡ true = suffix_more n c t l
           (sym (suffix-has n t c w.is.proper) ∙ ap (λ y. has y c) w.same ∙ out) w.is.proper in
           let low' = low_by_steps n records c t proper in
-          let margin : o.margin ≡ step n records x.set c = ap (λ (y : Waiting). y.margin) e in
+          let margin : o.margin ≡ max (step n records x.set c) level = ap (λ (y : Waiting). y.margin) e in
           let set : o.set ≡ more x.set c = ap (λ (y : Waiting). y.set) e in
           let by : step n records (set_of t) c ≡ step n records x.set c = ap (λ y. step n records y c) w.same in
           let le' = w.low in (

@@ -1,5 +1,5 @@
 -- Sets that one may go into next.
-use Rattle.std.specs.Prelude.{◌≡◌, ◌⊎◌, ℕ, ◌+◌, ◌<◌, ◌^◌, false, List, length, All, Contains}
+use Rattle.std.specs.Prelude.{◌≡◌, ◌⊎◌, ℕ, ◌+◌, ◌<◌, ◌^◌, false, max, List, length, All, Contains}
 use Rattle.std.specs.declared.cmp.Ordering.{Ordering}
 use Rattle.std.specs.Ordering.{flip_args, nat_cmp, on, then_cmp}
 use Rattle.irv_base.specs.Candidates.{has, members}
@@ -10,11 +10,11 @@ use Rattle.set_search.specs.declared.waiting.Waiting.{Waiting}
 abbrev pub least_first : Waiting → Waiting → Ordering
 least_first = then_cmp (flip_args (on (λ o. o.margin) nat_cmp)) (on (λ o. o.size) nat_cmp)
 
--- the set with c more, by its step
-abbrev pub waiting_at : ℕ → List (List ℕ) → ℕ → ℕ → Waiting
-waiting_at n records set c =
+-- the set with c more, by its step, or by the low with which the set was reached if that is greater
+abbrev pub waiting_at : ℕ → List (List ℕ) → ℕ → ℕ → ℕ → Waiting
+waiting_at n records low set c =
     record {
-      margin = step n records set c;
+      margin = max (step n records set c) low;
       set = more set c;
       size = length (members set) + 1;
     }
@@ -25,12 +25,13 @@ AreBelow n waiting = All (λ o. o.set < 2 ^ n) waiting
 
 -- the sets that one comes to from this one, by one more candidate of those below k who aren't in
 -- `closed`, wait now, and besides them those that did
-pub record AreAddedUpTo (n : ℕ) (records : List (List ℕ)) (set closed k : ℕ)
+pub record AreAddedUpTo (n : ℕ) (records : List (List ℕ)) (low set closed k : ℕ)
     (old new : List Waiting) : Type 0 where
   pub kept : (o : Waiting) → Contains old o → Contains new o
-  pub each : (c : ℕ) → c < k → has closed c ≡ false → Contains new (waiting_at n records set c)
+  pub each : (c : ℕ) → c < k → has closed c ≡ false →
+      Contains new (waiting_at n records low set c)
   pub only : (o : Waiting) → Contains new o → Contains old o
-      ⊎ ((c : ℕ) × (c < k) × (has closed c ≡ false) × (o ≡ waiting_at n records set c))
+      ⊎ ((c : ℕ) × (c < k) × (has closed c ≡ false) × (o ≡ waiting_at n records low set c))
 
-abbrev pub AreAdded : ℕ → List (List ℕ) → ℕ → ℕ → List Waiting → List Waiting → Type 0
-AreAdded n records set closed old new = AreAddedUpTo n records set closed n old new
+abbrev pub AreAdded : ℕ → List (List ℕ) → ℕ → ℕ → ℕ → List Waiting → List Waiting → Type 0
+AreAdded n records low set closed old new = AreAddedUpTo n records low set closed n old new

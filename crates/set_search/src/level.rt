@@ -13,7 +13,7 @@ use std::collections::BinaryHeap;
 
 /// The best margin, or a smaller one by whose steps more sets stand than the budget has.
 ///
-/// The sets are gone into by the least step first, each once, so that the margin only rises, up to the first set that has all
+/// The sets are gone into by the least low first, each once, so that the margin only rises, up to the first set that has all
 /// candidates.
 pub(crate) fn level(
     alloc: Global,
@@ -30,8 +30,8 @@ pub(crate) fn level(
     let mut seen = IndexSet::new(alloc);
     let mut waiting = BinaryHeap::new(alloc);
     let nobody = CandSet::empty();
-    put_next(&mut waiting, tallies, nobody, nobody.with(winner))?;
     let mut level = 0;
+    put_next(&mut waiting, tallies, nobody, nobody.with(winner), level)?;
     while let Some(next) = take_least(&mut waiting) {
         level = next.margin.max(level);
         if next.set.len() == n {
@@ -42,7 +42,7 @@ pub(crate) fn level(
                 return Ok(level);
             }
             seen.insert(next.set)?;
-            put_next(&mut waiting, tallies, next.set, next.set)?;
+            put_next(&mut waiting, tallies, next.set, next.set, level)?;
         }
     }
     Ok(level)

@@ -16,7 +16,7 @@ use set_tallies::Tallies;
 use std::cmp::Ordering;
 use std::collections::BinaryHeap;
 
-/// A set that one may go into, by a step of this margin, in votes, and how many candidates it has.
+/// A set that one may go into, with the low by which it is reached, in votes, and how many candidates it has.
 #[derive(Clone, Copy)]
 pub(crate) struct Waiting {
     pub margin: u32,
@@ -82,12 +82,14 @@ pub(crate) fn take_least(waiting: &mut BinaryHeap<Waiting>) -> Option<Waiting>
     waiting.pop()
 }
 
-/// Opens the sets that one comes to from this set by one more candidate, of those who aren't in `closed`.
+/// Opens the sets that one comes to from this set by one more candidate, of those who aren't in `closed`. This set was
+/// reached with the low `low`.
 pub(crate) fn put_next(
     waiting: &mut BinaryHeap<Waiting>,
     tallies: &mut Tallies<'_>,
     set: CandSet,
     closed: CandSet,
+    low: u32,
 ) -> Result<(), Memory>
     requires below { set < 2 ^ tallies.old.bag.n }
     requires inside { (c : ℕ) → has closed c ≡ false → has set c ≡ false }
@@ -96,7 +98,7 @@ pub(crate) fn put_next(
     ensures heap { OnOk result (IsHeap least_first (heap_items waiting.new)) }
     ensures all_below { OnOk result (AreBelow tallies.old.bag.n (heap_items waiting.new)) }
     ensures added { (records : List (List ℕ)) → IsOf tallies.old.bag records
-        → OnOk result (AreAdded tallies.old.bag.n records set closed
+        → OnOk result (AreAdded tallies.old.bag.n records low set closed
         (heap_items waiting.old) (heap_items waiting.new)) }
     ensures few { OnOk result (heap_len waiting.new ≤ heap_len waiting.old + tallies.old.bag.n) }
     ensures same { tallies.new ≡ tallies.old }
@@ -107,7 +109,7 @@ pub(crate) fn put_next(
         if !closed.has(c) {
             let step = step_of(tallies, set, c)?;
             waiting.push(Waiting {
-                margin: step.low,
+                margin: step.low.max(low),
                 set: set.with(c),
                 size,
             })?;

@@ -20,8 +20,8 @@ loop-next-init c = record {
   searched = λ records of.
       let n = c.args.tallies.now.bag.n in
       let only-winner = λ (d : ℕ). c.with.ensures.members d ∙ ap (λ b. b || (d == c.args.winner)) (ap (λ s. has s d) c.empty-nobody.ensures ∙ none-has d) in
-      let added = subst (λ s. AreAdded n records s c.with.result [] (heap_items c.put_next.new.waiting)) c.empty-nobody.ensures
-      (subst (λ xs. AreAdded n records c.empty-nobody.result c.with.result xs (heap_items c.put_next.new.waiting)) c.new-waiting.ensures.items
+      let added = subst (λ s. AreAdded n records 0 s c.with.result [] (heap_items c.put_next.new.waiting)) c.empty-nobody.ensures
+      (subst (λ xs. AreAdded n records 0 c.empty-nobody.result c.with.result xs (heap_items c.put_next.new.waiting)) c.new-waiting.ensures.items
       (c.in_ok-put_next.ensures.added records of)) in
       subst (λ keys. Searched n c.args.winner records 0 keys (heap_items c.put_next.new.waiting)) (sym c.new-seen.ensures.empty)
       (starts n c.args.winner records c.with.result (heap_items c.put_next.new.waiting) only-winner added);
@@ -92,7 +92,7 @@ loop-next-preserved-in-Continue-branch-3 c = record {
       (if list_any (λ other. c.in-Some.next.set == other) c.loop-next.seen.keys then c.loop-next.seen.keys else c.loop-next.seen.keys
       ++ c.in-Some.next.set ∷ []) = c.in_ok-insert.ensures.keys in
       let keys' = keys ∙ ap (λ b. if b then c.loop-next.seen.keys else c.loop-next.seen.keys ++ c.in-Some.next.set ∷ []) free in
-      let added = subst (λ (t : Source). AreAdded t.bag.n records x.set x.set (heap_items c.take_least.new.waiting)
+      let added = subst (λ (t : Source). AreAdded t.bag.n records c.max-level.result x.set x.set (heap_items c.take_least.new.waiting)
       (heap_items c.put_next-then-not-contains.new.waiting))
       c.loop-next.invariant.same (c.in_ok-put_next-2.ensures.added records (subst (λ (t : Source). IsOf t.bag records) (sym c.loop-next.invariant.same) of)) in
       subst (λ ks. Searched n c.args.winner records c.max-level.result ks (heap_items c.put_next-then-not-contains.new.waiting)) (sym keys')

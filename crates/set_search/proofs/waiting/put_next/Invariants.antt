@@ -11,5 +11,5 @@ invariant-loop-c l = record {
   below : AreBelow l.fn.tallies.bag.n (heap_items l.waiting);
   few : heap_len l.waiting ≤ heap_len l.fn.waiting + l.c;
   added : (records : List (List ℕ)) → IsOf l.fn.tallies.bag records →
-      AreAddedUpTo l.fn.tallies.bag.n records l.set l.closed l.c (heap_items l.fn.waiting) (heap_items l.waiting);
+      AreAddedUpTo l.fn.tallies.bag.n records l.low l.set l.closed l.c (heap_items l.fn.waiting) (heap_items l.waiting);
 }

@@ -246,6 +246,7 @@ class Tried:
             print(f"./raire: {shows}: not so {got}")
 
     def ran(self, words, program=None, **how):
+        how.setdefault("env", {**os.environ, "RAIRE_QUIET": "1"})  # notes on limits and seeds aren't hints
         ran = subprocess.run([program or self.script, *words], stdin=subprocess.DEVNULL, stdout=subprocess.PIPE, stderr=subprocess.PIPE, **how)
         return ran.returncode, ran.stdout, ran.stderr.decode()
 

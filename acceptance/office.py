@@ -393,7 +393,9 @@ def terms(tried):
         tried.see(f"{seed!r} is shown with each blank", told.seed_note(seed) == (f'the seed {note}: "{seed.replace(" ", "␣")}", where each ␣ is a blank' if note else ""))
     for words, wanted in [
         (["plan", "m", "a", "--limit", "5"], "raire: the risk limit 5 is 0.0005 percent; that is unusual: --limit counts millionths, so 5 percent is --limit 50000\n"),
-        (["poll", "--limit=50000", "--seed=1"], "raire: the risk limit 50000 is 5 percent\n"), (["sample", "m", "--seed", "1 "], 'raire: the seed ends with a blank: "1␣", where each ␣ is a blank\n'),
+        (["poll", "--limit=50000", "--seed=dice 10 4 7 1"], "raire: the risk limit 50000 is 5 percent\n"),
+        (["sample", "m", "--seed", "dice 10 4 7 "], 'raire: the seed ends with a blank: "dice␣10␣4␣7␣", where each ␣ is a blank\n'),
+        (["sample", "m", "--seed", "7"], "raire: the seed has 1 character, too few to be made by chance: use at least 20 throws of a ten-sided die\n"),
         (["plan", "--", "--limit=5"], ""),
     ]:
         ran = subprocess.run([os.path.join(TOP, "tools", "office", "term_notes.py"), *words], capture_output=True, text=True)
